@@ -1,7 +1,6 @@
 #!/usr/bin/env python3
 """check_pal8_rows.py [--program FILE]: holds the plain model of PAL8 (pal8.py) to worked sources (pal8_rows.txt), each with the cells that have words or
-with its first fault; with --program the program `pdp8`, too, by `assemble --pal8` and by `tape` on what that wrote, but for conditions, which it
-doesn't take yet. The last line is 'N passed, M failed'."""
+with its first fault; with --program the program `pdp8`, too, by `assemble --pal8` and by `tape` on what that wrote. The last line is 'N passed, M failed'."""
 import argparse
 import os
 import subprocess
@@ -59,7 +58,7 @@ def main() -> int:
     for name, text, wanted in rows():
         source = text.encode("latin1")
         answers = {"the model": answer(source)}
-        if program and "IF" not in text:
+        if program:
             answers["the program"] = program_answer(os.path.abspath(program), source)
         for who, came in answers.items():
             if came == wanted:

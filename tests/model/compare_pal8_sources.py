@@ -1,8 +1,7 @@
 #!/usr/bin/env python3
 """compare_pal8_sources.py [--sources N] [--seed S] [--program FILE]: assembles the worked sources of PAL8, N random ones, 2000 where nothing is said, and
 N that are random bytes nearly, by the program `pal8_asm_bench`, and compares the cells that have words, or the first fault with its place, with
-the plain model's; then the largest: a million literals, brackets within brackets, a line of 10 MB. Conditions aren't taken yet. The same seed makes
-the same sources. The last line is 'N passed, M failed'.
+the plain model's; then the largest: a million literals, brackets within brackets, a line of 10 MB. The same seed makes the same sources. The last line is 'N passed, M failed'.
 """
 import argparse
 import os
@@ -23,6 +22,7 @@ OTHERS = ("CLA", "CLA CLL", "BSW", "CDI 10", "MQL", "HLT", "SKON", "IOT", "TAD")
 NAMES = ("A", "B", "C", "LOOP", "ABCDEFG", "BSW", "IOT", "X1", "CLA", "TAD", "I", "Z", "PAGE")
 OPERATORS = ("+", "-", "!", "&", "^", "%", " ", " + ", " -", "  ")
 PIECES = (*"AZ019+-!&^%=,*.()[]\"/;<>$# \t\n", *"\n\n;;,(([[  ", "TAD ", "TAD I ", "A", "B", "TEXT /", "PAGE ", "ZBLOCK ", "*200", "FIELD ", "A,", "$\n", "XLIST", "DECIMAL", "\r\n", "\f", "\0")
+PIECES += ("IFZERO 0 <", "IFNZRO A<", "IFDEF A <", "IFNDEF B <", ">\n", "<")
 
 
 class Maker:
@@ -34,6 +34,7 @@ class Maker:
         self.tags = self.random.sample(("LOOP", "X1", "IOT", "END", "T2"), 3)
         self.left = list(self.tags)
         self.has_faults = self.random.random() < 0.4
+        self.open = 0
 
     def rarely(self) -> bool:
         return self.has_faults and self.random.random() < 0.04
@@ -110,6 +111,25 @@ class Maker:
             return self.random.choice(("XLIST", "EJECT ANY $", "", "/ note"))
         return self.value(0)
 
+    def condition(self) -> str:
+        kind = self.random.randrange(8)
+        if kind < 4:
+            return self.random.choice(("IFZERO ", "IFNZRO ", "ifzero ")) + self.random.choice((self.argument(2), self.terms(-9, True)))
+        if self.rarely():
+            return self.random.choice(("IFZERO", "IFDEF 1", "IFDEF A B", "IFNDEF CLA+", "IFZERO (5", "5"))
+        return self.random.choice(("IFDEF ", "IFNDEF ")) + self.random.choice(self.values + self.tags + ["BSW", "TAD", "ZZ"])
+
+    def line(self) -> str:
+        """A statement, or a condition, or what it has been open for."""
+        kind = self.random.random()
+        if kind < 0.12:
+            self.open += 1
+            return self.tag() + self.condition() + self.random.choice((" <", "<", " < ")) + ("" if self.rarely() else self.random.choice(("", "", self.body())))
+        if kind < 0.24 and (self.open or self.rarely()):
+            self.open -= 1
+            return self.random.choice(("", "", self.tag() + self.body().split("/")[0])) + ">" + self.random.choice(("", self.body()))
+        return self.tag() + self.body()
+
     def tag(self) -> str:
         if self.rarely():
             return self.random.choice(NAMES) + ","
@@ -119,7 +139,8 @@ class Maker:
 
     def source(self) -> bytes:
         lines = [f"{name}={self.number()}" for name in self.values]
-        lines += [self.tag() + self.body() for _ in range(self.random.randint(1, 25))]
+        lines += [self.line() for _ in range(self.random.randint(1, 25))]
+        lines += [">" for _ in range(self.open) if not self.rarely()]
         lines += ["OCTAL", *(f"{tag}, 7" for tag in self.left if not self.rarely())]
         text = "".join(line + self.random.choice("\n\n\n;") for line in lines)
         return (text + ("" if self.rarely() else "\n$\n") + ("1 2\n" if self.rarely() else "")).encode("latin1")
@@ -131,8 +152,7 @@ def nearly_bytes(seed: int) -> bytes:
 
 
 def rows() -> list[tuple[str, bytes, str]]:
-    """The worked sources without conditions."""
-    return [(name, source.encode("latin1"), wanted) for name, source, wanted in check_pal8_rows.rows() if "IF" not in source]
+    return [(name, source.encode("latin1"), wanted) for name, source, wanted in check_pal8_rows.rows()]
 
 
 def came(program: str, text: bytes) -> str:
@@ -156,6 +176,10 @@ def largest() -> list[tuple[str, bytes, str]]:
         ("a string of a million", b"TEXT /" + b"A" * million + b"/\n$\n", "? 5 PF 1 0\n"),
         ("a text without its end", b"TEXT /" + b"A" * million, "? 5 NE 1 1000006\n"),
         ("a million lines", b"\n" * million + b"1;$\n", "0 0200 0001\n"),
+        ("a million conditions within others", b"IFZERO 0 <" * million + b"1" + b">" * million + b"$\n", "0 0200 0001\n"),
+        ("a million brackets in a false one", b"IFZERO 1 <" + b"<" * million + b"1" + b">" * million + b">2;$\n", "0 0200 0002\n"),
+        ("a million open conditions", b"IFZERO 0 <" * million + b"\n$\n", "? 5 PH 2 10000001\n"),
+        ("a million skipped lines", b"IFZERO 1 <" + b"TAD (1\n" * million + b"> 7;$\n", "0 0200 0007\n"),
     ]
 
 

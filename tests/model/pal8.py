@@ -1,5 +1,5 @@
 """PAL8, the assembler of OS/8, by its definitions: what a source means, or its first fault. So far it knows the language with literals,
-links and conditions; of the reserved names that come later it takes none.
+links, conditions, punching, relocation and the names of files and devices; of the reserved names that come later it takes none.
 
 A place, a name and a condition rest on the statements before alone, so each statement is judged after those before it; literals and
 links rest on all names, and so come last. It is slow, and keeps no table: a name is looked for among the statements before, the newest
@@ -333,14 +333,27 @@ def body_of(tokens: list[Token], radix: int) -> Body:
 
 
 def reserved_body(name: str, rest: list[Token], radix: int) -> Body:
-    if name in ("DECIMA", "OCTAL", "EJECT", "XLIST", "PAGE") and not rest:
+    if name in ("DECIMA", "OCTAL", "EJECT", "XLIST", "PAGE", "NOPUNC", "ENPUNC", "RELOC") and not rest:
         return Body(name)
-    if name in ("FIELD", "PAGE", "ZBLOCK", "IFZERO", "IFNZRO"):
+    if name in ("FIELD", "PAGE", "ZBLOCK", "IFZERO", "IFNZRO", "RELOC"):
         return Body(name, value=argument(rest, radix))
     if name in ("IFDEF", "IFNDEF") and len(rest) == 2 and rest[0].kind == "blank" and free_name(rest[1]):
         return Body(name, free_name(rest[1]))
     if name == "TEXT" and [token.kind for token in rest] in (["string"], ["blank", "string"]):
         return Body(name, string=rest[-1].text)
+    if name in ("FILENA", "DEVICE"):
+        return Body(name, string=file_characters(name, rest))
+    raise Fault("SY")
+
+
+def file_characters(name: str, rest: list[Token]) -> str:
+    """The characters of a file's name, six and two, or the four of a device's, with `@`, which is 00, for a missing one."""
+    kinds = [token.kind for token in rest]
+    if kinds == ["blank", "run"]:
+        run = rest[1].text + 6 * "@"
+        return run[:4] if name == "DEVICE" else run[:6] + "@@"
+    if name == "FILENA" and kinds == ["blank", "run", "here", "run"]:
+        return (rest[1].text + 6 * "@")[:6] + (rest[3].text + "@@")[:2]
     raise Fault("SY")
 
 
@@ -375,7 +388,9 @@ class Judged:
     tags: list[str]
     body: Body
     location: int
+    place: int
     in_field: int
+    is_punched: bool
     size: int = 0
     start: int = 0
     definitions: list[tuple[str, int]] = field(default_factory=list)
@@ -392,7 +407,7 @@ class Source:
         self.text = live_text(text)
         self.judged: list[Judged] = []
         self.brackets: list[bool] = []
-        self.radix, self.location, self.field = 8, 0o200, 0
+        self.radix, self.location, self.shift, self.field, self.is_punched = 8, 0o200, 0, 0, True
         self.last_line, self.last_place = self.first_faults()
 
     def first_faults(self) -> tuple[int, int]:
@@ -417,6 +432,10 @@ class Source:
                 return statement.line, statement.at
         raise Fault("PH" if self.brackets else "NE", 1 + self.text.count("\r"), len(self.text))
 
+    def place(self) -> int:
+        """The place, what `.` and a tag are: the location, shifted by RELOC."""
+        return (self.location + self.shift) % 0o10000 if self.shift else self.location
+
     def definition_before(self, name: str, before: list[Judged]) -> Optional[int]:
         """The last definition of a name in these statements."""
         for older in reversed(before):
@@ -428,22 +447,22 @@ class Source:
     def value_before(self, name: str, now: Judged) -> Optional[int]:
         """The value of a name by the names before this statement, its own tags among them."""
         if name in now.tags:
-            return now.location
+            return now.place
         value = self.definition_before(name, self.judged)
         return permanent(name) if value is None else value
 
     def judge(self, statement: Statement) -> bool:
         """Judges a selected statement, and answers whether its condition holds."""
         tags, body = said(statement, self.radix)
-        now = Judged(statement.line, tags, body, self.location, self.field, start=statement.start)
+        now = Judged(statement.line, tags, body, self.location, self.place(), self.field, self.is_punched, start=statement.start)
         for tag in tags:
             if now.location >= CORE_END:
                 raise Fault("PF")
             value = self.definition_before(tag, self.judged)
             firm = PERMANENT.get(tag) if value is None else value
-            if firm is not None and firm != now.location:
+            if firm is not None and firm != now.place:
                 raise Fault("DT")
-            now.definitions.append((tag, now.location))
+            now.definitions.append((tag, now.place))
         value = None
         if body.form != "word" and body.value is not None:
             value = self.early_value(body.value, now)
@@ -459,7 +478,7 @@ class Source:
             self.radix = 10 if form == "DECIMA" else 8
         elif form == "origin":
             assert value is not None
-            self.location = value
+            self.location = (value - self.shift) % 0o10000
         elif form == "FIELD":
             assert value is not None
             if value > 7:
@@ -468,11 +487,15 @@ class Source:
         elif form == "PAGE":
             if value is not None and value > 0o37:
                 raise Fault("PG")
-            self.location = -(-self.location // 0o200) * 0o200 if value is None else 0o200 * value
+            self.location = self.location + -self.place() % 0o200 if value is None else (0o200 * value - self.shift) % 0o10000
+        elif form in ("NOPUNC", "ENPUNC"):
+            self.is_punched = form == "ENPUNC"
+        elif form == "RELOC":
+            self.shift = 0 if value is None else (value - self.location) % 0o10000
         elif form == "definition":
             assert value is not None
             self.define(now, value)
-        now.size = {"word": 1, "TEXT": len(now.body.string) // 2 + 1, "ZBLOCK": value or 0}.get(form, 0)
+        now.size = {"word": 1, "TEXT": len(now.body.string) // 2 + 1, "ZBLOCK": value or 0, "FILENA": 4, "DEVICE": 2}.get(form, 0)
         self.location += now.size
         if form in ("IFDEF", "IFNDEF"):
             return (self.value_before(now.body.name, now) is not None) == (form == "IFDEF")
@@ -494,7 +517,7 @@ class Source:
             if term == ".":
                 if now.location >= CORE_END:
                     raise Fault("PF")
-                return now.location
+                return now.place
             assert isinstance(term, str), "no literal stands in such a value"
             found = self.value_before(term, now)
             if found is None:
@@ -514,7 +537,7 @@ class Source:
         word = PERMANENT[reference.operation] | (0o400 if reference.is_indirect else 0)
         if address < 0o200:
             return word | address
-        if address // 0o200 == now.location // 0o200:
+        if address // 0o200 == now.place // 0o200:
             return word | 0o200 | address % 0o200
         return None
 
@@ -552,6 +575,7 @@ class Words:
     def __init__(self, source: Source) -> None:
         self.source = source
         self.asks: list[Ask] = []
+        self.punched_asks: list[Ask] = []
         self.words: list[tuple[int, int]] = []
         self.clashes: Optional[Fault] = None
         for k, now in enumerate(source.judged):
@@ -560,7 +584,7 @@ class Words:
             except Fault as fault:
                 raise Fault(fault.code, now.line, now.start, fault.about)
             cell = 0o10000 * now.in_field + now.location
-            self.words += [(cell + n, word) for n, word in enumerate(words)]
+            self.words += [(cell + n, word) for n, word in enumerate(words) if now.is_punched]
             self.clashes = self.clashes or self.clash(now)
         if self.clashes:
             raise self.clashes
@@ -583,7 +607,7 @@ class Words:
             return [self.value(now.body.value, now, k)]
         if now.body.form == "ZBLOCK":
             return [0] * now.size
-        if now.body.form == "TEXT":
+        if now.body.form in ("TEXT", "FILENA", "DEVICE"):
             codes = [ord(c) % 0o100 for c in now.body.string] + [0, 0]
             return [0o100 * codes[2 * n] + codes[2 * n + 1] for n in range(now.size)]
         return []
@@ -592,7 +616,7 @@ class Words:
         """A name's value at last: before this statement, or else in the whole source, or else permanent."""
         before, judged = self.source.definition_before, self.source.judged
         if name in now.tags:
-            return now.location
+            return now.place
         for value in (before(name, judged[:k]), before(name, judged), permanent(name)):
             if value is not None:
                 return value
@@ -604,9 +628,10 @@ class Words:
                 return term
             if isinstance(term, Literal):
                 inner = self.value(term.value, now, k)
-                page = now.location // 0o200 if term.opening == "(" else 0
-                return 0o200 * page + self.ask((now.in_field, page, inner))
-            return now.location if term == "." else self.last_value(term, now, k)
+                if term.opening == "[":
+                    return self.ask((now.in_field, 0, inner), now)
+                return 0o200 * (now.place // 0o200) + self.ask_here(inner, now)
+            return now.place if term == "." else self.last_value(term, now, k)
 
         if isinstance(value, Expression):
             return sum_of(value, of_term)
@@ -616,18 +641,26 @@ class Words:
             return word
         if value.is_indirect:
             raise Fault("II")
-        return PERMANENT[value.operation] | 0o600 | self.ask((now.in_field, now.location // 0o200, address))
+        return PERMANENT[value.operation] | 0o600 | self.ask_here(address, now)
 
-    def ask(self, ask: Ask) -> int:
+    def ask_here(self, value: int, now: Judged) -> int:
+        """Asks for a cell of the page of the location. A shift by no whole page would lead to another offset."""
+        if (now.location >= 0o200 or now.place >= 0o200) and (now.place - now.location) % 0o200:
+            raise Fault("RL")
+        return self.ask((now.in_field, now.location // 0o200, value), now)
+
+    def ask(self, ask: Ask, now: Judged) -> int:
         """Asks for a cell, and gives its offset on its page."""
         place = rank(self.asks + [ask], ask)
         if place > 0o177:
             raise Fault("PE" if ask[1] else "ZE")
         self.asks.append(ask)
+        if now.is_punched:
+            self.punched_asks.append(ask)
         return 0o177 - place
 
     def pool(self) -> list[tuple[int, int]]:
-        return sorted({(self.cell(ask), ask[2]) for ask in self.asks})
+        return sorted({(self.cell(ask), ask[2]) for ask in self.punched_asks})
 
 
 def pairs(text: bytes) -> list[tuple[int, int]]:

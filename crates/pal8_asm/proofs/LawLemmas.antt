@@ -1,5 +1,5 @@
 -- Why the laws hold.
-use Rattle.std.proofs.Common.{◌≡◌, ℕ, ◌+◌, ◌<◌, nat_eq, arith, Bool, true, false, inl, inr, Option, Some, None, Result, Ok, Err, length, if◌then◌else◌, List, [], ◌∷◌, ◌++◌, refl, ap, subst, ◌∙◌}
+use Rattle.std.proofs.Common.{◌≡◌, ℕ, ◌+◌, ◌-◌, ◌%◌, ◌<◌, nat_eq, arith, Bool, true, false, inl, inr, Option, Some, None, Result, Ok, Err, length, if◌then◌else◌, is_some, List, [], ◌∷◌, ◌++◌, refl, ap, subst, ◌∙◌}
 use Rattle.std.proofs.lemmas.List.{append-nil}
 use Rattle.std.proofs.lemmas.Bool.Decides.{nat_tests}
 use Rattle.pal_sym.specs.Values.{if_none}
@@ -14,12 +14,13 @@ use Rattle.pal8_grammar.specs.Bodies.{Phrase, said_by}
 use Rattle.pal8_grammar.specs.declared.bodies.Body.TheVariants as body
 use Rattle.pal8_grammar.specs.declared.faults.GrammarFault.{GrammarFault}
 use Rattle.pal8_grammar.specs.declared.steps.Step.{Step}
-use Rattle.pal8_asm.specs.Places.{Standing, stands, with_body_if, with_statement, with_tags}
-use Rattle.pal8_asm.specs.Sources.{Entry, Left, Passed, Statement, is_close, left_of, number, passed, with_next, with_phrase, with_said}
+use Rattle.pal8_asm.specs.Places.{Standing, stands, truth_of, with_body_if, with_statement, with_tags}
+use Rattle.pal8_asm.specs.Sources.{Entry, Left, Passed, Statement, bracketed, is_selected, left_of, number, passed, place_of, with_brackets, with_entries as with_entries_of, with_next, with_phrase, with_said, with_selected, with_skipped, words_in}
 use Rattle.pal8_asm.specs.Tapes.{Made, cleared, cleared_by, made_of, spot_of, with_entries, with_entry, with_word}
-use Rattle.pal8_asm.specs.Assembled.{has_words, judged, judged_by, made_by}
-use Rattle.pal8_asm.specs.Laws.{Apart, NoPoolNoChange, PlacesStay, ValueIsFound, meaning, passed_zero, read_zero, standing_in, zero_phrase, zero_said}
+use Rattle.pal8_asm.specs.Assembled.{dollar_in, has_words, judged, judged_by, made_by}
+use Rattle.pal8_asm.specs.Laws.{Apart, NoPoolNoChange, PlacesStay, ValueIsFound, meaning, passed_zero, read_zero, without_words, zero_phrase, zero_said}
 use Rattle.pal8_asm.specs.declared.faults.Fault.{Fault}
+use Rattle.pal8_asm.specs.declared.faults.Place.{Place}
 use Rattle.pal8_asm.specs.declared.faults.Code.{Code}
 use Rattle.pal8_asm.proofs.MakingLemmas.{free_by}
 
@@ -49,25 +50,26 @@ abbrev made_in : Made → Result Made Fault → Made
 made_in other (Err fault) = other
 made_in other (Ok made) = made
 
-module _ (text : List ℕ) (made : Made) where
-  by_words : (m : Made) → lowest_clash m.asks m.words ≡ None → (has : Bool) → judged_by text m has ≡ Ok made → lowest_clash made.asks made.words ≡ None
+module _ (dollar : Place) (made : Made) where
+  by_words : (m : Made) → lowest_clash m.asks m.words ≡ None → (has : Bool) → judged_by dollar m has ≡ Ok made → lowest_clash made.asks made.words ≡ None
   by_words m none true is = subst (λ (x : Made). lowest_clash x.asks x.words ≡ None) (ap (made_in m) is) none
   by_words m none false is = absurd cc
 
-  by_clash : (m : Made) (clash : Option Fault) → m.clash ≡ clash → Free (Ok m) → judged text (cleared_by m clash) ≡ Ok made → lowest_clash made.asks made.words ≡ None
+  by_clash : (m : Made) (clash : Option Fault) → m.clash ≡ clash → Free (Ok m) → judged dollar (cleared_by m clash) ≡ Ok made → lowest_clash made.asks made.words ≡ None
   by_clash m (Some fault) same free is = absurd cc
   by_clash m None same free is = by_words m (free same) (has_words m.words) is
 
-  by_made : (r : Result Made Fault) → Free r → judged text (cleared r) ≡ Ok made → lowest_clash made.asks made.words ≡ None
+  by_made : (r : Result Made Fault) → Free r → judged dollar (cleared r) ≡ Ok made → lowest_clash made.asks made.words ≡ None
   by_made (Err fault) free is = absurd cc
   by_made (Ok m) free is = by_clash m m.clash refl free is
 
-  by_left : (l : Passed) → made_by text l ≡ Ok made → lowest_clash made.asks made.words ≡ None
-  by_left (Err fault) is = absurd cc
-  by_left (Ok left) is = by_made (made_of (stands left.standing.kept) left.entries) (made_is_free (stands left.standing.kept) left.entries) is
+by_left : (made : Made) (l : Passed) → made_by l ≡ Ok made → lowest_clash made.asks made.words ≡ None
+by_left made (Err fault) is = absurd cc
+by_left made (Ok left) is =
+    by_made (dollar_in left.end) made (made_of (stands left.standing.kept) left.entries) (made_is_free (stands left.standing.kept) left.entries) is
 
 pub apart : NoClashIsApart → Apart
-apart law text made is c has = law made.words made.asks (by_left text made (left_of text) is) c has
+apart law text made is c has = law made.words made.asks (by_left made (left_of text) is) c has
 
 -- ## No pool
 
@@ -134,39 +136,92 @@ same_statement tokens n standing (body.Page, steps) = refl
 same_statement tokens n standing (body.Zeros, steps) = refl
 same_statement tokens n standing (body.Text, steps) = refl
 same_statement tokens n standing (body.Listing, steps) = refl
+same_statement tokens n standing (body.IfZero, steps) = refl
+same_statement tokens n standing (body.IfNotZero, steps) = refl
+same_statement tokens n standing (body.IfDefined name, steps) = refl
+same_statement tokens n standing (body.IfUndefined name, steps) = refl
+same_statement tokens n standing (body.NoPunch, steps) = refl
+same_statement tokens n standing (body.Punch, steps) = refl
+same_statement tokens n standing (body.Relocate, steps) = refl
+same_statement tokens n standing (body.Unrelocate, steps) = refl
+same_statement tokens n standing (body.FileName, steps) = refl
+same_statement tokens n standing (body.Device, steps) = refl
 same_statement tokens n standing (body.Word, steps) = word_steps (number 0) steps n (with_tags tokens (Ok standing))
 
-same_close : (test : Bool) (fault : Fault) (left left' : Left) → left'.standing ≡ left.standing
-    → standing_in (if test then Err fault else Ok left') ≡ standing_in (if test then Err fault else Ok left)
-same_close true fault left left' same = refl
-same_close false fault left left' same = ap Ok same
+same_truth : (phrase : Phrase) (standing : Standing) → truth_of (zero_phrase phrase).0 (zero_phrase phrase).1 standing ≡ truth_of phrase.0 phrase.1 standing
+same_truth (body.Nothing, steps) standing = refl
+same_truth (body.Origin, steps) standing = refl
+same_truth (body.Define name, steps) standing = refl
+same_truth (body.Decimal, steps) standing = refl
+same_truth (body.Octal, steps) standing = refl
+same_truth (body.Field, steps) standing = refl
+same_truth (body.NextPage, steps) standing = refl
+same_truth (body.Page, steps) standing = refl
+same_truth (body.Zeros, steps) standing = refl
+same_truth (body.Text, steps) standing = refl
+same_truth (body.Listing, steps) standing = refl
+same_truth (body.IfZero, steps) standing = refl
+same_truth (body.IfNotZero, steps) standing = refl
+same_truth (body.IfDefined name, steps) standing = refl
+same_truth (body.IfUndefined name, steps) standing = refl
+same_truth (body.NoPunch, steps) standing = refl
+same_truth (body.Punch, steps) standing = refl
+same_truth (body.Relocate, steps) standing = refl
+same_truth (body.Unrelocate, steps) standing = refl
+same_truth (body.FileName, steps) standing = refl
+same_truth (body.Device, steps) standing = refl
+same_truth (body.Word, steps) standing = refl
 
-abbrev standing_or : Standing → Result Standing Fault → Standing
-standing_or other (Err fault) = other
-standing_or other (Ok standing) = standing
+abbrev left_or : Left → Passed → Left
+left_or other (Err fault) = other
+left_or other (Ok left) = left
+
+-- what is left, with other words
+abbrev with_words : List Entry → Left → Left
+with_words entries left = record { standing = left.standing; entries = entries; brackets = left.brackets; end = left.end }
 
 module _ (s : Statement) where
-  by_result : (phrase phrase' : Phrase) (left left' : Left) → left'.standing ≡ left.standing → (r : Result Standing Code)
-      → standing_in (with_phrase s phrase' left' r) ≡ standing_in (with_phrase s phrase left r)
-  by_result phrase phrase' left left' same (Err fault) = refl
-  by_result phrase phrase' left left' same (Ok standing) = same_close (is_close s.end) _ _ _ refl
+  by_brackets : (standing : Standing) (entries entries' : List Entry) (r : Result (List Bool) Fault)
+      → without_words (with_brackets s standing entries' r) ≡ without_words (with_brackets s standing entries r)
+  by_brackets standing entries entries' (Err fault) = refl
+  by_brackets standing entries entries' (Ok brackets) = refl
 
-  by_said : (left left' : Left) → left'.standing ≡ left.standing → (r : Result Phrase GrammarFault)
-      → standing_in (with_said s left' (zero_said r)) ≡ standing_in (with_said s left r)
-  by_said left left' same (Err fault) = refl
-  by_said left left' same (Ok phrase) =
-      ap (λ st. standing_in (with_phrase s (zero_phrase phrase) left' (with_statement s.tokens (zero_phrase phrase).0 (zero_phrase phrase).1 (length s.string) st))) same
-      ∙ ap (λ r. standing_in (with_phrase s (zero_phrase phrase) left' r)) (same_statement s.tokens (length s.string) left.standing phrase)
-      ∙ by_result phrase (zero_phrase phrase) left left' same (with_statement s.tokens phrase.0 phrase.1 (length s.string) left.standing)
+  abbrev words_after : Phrase → Left → List Entry → Standing → List Entry
+  words_after phrase left entries standing =
+      with_entries_of (place_of s) left.standing.position.field (left.standing.position.location % 0o10000)
+      (words_in phrase.0 standing.kept phrase.1 s.string (standing.position.location - left.standing.position.location)) entries
 
-  by_both : (other whole : Passed) → standing_in other ≡ standing_in whole → standing_in (read_zero s other) ≡ standing_in (with_next s whole)
+  by_result : (phrase : Phrase) (left : Left) (entries : List Entry) (r : Result Standing Code)
+      → without_words (with_phrase s (zero_phrase phrase) (with_words entries left) r) ≡ without_words (with_phrase s phrase left r)
+  by_result phrase left entries (Err fault) = refl
+  by_result phrase left entries (Ok standing) =
+      ap (λ r. without_words (with_brackets s standing (words_after (zero_phrase phrase) left entries standing) (bracketed (place_of s) s.end left.brackets r)))
+      (same_truth phrase standing)
+      ∙ by_brackets standing (words_after phrase left left.entries standing) (words_after (zero_phrase phrase) left entries standing) (bracketed (place_of s) s.end left.brackets (truth_of phrase.0 phrase.1 standing))
+
+  by_said : (left : Left) (entries : List Entry) (r : Result Phrase GrammarFault)
+      → without_words (with_said s (with_words entries left) (zero_said r)) ≡ without_words (with_said s left r)
+  by_said left entries (Err fault) = refl
+  by_said left entries (Ok phrase) =
+      ap (λ r. without_words (with_phrase s (zero_phrase phrase) (with_words entries left) r)) (same_statement s.tokens (length s.string) left.standing phrase)
+      ∙ by_result phrase left entries (with_statement s.tokens phrase.0 phrase.1 (length s.string) left.standing)
+
+  by_reading : (left : Left) (entries : List Entry) (over selected : Bool)
+      → without_words (if over then Ok (with_words entries left)
+      else (if selected then with_said s (with_words entries left) (zero_said (said_by left.standing.position.radix s.tokens s.is_cut s.end))
+      else Ok (with_skipped s (with_words entries left))))
+      ≡ without_words (if over then Ok left else (if selected then with_selected s left else Ok (with_skipped s left)))
+  by_reading left entries true selected = refl
+  by_reading left entries false false = refl
+  by_reading left entries false true = by_said left entries (said_by left.standing.position.radix s.tokens s.is_cut s.end)
+
+  by_both : (other whole : Passed) → without_words other ≡ without_words whole → without_words (read_zero s other) ≡ without_words (with_next s whole)
   by_both (Err f) (Err g) same = same
   by_both (Err f) (Ok left) same = absurd cc
   by_both (Ok left') (Err g) same = absurd cc
   by_both (Ok left') (Ok left) same =
-      let standing : left'.standing ≡ left.standing = ap (standing_or left.standing) same in
-      ap (λ (st : Standing). standing_in (with_said s left' (zero_said (said_by st.position.radix s.tokens s.is_cut s.end)))) standing
-      ∙ by_said left left' standing (said_by left.standing.position.radix s.tokens s.is_cut s.end)
+      ap (λ l. without_words (read_zero s (Ok (with_words left'.entries l)))) (ap (left_or left) same)
+      ∙ by_reading left left'.entries (is_some left.end) (is_selected left.brackets)
 
 pub places_stay : PlacesStay
 places_stay [] = refl

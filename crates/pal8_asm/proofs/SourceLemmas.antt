@@ -1,5 +1,5 @@
 -- What further statements leave as it is.
-use Rattle.std.proofs.Common.{◌≡◌, ℕ, ◌-◌, ◌≤◌, suc, Bool, true, false, if◌then◌else◌, Option, Some, None, Result, Ok, Err, length, take, drop, List, [], ◌∷◌, ◌++◌, refl, sym, ap, subst, ◌∙◌, arith}
+use Rattle.std.proofs.Common.{◌≡◌, ℕ, ◌-◌, ◌≤◌, suc, Bool, true, false, if◌then◌else◌, is_some, Option, Some, None, Result, Ok, Err, length, take, drop, List, [], ◌∷◌, ◌++◌, refl, sym, ap, subst, ◌∙◌, arith}
 use Rattle.std.specs.Prelude.{slice_index}
 use Rattle.std.proofs.lemmas.List.{append_assoc, take_all}
 use Rattle.std.specs.Prelude.{◌+◌}
@@ -11,17 +11,16 @@ use Rattle.pal8_lex.specs.Pieces.{ends, pieces}
 use Rattle.pal8_lex.specs.Statements as lex_statements
 use Rattle.pal8_lex.specs.Statements.{statement_of}
 use Rattle.pal8_asm.specs.Laws.{FaultStays}
-use Rattle.pal8_asm.specs.Sources.{Source, Statement, at_place, ended_at, first_left, if_ended, is_dollar, is_ended, last_place, left_of, passed, place_after, source_in, source_of, statements, statements_of, with_next}
+use Rattle.pal8_asm.specs.Sources.{Left, Source, at_place, ended, ended_at, first_left, has_none, is_selected, passed, place_after, statements, statements_of, with_end, with_next, with_selected, with_skipped}
 use Rattle.pal8_asm.specs.declared.faults.Fault.{Fault}
 use Rattle.pal8_asm.specs.declared.faults.Place.{Place}
-use Rattle.pal8_asm.specs.Steps.{FailsAt, HasEnded, HasTaken, IsMaking, IsOnTheWay, Makes, Pushes, ReadsOn, TakesByte}
+use Rattle.pal8_asm.specs.Steps.{Closes, HasReadAll, HasTaken, IsMaking, IsOnTheWay, Makes, Pushes, ReadsOn, TakesByte}
 use Rattle.pal8_asm.specs.Assembling.{IsMade, MakesWords, Progress, ReadsText, left_in}
 use Rattle.pal8_asm.specs.Tapes.{Made, cleared, cleared_by}
 use Rattle.pal8_pools.specs.Pooled.{Holds, PoolTable}
 use Rattle.pal8_clash.specs.Clashes.{AreMarks}
 use Rattle.pal8_asm.specs.declared.faults.AsmFault.{AsmFault}
 use Rattle.pal8_asm.specs.declared.faults.AsmFault.TheVariants.{At, Memory}
-use Rattle.pal8_asm.specs.declared.faults.Code.{Code}
 use Rattle.pal8_asm.specs.declared.faults.Code.TheVariants as code
 
 -- the statements of a text stay whatever follows it
@@ -82,39 +81,17 @@ pushes here b false new it = (byte_ends_none here b it.0, it.1)
 
 -- ## What follows
 
--- no `$` before leaves all statements
-pub open_is_whole : (source : Source) → is_ended source ≡ false → source_in source ≡ source
-open_is_whole [] is = refl
-open_is_whole (s ∷ older) is = ap (λ test. if test then source_in older else s ∷ older) (by_test (is_dollar s.end) (is_ended older) is)
-  where
-    by_test : (dollar ended : Bool) → (if dollar then true else ended) ≡ false → ended ≡ false
-    by_test true ended is = cc
-    by_test false ended is = is
-
--- what follows a `$` is none of the source
-pub end_stays : (further source : Source) → is_ended source ≡ true → (is_ended (further ++ source) ≡ true) × (source_in (further ++ source) ≡ source_in source)
-end_stays [] source is = (is, refl)
-end_stays (s ∷ further) source is =
-    let before = end_stays further source is in (
-      by_test (is_dollar s.end) (is_ended (further ++ source)) before.0,
-      ap (λ test. if test then source_in (further ++ source) else s ∷ further ++ source) before.0 ∙ before.1,
-    )
-  where
-    by_test : (dollar ended : Bool) → ended ≡ true → (if dollar then true else ended) ≡ true
-    by_test true ended is = refl
-    by_test false ended is = is
-
 -- a fault is the fault of what follows, too
-pub fault_stays : (further older : Source) (s : Statement) (fault : Fault) → is_ended older ≡ false → passed (s ∷ older) ≡ Err fault
-    → passed (source_in (further ++ s ∷ older)) ≡ Err fault
-fault_stays [] older s fault is fails = ap (λ test. passed (if test then source_in older else s ∷ older)) is ∙ fails
-fault_stays (x ∷ further) older s fault is fails =
-    by_test (is_ended (further ++ s ∷ older)) refl (fault_stays further older s fault is fails)
-  where
-    by_test : (test : Bool) → is_ended (further ++ s ∷ older) ≡ test → passed (source_in (further ++ s ∷ older)) ≡ Err fault
-        → passed (if test then source_in (further ++ s ∷ older) else x ∷ further ++ s ∷ older) ≡ Err fault
-    by_test true e before = before
-    by_test false e before = ap (with_next x) (sym (ap passed (open_is_whole (further ++ s ∷ older) e)) ∙ before)
+fault_stays : (further source : Source) (fault : Fault) → passed source ≡ Err fault → passed (further ++ source) ≡ Err fault
+fault_stays [] source fault is = is
+fault_stays (s ∷ further) source fault is = ap (with_next s) (fault_stays further source fault is)
+
+-- what follows the `$` that ends a source leaves nothing
+end_stays : (further source : Source) (left : Left) → is_some left.end ≡ true → passed source ≡ Ok left → passed (further ++ source) ≡ Ok left
+end_stays [] source left ends is = is
+end_stays (s ∷ further) source left ends is =
+    ap (with_next s) (end_stays further source left ends is)
+    ∙ ap (λ test. if test then Ok left else (if is_selected left.brackets then with_selected s left else Ok (with_skipped s left))) ends
 
 -- ## Texts
 
@@ -125,36 +102,30 @@ text_after here (b ∷ rest) =
     let it = text_after (b ∷ here) rest in
     (it.0 ++ b ∷ [], it.1 ∙ sym (append_assoc it.0 (b ∷ []) here))
 
--- a byte with a fault has the fault of the text
-pub byte_fails : (whole rest here : List ℕ) (b : ℕ) (code : Code) (place : Place) → text_from (b ∷ here) rest ≡ whole
-    → FailsAt (statements (b ∷ here)) (at_place place code) → left_of whole ≡ Err (at_place place code)
-byte_fails whole rest here b code place same fails =
-    let it = text_after (b ∷ here) rest in
-    let more = statements_stay (b ∷ here) it.0 in
-    let e : statements whole ≡ more.0 ++ fails.newest ∷ fails.older =
-    ap statements (sym same ∙ it.1) ∙ more.1 ∙ ap (λ l. more.0 ++ l) fails.are in
-    ap (if_ended whole (is_ended (statements whole))) (ap (λ l. passed (source_in l)) e ∙ fault_stays more.0 fails.older fails.newest (at_place place code) fails.is_open fails.fails)
+statements_after : (here rest whole : List ℕ) → text_from here rest ≡ whole → (more : Source) × (statements whole ≡ more ++ statements here)
+statements_after here rest whole same =
+    let it = text_after here rest in
+    let more = statements_stay here it.0 in
+    (more.0, ap statements (sym same ∙ it.1) ∙ more.1)
 
--- a `$` ends the text
-pub byte_ends : (whole rest here : List ℕ) (b : ℕ) (place : Place) (a : Progress) → text_from (b ∷ here) rest ≡ whole
-    → HasEnded (b ∷ here) place a → (left_of whole ≡ Ok (left_in a)) × (last_place (source_of whole) ≡ place)
-byte_ends whole rest here b place a same ended =
-    let it = text_after (b ∷ here) rest in
-    let more = statements_stay (b ∷ here) it.0 in
-    let e : statements whole ≡ more.0 ++ statements (b ∷ here) = ap statements (sym same ∙ it.1) ∙ more.1 in
-    let stays = end_stays more.0 (statements (b ∷ here)) ended.is_ended_now in
-    let source : source_of whole ≡ source_of (b ∷ here) = ap source_in e ∙ stays.1 in (
-      ap (λ test. if_ended whole test (passed (source_of whole))) (ap is_ended e ∙ stays.0) ∙ ap (if_ended whole true) (ap passed source ∙ ended.leaves),
-      ap last_place source ∙ ended.at,
-    )
+-- the source is over where a `$` ended it
+pub way_ends : (whole rest : List ℕ) (lexer : lex.Progress) (at : ℕ) (a : Progress) → is_some a.end ≡ true → IsOnTheWay whole rest lexer at a → HasReadAll whole lexer at a
+way_ends whole rest lexer at a ends way =
+    let more = statements_after way.here rest whole way.same in
+    record {
+      leaves = ap passed more.1 ∙ end_stays more.0 (statements way.here) (left_in a) ends way.taken.leaves;
+      counts = λ none. absurd (not_both (sym (ap is_some none) ∙ ends));
+    }
+  where
+    not_both : false ≡ true → ⊥
+    not_both is = cc
 
--- the text ends without one
-pub text_ends : (whole : List ℕ) (lexer : lex.Progress) (a : Progress) (place : Place) → HasTaken whole lexer a → place ≡ place_after whole
-    → left_of whole ≡ Err (at_place place code.NE)
-text_ends whole lexer a place taken is =
-    ap (λ test. if_ended whole test (passed (source_of whole))) taken.is_open
-    ∙ ap (if_ended whole false) (ap passed (open_is_whole (statements whole) taken.is_open) ∙ taken.leaves)
-    ∙ ap (λ p. Err (at_place p code.NE)) (sym is)
+-- the text is over
+pub way_is_over : (whole rest : List ℕ) (lexer : lex.Progress) (at : ℕ) (a : Progress) → length rest ≡ 0 → IsOnTheWay whole rest lexer at a → HasReadAll whole lexer at a
+way_is_over whole [] lexer at a none way =
+    let taken = subst (λ w. HasTaken w lexer a) way.same way.taken in
+    record { leaves = taken.leaves; counts = λ now. (way.counts ∙ ap (λ w. limit (length w)) way.same, taken.has_read) }
+way_is_over whole (b ∷ rest) lexer at a none way = absurd (omega (arith, none))
 
 -- what stands after the first of a list
 abbrev pub behind_one : {A : Type 0} → List A → List A
@@ -175,7 +146,7 @@ module _ (whole rest : List ℕ) (lexer lexer' : lex.Progress) (at : ℕ) (a a' 
   same_again : text_from (slice_index rest 0 ∷ way.here) (behind_one rest) ≡ whole
   same_again = sym (ap (text_from way.here) (first_one rest long)) ∙ way.same
 
-  pub way_goes_on : TakesByte (slice_index rest 0 ∷ way.here) (Ok None) lexer' a' → IsOnTheWay whole (behind_one rest) lexer' (limit (at + 1)) a'
+  pub way_goes_on : HasTaken (slice_index rest 0 ∷ way.here) lexer' a' → IsOnTheWay whole (behind_one rest) lexer' (limit (at + 1)) a'
   way_goes_on taken = record {
     here = slice_index rest 0 ∷ way.here;
     counts = ap (λ n. limit (n + 1)) way.counts ∙ limit_more (length way.here);
@@ -183,44 +154,57 @@ module _ (whole rest : List ℕ) (lexer lexer' : lex.Progress) (at : ℕ) (a a' 
     taken = taken;
   }
 
-  pub way_ends : (place : Place) (answer : Option Place) → answer ≡ Some place → TakesByte (slice_index rest 0 ∷ way.here) (Ok answer) lexer' a' → ReadsText whole (Ok place) a'
-  way_ends place answer is takes =
-      let ended = subst (λ o. TakesByte (slice_index rest 0 ∷ way.here) (Ok o) lexer' a') is takes in
-      byte_ends whole (behind_one rest) way.here (slice_index rest 0) place a' same_again ended
-
-  pub way_fails : (fault : AsmFault) → TakesByte (slice_index rest 0 ∷ way.here) (Err fault) lexer' a' → ReadsText whole (Err fault) a'
-  way_fails (At code place) fails = byte_fails whole (behind_one rest) way.here (slice_index rest 0) code place same_again fails
+  -- a byte with a fault has the fault of the text
+  pub way_fails : (fault : AsmFault) → TakesByte (slice_index rest 0 ∷ way.here) (Err fault) lexer' a' → ReadsOn whole (Err fault) lexer' at a'
+  way_fails (At code place) fails =
+      let more = statements_after (slice_index rest 0 ∷ way.here) (behind_one rest) whole same_again in
+      ap passed more.1 ∙ fault_stays more.0 (statements (slice_index rest 0 ∷ way.here)) (at_place place code) fails
   way_fails Memory fails = tt
-
-  pub way_goes_on_from : (answer : Option Place) → answer ≡ None → TakesByte (slice_index rest 0 ∷ way.here) (Ok answer) lexer' a'
-      → IsOnTheWay whole (behind_one rest) lexer' (limit (at + 1)) a'
-  way_goes_on_from answer is takes = way_goes_on (subst (λ o. TakesByte (slice_index rest 0 ∷ way.here) (Ok o) lexer' a') is takes)
-
-pub way_is_over : (whole rest : List ℕ) (lexer : lex.Progress) (at : ℕ) (a : Progress) → length rest ≡ 0 → IsOnTheWay whole rest lexer at a
-    → HasTaken whole lexer a × (at ≡ limit (length whole))
-way_is_over whole [] lexer at a none way = (subst (λ w. HasTaken w lexer a) way.same way.taken, way.counts ∙ ap (λ w. limit (length w)) way.same)
-way_is_over whole (b ∷ rest) lexer at a none way = absurd (omega (arith, none))
-
--- the text has no `$`
-pub text_is_over : (whole : List ℕ) (lexer : lex.Progress) (at : ℕ) (a : Progress) (line : ℕ) → HasTaken whole lexer a × (at ≡ limit (length whole))
-    → line ≡ (lex.anew lexer).line → left_of whole ≡ Err (at_place (record { line = line; start = at }) code.NE)
-unfolding HasRead
-text_is_over whole lexer at a line taken is =
-    text_ends whole lexer a (record { line = line; start = at }) taken.0
-    (ap (λ l. record { line = l; start = at }) (is ∙ ap (λ (p : lex.Progress). p.line) taken.0.has_read) ∙ ap (λ n. record { line = line_after (live whole); start = n }) taken.1)
 
 -- nothing is read yet
 pub starts : (whole : List ℕ) (lexer : lex.Progress) (a : Progress) → HasRead lexer [] → left_in a ≡ first_left → IsOnTheWay (text_of whole) whole lexer 0 a
 starts whole lexer a read is =
-    record { here = []; counts = refl; same = refl; taken = record { has_read = read; is_open = refl; leaves = ap Ok (sym is) } }
+    record { here = []; counts = refl; same = refl; taken = record { has_read = read; leaves = ap Ok (sym is) } }
 
-pub reads_end : (whole : List ℕ) (answer : Option Place) (place : Place) (lexer : lex.Progress) (at : ℕ) (a : Progress) → answer ≡ Some place → ReadsOn whole (Ok answer) lexer at a
-    → ReadsText whole (Ok place) a
-reads_end whole answer place lexer at a is reads = subst (λ o. ReadsOn whole (Ok o) lexer at a) is reads
+-- the end of a text without a `$`
+pub text_end : (whole : List ℕ) (lexer : lex.Progress) (at line : ℕ) → at ≡ limit (length whole) → HasRead lexer whole → line ≡ (lex.anew lexer).line
+    → record { line = line; start = at } ≡ place_after whole
+unfolding HasRead
+text_end whole lexer at line counts read is =
+    ap (λ l. record { line = l; start = at }) (is ∙ ap (λ (p : lex.Progress). p.line) read) ∙ ap (λ n. record { line = line_after (live whole); start = n }) counts
 
-pub reads_none : (whole : List ℕ) (answer : Option Place) (lexer : lex.Progress) (at : ℕ) (a : Progress) → answer ≡ None → ReadsOn whole (Ok answer) lexer at a
-    → HasTaken whole lexer a × (at ≡ limit (length whole))
-reads_none whole answer lexer at a is reads = subst (λ o. ReadsOn whole (Ok o) lexer at a) is reads
+-- what the end of a text comes to
+pub text_closes : (whole : List ℕ) (lexer : lex.Progress) (at : ℕ) (a : Progress) → HasReadAll whole lexer at a → (result : Result Place AsmFault)
+    → Closes (with_end whole (left_in a) a.brackets a.end) result a → ReadsText whole result a
+text_closes whole lexer at a read (Ok place) closes = (ap (ended whole) read.leaves ∙ closes.0, closes.1)
+text_closes whole lexer at a read (Err (At code place)) closes = ap (ended whole) read.leaves ∙ closes
+text_closes whole lexer at a read (Err Memory) closes = tt
+
+-- what reading further fails for
+pub text_fails : (whole : List ℕ) (lexer : lex.Progress) (at : ℕ) (a : Progress) (fault : AsmFault) → ReadsOn whole (Err fault) lexer at a → ReadsText whole (Err fault) a
+text_fails whole lexer at a (At code place) fails = ap (ended whole) fails
+text_fails whole lexer at a Memory fails = tt
+
+-- ## Ends
+
+module _ (text : List ℕ) (left : Left) (place : Place) where
+  pub ends_closed : (now : List Bool) (end : Option Place) → has_none now ≡ true → end ≡ Some place → with_end text left now end ≡ Ok left
+  ends_closed [] end none is = ap (with_end text left []) is
+  ends_closed (newest ∷ outer) end none is = absurd cc
+
+  pub ends_open : (now : List Bool) (end : Option Place) → has_none now ≡ false → end ≡ Some place → with_end text left now end ≡ Err (at_place place code.PH)
+  ends_open [] end none is = absurd cc
+  ends_open (newest ∷ outer) end none is = ap (with_end text left (newest ∷ outer)) is
+
+  pub lacks_dollar : (now : List Bool) (end : Option Place) → has_none now ≡ true → end ≡ None → place ≡ place_after text
+      → with_end text left now end ≡ Err (at_place place code.NE)
+  lacks_dollar [] end none is at = ap (with_end text left []) is ∙ ap (λ p. Err (at_place p code.NE)) (sym at)
+  lacks_dollar (newest ∷ outer) end none is at = absurd cc
+
+  pub lacks_close : (now : List Bool) (end : Option Place) → has_none now ≡ false → end ≡ None → place ≡ place_after text
+      → with_end text left now end ≡ Err (at_place place code.PH)
+  lacks_close [] end none is at = absurd cc
+  lacks_close (newest ∷ outer) end none is at = ap (with_end text left (newest ∷ outer)) is ∙ ap (λ p. Err (at_place p code.PH)) (sym at)
 
 -- nothing is made yet
 pub starts_making : (pools : PoolTable) (marks : List Bool) (clash : Option Fault) (pairs : List (ℕ × ℕ)) → Holds pools [] [] → AreMarks marks [] → clash ≡ None → pairs ≡ []
@@ -254,17 +238,7 @@ words_clear whole pools marks clash pairs making is = record {
   holds = making.holds;
 }
 
-source_fault_stays : (further source : Source) (fault : Fault) → passed (source_in source) ≡ Err fault → passed (source_in (further ++ source)) ≡ Err fault
-source_fault_stays [] source fault fails = fails
-source_fault_stays (x ∷ further) source fault fails = by_test (is_ended (further ++ source)) refl (source_fault_stays further source fault fails)
-  where
-    by_test : (test : Bool) → is_ended (further ++ source) ≡ test → passed (source_in (further ++ source)) ≡ Err fault
-        → passed (if test then source_in (further ++ source) else x ∷ further ++ source) ≡ Err fault
-    by_test true e before = before
-    by_test false e before = ap (with_next x) (sym (ap passed (open_is_whole (further ++ source) e)) ∙ before)
-
 pub text_fault_stays : FaultStays
 text_fault_stays later text fault fails =
     let more = statements_stay text later in
-    ap (if_ended (later ++ text) (is_ended (statements (later ++ text))))
-    (ap (λ l. passed (source_in l)) more.1 ∙ source_fault_stays more.0 (statements text) fault fails)
+    ap (ended (later ++ text)) (ap passed more.1 ∙ fault_stays more.0 (statements text) fault fails)

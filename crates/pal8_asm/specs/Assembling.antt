@@ -1,5 +1,5 @@
 -- What the answers of an assembler come to.
-use Rattle.std.specs.Prelude.{◌≡◌, ℕ, Result, Ok, Err, List, ◌++◌}
+use Rattle.std.specs.Prelude.{◌≡◌, ℕ, Bool, Option, Some, Result, Ok, Err, List, ◌++◌}
 use Rattle.pal_sym.specs.SymbolTable.{SymbolTable}
 use Rattle.pal_sym.specs.Values.{is_fixed, symbol_value}
 use Rattle.std.specs.Global.{Vec}
@@ -8,7 +8,7 @@ use Rattle.pal8_pools.specs.Pooled.{Holds, PoolTable}
 use Rattle.pal8_asm.specs.Places.{Standing}
 use Rattle.pal8_asm.specs.Tapes.{Made}
 use Rattle.pal8_asm.specs.Assembled.{assembled}
-use Rattle.pal8_asm.specs.Sources.{Entry, Left, Passed, at_place, last_place, left_of, source_of}
+use Rattle.pal8_asm.specs.Sources.{Entry, Left, Passed, at_place, left_of}
 use Rattle.pal8_asm.specs.declared.faults.Fault.{Fault}
 use Rattle.pal8_asm.specs.declared.faults.Place.{Place}
 use Rattle.pal8_asm.specs.declared.faults.AsmFault.{AsmFault}
@@ -33,10 +33,12 @@ pub record Progress : Type 0 where
   pub table : SymbolTable
   pub position : Position
   pub entries : List Entry
+  pub brackets : List Bool
+  pub end : Option Place
 
 -- what the statements before leave
 abbrev pub left_in : Progress → Left
-left_in a = record { standing = standing a.table a.position; entries = a.entries }
+left_in a = record { standing = standing a.table a.position; entries = a.entries; brackets = a.brackets; end = a.end }
 
 -- a statement is taken, or its fault is answered; or memory ran out
 abbrev pub Takes : Passed → Result (Unit {0}) AsmFault → Progress → Type 0
@@ -46,7 +48,7 @@ Takes whole (Err asm.Memory) new = Unit {0}
 
 -- what a text leaves to be made was taken, and its `$` has this place; or its fault; or memory ran out
 abbrev pub ReadsText : List ℕ → Result Place AsmFault → Progress → Type 0
-ReadsText text (Ok place) a = (left_of text ≡ Ok (left_in a)) × (last_place (source_of text) ≡ place)
+ReadsText text (Ok place) a = (left_of text ≡ Ok (left_in a)) × (a.end ≡ Some place)
 ReadsText text (Err (asm.At code place)) a = left_of text ≡ Err (at_place place code)
 ReadsText text (Err asm.Memory) a = Unit {0}
 

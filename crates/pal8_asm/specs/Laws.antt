@@ -1,5 +1,5 @@
 -- What holds of each text.
-use Rattle.std.specs.Prelude.{◌≡◌, ℕ, nat_eq, true, false, if◌then◌else◌, Option, Some, None, Result, Ok, Err, List, [], ◌∷◌, ◌++◌}
+use Rattle.std.specs.Prelude.{◌≡◌, ℕ, nat_eq, true, false, if◌then◌else◌, is_some, Option, Some, None, Result, Ok, Err, List, [], ◌∷◌, ◌++◌}
 use Rattle.pal_sym.specs.Values.{if_none}
 use Rattle.pal8_pools.specs.Asks.{Ask, IsAsked, cell_in}
 use Rattle.pal8_pools.specs.Pooled.{is_cell_of}
@@ -7,16 +7,17 @@ use Rattle.pal8_clash.specs.Clashes.{has_word}
 use Rattle.pal8_asm.specs.Assembled.{assembled}
 use Rattle.pal8_asm.specs.Assembling.{IsAssembled}
 use Rattle.pal8_asm.specs.Tapes.{Made}
-use Rattle.pal8_grammar.specs.Bodies.{Phrase, said_by}
+use Rattle.pal8_lex.specs.declared.rules.End.{End}
+use Rattle.pal8_lex.specs.declared.rules.End.TheVariants as end
+use Rattle.pal8_grammar.specs.Bodies.{Phrase, opens, said_by, tags_in}
 use Rattle.pal8_grammar.specs.declared.bodies.Body.TheVariants as body
 use Rattle.pal8_grammar.specs.declared.faults.GrammarFault.{GrammarFault}
-use Rattle.pal8_asm.specs.Places.{Standing}
-use Rattle.pal8_asm.specs.Sources.{Passed, Source, Statement, first_left, left_of, number, passed, source_of, with_said}
+use Rattle.pal8_asm.specs.Sources.{Left, Passed, Source, Statement, first_left, is_selected, left_of, number, passed, statements, with_said, with_skipped}
 use Rattle.pal8_asm.specs.declared.faults.Fault.{Fault}
 
 -- the first fault of the statements of a text is that of the text, whatever follows
 abbrev pub FaultStays : Type 0
-FaultStays = (later text : List ℕ) (fault : Fault) → passed (source_of text) ≡ Err fault → left_of (later ++ text) ≡ Err fault
+FaultStays = (later text : List ℕ) (fault : Fault) → passed (statements text) ≡ Err fault → left_of (later ++ text) ≡ Err fault
 
 -- in a text without a fault no cell of a word is a pool's cell
 abbrev pub Apart : Type 0
@@ -37,6 +38,39 @@ ValueIsFound =
     (text : List ℕ) (pairs : List (ℕ × ℕ)) → (whole : IsAssembled (assembled text) pairs) → (a : Ask) → IsAsked whole.made.asks a
     → meaning pairs (cell_in whole.made.asks a) ≡ Some a.value
 
+-- ## What isn't selected is nothing
+
+abbrev pub plain_end : End → End
+plain_end end.Semicolon = end.Semicolon
+plain_end end.Line = end.Line
+plain_end end.Open = end.Semicolon
+plain_end end.Close = end.Semicolon
+plain_end end.Dollar = end.Dollar
+
+-- a statement with `;` for `<` and `>`, and a condition, which `<` ends, as its tags alone
+abbrev pub plain_statement : Statement → Statement
+plain_statement s = record {
+  line = s.line;
+  at = s.at;
+  tokens = if opens s.end then tags_in s.tokens else s.tokens;
+  string = s.string;
+  is_cut = s.is_cut;
+  end = plain_end s.end;
+}
+
+abbrev pub plain_by : Statement → Passed → Source → Source
+plain_by s (Err fault) others = others
+plain_by s (Ok left) others = if is_some left.end then others else (if is_selected left.brackets then plain_statement s ∷ others else others)
+
+-- the statements of a source that are selected, without conditions and brackets
+abbrev pub plain : Source → Source
+plain [] = []
+plain (s ∷ older) = plain_by s (passed older) (plain older)
+
+-- a text leaves what its selected statements leave, without conditions and brackets
+abbrev pub SkippedIsNothing : Type 0
+SkippedIsNothing = (text : List ℕ) (left : Left) → left_of text ≡ Ok left → passed (plain (statements text)) ≡ Ok left
+
 -- ## Places rest on no word
 
 -- what a statement says, but that a word is the word 0
@@ -52,6 +86,16 @@ zero_phrase (body.Page, steps) = (body.Page, steps)
 zero_phrase (body.Zeros, steps) = (body.Zeros, steps)
 zero_phrase (body.Text, steps) = (body.Text, steps)
 zero_phrase (body.Listing, steps) = (body.Listing, steps)
+zero_phrase (body.IfZero, steps) = (body.IfZero, steps)
+zero_phrase (body.IfNotZero, steps) = (body.IfNotZero, steps)
+zero_phrase (body.IfDefined name, steps) = (body.IfDefined name, steps)
+zero_phrase (body.IfUndefined name, steps) = (body.IfUndefined name, steps)
+zero_phrase (body.NoPunch, steps) = (body.NoPunch, steps)
+zero_phrase (body.Punch, steps) = (body.Punch, steps)
+zero_phrase (body.Relocate, steps) = (body.Relocate, steps)
+zero_phrase (body.Unrelocate, steps) = (body.Unrelocate, steps)
+zero_phrase (body.FileName, steps) = (body.FileName, steps)
+zero_phrase (body.Device, steps) = (body.Device, steps)
 zero_phrase (body.Word, steps) = (body.Word, number 0)
 
 abbrev pub zero_said : Result Phrase GrammarFault → Result Phrase GrammarFault
@@ -60,18 +104,21 @@ zero_said (Ok phrase) = Ok (zero_phrase phrase)
 
 abbrev pub read_zero : Statement → Passed → Passed
 read_zero s (Err fault) = Err fault
-read_zero s (Ok left) = with_said s left (zero_said (said_by left.standing.position.radix s.tokens s.is_cut s.end))
+read_zero s (Ok left) =
+    if is_some left.end then Ok left
+    else (if is_selected left.brackets then with_said s left (zero_said (said_by left.standing.position.radix s.tokens s.is_cut s.end))
+    else Ok (with_skipped s left))
 
 -- what the statements of a source leave, where each word is read as the word 0
 abbrev pub passed_zero : Source → Passed
 passed_zero [] = Ok first_left
 passed_zero (s ∷ older) = read_zero s (passed_zero older)
 
--- the places, the field and the names that are left
-abbrev pub standing_in : Passed → Result Standing Fault
-standing_in (Err fault) = Err fault
-standing_in (Ok left) = Ok left.standing
+-- what is left but the words: places, the field and names, the brackets that are open, and the end
+abbrev pub without_words : Passed → Passed
+without_words (Err fault) = Err fault
+without_words (Ok left) = Ok record { standing = left.standing; entries = []; brackets = left.brackets; end = left.end }
 
--- each place, field and name, and each fault of theirs, is that of the source with each word read as the word 0
+-- each place, field and name, each condition, the end and each fault of theirs is that of the source with each word read as the word 0
 abbrev pub PlacesStay : Type 0
-PlacesStay = (source : Source) → standing_in (passed_zero source) ≡ standing_in (passed source)
+PlacesStay = (source : Source) → without_words (passed_zero source) ≡ without_words (passed source)

@@ -1,6 +1,6 @@
 -- What a statement does to places and names, by those before it (PAL8, in this project's profile). No place and no name rests on a literal
 -- or a link.
-use Rattle.std.specs.Prelude.{ℕ, ◌+◌, ◌*◌, ◌/◌, nat_eq, nat_lt, Bool, true, false, if◌then◌else◌, Option, Some, None, Result, Ok, Err, List, [], ◌∷◌}
+use Rattle.std.specs.Prelude.{ℕ, ◌+◌, ◌*◌, ◌/◌, nat_eq, nat_lt, Bool, true, false, not, if◌then◌else◌, is_some, Option, Some, None, Result, Ok, Err, List, [], ◌∷◌}
 use Rattle.std.specs.Ordering.{nat_cmp}
 use Rattle.std.specs.FinMap.{find}
 use Rattle.pal_sym.specs.Values.{if_none}
@@ -138,6 +138,16 @@ with_valued body.Page s v = moved s (with_page v s.position)
 with_valued body.Zeros s v = moved s (with_size v s.position)
 with_valued body.Text s v = Ok s
 with_valued body.Listing s v = Ok s
+with_valued body.IfZero s v = Ok s
+with_valued body.IfNotZero s v = Ok s
+with_valued (body.IfDefined name) s v = Ok s
+with_valued (body.IfUndefined name) s v = Ok s
+with_valued body.NoPunch s v = Ok s
+with_valued body.Punch s v = Ok s
+with_valued body.Relocate s v = Ok s
+with_valued body.Unrelocate s v = Ok s
+with_valued body.FileName s v = Ok s
+with_valued body.Device s v = Ok s
 with_valued body.Word s v = Ok s
 
 abbrev pub with_value_of : Body → Standing → Result ℕ Code → Result Standing Code
@@ -148,7 +158,7 @@ with_value_of body s (Ok v) = with_valued body s v
 abbrev pub value_at : Standing → List Step → Result ℕ Code
 value_at s steps = coded (early_value (stands s.kept) s.position.location steps)
 
--- what a body does, with the steps of its value and the length of its string
+-- what a body does, with the steps of its value and the length of its string; `NOPUNCH`, `RELOC` and the like aren't taken yet
 abbrev pub with_body : Body → List Step → ℕ → Standing → Result Standing Code
 with_body body.Nothing steps length s = Ok s
 with_body body.Origin steps length s = with_value_of body.Origin s (value_at s steps)
@@ -162,11 +172,56 @@ with_body body.Page steps length s = with_value_of body.Page s (value_at s steps
 with_body body.Zeros steps length s = with_value_of body.Zeros s (value_at s steps)
 with_body body.Text steps length s = moved s (with_size (text_size length) s.position)
 with_body body.Listing steps length s = Ok s
+with_body body.IfZero steps length s = Ok s
+with_body body.IfNotZero steps length s = Ok s
+with_body (body.IfDefined name) steps length s = Ok s
+with_body (body.IfUndefined name) steps length s = Ok s
+with_body body.NoPunch steps length s = Err code.SY
+with_body body.Punch steps length s = Err code.SY
+with_body body.Relocate steps length s = Err code.SY
+with_body body.Unrelocate steps length s = Err code.SY
+with_body body.FileName steps length s = Err code.SY
+with_body body.Device steps length s = Err code.SY
 with_body body.Word steps length s = moved s (with_size 1 s.position)
 
 abbrev pub with_body_if : Body → List Step → ℕ → Result Standing Code → Result Standing Code
 with_body_if body steps length (Err fault) = Err fault
 with_body_if body steps length (Ok s) = with_body body steps length s
+
+-- ## Conditions
+
+abbrev pub is_zero : Result ℕ Code → Result Bool Code
+is_zero (Err fault) = Err fault
+is_zero (Ok v) = Ok (nat_eq v 0)
+
+abbrev pub is_other : Result ℕ Code → Result Bool Code
+is_other (Err fault) = Err fault
+is_other (Ok v) = Ok (not (nat_eq v 0))
+
+-- Whether a condition is true, by the names before, of which a statement's own tags are some. No other body is one.
+abbrev pub truth_of : Body → List Step → Standing → Result Bool Code
+truth_of body.Nothing steps s = Ok false
+truth_of body.Origin steps s = Ok false
+truth_of (body.Define name) steps s = Ok false
+truth_of body.Decimal steps s = Ok false
+truth_of body.Octal steps s = Ok false
+truth_of body.Field steps s = Ok false
+truth_of body.NextPage steps s = Ok false
+truth_of body.Page steps s = Ok false
+truth_of body.Zeros steps s = Ok false
+truth_of body.Text steps s = Ok false
+truth_of body.Listing steps s = Ok false
+truth_of body.Word steps s = Ok false
+truth_of body.IfZero steps s = is_zero (value_at s steps)
+truth_of body.IfNotZero steps s = is_other (value_at s steps)
+truth_of (body.IfDefined name) steps s = Ok (is_some (stands s.kept name))
+truth_of (body.IfUndefined name) steps s = Ok (not (is_some (stands s.kept name)))
+truth_of body.NoPunch steps s = Ok false
+truth_of body.Punch steps s = Ok false
+truth_of body.Relocate steps s = Ok false
+truth_of body.Unrelocate steps s = Ok false
+truth_of body.FileName steps s = Ok false
+truth_of body.Device steps s = Ok false
 
 -- what a statement does: its tags from the left, then its body; or its first fault
 abbrev pub with_statement : List Token → Body → List Step → ℕ → Standing → Result Standing Code

@@ -20,7 +20,7 @@ use Rattle.pal8_grammar.specs.declared.steps.Step.TheVariants as step
 use Rattle.pal8_grammar.specs.declared.faults.GrammarFault.{GrammarFault}
 use Rattle.pal8_grammar.specs.declared.faults.GrammarFault.TheVariants as grammar
 use Rattle.pal8_values.specs.Sums.{Known}
-use Rattle.pal8_asm.specs.Places.{Standing, with_statement}
+use Rattle.pal8_asm.specs.Places.{Standing, truth_of, with_statement}
 use Rattle.pal8_asm.specs.declared.faults.Place.{Place}
 use Rattle.pal8_asm.specs.declared.faults.Fault.{Fault}
 use Rattle.pal8_asm.specs.declared.faults.Code.{Code}
@@ -65,10 +65,13 @@ pub record Entry : Type 0 where
   pub cell : ℕ
   pub steps : List Step
 
--- What statements leave: places and names, and their words, in the order of the source.
+-- What statements leave: places and names; their words, in the order of the source; of each bracket that is open whether it is true, the newest
+-- first; and the place of the `$` that ended the source.
 pub record Left : Type 0 where
   pub standing : Standing
   pub entries : List Entry
+  pub brackets : List Bool
+  pub end : Option Place
 
 abbrev pub Passed : Type 0
 Passed = Result Left Fault
@@ -82,6 +85,8 @@ first_left = record {
     position = record { radix = radix.Octal; location = FIRST_PLACE; field = 0 };
   };
   entries = [];
+  brackets = [];
+  end = None;
 }
 
 -- ## Words
@@ -128,6 +133,16 @@ words_in body.Page kept steps string size = []
 words_in body.Zeros kept steps string size = replicate size (number 0)
 words_in body.Text kept steps string size = text_words string
 words_in body.Listing kept steps string size = []
+words_in body.IfZero kept steps string size = []
+words_in body.IfNotZero kept steps string size = []
+words_in (body.IfDefined name) kept steps string size = []
+words_in (body.IfUndefined name) kept steps string size = []
+words_in body.NoPunch kept steps string size = []
+words_in body.Punch kept steps string size = []
+words_in body.Relocate kept steps string size = []
+words_in body.Unrelocate kept steps string size = []
+words_in body.FileName kept steps string size = []
+words_in body.Device kept steps string size = []
 words_in body.Word kept steps string size = resolved kept steps ∷ []
 
 -- words from an address on, after others (no word that has a fault is kept, so none is past 7777)
@@ -147,75 +162,105 @@ code_of grammar.Memory = code.SY
 abbrev pub at_place : Place → Code → Fault
 at_place place code = record { code = code; place = place }
 
-abbrev pub is_close : End → Bool
-is_close end.Semicolon = false
-is_close end.Line = false
-is_close end.Open = false
-is_close end.Close = true
-is_close end.Dollar = false
+-- ## Brackets
 
--- no bracket is open, so `>` closes none
-abbrev pub closed : Statement → Left → Passed
-closed s left = if is_close s.end then Err (at_place (place_of s) code.PH) else Ok left
+-- A bracket that is opened in a false one is false, so the newest speaks for all that are open: statements are selected where it is true.
+abbrev pub is_selected : List Bool → Bool
+is_selected [] = true
+is_selected (holds ∷ outer) = holds
+
+abbrev pub outer_of : List Bool → List Bool
+outer_of [] = []
+outer_of (newest ∷ outer) = outer
+
+-- the brackets after a statement: `<` opens one that is true or not, `>` closes the newest
+abbrev pub brackets_after : End → Bool → List Bool → List Bool
+brackets_after end.Semicolon holds brackets = brackets
+brackets_after end.Line holds brackets = brackets
+brackets_after end.Open holds brackets = holds ∷ brackets
+brackets_after end.Close holds brackets = outer_of brackets
+brackets_after end.Dollar holds brackets = brackets
+
+abbrev pub has_none : List Bool → Bool
+has_none [] = true
+has_none (newest ∷ outer) = false
+
+-- a `>` ends a statement where no bracket is open
+abbrev pub closes_none : End → List Bool → Bool
+closes_none end.Semicolon brackets = false
+closes_none end.Line brackets = false
+closes_none end.Open brackets = false
+closes_none end.Close brackets = has_none brackets
+closes_none end.Dollar brackets = false
+
+-- the `$` that ends the source, if a statement that is selected ends in it
+abbrev pub dollar_at : End → Place → Option Place
+dollar_at end.Semicolon place = None
+dollar_at end.Line place = None
+dollar_at end.Open place = None
+dollar_at end.Close place = None
+dollar_at end.Dollar place = Some place
+
+abbrev pub end_of : Statement → Option Place
+end_of s = dollar_at s.end record { line = s.line; start = s.at }
+
+-- the brackets after a statement that is selected, which is a condition that is true or not, or has a fault
+abbrev pub bracketed : Place → End → List Bool → Result Bool Code → Result (List Bool) Fault
+bracketed place end brackets (Err fault) = Err (at_place place fault)
+bracketed place end brackets (Ok holds) = if closes_none end brackets then Err (at_place place code.PH) else Ok (brackets_after end holds brackets)
+
+-- ## Statements
+
+abbrev pub with_brackets : Statement → Standing → List Entry → Result (List Bool) Fault → Passed
+with_brackets s standing entries (Err fault) = Err fault
+with_brackets s standing entries (Ok brackets) = Ok record { standing = standing; entries = entries; brackets = brackets; end = end_of s }
 
 abbrev pub with_phrase : Statement → Phrase → Left → Result Standing Code → Passed
 with_phrase s phrase left (Err fault) = Err (at_place (place_of s) fault)
-with_phrase s phrase left (Ok standing) = closed s record {
-  standing = standing;
-  entries = with_entries (place_of s) left.standing.position.field (left.standing.position.location % 0o10000)
-      (words_in phrase.0 standing.kept phrase.1 s.string (standing.position.location - left.standing.position.location)) left.entries;
-}
+with_phrase s phrase left (Ok standing) = with_brackets s standing
+    (with_entries (place_of s) left.standing.position.field (left.standing.position.location % 0o10000)
+    (words_in phrase.0 standing.kept phrase.1 s.string (standing.position.location - left.standing.position.location)) left.entries)
+    (bracketed (place_of s) s.end left.brackets (truth_of phrase.0 phrase.1 standing))
 
 abbrev pub with_said : Statement → Left → Result Phrase GrammarFault → Passed
 with_said s left (Err fault) = Err (at_place (place_of s) (code_of fault))
 with_said s left (Ok phrase) = with_phrase s phrase left (with_statement s.tokens phrase.0 phrase.1 (length s.string) left.standing)
 
+abbrev pub with_selected : Statement → Left → Passed
+with_selected s left = with_said s left (said_by left.standing.position.radix s.tokens s.is_cut s.end)
+
+-- one that isn't selected says nothing, and a bracket that it opens is false
+abbrev pub with_skipped : Statement → Left → Left
+with_skipped s left = record { standing = left.standing; entries = left.entries; brackets = brackets_after s.end false left.brackets; end = left.end }
+
+-- nothing after the `$` that ended the source is read
 abbrev pub with_next : Statement → Passed → Passed
 with_next s (Err fault) = Err fault
-with_next s (Ok left) = with_said s left (said_by left.standing.position.radix s.tokens s.is_cut s.end)
+with_next s (Ok left) =
+    if is_some left.end then Ok left else (if is_selected left.brackets then with_selected s left else Ok (with_skipped s left))
 
--- what the statements of a source leave, or the first fault of those that places and names have
+-- what the statements of a source leave, or the first fault of those that places, names and conditions have
 abbrev pub passed : Source → Passed
 passed [] = Ok first_left
 passed (s ∷ older) = with_next s (passed older)
 
 -- ## The end of a source
 
-abbrev pub is_dollar : End → Bool
-is_dollar end.Semicolon = false
-is_dollar end.Line = false
-is_dollar end.Open = false
-is_dollar end.Close = false
-is_dollar end.Dollar = true
-
--- a `$` ends one of the statements
-abbrev pub is_ended : Source → Bool
-is_ended [] = false
-is_ended (s ∷ older) = if is_dollar s.end then true else is_ended older
-
--- the statements up to the first `$`
-abbrev pub source_in : Source → Source
-source_in [] = []
-source_in (s ∷ older) = if is_ended older then source_in older else s ∷ older
-
--- the statements of a text that count
-abbrev pub source_of : List ℕ → Source
-source_of text = source_in (statements text)
-
--- the place of what ends the last statement, which is the `$`
-abbrev pub last_place : Source → Place
-last_place [] = record { line = 1; start = 0 }
-last_place (s ∷ older) = record { line = s.line; start = s.at }
-
 -- the place after a text
 abbrev pub place_after : List ℕ → Place
 place_after text = record { line = line_after (live text); start = limit (length text) }
 
-abbrev pub if_ended : List ℕ → Bool → Passed → Passed
-if_ended text ended (Err fault) = Err fault
-if_ended text true (Ok left) = Ok left
-if_ended text false (Ok left) = Err (at_place (place_after text) code.NE)
+-- a `$` outside of all brackets ends a text
+abbrev pub with_end : List ℕ → Left → List Bool → Option Place → Passed
+with_end text left [] None = Err (at_place (place_after text) code.NE)
+with_end text left [] (Some place) = Ok left
+with_end text left (newest ∷ outer) None = Err (at_place (place_after text) code.PH)
+with_end text left (newest ∷ outer) (Some place) = Err (at_place place code.PH)
+
+abbrev pub ended : List ℕ → Passed → Passed
+ended text (Err fault) = Err fault
+ended text (Ok left) = with_end text left left.brackets left.end
 
 -- what a text leaves to be made, or its first fault but for those of words
 abbrev pub left_of : List ℕ → Passed
-left_of text = if_ended text (is_ended (statements text)) (passed (source_of text))
+left_of text = ended text (passed (statements text))

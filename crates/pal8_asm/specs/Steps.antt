@@ -1,5 +1,5 @@
 -- What the small steps of a pass come to, for private clauses.
-use Rattle.pal8_asm.specs.Assembling.{Progress, ReadsText, left_in, standing}
+use Rattle.pal8_asm.specs.Assembling.{Progress, left_in, standing}
 use Rattle.std.specs.Prelude.{◌≡◌, ℕ, ◌-◌, ◌%◌, Bool, true, false, length, Option, Some, None, Result, Ok, Err, List, ◌∷◌, ◌++◌}
 use Rattle.pal_sym.specs.SymbolTable.{SymbolTable}
 use Rattle.pal_sym.specs.Values.{symbol_value}
@@ -18,7 +18,7 @@ use Rattle.pal8_values.specs.Words.{Asked}
 use Rattle.pal8_asm.specs.Places.{Standing, code_of}
 use Rattle.pal8_asm.specs.Tapes.{Made}
 use Rattle.pal8_clash.specs.Clashes.{AreMarks, lowest_clash}
-use Rattle.pal8_asm.specs.Sources.{Entry, Passed, Source, Statement, at_place, ended_at, is_ended, last_place, passed, source_of, statements, with_entries, words_in}
+use Rattle.pal8_asm.specs.Sources.{Entry, Passed, at_place, ended_at, passed, statements, with_entries, words_in}
 use Rattle.pal8_asm.specs.declared.faults.Fault.{Fault}
 use Rattle.pal8_asm.specs.declared.faults.Place.{Place}
 use Rattle.pal8_asm.specs.declared.faults.AsmFault.{AsmFault}
@@ -46,11 +46,23 @@ Values whole (Ok found) = whole ≡ Ok found
 Values whole (Err (At code)) = whole ≡ Err code
 Values whole (Err Memory) = Unit {0}
 
+-- whether a condition is true is answered, or the fault of its value; or memory ran out
+abbrev pub IsJudged : Result Bool Code → Result Bool Stop → Type 0
+IsJudged whole (Ok holds) = whole ≡ Ok holds
+IsJudged whole (Err (At code)) = whole ≡ Err code
+IsJudged whole (Err Memory) = Unit {0}
+
+-- the end of a statement is passed, and these brackets are open then, or its fault is answered; or memory ran out
+abbrev pub PassesEnd : Result (List Bool) Fault → Result (Unit {0}) AsmFault → List Bool → Type 0
+PassesEnd whole (Ok nothing) brackets = whole ≡ Ok brackets
+PassesEnd whole (Err (asm.At code place)) brackets = whole ≡ Err (at_place place code)
+PassesEnd whole (Err asm.Memory) brackets = Unit {0}
+
 -- a statement is taken at a position, or its fault is answered; or memory ran out
-abbrev pub TakesStatement : Passed → Result Position AsmFault → SymbolTable → List Entry → Type 0
-TakesStatement whole (Ok next) table entries = whole ≡ Ok record { standing = standing table next; entries = entries }
-TakesStatement whole (Err (asm.At code place)) table entries = whole ≡ Err (at_place place code)
-TakesStatement whole (Err asm.Memory) table entries = Unit {0}
+abbrev pub TakesStatement : Passed → Result Position AsmFault → SymbolTable → List Entry → List Bool → Option Place → Type 0
+TakesStatement whole (Ok next) table entries brackets end = whole ≡ Ok record { standing = standing table next; entries = entries; brackets = brackets; end = end }
+TakesStatement whole (Err (asm.At code place)) table entries brackets end = whole ≡ Err (at_place place code)
+TakesStatement whole (Err asm.Memory) table entries brackets end = Unit {0}
 
 -- What a statement does to names and places was done, and its words are kept.
 pub record IsTaken (whole : Result Standing Code) (place : Place) (body : Body) (steps : List Step) (string : List ℕ) (before next : Position) (old : List Entry)
@@ -74,31 +86,15 @@ Pushes here b (Ok false) new = (statements (b ∷ here) ≡ statements here) × 
 Pushes here b (Err (asm.At code place)) new = ⊥
 Pushes here b (Err asm.Memory) new = Unit {0}
 
--- The first fault of a source, which is the newest statement's: no `$` ended one before it.
-pub record FailsAt (source : Source) (fault : Fault) : Type 0 where
-  pub newest : Statement
-  pub older : Source
-  pub are : source ≡ newest ∷ older
-  pub is_open : is_ended older ≡ false
-  pub fails : passed (newest ∷ older) ≡ Err fault
-
--- These bytes were read, no `$` ended a statement of theirs, and what they leave is taken.
+-- These bytes were read, and what they leave is taken.
 pub record HasTaken (here : List ℕ) (lexer : lex.Progress) (a : Progress) : Type 0 where
   pub has_read : HasRead lexer here
-  pub is_open : is_ended (statements here) ≡ false
   pub leaves : passed (statements here) ≡ Ok (left_in a)
 
--- The newest of these bytes ended the statement that ends the source, at this place.
-pub record HasEnded (here : List ℕ) (place : Place) (a : Progress) : Type 0 where
-  pub is_ended_now : is_ended (statements here) ≡ true
-  pub leaves : passed (source_of here) ≡ Ok (left_in a)
-  pub at : last_place (source_of here) ≡ place
-
--- what a byte more comes to: it goes on, or a `$` with its place ends the source; or its fault; or memory ran out
-abbrev pub TakesByte : List ℕ → Result (Option Place) AsmFault → lex.Progress → Progress → Type 0
-TakesByte here (Ok None) lexer a = HasTaken here lexer a
-TakesByte here (Ok (Some place)) lexer a = HasEnded here place a
-TakesByte here (Err (asm.At code place)) lexer a = FailsAt (statements here) (at_place place code)
+-- what a byte more comes to; or its fault; or memory ran out
+abbrev pub TakesByte : List ℕ → Result (Unit {0}) AsmFault → lex.Progress → Progress → Type 0
+TakesByte here (Ok nothing) lexer a = HasTaken here lexer a
+TakesByte here (Err (asm.At code place)) lexer a = passed (statements here) ≡ Err (at_place place code)
 TakesByte here (Err asm.Memory) lexer a = Unit {0}
 
 -- These bytes are still to be read; what those before them leave is taken.
@@ -108,11 +104,22 @@ pub record IsOnTheWay (whole rest : List ℕ) (lexer : lex.Progress) (at : ℕ) 
   pub same : text_from here rest ≡ whole
   pub taken : HasTaken here lexer a
 
--- what further bytes come to: nothing is left, or the source is over
-abbrev pub ReadsOn : List ℕ → Result (Option Place) AsmFault → lex.Progress → ℕ → Progress → Type 0
-ReadsOn whole (Ok None) lexer at a = HasTaken whole lexer a × (at ≡ limit (length whole))
-ReadsOn whole (Ok (Some place)) lexer at a = ReadsText whole (Ok place) a
-ReadsOn whole (Err fault) lexer at a = ReadsText whole (Err fault) a
+-- What a text leaves is taken: all of it was read, or it was read up to the `$` that ends its source.
+pub record HasReadAll (whole : List ℕ) (lexer : lex.Progress) (at : ℕ) (a : Progress) : Type 0 where
+  pub leaves : passed (statements whole) ≡ Ok (left_in a)
+  pub counts : a.end ≡ None → (at ≡ limit (length whole)) × HasRead lexer whole
+
+-- what further bytes come to; or their fault; or memory ran out
+abbrev pub ReadsOn : List ℕ → Result (Unit {0}) AsmFault → lex.Progress → ℕ → Progress → Type 0
+ReadsOn whole (Ok nothing) lexer at a = HasReadAll whole lexer at a
+ReadsOn whole (Err (asm.At code place)) lexer at a = passed (statements whole) ≡ Err (at_place place code)
+ReadsOn whole (Err asm.Memory) lexer at a = Unit {0}
+
+-- a text is over: it ended at a `$` with this place, or this is the fault of its end
+abbrev pub Closes : Passed → Result Place AsmFault → Progress → Type 0
+Closes whole (Ok place) a = (whole ≡ Ok (left_in a)) × (a.end ≡ Some place)
+Closes whole (Err (asm.At code place)) a = whole ≡ Err (at_place place code)
+Closes whole (Err asm.Memory) a = Unit {0}
 
 -- ## Words
 

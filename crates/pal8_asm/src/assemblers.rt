@@ -1,12 +1,13 @@
-ghost use Rattle.std.specs.Prelude.{◌≡◌, ◌<◌, ◌≤◌, IfOk, Ok, length};
-ghost use Rattle.pal8_asm.specs.Places.{with_statement};
-ghost use Rattle.pal8_asm.specs.Sources.{first_left, is_close, start_of, with_next};
-ghost use Rattle.pal8_asm.specs.Steps.{TakesBody, TakesStatement};
+ghost use Rattle.std.specs.Prelude.{◌≡◌, ◌<◌, ◌≤◌, IfOk, Ok, None, length};
+ghost use Rattle.pal8_asm.specs.Places.{truth_of, with_statement};
+ghost use Rattle.pal8_asm.specs.Sources.{bracketed, dollar_at, first_left, start_of, with_next, with_selected};
+ghost use Rattle.pal8_asm.specs.Steps.{PassesEnd, TakesBody, TakesStatement};
 ghost use Rattle.pal8_asm.specs.Assembling.{Takes, left_in, standing};
 
+use crate::brackets::Brackets;
 use crate::entries::Entries;
 use crate::places::{Position, first_position};
-use crate::tags::pass_statement;
+use crate::tags::{pass_statement, truth_of};
 use crate::{AsmFault, Code, Place, Stop};
 use pal8_grammar::{Body, GrammarFault, Reader, Step};
 use pal8_lex::{End, Token};
@@ -15,12 +16,15 @@ use std::alloc::Global;
 use std::marker::Model;
 use word12::Word;
 
-/// Takes the statements of a source one after the other, and learns what names stand for and which words are to be made.
+/// Takes the statements of a source one after the other, and learns what names stand for, which statements are selected and which words are to
+/// be made.
 #[derive(Drop)]
 pub struct Assembler {
     pub(crate) symbols: Symbols,
     position: Position,
     pub(crate) entries: Entries,
+    pub(crate) brackets: Brackets,
+    pub(crate) end: Option<Place>,
     reader: Reader,
 }
 
@@ -34,16 +38,25 @@ impl Model for Assembler {
 
     ghost coded = { Prim.hlevel (codes, table_code) };
 
-    ghost view = { λ a. record { table = a.symbols; position = a.position; entries = a.entries } };
+    ghost view = { λ a. record {
+      table = a.symbols;
+      position = a.position;
+      entries = a.entries;
+      brackets = a.brackets;
+      end = a.end;
+    } };
 
     ghost invariant = { λ a. (a.position.location ≤ 0o10000) × (a.position.field < 8) };
 }
 
-/// Whether a `>` ended a statement.
-fn is_close(end: End) -> bool
-    ensures { result ≡ is_close end }
+/// The place of the `$` at this byte that ends a statement, if one does.
+fn dollar_at(end: End, place: Place) -> Option<Place>
+    ensures { result ≡ dollar_at end place }
 {
-    matches!(end, End::Close)
+    match end {
+        End::Dollar => Some(place),
+        End::Semicolon | End::Line | End::Open | End::Close => None,
+    }
 }
 
 /// Where a statement begins that a byte ends.
@@ -95,10 +108,36 @@ fn take_body(
     Ok(next)
 }
 
-/// Takes a statement, and answers the position of the next one.
+/// Passes the end of a statement that says this, where the next one has this position: a condition opens a bracket.
+fn pass_end(
+    symbols: &Symbols,
+    brackets: &mut Brackets,
+    position: Position,
+    place: Place,
+    body: Body,
+    steps: &[Step],
+    end: End,
+) -> Result<(), AsmFault>
+    ensures { PassesEnd (bracketed place end brackets.old (truth_of body steps.now (standing symbols.now position))) result brackets.new }
+{
+    let again = end;
+    let is_true = match truth_of(symbols, body, steps, position) {
+        Ok(is_true) => is_true,
+        Err(Stop::At(code)) => return Err(AsmFault::At(code, place)),
+        Err(Stop::Memory) => return Err(AsmFault::Memory),
+    };
+    if brackets.has_none_for(again) {
+        return Err(AsmFault::At(Code::PH, place));
+    }
+    brackets.pass(end, is_true)?;
+    Ok(())
+}
+
+/// Takes a statement that is selected, and answers the position of the next one.
 fn take_statement(
     symbols: &mut Symbols,
     entries: &mut Entries,
+    brackets: &mut Brackets,
     reader: &mut Reader,
     position: Position,
     line: u64,
@@ -110,8 +149,9 @@ fn take_statement(
 ) -> Result<Position, AsmFault>
     requires place { position.location ≤ 0o10000 }
     requires field { position.field < 8 }
-    ensures takes { TakesStatement (with_next (record { line = line; at = at; tokens = tokens.now; string = string.now; is_cut = is_cut; end = end })
-        (Ok (record { standing = standing symbols.old position; entries = entries.old }))) result symbols.new entries.new }
+    ensures takes { TakesStatement (with_selected (record { line = line; at = at; tokens = tokens.now; string = string.now; is_cut = is_cut; end = end })
+        (record { standing = standing symbols.old position; entries = entries.old; brackets = brackets.old; end = None }))
+        result symbols.new entries.new brackets.new (dollar_at end (record { line = line; start = at })) }
     ensures range { IfOk result (λ p. (p.location ≤ 0o10000) × (p.field < 8)) }
 {
     let place = Place {
@@ -126,6 +166,7 @@ fn take_statement(
         Err(GrammarFault::SY) => return Err(AsmFault::At(Code::SY, place)),
         Err(GrammarFault::Memory) => return Err(AsmFault::Memory),
     };
+    let said = body;
     let steps = reader.steps();
     let next = match take_body(
         symbols, entries, position, place, tokens, string, body, steps,
@@ -133,10 +174,10 @@ fn take_statement(
         Ok(next) => next,
         Err(fault) => return Err(fault),
     };
-    if is_close(again) {
-        return Err(AsmFault::At(Code::PH, place));
+    match pass_end(symbols, brackets, next, place, said, steps, again) {
+        Ok(()) => Ok(next),
+        Err(fault) => Err(fault),
     }
-    Ok(next)
 }
 
 impl Assembler {
@@ -148,16 +189,19 @@ impl Assembler {
             symbols: Symbols::new(alloc),
             position: first_position(),
             entries: Entries::new(alloc),
+            brackets: Brackets::new(alloc),
+            end: None,
             reader: Reader::new(alloc),
         }
     }
 
-    /// Takes the next statement of the source: its line, the place of the byte that ends it, its tokens, its string and whether an end cuts that, and what ended it. Its tags and
-    /// its body define names, and set the position of the next one; its words stay to be made.
+    /// Takes the next statement of the source: its line, the place of the byte that ends it, its tokens, its string and whether an end cuts that,
+    /// and what ended it. If it is selected, its tags and its body define names, and set the position of the next one, and its words stay to
+    /// be made. Another opens or closes a bracket at most. A `$` that ends one which is selected ends the source, and nothing after it is read.
     ///
-    /// Its fault is the first of these: IC, NU, SY; of each tag PF and DT; of a value that a place or a name rests on UA, PF, DZ and IR;
-    /// FD, PG or RD; PF where a word is past 7777; PH where `>` ends it. After a fault, and where memory ran out, no further statement
-    /// means anything (PAL8, in this project's profile).
+    /// Its fault is the first of these: IC, NU, SY; of each tag PF and DT; of a value that a place, a name or a condition rests on UA, PF, DZ and
+    /// IR; FD, PG or RD; PF where a word is past 7777; PH where `>` closes no bracket. After a fault, and where memory ran out, no further
+    /// statement means anything (PAL8, in this project's profile).
     pub fn take(
         &mut self,
         line: u64,
@@ -170,9 +214,18 @@ impl Assembler {
         ensures { Takes (with_next (record { line = line; at = at; tokens = tokens.now; string = string.now; is_cut = is_cut; end = end })
             (Ok (left_in self.old))) result self.new }
     {
+        if self.end.is_some() {
+            return Ok(());
+        }
+        if !self.brackets.is_selected() {
+            self.brackets.pass(end, false)?;
+            return Ok(());
+        }
+        let again = end;
         match take_statement(
             &mut self.symbols,
             &mut self.entries,
+            &mut self.brackets,
             &mut self.reader,
             self.position,
             line,
@@ -184,6 +237,7 @@ impl Assembler {
         ) {
             Ok(next) => {
                 self.position = next;
+                self.end = dollar_at(again, Place { line, start: at });
                 Ok(())
             }
             Err(fault) => Err(fault),

@@ -194,6 +194,9 @@ impl Entries {
             Body::Text => self.push_text(symbols, place, field, address, string),
             Body::Nothing | Body::Origin | Body::Define(_) | Body::Decimal | Body::Octal => Ok(()),
             Body::Field | Body::NextPage | Body::Page | Body::Listing => Ok(()),
+            Body::IfZero | Body::IfNotZero | Body::IfDefined(_) | Body::IfUndefined(_) => Ok(()),
+            Body::NoPunch | Body::Punch | Body::Relocate | Body::Unrelocate => Ok(()),
+            Body::FileName | Body::Device => Ok(()),
         }
     }
 

@@ -1,6 +1,6 @@
 //! Laws about what a text comes to, which hold whatever assembles it. A call of one does nothing, and lets its caller use it.
 
-ghost use Rattle.pal8_asm.specs.Laws.{Apart, FaultStays, NoPoolNoChange, PlacesStay, ValueIsFound};
+ghost use Rattle.pal8_asm.specs.Laws.{Apart, FaultStays, NoPoolNoChange, PlacesStay, SkippedIsNothing, ValueIsFound};
 
 use pal8_clash::laws::no_clash_is_apart;
 
@@ -26,8 +26,14 @@ pub fn value_is_found()
     ensures { ValueIsFound }
 {}
 
-/// Each place, field and name, and each fault of theirs, is that of the source with each word read as the word 0: none rests on a literal or a
-/// link.
+/// What the statements of a text leave is what those that are selected leave by themselves, each condition read as nothing and `<` and `>` as
+/// `;`.
+pub fn skipped_is_nothing()
+    ensures { SkippedIsNothing }
+{}
+
+/// Each place, field and name, each condition, and each fault of theirs, is that of the source with each word read as the word 0: none rests on a
+/// literal or a link.
 pub fn places_stay()
     ensures { PlacesStay }
 {}

@@ -4,6 +4,7 @@
 
 mod assemblers;
 mod assembling;
+mod brackets;
 mod entries;
 mod faults;
 pub mod laws;
@@ -14,6 +15,7 @@ mod words;
 
 pub use assemblers::Assembler;
 pub use assembling::assemble;
+pub use brackets::Brackets;
 pub use entries::{Entries, Head};
 pub use faults::{AsmFault, Code, Fault, Place, Stop};
 pub use places::{FIRST_PLACE, Position, first_position};

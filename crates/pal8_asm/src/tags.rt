@@ -3,8 +3,8 @@ ghost use Rattle.pal8_sym.specs.Symbols.{value_of};
 ghost use Rattle.pal8_values.specs.Sums.{early_value};
 ghost use Rattle.pal8_lex.specs.Kinds.{is_comma};
 ghost use Rattle.pal8_grammar.specs.Bodies.{free_name};
-ghost use Rattle.pal8_asm.specs.Places.{coded, with_body, with_definition, with_statement, with_tag, with_tags, with_value_of, with_valued};
-ghost use Rattle.pal8_asm.specs.Steps.{Defines, Values};
+ghost use Rattle.pal8_asm.specs.Places.{coded, truth_of, with_body, with_definition, with_statement, with_tag, with_tags, with_value_of, with_valued};
+ghost use Rattle.pal8_asm.specs.Steps.{Defines, IsJudged, Values};
 ghost use Rattle.pal8_asm.specs.Assembling.{Passes, standing};
 
 use crate::places::{Position, at_location, next_page, with_field, with_page, with_size};
@@ -98,6 +98,35 @@ fn value_at(symbols: &Symbols, location: u16, steps: &[Step]) -> Result<Word, St
     }
 }
 
+/// Whether a condition is true, at a place (0 to 0o10000, which is past 7777), by the names so far, or the first fault of its value: UA, PF,
+/// DZ. Another body is none (PAL8, in this project's profile).
+#[tactic(auto, unfolding(pal8_sym::specs::Symbols::value_of))]
+pub(crate) fn truth_of(
+    symbols: &Symbols,
+    body: Body,
+    steps: &[Step],
+    position: Position,
+) -> Result<bool, Stop>
+    ensures { IsJudged (truth_of body steps.now (standing symbols.now position)) result }
+{
+    match body {
+        Body::IfZero => match value_at(symbols, position.location, steps) {
+            Ok(value) => Ok(value.get() == 0),
+            Err(stop) => Err(stop),
+        },
+        Body::IfNotZero => match value_at(symbols, position.location, steps) {
+            Ok(value) => Ok(value.get() != 0),
+            Err(stop) => Err(stop),
+        },
+        Body::IfDefined(name) => Ok(symbols.value(name).is_some()),
+        Body::IfUndefined(name) => Ok(symbols.value(name).is_none()),
+        Body::Nothing | Body::Origin | Body::Define(_) | Body::Decimal | Body::Octal => Ok(false),
+        Body::Field | Body::NextPage | Body::Page | Body::Zeros | Body::Text => Ok(false),
+        Body::Listing | Body::Word | Body::NoPunch | Body::Punch | Body::Relocate => Ok(false),
+        Body::Unrelocate | Body::FileName | Body::Device => Ok(false),
+    }
+}
+
 /// Passes a body with its value.
 fn pass_valued(
     symbols: &mut Symbols,
@@ -118,6 +147,9 @@ fn pass_valued(
         Body::Zeros => with_size(usize::from(value.get()), position),
         Body::Nothing | Body::Decimal | Body::Octal | Body::NextPage => Ok(position),
         Body::Text | Body::Listing | Body::Word => Ok(position),
+        Body::IfZero | Body::IfNotZero | Body::IfDefined(_) | Body::IfUndefined(_) => Ok(position),
+        Body::NoPunch | Body::Punch | Body::Relocate | Body::Unrelocate => Ok(position),
+        Body::FileName | Body::Device => Ok(position),
     }
 }
 
@@ -174,14 +206,19 @@ fn pass_body(
         Body::Text => with_size(length / 2 + 1, position),
         Body::Word => with_size(1, position),
         Body::Nothing | Body::Listing => Ok(position),
+        Body::IfZero | Body::IfNotZero | Body::IfDefined(_) | Body::IfUndefined(_) => Ok(position),
+        Body::NoPunch | Body::Punch | Body::Relocate | Body::Unrelocate => {
+            Err(Stop::At(Code::SY))
+        }
+        Body::FileName | Body::Device => Err(Stop::At(Code::SY)),
     }
 }
 
 /// Takes a statement, whose tokens begin with its tags: they are defined from the left, then its body, with the steps of its value and the
 /// length of its string, defines a name or sets the position of the next statement. The position answered is that one.
 ///
-/// Its fault is the first of these: of each tag PF and DT; of a value that a place or a name rests on UA, PF, DZ and IR; then FD, PG or
-/// RD; last PF, where a word is past 7777. A name that memory ran out for isn't defined, and those before it are (PAL8, in this
+/// Its fault is the first of these: of each tag PF and DT; SY of `NOPUNCH`, `RELOC`, `FILENAME` and the like, which aren't taken yet; of a value
+/// that a place or a name rests on UA, PF, DZ and IR; then FD, PG or RD; last PF, where a word is past 7777. A name that memory ran out for isn't defined, and those before it are (PAL8, in this
 /// project's profile).
 pub fn pass_statement(
     symbols: &mut Symbols,

@@ -1,14 +1,13 @@
-ghost use Rattle.std.specs.Prelude.{◌≡◌, ◌≤◌, ℕ, List, [], ◌∷◌, length, slice_index};
+ghost use Rattle.std.specs.Prelude.{◌≡◌, ◌≤◌, ℕ, is_some, None, List, [], ◌∷◌, length, slice_index};
 ghost use Rattle.pal_lex.specs.Text.{text_of};
 ghost use Rattle.pal_lex.specs.Text.{limit};
 ghost use Rattle.pal8_lex.specs.Reading.{HasRead, anew};
-ghost use Rattle.pal8_lex.specs.declared.rules.End.{End};
-ghost use Rattle.pal8_asm.specs.Sources.{first_left, is_dollar, with_next};
+ghost use Rattle.pal8_asm.specs.Sources.{first_left, place_after, with_end};
 ghost use Rattle.pal_sym.specs.Values.{symbol_value};
 ghost use Rattle.pal8_pools.specs.Pooled.{Holds};
 ghost use Rattle.pal8_asm.specs.Places.{stands};
 ghost use Rattle.pal8_asm.specs.Tapes.{cleared, made_of};
-ghost use Rattle.pal8_asm.specs.Steps.{HasTaken, IsOnTheWay, Pushes, ReadsOn, TakesByte};
+ghost use Rattle.pal8_asm.specs.Steps.{Closes, HasTaken, IsOnTheWay, Pushes, ReadsOn, TakesByte};
 ghost use Rattle.pal8_asm.specs.Assembling.{MakesWords, ReadsText, left_in};
 
 use crate::{AsmFault, Assembler, Code, Fault, Place};
@@ -18,13 +17,6 @@ use pal8_pools::Pools;
 use pal8_values::Frames;
 use std::alloc::Global;
 use word12::{Cell, Word};
-
-/// Whether a `$` ended a statement.
-fn is_dollar(end: End) -> bool
-    ensures { result ≡ is_dollar end }
-{
-    matches!(end, End::Dollar)
-}
 
 /// The line of what comes next.
 fn next_line(lexer: &Lexer) -> u64
@@ -46,8 +38,8 @@ fn push(lexer: &mut Lexer, byte: u8) -> Result<bool, AsmFault>
 }
 
 impl Assembler {
-    /// Takes the next byte of a text, at this place, and answers the place of the `$` that it is, if it ends the source.
-    fn take_byte(&mut self, lexer: &mut Lexer, at: u64, byte: u8) -> Result<Option<Place>, AsmFault>
+    /// Takes the next byte of a text, at this place.
+    fn take_byte(&mut self, lexer: &mut Lexer, at: u64, byte: u8) -> Result<(), AsmFault>
         ensures { (here : List ℕ) → at ≡ limit (length here) → HasTaken here lexer.old self.old
             → TakesByte (byte ∷ here) result lexer.new self.new }
     {
@@ -56,39 +48,23 @@ impl Assembler {
             Err(fault) => return Err(fault),
         };
         if !ends {
-            return Ok(None);
+            return Ok(());
         }
         match lexer.end() {
-            Some(end) => {
-                let again = end;
-                let line = lexer.line();
-                match self.take(
-                    line,
-                    at,
-                    lexer.tokens(),
-                    lexer.string(),
-                    lexer.is_cut(),
-                    end,
-                ) {
-                    Ok(()) => {}
-                    Err(fault) => return Err(fault),
-                }
-                if is_dollar(again) {
-                    return Ok(Some(Place { line, start: at }));
-                }
-                Ok(None)
-            }
-            None => Ok(None),
+            Some(end) => self.take(
+                lexer.line(),
+                at,
+                lexer.tokens(),
+                lexer.string(),
+                lexer.is_cut(),
+                end,
+            ),
+            None => Ok(()),
         }
     }
 
     /// Takes the first of these bytes.
-    fn take_first(
-        &mut self,
-        lexer: &mut Lexer,
-        at: u64,
-        bytes: &[u8],
-    ) -> Result<Option<Place>, AsmFault>
+    fn take_first(&mut self, lexer: &mut Lexer, at: u64, bytes: &[u8]) -> Result<(), AsmFault>
         requires { 1 ≤ length bytes.now }
         ensures { (here : List ℕ) → at ≡ limit (length here) → HasTaken here lexer.old self.old
             → TakesByte (slice_index bytes.now 0 ∷ here) result lexer.new self.new }
@@ -96,51 +72,71 @@ impl Assembler {
         self.take_byte(lexer, at, bytes[0])
     }
 
-    /// Takes further bytes of a text, and answers the place of its `$`, if that is among them.
-    fn read_on(
-        &mut self,
-        lexer: &mut Lexer,
-        at: &mut u64,
-        text: &[u8],
-    ) -> Result<Option<Place>, AsmFault>
+    /// Whether a `$` has ended the source.
+    fn is_over(&self) -> bool
+        ensures { result ≡ is_some self.now.end }
+    {
+        self.end.is_some()
+    }
+
+    /// Takes further bytes of a text, up to the `$` that ends its source.
+    fn read_on(&mut self, lexer: &mut Lexer, at: &mut u64, text: &[u8]) -> Result<(), AsmFault>
         ensures { (whole : List ℕ) → IsOnTheWay whole text.now lexer.old at.old self.old
             → ReadsOn whole result lexer.new at.new self.new }
     {
         let mut rest = text;
         while let [_, others @ ..] = rest {
-            let end = match self.take_first(lexer, *at, rest) {
-                Ok(end) => end,
+            if self.is_over() {
+                return Ok(());
+            }
+            match self.take_first(lexer, *at, rest) {
+                Ok(()) => {}
                 Err(fault) => return Err(fault),
-            };
-            if let Some(place) = end {
-                return Ok(Some(place));
             }
             *at = at.saturating_add(1);
             rest = others;
         }
-        Ok(None)
+        Ok(())
     }
 
-    /// Takes the bytes of a text up to its `$`, and answers the place of that: what its statements leave. The assembler has taken no statement
-    /// yet.
+    /// The place of the `$` that ended a text, or the fault of its end, which has this place: a bracket is open, or there is no `$`.
+    fn close(&self, end: Place) -> Result<Place, AsmFault>
+        ensures { (text : List ℕ) → (self.now.end ≡ None → end ≡ place_after text)
+            → Closes (with_end text (left_in self.now) self.now.brackets self.now.end) result self.now }
+    {
+        let is_closed = self.brackets.is_empty();
+        match self.end {
+            Some(dollar) => {
+                if is_closed {
+                    return Ok(dollar);
+                }
+                Err(AsmFault::At(Code::PH, dollar))
+            }
+            None => {
+                if is_closed {
+                    return Err(AsmFault::At(Code::NE, end));
+                }
+                Err(AsmFault::At(Code::PH, end))
+            }
+        }
+    }
+
+    /// Takes the bytes of a text up to the `$` that ends its source, and answers the place of that: what its statements leave. The assembler has
+    /// taken no statement yet.
     ///
-    /// Its fault is the first of its statements in their order, or else NE with the place of the text's end (PAL8, in this project's profile).
+    /// Its fault is the first of its statements in their order, or else PH where a bracket is open at the `$`; without a `$`, PH or NE with
+    /// the place of the text's end (PAL8, in this project's profile).
     pub fn read(&mut self, alloc: Global, text: &[u8]) -> Result<Place, AsmFault>
         ensures { left_in self.old ≡ first_left → ReadsText (text_of text.now) result self.new }
     {
         let mut lexer = Lexer::new(alloc);
         let mut at = 0;
-        let end = match self.read_on(&mut lexer, &mut at, text) {
-            Ok(end) => end,
+        match self.read_on(&mut lexer, &mut at, text) {
+            Ok(()) => {}
             Err(fault) => return Err(fault),
-        };
-        match end {
-            Some(place) => Ok(place),
-            None => {
-                let line = next_line(&lexer);
-                Err(AsmFault::At(Code::NE, Place { line, start: at }))
-            }
         }
+        let line = next_line(&lexer);
+        self.close(Place { line, start: at })
     }
 
     /// Makes the words that the statements left, each with its cell, in the order of the source, by what names stand for at last. Nothing was

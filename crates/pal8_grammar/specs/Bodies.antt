@@ -11,38 +11,18 @@ use Rattle.pal8_lex.specs.declared.rules.End.TheVariants as end
 use Rattle.pal8_lex.specs.declared.judging.Radix.{Radix}
 use Rattle.pal8_sym.specs.Permanent.{is_reserved}
 use Rattle.pal8_grammar.specs.Values.{sign_of, steps_of}
+pub use Rattle.pal8_grammar.specs.Names.{free_name, name_of}
+use Rattle.pal8_grammar.specs.Names.{device_steps, extension_of, file_steps, one_name, spaced_run}
 use Rattle.pal8_grammar.specs.declared.steps.Step.{Step}
 use Rattle.pal8_grammar.specs.declared.stands.Stand.TheVariants as stand
 use Rattle.pal8_grammar.specs.declared.bodies.Body.{Body}
 use Rattle.pal8_grammar.specs.declared.bodies.Body.TheVariants as body
-use Rattle.pal8_grammar.specs.declared.bodies.Form.{Form}
-use Rattle.pal8_grammar.specs.declared.bodies.Form.TheVariants as form
+use Rattle.pal8_grammar.specs.declared.forms.Form.{Form}
+use Rattle.pal8_grammar.specs.declared.forms.Form.TheVariants as form
 use Rattle.pal8_grammar.specs.declared.faults.GrammarFault.{GrammarFault}
 use Rattle.pal8_grammar.specs.declared.faults.GrammarFault.TheVariants.{IC, NU, SY}
 
 -- ## Tokens
-
-abbrev pub name_of : Kind → Option ℕ
-name_of (Name name) = Some name
-name_of (Number n) = None
-name_of (Character c) = None
-name_of Here = None
-name_of (Operator op) = None
-name_of Equals = None
-name_of Comma = None
-name_of Star = None
-name_of (Opening pool) = None
-name_of (Closing pool) = None
-name_of String = None
-name_of Bad = None
-
-abbrev pub if_free : Option ℕ → Option ℕ
-if_free None = None
-if_free (Some name) = if is_reserved name then None else Some name
-
--- the name that a token is, if it isn't reserved
-abbrev pub free_name : Kind → Option ℕ
-free_name kind = if_free (name_of kind)
 
 abbrev pub is_star : Kind → Bool
 is_star (Name name) = false
@@ -88,7 +68,8 @@ is_string Bad = false
 
 -- ## Forms
 
--- What a reserved name begins: a form that stands alone, one with an expression, or either; a text. The others begin nothing yet.
+-- What a reserved name begins: a form that stands alone, one with an expression, or either; a text; a name, of a file or a device too. The
+-- others begin nothing yet.
 abbrev pub form_by : ℕ → Form
 form_by name =
     if nat_eq name (name_number (codes "DECIMA")) then form.Alone body.Decimal
@@ -99,7 +80,16 @@ form_by name =
     else (if nat_eq name (name_number (codes "ZBLOCK")) then form.Valued body.Zeros
     else (if nat_eq name (name_number (codes "PAGE")) then form.Page
     else (if nat_eq name (name_number (codes "TEXT")) then form.Text
-    else form.Later)))))))
+    else (if nat_eq name (name_number (codes "IFZERO")) then form.Valued body.IfZero
+    else (if nat_eq name (name_number (codes "IFNZRO")) then form.Valued body.IfNotZero
+    else (if nat_eq name (name_number (codes "IFDEF")) then form.IfDefined
+    else (if nat_eq name (name_number (codes "IFNDEF")) then form.IfUndefined
+    else (if nat_eq name (name_number (codes "NOPUNC")) then form.Alone body.NoPunch
+    else (if nat_eq name (name_number (codes "ENPUNC")) then form.Alone body.Punch
+    else (if nat_eq name (name_number (codes "RELOC")) then form.Reloc
+    else (if nat_eq name (name_number (codes "FILENA")) then form.FileName
+    else (if nat_eq name (name_number (codes "DEVICE")) then form.Device
+    else form.Later))))))))))))))))
 
 -- ## Bodies: what they say, with the steps of their value
 
@@ -126,17 +116,53 @@ abbrev pub page_phrase : Radix → List Token → Option Phrase
 page_phrase radix [] = Some (body.NextPage, [])
 page_phrase radix (t ∷ others) = phrase body.Page (argument_steps radix (t ∷ others))
 
+abbrev pub reloc_phrase : Radix → List Token → Option Phrase
+reloc_phrase radix [] = Some (body.Unrelocate, [])
+reloc_phrase radix (t ∷ others) = phrase body.Relocate (argument_steps radix (t ∷ others))
+
 abbrev pub text_phrase : List Token → Option Phrase
 text_phrase [] = None
 text_phrase (t ∷ []) = if is_string t.kind then Some (body.Text, []) else None
 text_phrase (t ∷ u ∷ others) = None
+
+abbrev pub if_defined : Option ℕ → Option Phrase
+if_defined None = None
+if_defined (Some name) = Some (body.IfDefined name, [])
+
+abbrev pub defined_phrase : List Token → Option Phrase
+defined_phrase rest = if_defined (one_name rest)
+
+abbrev pub if_undefined : Option ℕ → Option Phrase
+if_undefined None = None
+if_undefined (Some name) = Some (body.IfUndefined name, [])
+
+abbrev pub undefined_phrase : List Token → Option Phrase
+undefined_phrase rest = if_undefined (one_name rest)
+
+-- a file's name, or its name, `.` and its extension
+abbrev pub file_phrase : List Token → Option Phrase
+file_phrase [] = None
+file_phrase (t ∷ []) = phrase body.FileName (file_steps (spaced_run t) (Some 0))
+file_phrase (t ∷ u ∷ []) = None
+file_phrase (t ∷ u ∷ v ∷ []) = phrase body.FileName (file_steps (spaced_run t) (extension_of u v))
+file_phrase (t ∷ u ∷ v ∷ w ∷ others) = None
+
+abbrev pub device_phrase : List Token → Option Phrase
+device_phrase [] = None
+device_phrase (t ∷ []) = phrase body.Device (device_steps (spaced_run t))
+device_phrase (t ∷ u ∷ others) = None
 
 -- what a form says with these tokens after its name
 abbrev pub form_phrase : Radix → Form → List Token → Option Phrase
 form_phrase radix (form.Alone body) rest = alone body rest
 form_phrase radix (form.Valued body) rest = phrase body (argument_steps radix rest)
 form_phrase radix form.Page rest = page_phrase radix rest
+form_phrase radix form.Reloc rest = reloc_phrase radix rest
 form_phrase radix form.Text rest = text_phrase rest
+form_phrase radix form.IfDefined rest = defined_phrase rest
+form_phrase radix form.IfUndefined rest = undefined_phrase rest
+form_phrase radix form.FileName rest = file_phrase rest
+form_phrase radix form.Device rest = device_phrase rest
 form_phrase radix form.Later rest = None
 
 -- a value in a word, with literals
@@ -198,14 +224,42 @@ opens end.Open = true
 opens end.Close = false
 opens end.Dollar = false
 
-abbrev pub phrase_or_fault : Option Phrase → Result Phrase GrammarFault
-phrase_or_fault None = Err SY
-phrase_or_fault (Some it) = Ok it
+abbrev pub is_condition : Body → Bool
+is_condition body.Nothing = false
+is_condition body.Origin = false
+is_condition (body.Define name) = false
+is_condition body.Decimal = false
+is_condition body.Octal = false
+is_condition body.Field = false
+is_condition body.NextPage = false
+is_condition body.Page = false
+is_condition body.Zeros = false
+is_condition body.Text = false
+is_condition body.Listing = false
+is_condition body.IfZero = true
+is_condition body.IfNotZero = true
+is_condition (body.IfDefined name) = true
+is_condition (body.IfUndefined name) = true
+is_condition body.NoPunch = false
+is_condition body.Punch = false
+is_condition body.Relocate = false
+is_condition body.Unrelocate = false
+is_condition body.FileName = false
+is_condition body.Device = false
+is_condition body.Word = false
 
--- What a statement says by the radix before it, or its fault. Here no body is a condition, so `<` ends none.
+-- `<` ends a condition, and nothing else
+abbrev pub ends_condition : End → Body → Bool
+ends_condition end body = if is_condition body then opens end else not (opens end)
+
+abbrev pub phrase_or_fault : End → Option Phrase → Result Phrase GrammarFault
+phrase_or_fault end None = Err SY
+phrase_or_fault end (Some it) = if ends_condition end it.0 then Ok it else Err SY
+
+-- What a statement says by the radix before it, or its fault.
 abbrev pub said_by : Radix → List Token → Bool → End → Result Phrase GrammarFault
 said_by radix tokens is_cut end =
     if has_bad tokens then Err IC
     else (if has_bad_number radix (judged_in tokens) then Err NU
-    else (if is_cut || opens end || not (has_free_tags tokens) then Err SY
-    else phrase_or_fault (body_phrase radix (body_in tokens))))
+    else (if is_cut || not (has_free_tags tokens) then Err SY
+    else phrase_or_fault end (body_phrase radix (body_in tokens))))

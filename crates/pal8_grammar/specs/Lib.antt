@@ -1,4 +1,5 @@
 pub mod Values
+pub mod Names
 pub mod Bodies
 pub mod Saying
 pub mod Steps

@@ -1,12 +1,13 @@
 ghost use Rattle.std.specs.Prelude.{◌≡◌, [], ◌∷◌, Ok};
 ghost use Rattle.pal8_lex.specs.Judging.{tag_count};
-ghost use Rattle.pal8_grammar.specs.Bodies.{alone, argument_steps, body_in, body_phrase, definition_phrase, expression_steps, form_by, form_phrase, has_free_tags, judged_in, named_phrase, names_file, opens, page_phrase, phrase, phrase_by, said_by, text_phrase, word_phrase};
+ghost use Rattle.pal8_grammar.specs.Bodies.{alone, argument_steps, body_in, body_phrase, definition_phrase, expression_steps, form_phrase, has_free_tags, judged_in, named_phrase, page_phrase, phrase, phrase_by, said_by, text_phrase, word_phrase};
 ghost use Rattle.pal8_grammar.specs.Steps.{Reads, ReadsBody};
 ghost use Rattle.pal8_grammar.specs.Saying.{Says};
 ghost use Rattle.pal8_grammar.specs.declared.bodies.Body.{Body};
 
+use crate::forms::{ends_condition, form_by, names_file};
 use crate::kinds::{free_name, is_equals, is_star, is_string, name_of, sign_of};
-use crate::{GrammarFault, Reader, Rules, Stand};
+use crate::{Form, GrammarFault, Reader, Rules, Stand};
 use pal8_lex::{End, Kind, Name, Radix, Token, has_bad, has_bad_number, tag_count};
 use pal8_sym::is_reserved;
 use std::alloc::AllocError;
@@ -33,84 +34,28 @@ pub enum Body {
     Text,
     /// `EJECT` or `XLIST`.
     Listing,
+    /// `IFZERO` and an expression.
+    IfZero,
+    /// `IFNZRO` and an expression.
+    IfNotZero,
+    /// `IFDEF` and a name.
+    IfDefined(Name),
+    /// `IFNDEF` and a name.
+    IfUndefined(Name),
+    /// `NOPUNCH`
+    NoPunch,
+    /// `ENPUNCH`
+    Punch,
+    /// `RELOC` and an expression.
+    Relocate,
+    /// `RELOC` alone.
+    Unrelocate,
+    /// `FILENAME` and a file's name, which reads as four words.
+    FileName,
+    /// `DEVICE` and a device's name, which reads as two words.
+    Device,
     /// A value.
     Word,
-}
-
-/// What a reserved name begins.
-#[derive(Clone, Copy)]
-pub enum Form {
-    /// A body that stands alone.
-    Alone(Body),
-    /// A body with an expression.
-    Valued(Body),
-    /// `PAGE`, alone or with an expression.
-    Page,
-    Text,
-    /// Nothing that is known yet.
-    Later,
-}
-
-/// The number of a name of up to six characters, of which missing ones are written as 0.
-macro_rules! name {
-    ($a:literal $b:literal $c:literal $d:literal $e:literal $f:literal) => {
-        0o10000000000 * ($a as u64 % 0o100)
-            + 0o100000000 * ($b as u64 % 0o100)
-            + 0o1000000 * ($c as u64 % 0o100)
-            + 0o10000 * ($d as u64 % 0o100)
-            + 0o100 * ($e as u64 % 0o100)
-            + ($f as u64 % 0o100)
-    };
-}
-
-const DECIMAL: u64 = name!(b'D' b'E' b'C' b'I' b'M' b'A');
-
-const OCTAL: u64 = name!(b'O' b'C' b'T' b'A' b'L' 0);
-
-const EJECT: u64 = name!(b'E' b'J' b'E' b'C' b'T' 0);
-
-const XLIST: u64 = name!(b'X' b'L' b'I' b'S' b'T' 0);
-
-const FIELD: u64 = name!(b'F' b'I' b'E' b'L' b'D' 0);
-
-const ZBLOCK: u64 = name!(b'Z' b'B' b'L' b'O' b'C' b'K');
-
-const PAGE: u64 = name!(b'P' b'A' b'G' b'E' 0 0);
-
-const TEXT: u64 = name!(b'T' b'E' b'X' b'T' 0 0);
-
-const FILENAME: u64 = name!(b'F' b'I' b'L' b'E' b'N' b'A');
-
-const DEVICE: u64 = name!(b'D' b'E' b'V' b'I' b'C' b'E');
-
-/// What a reserved name begins.
-fn form_by(name: Name) -> Form
-    ensures { result ≡ form_by name }
-{
-    match name.number() {
-        DECIMAL => Form::Alone(Body::Decimal),
-        OCTAL => Form::Alone(Body::Octal),
-        EJECT => Form::Alone(Body::Listing),
-        XLIST => Form::Alone(Body::Listing),
-        FIELD => Form::Valued(Body::Field),
-        ZBLOCK => Form::Valued(Body::Zeros),
-        PAGE => Form::Page,
-        TEXT => Form::Text,
-        _ => Form::Later,
-    }
-}
-
-/// Whether FILENAME or DEVICE begins a body.
-fn names_file(tokens: &[Token]) -> bool
-    ensures { result ≡ names_file tokens.now }
-{
-    match tokens.first() {
-        Some(token) => match name_of(token.kind) {
-            Some(name) => name.number() == FILENAME || name.number() == DEVICE,
-            None => false,
-        },
-        None => false,
-    }
 }
 
 /// Whether the tags are names that aren't reserved.
@@ -130,16 +75,9 @@ fn has_free_tags(tokens: &[Token]) -> bool
     true
 }
 
-/// Whether a `<` ends a statement.
-fn opens(end: End) -> bool
-    ensures { result ≡ opens end }
-{
-    matches!(end, End::Open)
-}
-
 impl Reader {
     /// Reads what a statement says by the radix before it: its body, after tags that are names and aren't reserved. Its value's steps are then
-    /// shown. Here no body is a condition.
+    /// shown. `<` ends each condition, and nothing else.
     ///
     /// The fault is the first of IC, NU and SY that applies, or that memory ran out (PAL8, in this project's profile).
     pub fn read_statement(
@@ -159,11 +97,18 @@ impl Reader {
         if has_bad_number(judged, radix) {
             return Err(GrammarFault::NU);
         }
-        if is_cut || opens(end) || !has_free_tags(tokens) {
+        if is_cut || !has_free_tags(tokens) {
             return Err(GrammarFault::SY);
         }
         match self.read_body(radix, rest)? {
-            Some(body) => Ok(body),
+            Some(body) => {
+                let again = body;
+                if ends_condition(end, body) {
+                    Ok(again)
+                } else {
+                    Err(GrammarFault::SY)
+                }
+            }
             None => Err(GrammarFault::SY),
         }
     }
@@ -233,7 +178,15 @@ impl Reader {
                 }
                 self.read_argument(radix, Body::Page, rest)
             }
+            Form::Reloc => match rest {
+                [] => Ok(self.read_alone(Body::Unrelocate, rest)),
+                _ => self.read_argument(radix, Body::Relocate, rest),
+            },
             Form::Text => Ok(self.read_text(rest)),
+            Form::IfDefined => Ok(self.read_defined(rest)),
+            Form::IfUndefined => Ok(self.read_undefined(rest)),
+            Form::FileName => self.read_file(rest),
+            Form::Device => self.read_device(rest),
             Form::Later => Ok(None),
         }
     }

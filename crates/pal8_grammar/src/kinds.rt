@@ -1,6 +1,7 @@
 ghost use Rattle.std.specs.Prelude.{◌≡◌, ◌<◌, IfSome};
 ghost use Rattle.pal8_grammar.specs.Values.{if_first, is_closing, is_first_sign, is_same, modifier_by, modifier_of, name_step, number_in, number_step, opening_of, operation_of, operator_of, sign_of, term_of, word_in};
-ghost use Rattle.pal8_grammar.specs.Bodies.{free_name, is_equals, is_star, is_string, name_of};
+ghost use Rattle.pal8_grammar.specs.Bodies.{is_equals, is_star, is_string};
+ghost use Rattle.pal8_grammar.specs.Names.{free_name, name_of};
 ghost use Rattle.pal_lex.specs.Language as pal3;
 
 use crate::Step;

@@ -5,14 +5,17 @@
 
 mod bodies;
 mod faults;
+mod forms;
 mod kinds;
 mod literals;
+mod names;
 mod readers;
 mod stands;
 mod steps;
 
-pub use bodies::{Body, Form};
+pub use bodies::Body;
 pub use faults::GrammarFault;
+pub use forms::Form;
 pub use kinds::free_name;
 pub use readers::Reader;
 pub use stands::{Outer, Rules, Stand};

@@ -249,7 +249,7 @@ impl Reader {
     }
 
     /// Puts a step after the others, and stands after it.
-    fn put(&mut self, step: Step, stand: Stand) -> Result<(), AllocError>
+    pub(crate) fn put(&mut self, step: Step, stand: Stand) -> Result<(), AllocError>
         ensures { OnOk result (self.new ≡ record {
           stand = stand;
           literals = self.old.literals;

@@ -3,9 +3,10 @@ use Rattle.std.proofs.Common.{◌≡◌, ℕ, ◌+◌, ◌<◌, length, Bool, tr
 use Rattle.pal8_asm.specs.Places.{stands}
 use Rattle.pal8_asm.specs.Tapes.{Made, cleared, made_of}
 use Rattle.pal8_asm.specs.Sources.{Passed, left_of}
-use Rattle.pal8_asm.specs.Assembled.{assembled, has_words, judged, judged_by, made_by}
+use Rattle.pal8_asm.specs.Assembled.{dollar_in, has_words, judged, judged_by, made_by}
 use Rattle.pal8_asm.specs.Assembling.{IsAssembled}
 use Rattle.pal8_asm.specs.declared.faults.Fault.{Fault}
+use Rattle.pal8_asm.specs.declared.faults.Place.{Place}
 use Rattle.pal8_tape.specs.Laws.{HasWords}
 
 err_ok : (fault : Fault) (made : Made) → Err fault ≡ Ok made → ⊥
@@ -20,17 +21,17 @@ ok_as made = Ok made
 ok_same : (one other : Made) → ok_as one ≡ ok_as other → one ≡ other
 ok_same one other is = cc
 
-judged_words : (text : List ℕ) (met made : Made) (has : Bool) → has ≡ has_words met.words → judged_by text met has ≡ Ok made → has_words made.words ≡ true
-judged_words text met made true same is = ap (λ m. has_words m.words) (sym (ok_same met made is)) ∙ sym same
-judged_words text met made false same is = absurd (err_ok _ made is)
+judged_words : (dollar : Place) (met made : Made) (has : Bool) → has ≡ has_words met.words → judged_by dollar met has ≡ Ok made → has_words made.words ≡ true
+judged_words dollar met made true same is = ap (λ m. has_words m.words) (sym (ok_same met made is)) ∙ sym same
+judged_words dollar met made false same is = absurd (err_ok _ made is)
 
-made_words : (text : List ℕ) (met : Result Made Fault) (made : Made) → judged text met ≡ Ok made → has_words made.words ≡ true
-made_words text (Err fault) made is = absurd (err_ok fault made is)
-made_words text (Ok met) made is = judged_words text met made (has_words met.words) refl is
+made_words : (dollar : Place) (met : Result Made Fault) (made : Made) → judged dollar met ≡ Ok made → has_words made.words ≡ true
+made_words dollar (Err fault) made is = absurd (err_ok fault made is)
+made_words dollar (Ok met) made is = judged_words dollar met made (has_words met.words) refl is
 
-passed_words : (text : List ℕ) (left : Passed) (made : Made) → made_by text left ≡ Ok made → has_words made.words ≡ true
-passed_words text (Err fault) made is = absurd (err_ok fault made is)
-passed_words text (Ok left) made is = made_words text (cleared (made_of (stands left.standing.kept) left.entries)) made is
+passed_words : (left : Passed) (made : Made) → made_by left ≡ Ok made → has_words made.words ≡ true
+passed_words (Err fault) made is = absurd (err_ok fault made is)
+passed_words (Ok left) made is = made_words (dollar_in left.end) (cleared (made_of (stands left.standing.kept) left.entries)) made is
 
 false_true : false ≡ true → ⊥
 false_true is = cc
@@ -40,4 +41,4 @@ some_first [] pool has = absurd (false_true has)
 some_first (word ∷ words) pool has = omega arith
 
 pub has_words_in : HasWords
-has_words_in text pairs s = subst (λ l. 0 < length l) (sym s.are) (some_first s.made.words s.pool (passed_words text (left_of text) s.made s.is_whole))
+has_words_in text pairs s = subst (λ l. 0 < length l) (sym s.are) (some_first s.made.words s.pool (passed_words (left_of text) s.made s.is_whole))
