@@ -74,8 +74,10 @@ abbrev pub is_other : Option ℕ → ℕ → Bool
 is_other None value = false
 is_other (Some known) value = not (nat_eq known value)
 
--- The source gave a name this value, and no other name another one.
+-- The source gave a name this value. It stands for that and keeps it, and each other name stands for what it stood for.
 pub record Gives (name value : ℕ) (old new : SourceNames) : Type 0 where
+  pub values : (n : ℕ) → value_of new n ≡ (if nat_eq name n then Some value else value_of old n)
+  pub kept : (n : ℕ) → kept_value new n ≡ (if nat_eq name n then Some value else kept_value old n)
   pub own : (n : ℕ) → own_value new n ≡ (if nat_eq name n then Some value else own_value old n)
   pub permanent : new.is_expunged ≡ old.is_expunged
 
@@ -115,12 +117,14 @@ DefinesOperation name value old new (Err refused) = Stays old new
 -- EXPUNGE: the source's own names alone stand for values, and none is an operation.
 pub record Expunges (old new : SourceNames) : Type 0 where
   pub values : (n : ℕ) → value_of new n ≡ own_value old n
+  pub kept : (n : ℕ) → kept_value new n ≡ own_value old n
   pub own : (n : ℕ) → own_value new n ≡ own_value old n
   pub fixed : (n : ℕ) → is_fixed new n ≡ is_own_fixed old n
   pub operations : (n : ℕ) → is_operation new n ≡ false
 
 -- FIXTAB: the source's own names are fixed.
 pub record FixesAll (old new : SourceNames) : Type 0 where
+  pub values : (n : ℕ) → value_of new n ≡ value_of old n
   pub own : (n : ℕ) → own_value new n ≡ own_value old n
   pub permanent : new.is_expunged ≡ old.is_expunged
   pub fixed : (n : ℕ) → is_fixed new n ≡ (is_fixed old n || is_some (own_value old n))

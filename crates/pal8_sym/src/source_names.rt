@@ -203,6 +203,7 @@ impl SourceNames {
     }
 
     /// Puts a value of a name that isn't fixed by that.
+    #[tactic(auto, using(crate::proofs::SourceNameLemmas::gives))]
     fn put_free(&mut self, name: Name, value: Word) -> Result<(), AllocError>
         ensures { PutsFree name value self.old self.new result }
     {
@@ -212,6 +213,7 @@ impl SourceNames {
     }
 
     /// Gives the name of a tag its value, the place of the tag. Where it keeps another value the fault is DT (PAL8, in this project's profile).
+    #[tactic(auto, using(crate::proofs::SourceNameLemmas::gives))]
     pub fn define_tag(&mut self, name: Name, value: Word) -> Result<(), SymFault>
         ensures { DefinesTag name value self.old self.new result }
     {
