@@ -1,5 +1,5 @@
 """PAL8, the assembler of OS/8, by its definitions: what a source means, or its first fault. So far it knows the language with literals,
-links, conditions, punching, relocation and the names of files and devices; of the reserved names that come later it takes none.
+links, conditions, punching, relocation, the names of files and devices, and EXPUNGE, FIXTAB and FIXMRI; it doesn't take PAUSE.
 
 A place, a name and a condition rest on the statements before alone, so each statement is judged after those before it; literals and
 links rest on all names, and so come last. It is slow, and keeps no table: a name is looked for among the statements before, the newest
@@ -87,7 +87,7 @@ class Expression:
 
 @dataclass(frozen=True)
 class Reference:
-    operation: str
+    operation: int
     is_indirect: bool
     address: Optional[Expression]
 
@@ -226,11 +226,20 @@ def free_name(token: Token) -> str:
     return "" if not name or name in RESERVED else name
 
 
+@dataclass
+class Before:
+    """What the statements before settle for the reading of one: the radix, and the operations with their words."""
+
+    radix: int
+    operations: dict[str, int]
+
+
 class Reader:
     """Reads a value from tokens, one after the other."""
 
-    def __init__(self, tokens: list[Token], radix: int, has_literals: bool) -> None:
-        self.tokens, self.radix, self.has_literals = tokens, radix, has_literals
+    def __init__(self, tokens: list[Token], before: "Before", has_literals: bool) -> None:
+        self.tokens, self.radix, self.has_literals = tokens, before.radix, has_literals
+        self.operations = before.operations
 
     def next(self) -> Token:
         return self.tokens[0] if self.tokens else Token("end")
@@ -280,12 +289,12 @@ class Reader:
     def value(self) -> Value:
         name = name_in(self.next())
         behind = self.tokens[1].kind if len(self.tokens) > 1 else "end"
-        if name in OPERATIONS and behind in ("blank", "closing", "end"):
+        if name in self.operations and behind in ("blank", "closing", "end"):
             self.take()
-            return self.reference(name)
+            return self.reference(self.operations[name])
         return self.expression()
 
-    def reference(self, operation: str) -> Reference:
+    def reference(self, operation: int) -> Reference:
         is_indirect = False
         while self.next().kind == "blank":
             self.take()
@@ -308,39 +317,42 @@ def whole(read: Callable[[], Read], reader: Reader) -> Read:
     return value
 
 
-def argument(tokens: list[Token], radix: int) -> Expression:
+def argument(tokens: list[Token], before: Before) -> Expression:
     """What stands after a reserved name: a blank and an expression, or one that begins with `+` or `-`."""
     if not tokens or tokens[0].kind != "blank" and tokens[0] not in (Token("sign", "+"), Token("sign", "-")):
         raise Fault("SY")
-    reader = Reader(tokens[1:] if tokens[0].kind == "blank" else tokens, radix, False)
+    reader = Reader(tokens[1:] if tokens[0].kind == "blank" else tokens, before, False)
     return whole(reader.expression, reader)
 
 
-def body_of(tokens: list[Token], radix: int) -> Body:
+def body_of(tokens: list[Token], before: Before) -> Body:
     if not tokens:
         return Body("nothing")
     if tokens[0] == Token("sign", "*"):
-        reader = Reader(tokens[1:], radix, False)
+        reader = Reader(tokens[1:], before, False)
         return Body("origin", value=whole(reader.expression, reader))
     name = name_in(tokens[0])
     if name in RESERVED:
-        return reserved_body(name, tokens[1:], radix)
+        return reserved_body(name, tokens[1:], before)
     if name and len(tokens) > 1 and tokens[1] == Token("sign", "="):
-        reader = Reader(tokens[2:], radix, False)
+        reader = Reader(tokens[2:], before, False)
         return Body("definition", name, whole(reader.value, reader))
-    reader = Reader(tokens, radix, True)
+    reader = Reader(tokens, before, True)
     return Body("word", value=whole(reader.value, reader))
 
 
-def reserved_body(name: str, rest: list[Token], radix: int) -> Body:
-    if name in ("DECIMA", "OCTAL", "EJECT", "XLIST", "PAGE", "NOPUNC", "ENPUNC", "RELOC") and not rest:
+def reserved_body(name: str, rest: list[Token], before: Before) -> Body:
+    if name in ("DECIMA", "OCTAL", "EJECT", "XLIST", "PAGE", "NOPUNC", "ENPUNC", "RELOC", "EXPUNG", "FIXTAB") and not rest:
         return Body(name)
     if name in ("FIELD", "PAGE", "ZBLOCK", "IFZERO", "IFNZRO", "RELOC"):
-        return Body(name, value=argument(rest, radix))
+        return Body(name, value=argument(rest, before))
     if name in ("IFDEF", "IFNDEF") and len(rest) == 2 and rest[0].kind == "blank" and free_name(rest[1]):
         return Body(name, free_name(rest[1]))
     if name == "TEXT" and [token.kind for token in rest] in (["string"], ["blank", "string"]):
         return Body(name, string=rest[-1].text)
+    if name == "FIXMRI" and len(rest) > 2 and rest[0].kind == "blank" and free_name(rest[1]) and rest[2] == Token("sign", "="):
+        reader = Reader(rest[3:], before, False)
+        return Body(name, free_name(rest[1]), whole(reader.value, reader))
     if name in ("FILENA", "DEVICE"):
         return Body(name, string=file_characters(name, rest))
     raise Fault("SY")
@@ -357,8 +369,8 @@ def file_characters(name: str, rest: list[Token]) -> str:
     raise Fault("SY")
 
 
-def said(statement: Statement, radix: int) -> tuple[list[str], Body]:
-    """The tags and the body of a statement, by the radix before it, or its first fault."""
+def said(statement: Statement, before: Before) -> tuple[list[str], Body]:
+    """The tags and the body of a statement, by the radix and the operations before it, or its first fault."""
     tokens = statement.tokens
     if any(token.kind == "bad" for token in tokens):
         raise Fault("IC")
@@ -367,11 +379,11 @@ def said(statement: Statement, radix: int) -> tuple[list[str], Body]:
         tags, rest = tags + [rest[0]], rest[2:]
     names_file = rest and name_in(rest[0]) in ("FILENA", "DEVICE")
     for token in tags if names_file else tokens:
-        if token.kind == "run" and token.text[0].isdigit() and not is_number(token.text, radix):
+        if token.kind == "run" and token.text[0].isdigit() and not is_number(token.text, before.radix):
             raise Fault("NU")
     if statement.is_cut or not all(free_name(tag) for tag in tags):
         raise Fault("SY")
-    body = body_of(rest, radix)
+    body = body_of(rest, before)
     if (statement.end == "<") != (body.form in CONDITIONS):
         raise Fault("SY")
     return [free_name(tag) for tag in tags], body
@@ -393,11 +405,18 @@ class Judged:
     is_punched: bool
     size: int = 0
     start: int = 0
+    is_expunged: bool = False
     definitions: list[tuple[str, int]] = field(default_factory=list)
 
 
-def permanent(name: str) -> Optional[int]:
-    return PERMANENT.get(name, SOFT.get(name))
+def permanent(name: str, now: Judged) -> Optional[int]:
+    """The permanent value of a name, which EXPUNGE takes away."""
+    return None if now.is_expunged else PERMANENT.get(name, SOFT.get(name))
+
+
+def firm(name: str, now: Judged) -> Optional[int]:
+    """The permanent value of a name that doesn't give way."""
+    return None if now.is_expunged else PERMANENT.get(name)
 
 
 class Source:
@@ -407,7 +426,9 @@ class Source:
         self.text = live_text(text)
         self.judged: list[Judged] = []
         self.brackets: list[bool] = []
-        self.radix, self.location, self.shift, self.field, self.is_punched = 8, 0o200, 0, 0, True
+        self.before = Before(8, {name: PERMANENT[name] for name in OPERATIONS})
+        self.location, self.shift, self.field, self.is_punched, self.is_expunged = 0o200, 0, 0, True, False
+        self.last_fixed: list[str] = []
         self.last_line, self.last_place = self.first_faults()
 
     def first_faults(self) -> tuple[int, int]:
@@ -449,18 +470,18 @@ class Source:
         if name in now.tags:
             return now.place
         value = self.definition_before(name, self.judged)
-        return permanent(name) if value is None else value
+        return permanent(name, now) if value is None else value
 
     def judge(self, statement: Statement) -> bool:
         """Judges a selected statement, and answers whether its condition holds."""
-        tags, body = said(statement, self.radix)
-        now = Judged(statement.line, tags, body, self.location, self.place(), self.field, self.is_punched, start=statement.start)
+        tags, body = said(statement, self.before)
+        now = Judged(statement.line, tags, body, self.location, self.place(), self.field, self.is_punched, 0, statement.start, self.is_expunged)
         for tag in tags:
             if now.location >= CORE_END:
                 raise Fault("PF")
             value = self.definition_before(tag, self.judged)
-            firm = PERMANENT.get(tag) if value is None else value
-            if firm is not None and firm != now.place:
+            kept = firm(tag, now) if value is None else value
+            if kept is not None and kept != now.place:
                 raise Fault("DT")
             now.definitions.append((tag, now.place))
         value = None
@@ -475,7 +496,7 @@ class Source:
     def take_effect(self, now: Judged, value: Optional[int]) -> bool:
         form = now.body.form
         if form in ("DECIMA", "OCTAL"):
-            self.radix = 10 if form == "DECIMA" else 8
+            self.before.radix = 10 if form == "DECIMA" else 8
         elif form == "origin":
             assert value is not None
             self.location = (value - self.shift) % 0o10000
@@ -495,18 +516,33 @@ class Source:
         elif form == "definition":
             assert value is not None
             self.define(now, value)
+        else:
+            self.change_tables(now, value)
         now.size = {"word": 1, "TEXT": len(now.body.string) // 2 + 1, "ZBLOCK": value or 0, "FILENA": 4, "DEVICE": 2}.get(form, 0)
         self.location += now.size
         if form in ("IFDEF", "IFNDEF"):
             return (self.value_before(now.body.name, now) is not None) == (form == "IFDEF")
         return form in ("IFZERO", "IFNZRO") and (value == 0) == (form == "IFZERO")
 
+    def change_tables(self, now: Judged, value: Optional[int]) -> None:
+        if now.body.form == "EXPUNG":
+            self.is_expunged, self.before.operations = True, {}
+        elif now.body.form == "FIXTAB":
+            self.last_fixed = [name for older in [*self.judged, now] for name, _ in older.definitions]
+        elif now.body.form == "FIXMRI":
+            assert value is not None
+            now.definitions.append((now.body.name, value))
+            self.before.operations[now.body.name] = value
+
     def define(self, now: Judged, value: int) -> None:
         name = now.body.name
-        is_fixed = name in PERMANENT or name in now.tags or any(name in older.tags for older in self.judged)
+        is_tag = name in now.tags or any(name in older.tags for older in self.judged)
+        is_fixed = firm(name, now) is not None or is_tag or name in self.last_fixed
         if is_fixed and self.value_before(name, now) != value:
             raise Fault("RD")
         now.definitions.append((name, value))
+        if name in self.before.operations:
+            self.before.operations[name] = value
 
     def early_value(self, value: Value, now: Judged) -> int:
         """A value by the names before."""
@@ -534,7 +570,7 @@ class Source:
 
     def direct(self, reference: Reference, address: int, now: Judged) -> Optional[int]:
         """A reference to page zero or the page of the place."""
-        word = PERMANENT[reference.operation] | (0o400 if reference.is_indirect else 0)
+        word = reference.operation | (0o400 if reference.is_indirect else 0)
         if address < 0o200:
             return word | address
         if address // 0o200 == now.place // 0o200:
@@ -617,7 +653,7 @@ class Words:
         before, judged = self.source.definition_before, self.source.judged
         if name in now.tags:
             return now.place
-        for value in (before(name, judged[:k]), before(name, judged), permanent(name)):
+        for value in (before(name, judged[:k]), before(name, judged), permanent(name, now)):
             if value is not None:
                 return value
         raise Fault("UA", about=name_number(name))
@@ -639,9 +675,9 @@ class Words:
         word = self.source.direct(value, address, now)
         if word is not None:
             return word
-        if value.is_indirect:
+        if value.is_indirect or value.operation & 0o400:
             raise Fault("II")
-        return PERMANENT[value.operation] | 0o600 | self.ask_here(address, now)
+        return value.operation | 0o600 | self.ask_here(address, now)
 
     def ask_here(self, value: int, now: Judged) -> int:
         """Asks for a cell of the page of the location. A shift by no whole page would lead to another offset."""

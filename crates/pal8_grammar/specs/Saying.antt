@@ -1,11 +1,8 @@
 -- What the answer for a statement comes to.
-use Rattle.std.specs.Prelude.{◌≡◌, Bool, true, false, Option, Some, None, Result, Ok, Err, List, [], ◌∷◌}
-use Rattle.std.specs.declared.alloc.AllocError.{AllocError}
-use Rattle.pal8_grammar.specs.Values.{Reading, behind_literal}
+use Rattle.std.specs.Prelude.{◌≡◌, Result, Ok, Err}
+use Rattle.pal8_grammar.specs.Values.{Reading}
 use Rattle.pal8_grammar.specs.Bodies.{Phrase}
 use Rattle.pal8_grammar.specs.declared.bodies.Body.{Body}
-use Rattle.pal8_grammar.specs.declared.steps.Step.{Step}
-use Rattle.pal8_grammar.specs.declared.stands.Outer.{Outer}
 use Rattle.pal8_grammar.specs.declared.faults.GrammarFault.{GrammarFault}
 use Rattle.pal8_grammar.specs.declared.faults.GrammarFault.TheVariants.{IC, NU, SY, Memory}
 

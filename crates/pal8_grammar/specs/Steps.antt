@@ -6,8 +6,6 @@ use Rattle.pal8_grammar.specs.Bodies.{Phrase}
 use Rattle.pal8_grammar.specs.declared.bodies.Body.{Body}
 use Rattle.pal8_grammar.specs.declared.steps.Step.{Step}
 use Rattle.pal8_grammar.specs.declared.stands.Outer.{Outer}
-use Rattle.pal8_grammar.specs.declared.faults.GrammarFault.{GrammarFault}
-use Rattle.pal8_grammar.specs.declared.faults.GrammarFault.TheVariants.{IC, NU, SY, Memory}
 
 -- the innermost of literals is taken off, if one is open
 abbrev pub Pops : List Outer → Option Outer → List Outer → Type 0

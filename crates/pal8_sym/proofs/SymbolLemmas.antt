@@ -1,5 +1,5 @@
 -- What the names of a source stand for, with the soft ones.
-use Rattle.std.proofs.Common.{◌≡◌, ℕ, nat_eq, Bool, true, false, if◌then◌else◌, Option, Some, None, Result, Ok, Err, refl, sym, ap, ◌∙◌}
+use Rattle.std.proofs.Common.{◌≡◌, ℕ, nat_eq, Bool, true, false, if◌then◌else◌, Option, Some, None, Result, Ok, Err, refl, ap, ◌∙◌}
 use Rattle.std.specs.Prelude.{OnOk}
 use Rattle.std.specs.Ordering.{nat_cmp}
 use Rattle.std.specs.FinMap.{find}
@@ -7,7 +7,6 @@ use Rattle.pal_sym.specs.Permanent.{permanent as old_permanent}
 use Rattle.pal_sym.specs.SymbolTable.{SymbolTable}
 use Rattle.pal_sym.specs.Values.{if_none, symbol_value, DefinesTag, DefinesValue, StandsFor}
 use Rattle.pal_sym.specs.declared.faults.SymFault.{SymFault}
-use Rattle.pal_sym.specs.declared.faults.SymFault.TheVariants.{DT, RD, Memory}
 use Rattle.pal8_sym.specs.Permanent.{permanent, permanent_by, soft_by, soft_names}
 use Rattle.pal8_sym.specs.Symbols.{Gives, value_in, value_of}
 

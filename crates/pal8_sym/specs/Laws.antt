@@ -2,7 +2,6 @@
 use Rattle.std.specs.Prelude.{◌≡◌, ℕ, false, Some, List, [], ◌∷◌}
 use Rattle.pal_sym.specs.Permanent.{permanent_names}
 use Rattle.pal8_sym.specs.Permanent.{is_reserved, permanent, soft_names, standing_of}
-use Rattle.pal8_sym.specs.declared.permanent_names.Meaning.{Meaning}
 use Rattle.pal8_sym.specs.declared.permanent_names.Standing.{Standing}
 use Rattle.pal8_sym.specs.declared.permanent_names.Standing.TheVariants.{Soft}
 

@@ -1,4 +1,5 @@
 pub mod Permanent
 pub mod Laws
-pub mod Steps
 pub mod Symbols
+pub mod SourceNames
+pub mod Steps

@@ -1,6 +1,6 @@
 -- The names that have a meaning of their own (PAL8, the assembler of OS/8; the choice of the lists is this project's profile). Those that PAL III
 -- has are PAL III's.
-use Rattle.std.specs.Prelude.{ℕ, nat_eq, Bool, true, false, ◌||◌, if◌then◌else◌, Option, Some, None, is_some, List, [], ◌∷◌, codes}
+use Rattle.std.specs.Prelude.{ℕ, nat_eq, Bool, false, ◌||◌, if◌then◌else◌, Option, Some, None, is_some, List, [], ◌∷◌, codes}
 use Rattle.std.specs.Ordering.{nat_cmp}
 use Rattle.std.specs.FinMap.{find}
 use Rattle.word12.specs.Octal.{octal_number}

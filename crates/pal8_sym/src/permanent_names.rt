@@ -109,7 +109,7 @@ const RESERVED: [u64; 17] = [
 ];
 
 /// Whether a name is one of the six operations.
-fn is_operation(name: Name) -> bool
+pub(crate) fn is_operation(name: Name) -> bool
     ensures { result ≡ is_some (operation_of name) }
 {
     let number = name.number();

@@ -1,4 +1,3 @@
-use Rattle.std.proofs.Common.{◌∙◌}
 use Rattle.pal8_sym.proofs.SymbolLemmas.{tag_gives}
 use Rattle.pal8_sym.proofs.symbols.Symbols.define_tag.Goals as goal
 

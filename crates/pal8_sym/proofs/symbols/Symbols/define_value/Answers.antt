@@ -1,4 +1,3 @@
-use Rattle.std.proofs.Common.{◌∙◌}
 use Rattle.pal8_sym.proofs.SymbolLemmas.{value_gives}
 use Rattle.pal8_sym.proofs.symbols.Symbols.define_value.Goals as goal
 
