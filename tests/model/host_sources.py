@@ -2,9 +2,11 @@
 from __future__ import annotations
 
 import re
-from dataclasses import dataclass
+from copy import copy
+from dataclasses import dataclass, replace
+from typing import Iterator, Optional
 from tests.model.assembler import PERMANENT, Pair, Source
-from tests.model.statements import Joined, Statement, is_live, joined
+from tests.model.statements import LEGAL, Joined, Statement, is_live, is_number, joined
 from tests.model.tape import tape_of
 from tests.model.words import octal
 
@@ -13,6 +15,7 @@ WORDS = dict(
     IR="illegal reference", FD="bad field", PF="past 7777", NE="no $", NW="no word",
 )  # fmt: skip
 MOST_FURTHER = 20
+LEXICAL = ("IC", "SY", "NU")
 PAL8_NAMES = frozenset(
     "PAGE ZBLOCK TEXT FILENA DEVICE RELOC ENPUNC NOPUNC EJECT XLIST IFDEF IFNDEF IFZERO IFNZRO EXPUNG FIXTAB FIXMRI".split()
 )  # fmt: skip
@@ -34,6 +37,7 @@ class Fault:
     source: int
     place: int
     name: str = ""
+    character: str = ""
 
 
 def host_lines(text: bytes) -> list[bytes]:
@@ -75,7 +79,65 @@ class HostSources:
 
     def fault(self, code: str, at: int) -> Fault:
         name = self.undefined(at) if code == "UA" else ""
-        return Fault(code, self.source.stretches[at].line, *self.position(self.begin(at)), name)
+        mark = self.mark(code, at, name)
+        byte = self.join.text[mark]
+        character = "" if code != "IC" else chr(byte) if 32 < byte < 127 else f"{byte:03o}"
+        return Fault(code, self.source.stretches[at].line, *self.position(mark), name, character)
+
+    def live(self, at: int) -> list[int]:
+        """The places of the live bytes of a statement, from its beginning on."""
+        return [k for k in range(self.begin(at), self.source.stretches[at].end) if is_live(self.join.text, k)]
+
+    def runs(self, at: int) -> Iterator[tuple[int, str]]:
+        """The letters and digits of a statement that stand together, each with the place of the first."""
+        legal = [k for k in self.live(at) if chr(self.join.text[k]) in LEGAL | {"\t"}]
+        for run in re.finditer("[A-Z0-9]+", "".join(chr(self.join.text[k]) for k in legal)):
+            yield legal[run.start()], run[0]
+
+    def mark(self, code: str, at: int, name: str) -> int:
+        """Where the fault of a statement stands: IC at its character, NU at its number, UA at its name, all else where the statement begins."""
+        if code == "IC":
+            return next(k for k in self.live(at) if chr(self.join.text[k]) not in LEGAL | {"\t"})
+        if code not in ("NU", "UA"):
+            return self.begin(at)
+        radix = next((it.body.name for it in reversed(self.source.said[:at]) if it.body.kind == "radix"), "OCTAL")
+        for start, run in self.runs(at):
+            if (run[0].isdigit() and not is_number(run, 10 if radix == "DECIMA" else 8)) if code == "NU" else (run[0].isalpha() and run[:6] == name):
+                return start
+        raise ValueError(code)
+
+    def harmless(self) -> Optional[HostSources]:
+        """The sources with the first bad statement read as its first tag, if that has no fault, and the word 0; none where it says how what follows
+        is read."""
+        at, text = len(self.source.said), self.join.text
+        if any(run[:6] in ("DECIMA", "OCTAL", "PAUSE") for _, run in self.runs(at)):
+            return None
+        begin, end = self.begin(at), self.source.stretches[at].end
+        comma = next((k for k in self.live(at) if text[k : k + 1] == b","), None)
+        if comma is not None and not self.with_text(text[: comma + 1] + b";").is_refused():
+            begin = comma + 1
+        return self.with_text(text[:begin] + b"0" + b" " * (end - begin - 1) + text[end:])
+
+    def with_text(self, text: bytes) -> HostSources:
+        other = copy(self)
+        other.join, other.source = replace(self.join, text=text), Source(text)
+        return other
+
+    def is_refused(self) -> bool:
+        source = self.source
+        return bool(source.bad) or any(source.tags_fault(at) or source.body_fault(at) for at in range(len(source.said)))
+
+    def lexical(self, first: Fault) -> list[Fault]:
+        """A fault of the first pass, and those behind one of a character, a number or a statement's form."""
+        found, sources = [first], self
+        while found[-1].code in LEXICAL and len(found) <= MOST_FURTHER:
+            mended = sources.harmless()
+            fault = mended.first_pass() if mended else None
+            if not mended or not fault or fault.code not in LEXICAL:
+                break
+            found.append(fault)
+            sources = mended
+        return found
 
     def undefined(self, at: int) -> str:
         """The first name of a statement, from the left, that stands for nothing there."""
@@ -99,10 +161,10 @@ class HostSources:
         return [at for at in range(len(self.source.said)) if self.source.is_word(at)]
 
     def faults(self) -> list[Fault]:
-        """The first fault, and behind one of a word those of further words."""
+        """The first fault, behind one of a word those of further words, and behind one of the lexer further ones of the lexer."""
         first = self.first_pass()
         if first:
-            return [first]
+            return self.lexical(first)
         found = []
         for at in self.words():
             word = self.source.word(at)
@@ -174,20 +236,19 @@ def lines_told(fault: Fault, texts: list[bytes], names: list[str]) -> list[bytes
     lines = re.split(rb"\r\n|\n|\r", text)
     begins = [0] + [it.end() for it in re.finditer(rb"\r\n|\n|\r", text)]
     line, column = lines[number], fault.place - begins[number]
-    head = f"{names[fault.source]}:{number + 1}:{column + 1}: {fault.code}: {WORDS[fault.code]}" + (f" {fault.name}" if fault.name else "")
+    head = f"{names[fault.source]}:{number + 1}:{column + 1}: {fault.code}: {WORDS[fault.code]}" + (f" {fault.name or fault.character}" if fault.name or fault.character else "")
     mark = bytes(it if it == 9 else 32 for it in line[:column]) + b"^"
     return [head.encode(), shown(line), mark]
 
 
-def pal8_note(fault: Fault, line: bytes) -> list[bytes]:
-    """The note where a fault lies at a reserved name or a character of PAL8, by the line of its source from where its statement begins."""
-    sign = b""
+def pal8_note(fault: Fault) -> list[bytes]:
+    """The note where a fault is about a reserved name or a character of PAL8."""
+    sign = ""
     if fault.code == "UA" and fault.name in PAL8_NAMES:
-        sign = fault.name.encode()
-    if fault.code == "IC":
-        foreign = re.search(rb"[^A-Z0-9 \t+\-,=*;./$]", line)
-        sign = foreign[0] if foreign and foreign[0] in b'()[]<>"!&^%' else b""
-    return [b"note: " + sign + b" is PAL8, the language of OS/8's assembler: assemble --pal8 takes a source of that"] if sign else []
+        sign = fault.name
+    if fault.code == "IC" and len(fault.character) == 1 and fault.character in '()[]<>"!&^%':
+        sign = fault.character
+    return [b"note: " + sign.encode() + b" is PAL8, the language of OS/8's assembler: assemble --pal8 takes a source of that"] if sign else []
 
 
 def assembled_host(texts: list[bytes], names: list[str], is_cross: bool) -> Told:
@@ -197,7 +258,7 @@ def assembled_host(texts: list[bytes], names: list[str], is_cross: bool) -> Told
         return Told(b"", bytes(tape_of(sources.pairs())), sources.listing(is_cross))
     first, *further = faults
     told = lines_told(first, texts, names)
-    lines = [*told, f"? 5 {first.code} {first.line}".encode(), *pal8_note(first, told[1][len(told[2]) - 1 :])]
+    lines = [*told, f"? 5 {first.code} {first.line}".encode(), *pal8_note(first)]
     if further:
         lines.append(b"note: these words have a fault too:")
     for fault in further[:MOST_FURTHER]:

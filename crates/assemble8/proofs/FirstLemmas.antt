@@ -1,5 +1,5 @@
 -- The first of the words with faults.
-use Rattle.std.proofs.Common.{◌≡◌, ℕ, Bool, true, false, ◌||◌, if◌then◌else◌, Option, Some, None, Result, Ok, Err, is_some, List, [], ◌∷◌, ◌++◌, refl, ap, sym, ◌∙◌}
+use Rattle.std.proofs.Common.{◌≡◌, ℕ, Bool, true, false, ◌||◌, if◌then◌else◌, Option, Some, None, Result, Ok, Err, is_some, List, [], ◌∷◌, ◌++◌, refl, ap, sym, subst, ◌∙◌}
 use Rattle.pal_lex.specs.Text.{is_over, ends_statement, line_after}
 use Rattle.pal_lex.specs.Statements.{statements}
 use Rattle.pal_lex.specs.declared.faults.LexFault.{LexFault}
@@ -13,14 +13,17 @@ use Rattle.pal_asm.specs.Places.{Source, place_at, values}
 use Rattle.pal_asm.specs.Words.{word_values}
 use Rattle.pal_asm.specs.Faults.{first_of, at_line, word_fault, words_fault, no_end, no_word}
 use Rattle.assemble8.specs.Sources.{newest_first}
-use Rattle.assemble8.specs.Places.{shortest, is_settled, start_of, statement_place, place_at_byte}
-use Rattle.assemble8.specs.Unknowns.{unknown_in, newest_unknown, unknown_ended, about}
+use Rattle.assemble8.specs.Places.{shortest, is_settled, place_at_byte}
+use Rattle.assemble8.specs.Marks.{at_mark, mark_of, ended_mark}
+use Rattle.assemble8.specs.Answers.{mark_in}
+use Rattle.assemble8.specs.Unknowns.{unknown_in, newest_unknown, unknown_ended, unknown_name, about}
 use Rattle.assemble8.specs.Further.{with_line, newest_fault, byte_fault, with_place, word_faults}
 use Rattle.assemble8.specs.Laws.{FirstIsTold}
 use Rattle.assemble8.specs.declared.faults.Place.{Place}
 use Rattle.assemble8.specs.declared.faults.Fault.{Fault}
 use Rattle.assemble8.proofs.PauseLemmas.{ends_parts}
-use Rattle.assemble8.proofs.LocateLemmas.{newest, one_more, nothing_read, words_stay, by_settled}
+use Rattle.assemble8.proofs.LocateLemmas.{newest, one_more, nothing_read, words_stay}
+use Rattle.assemble8.proofs.MarkLemmas.{by_settled}
 use Rattle.assemble8.proofs.UnknownLemmas.{by_settled as settled_unknown, not_refused}
 
 -- ## One word
@@ -33,43 +36,54 @@ same_first : (g f : Fault) (more others : List Fault) → g ∷ more ≡ f ∷ o
 unfolding first_or
 same_first g f more others e = ap (λ l. first_or l g) e
 
-told_by : (code : Option Code) (line : ℕ) (name : Option ℕ) (at : Place) (f : Fault) (others : List Fault) → with_place at (with_line line name code) ≡ f ∷ others
-    → (at_line line code ≡ Some (At f.code f.line)) × (f.place ≡ at) × (f.about ≡ about f.code name)
-told_by None line name at f others e = absurd cc
-told_by (Some code) line name at f others e =
-    let told : Fault = record { code = code; line = line; place = at; about = about code name } in
-    let same = same_first told f [] others e in
-    (ap (λ (g : Fault). Some (At g.code g.line)) same, sym (ap (λ (g : Fault). g.place) same), sym (ap (λ (g : Fault). g.about) same) ∙ ap (λ (g : Fault). about g.code name) same)
+-- a fault stands at the mark of the statement that a byte behind a text ends, where this is the name that UA is about
+abbrev StandsAt : (ℕ → Place) → List ℕ → Option ℕ → Fault → Type 0
+StandsAt place older name f =
+    (f.place ≡ place (mark_of f.code (about f.code name) older).at) × (f.about ≡ (mark_of f.code (about f.code name) older).about)
 
-told_none : (code : Option Code) (line : ℕ) (name : Option ℕ) (at : Place) → with_place at (with_line line name code) ≡ [] → at_line line code ≡ None
-told_none None line name at e = refl
-told_none (Some code) line name at e = absurd cc
+told_by : (place : ℕ → Place) (older : List ℕ) (code : Option Code) (line : ℕ) (name : Option ℕ) (f : Fault) (others : List Fault)
+    → with_place place older (with_line line name code) ≡ f ∷ others
+    → (at_line line code ≡ Some (At f.code f.line)) × StandsAt place older name f
+told_by place older None line name f others e = absurd cc
+told_by place older (Some code) line name f others e =
+    let told : Fault = at_mark place code line (mark_of code (about code name) older) in
+    let same = same_first told f [] others e in (
+      ap (λ (g : Fault). Some (At g.code g.line)) same,
+      (
+        sym (ap (λ (g : Fault). g.place) same) ∙ ap (λ (g : Fault). place (mark_of g.code (about g.code name) older).at) same,
+        sym (ap (λ (g : Fault). g.about) same) ∙ ap (λ (g : Fault). (mark_of g.code (about g.code name) older).about) same,
+      ),
+    )
 
-newest_told : (at : Place) (last : Known) (ends : Bool) (s : Result Statement LexFault) (older : Source) (f : Fault) (others : List Fault) → words_fault last older ≡ None
-    → with_place at (if ends then newest_fault last (if ends then s ∷ older else older) else None) ≡ f ∷ others
-    → (ends ≡ true) × (words_fault last (if ends then s ∷ older else older) ≡ Some (At f.code f.line)) × (f.place ≡ at)
-    × (f.about ≡ about f.code (newest_unknown (word_values last) (if ends then s ∷ older else older)))
-newest_told at last true (Ok s) older f others none e =
+told_none : (place : ℕ → Place) (older : List ℕ) (code : Option Code) (line : ℕ) (name : Option ℕ) → with_place place older (with_line line name code) ≡ [] → at_line line code ≡ None
+told_none place older None line name e = refl
+told_none place older (Some code) line name e = absurd cc
+
+newest_told : (place : ℕ → Place) (text : List ℕ) (last : Known) (ends : Bool) (s : Result Statement LexFault) (older : Source) (f : Fault) (others : List Fault) → words_fault last older ≡ None
+    → with_place place text (if ends then newest_fault last (if ends then s ∷ older else older) else None) ≡ f ∷ others
+    → (ends ≡ true) × (words_fault last (if ends then s ∷ older else older) ≡ Some (At f.code f.line))
+    × StandsAt place text (newest_unknown (word_values last) (if ends then s ∷ older else older)) f
+newest_told place text last true (Ok s) older f others none e =
     let code = word_fault (word_values last s.tags older) (place_at older) s.body in
-    let told = told_by code s.line (unknown_in (word_values last s.tags older) s.body) at f others e in
-    (refl, ap (λ o. first_of o (at_line s.line code)) none ∙ told.0, told.1, told.2)
-newest_told at last true (Err g) older f others none e = absurd cc
-newest_told at last false s older f others none e = absurd cc
+    let told = told_by place text code s.line (unknown_in (word_values last s.tags older) s.body) f others e in
+    (refl, ap (λ o. first_of o (at_line s.line code)) none ∙ told.0, told.1)
+newest_told place text last true (Err g) older f others none e = absurd cc
+newest_told place text last false s older f others none e = absurd cc
 
-newest_none : (at : Place) (last : Known) (ends : Bool) (s : Result Statement LexFault) (older : Source) → words_fault last older ≡ None
-    → with_place at (if ends then newest_fault last (if ends then s ∷ older else older) else None) ≡ []
+newest_none : (place : ℕ → Place) (text : List ℕ) (last : Known) (ends : Bool) (s : Result Statement LexFault) (older : Source) → words_fault last older ≡ None
+    → with_place place text (if ends then newest_fault last (if ends then s ∷ older else older) else None) ≡ []
     → words_fault last (if ends then s ∷ older else older) ≡ None
-newest_none at last true (Ok s) older none e =
+newest_none place text last true (Ok s) older none e =
     let code = word_fault (word_values last s.tags older) (place_at older) s.body in
-    ap (λ o. first_of o (at_line s.line code)) none ∙ told_none code s.line (unknown_in (word_values last s.tags older) s.body) at e
-newest_none at last true (Err g) older none e = none
-newest_none at last false s older none e = none
+    ap (λ o. first_of o (at_line s.line code)) none ∙ told_none place text code s.line (unknown_in (word_values last s.tags older) s.body) e
+newest_none place text last true (Err g) older none e = none
+newest_none place text last false s older none e = none
 
 -- the fault of a byte by the statement that it ends, if it ends one
-by_newest : (at : Place) (last : Known) (b : ℕ) (older : List ℕ)
-    → with_place at (byte_fault last older b)
-    ≡ with_place at (if ends_statement older b then newest_fault last (if ends_statement older b then newest older b ∷ statements older else statements older) else None)
-by_newest at last b older = ap (λ l. with_place at (if ends_statement older b then newest_fault last l else None)) (one_more b older)
+by_newest : (place : ℕ → Place) (last : Known) (b : ℕ) (older : List ℕ)
+    → with_place place older (byte_fault last older b)
+    ≡ with_place place older (if ends_statement older b then newest_fault last (if ends_statement older b then newest older b ∷ statements older else statements older) else None)
+by_newest place last b older = ap (λ l. with_place place older (if ends_statement older b then newest_fault last l else None)) (one_more b older)
 
 -- ## All of them
 
@@ -80,10 +94,10 @@ no_more (f ∷ a) b e = absurd cc
 none_before : (place : ℕ → Place) (last : Known) (text : List ℕ) → word_faults place last text ≡ [] → words_fault last (statements text) ≡ None
 none_before place last [] e = ap (words_fault last) nothing_read
 none_before place last (b ∷ older) e =
-    let parts = no_more (word_faults place last older) (with_place (place (start_of older)) (byte_fault last older b)) e in
+    let parts = no_more (word_faults place last older) (with_place place older (byte_fault last older b)) e in
     ap (words_fault last) (one_more b older)
-    ∙ newest_none (place (start_of older)) last (ends_statement older b) (newest older b) (statements older) (none_before place last older parts.0)
-    (sym (by_newest (place (start_of older)) last b older) ∙ parts.1)
+    ∙ newest_none place older last (ends_statement older b) (newest older b) (statements older) (none_before place last older parts.0)
+    (sym (by_newest place last b older) ∙ parts.1)
 
 earlier_one : (test : Bool) (earlier now : List ℕ) → test ≡ true → (if test then earlier else now) ≡ earlier
 earlier_one true earlier now e = refl
@@ -93,11 +107,16 @@ this_one : (test : Bool) (earlier now : List ℕ) → test ≡ false → (if tes
 this_one true earlier now e = cc
 this_one false earlier now e = refl
 
+-- a fault stands at the mark of the statement that the newest byte of a text ends
+abbrev IsAt : (ℕ → Place) → Known → List ℕ → Fault → Type 0
+IsAt place last text f =
+    (f.place ≡ place (ended_mark f.code (about f.code (unknown_ended (word_values last) text)) text).at)
+    × (f.about ≡ (ended_mark f.code (about f.code (unknown_ended (word_values last) text)) text).about)
+
 -- a fault is that of the newest word of a text with one, at its place
 abbrev IsFirst : (ℕ → Place) → Known → List ℕ → Fault → Type 0
 IsFirst place last text f =
-    (words_fault last (statements text) ≡ Some (At f.code f.line)) × (f.place ≡ place (statement_place (shortest (is_settled last) text)))
-    × (f.about ≡ about f.code (unknown_ended (word_values last) (shortest (is_settled last) text)))
+    (words_fault last (statements text) ≡ Some (At f.code f.line)) × IsAt place last (shortest (is_settled last) text) f
 
 first_told : (place : ℕ → Place) (last : Known) (text : List ℕ) (f : Fault) (others : List Fault) → word_faults place last text ≡ f ∷ others → IsFirst place last text f
 first_told place last [] f others e = absurd cc
@@ -105,22 +124,19 @@ first_told place last (b ∷ older) f others e = by_earlier (word_faults place l
   where
     by_earlier : (earlier : List Fault) → word_faults place last older ≡ earlier
         → ((g : Fault) (more : List Fault) → word_faults place last older ≡ g ∷ more → IsFirst place last older g)
-        → earlier ++ with_place (place (start_of older)) (byte_fault last older b) ≡ f ∷ others → IsFirst place last (b ∷ older) f
+        → earlier ++ with_place place older (byte_fault last older b) ≡ f ∷ others → IsFirst place last (b ∷ older) f
     by_earlier (g ∷ more) is before e =
-        let same = same_first g f (more ++ with_place (place (start_of older)) (byte_fault last older b)) others e in
+        let same = same_first g f (more ++ with_place place older (byte_fault last older b)) others e in
         let told = before g more is in
         let settled : is_settled last older ≡ true = ap (λ (o : Option AsmFault). is_some o || is_over older) told.0 in
         let shorter = sym (earlier_one (is_settled last older) (shortest (is_settled last) older) (b ∷ older) settled) in (
           words_stay last (b ∷ []) older (At g.code g.line) told.0 ∙ ap (λ (h : Fault). Some (At h.code h.line)) same,
-          sym (ap (λ (h : Fault). h.place) same) ∙ told.1 ∙ ap (λ t. place (statement_place t)) shorter,
-          sym (ap (λ (h : Fault). h.about) same) ∙ told.2
-              ∙ ap (λ (h : Fault). about h.code (unknown_ended (word_values last) (shortest (is_settled last) older))) same
-              ∙ ap (λ t. about f.code (unknown_ended (word_values last) t)) shorter,
+          subst (λ t. IsAt place last t f) shorter (subst (IsAt place last (shortest (is_settled last) older)) same told.1),
         )
     by_earlier [] is before e =
         let none = none_before place last older is in
-        let told = newest_told (place (start_of older)) last (ends_statement older b) (newest older b) (statements older) f others none
-        (sym (by_newest (place (start_of older)) last b older) ∙ e) in
+        let told = newest_told place older last (ends_statement older b) (newest older b) (statements older) f others none
+        (sym (by_newest place last b older) ∙ e) in
         let going = (ends_parts older b told.0).2 in
         let unsettled : is_settled last older ≡ false = ap (λ (o : Option AsmFault). is_some o || is_over older) none ∙ going in
         let shorter = sym (this_one (is_settled last older) (shortest (is_settled last) older) (b ∷ older) unsettled) in
@@ -128,8 +144,7 @@ first_told place last (b ∷ older) f others e = by_earlier (word_faults place l
         ≡ newest_unknown (word_values last) (if ends_statement older b then newest older b ∷ statements older else statements older)
         = ap (λ (t : Bool). if t then newest_unknown (word_values last) (statements (b ∷ older)) else None) told.0 ∙ ap (newest_unknown (word_values last)) (one_more b older) in (
           ap (words_fault last) (one_more b older) ∙ told.1,
-          told.2 ∙ ap (λ t. place (statement_place t)) shorter,
-          told.3 ∙ ap (about f.code) (sym ended) ∙ ap (λ t. about f.code (unknown_ended (word_values last) t)) shorter,
+          subst (λ t. IsAt place last t f) shorter (subst (λ n. StandsAt place older n f) (sym ended) told.2),
         )
 
 pub first_is_told : FirstIsTold
@@ -137,11 +152,15 @@ first_is_told sources f others fine over e =
     let text = newest_first sources in
     let last = values (statements text) in
     let told = first_told (place_at_byte sources) last text f others e in
+    let at = told.1 in
+    let shorter = shortest (is_settled last) text in
+    let name = unknown_ended (word_values last) shorter in
+    let marked : ended_mark f.code (about f.code name) shorter ≡ mark_in f.code text
+    = ap (λ n. ended_mark f.code (about f.code n) shorter) (sym (settled_unknown text fine over)) ∙ sym (by_settled f.code (about f.code (unknown_name text)) text fine over) in
     let words = words_fault last (statements text) in
     let rest = first_of words (no_word (statements text)) in
     let ended : no_end text ≡ None = ap (λ (o : Bool). if o then None else Some (At NE (line_after text))) over in (
       ap (λ o. first_of o (first_of (no_end text) rest)) (not_refused text fine) ∙ ap (λ o. first_of o rest) ended
           ∙ ap (λ o. first_of o (no_word (statements text))) told.0,
-      told.1 ∙ ap (place_at_byte sources) (sym (by_settled text fine over)),
-      told.2 ∙ ap (about f.code) (sym (settled_unknown text fine over)),
+      (at.0 ∙ ap (λ m. place_at_byte sources m.at) marked, at.1 ∙ ap (λ m. m.about) marked),
     )

@@ -1,10 +1,10 @@
 -- Words with faults.
-use Rattle.std.proofs.Common.{◌≡◌, ℕ, ◌+◌, ◌<◌, Bool, true, false, not, ◌||◌, if◌then◌else◌, Option, None, Ok, unwrap_or, length, take, drop, zero, suc, get_or, List, [], ◌∷◌, ◌++◌, refl, ap, sym, ◌∙◌, arith}
+use Rattle.std.proofs.Common.{◌≡◌, ℕ, ◌+◌, ◌<◌, Bool, true, false, not, ◌||◌, if◌then◌else◌, Option, None, Ok, length, take, drop, zero, suc, get_or, List, [], ◌∷◌, ◌++◌, refl, ap, sym, ◌∙◌}
 use Rattle.std.proofs.Math.Path.{fun_ext}
 use Rattle.std.specs.Borrow.{Bor}
 use Rattle.std.specs.BTreeMap.{BTreeMap}
 use Rattle.pal_sym.specs.Values.{if_none}
-use Rattle.pal_lex.specs.Text.{is_over, ends_statement, stretch, text_of}
+use Rattle.pal_lex.specs.Text.{is_over, ends_statement, text_of}
 use Rattle.pal_lex.specs.Statements.{statements}
 use Rattle.pal_lex.specs.Reading.{with_tokens}
 use Rattle.pal_lex.specs.declared.phrases.Body.{Body}
@@ -16,34 +16,38 @@ use Rattle.pal_asm.specs.Places.{Source, with_tags as tag_values, values, place_
 use Rattle.pal_asm.specs.Words.{word_values}
 use Rattle.pal_asm.specs.Faults.{word_fault}
 use Rattle.assemble8.specs.Sources.{texts_of, newest_first, counts_of}
-use Rattle.assemble8.specs.Places.{first_solid, start_of, is_refused, place_in, place_by, place_at_byte}
+use Rattle.assemble8.specs.Places.{is_refused, place_in, place_by, place_at_byte}
+use Rattle.assemble8.specs.Marks.{at_mark, mark_of}
 use Rattle.assemble8.specs.Unknowns.{unknown_in}
 use Rattle.assemble8.specs.Symbols.{known, Follows}
 use Rattle.assemble8.specs.JudgeSteps.{known_last, placed}
 use Rattle.assemble8.specs.Further.{with_line, newest_fault, byte_fault, with_place, word_faults, further_faults}
+use Rattle.assemble8.specs.Lexical.{lexical_further}
 use Rattle.assemble8.specs.declared.faults.Place.{Place}
 use Rattle.assemble8.specs.declared.further.Found.{Found}
 use Rattle.assemble8.proofs.PauseLemmas.{next_byte}
 use Rattle.assemble8.proofs.NameLemmas.{tagged_names}
-use Rattle.assemble8.proofs.StartLemmas.{length_taken}
 
 -- ## Lists of them
 
-pub placed_more : (place : ℕ → Place) (l : List Found) (f : Found) → placed place (l ++ f ∷ []) ≡ placed place l ++ record { code = f.code; line = f.line; place = place f.at; about = f.about } ∷ []
-placed_more place [] f = refl
-placed_more place (g ∷ others) f = ap (λ l. record { code = g.code; line = g.line; place = place g.at; about = g.about } ∷ l) (placed_more place others f)
+pub placed_more : (place : ℕ → Place) (text : List ℕ) (l : List Found) (f : Found)
+    → placed place text (l ++ f ∷ []) ≡ placed place text l ++ at_mark place f.code f.line (mark_of f.code f.about (text_of (take f.end text))) ∷ []
+placed_more place text [] f = refl
+placed_more place text (g ∷ others) f =
+    ap (λ l. at_mark place g.code g.line (mark_of g.code g.about (text_of (take g.end text))) ∷ l) (placed_more place text others f)
 
-placed-take : (place : ℕ → Place) (n : ℕ) (l : List Found) → placed place (take n l) ≡ take n (placed place l)
-placed-take place zero l = refl
-placed-take place (suc n) [] = refl
-placed-take place (suc n) (g ∷ others) = ap (λ l. record { code = g.code; line = g.line; place = place g.at; about = g.about } ∷ l) (placed-take place n others)
+placed-take : (place : ℕ → Place) (text : List ℕ) (n : ℕ) (l : List Found) → placed place text (take n l) ≡ take n (placed place text l)
+placed-take place text zero l = refl
+placed-take place text (suc n) [] = refl
+placed-take place text (suc n) (g ∷ others) =
+    ap (λ l. at_mark place g.code g.line (mark_of g.code g.about (text_of (take g.end text))) ∷ l) (placed-take place text n others)
 
-placed-drop : (place : ℕ → Place) (l : List Found) → placed place (drop 1 l) ≡ drop 1 (placed place l)
-placed-drop place [] = refl
-placed-drop place (g ∷ others) = refl
+placed-drop : (place : ℕ → Place) (text : List ℕ) (l : List Found) → placed place text (drop 1 l) ≡ drop 1 (placed place text l)
+placed-drop place text [] = refl
+placed-drop place text (g ∷ others) = refl
 
-pub placed_further : (place : ℕ → Place) (most : ℕ) (l : List Found) → placed place (take most (drop 1 l)) ≡ take most (drop 1 (placed place l))
-placed_further place most l = placed-take place most (drop 1 l) ∙ ap (take most) (placed-drop place l)
+pub placed_further : (place : ℕ → Place) (text : List ℕ) (most : ℕ) (l : List Found) → placed place text (take most (drop 1 l)) ≡ take most (drop 1 (placed place text l))
+placed_further place text most l = placed-take place text most (drop 1 l) ∙ ap (take most) (placed-drop place text l)
 
 -- ## One byte
 
@@ -55,15 +59,14 @@ pub judged_some : (last : Known) (text : List ℕ) (b : ℕ) (s : Statement) (to
 judged_some last text b s tokens ends more =
     sym (ap (λ (t : Bool). if t then newest_fault last (statements (b ∷ text)) else None) ends ∙ ap (newest_fault last) more)
 
-pub judged_more : (place : ℕ → Place) (last : Known) (bytes : List ℕ) (n : ℕ) (fault : Option (Code × ℕ × Option ℕ)) (start : Option ℕ) (at : ℕ) (old new : List Found) → n < length bytes
-    → placed place new ≡ placed place old ++ with_place (place at) fault → at ≡ unwrap_or start n → start ≡ first_solid (stretch (text_of (take n bytes)))
-    → fault ≡ byte_fault last (text_of (take n bytes)) (get_or bytes n 0) → placed place old ≡ word_faults place last (text_of (take n bytes))
-    → placed place new ≡ word_faults place last (text_of (take (n + 1) bytes))
-judged_more place last bytes n fault start at old new inside puts is begins told so_far =
+pub judged_more : (place : ℕ → Place) (last : Known) (bytes : List ℕ) (n : ℕ) (fault : Option (Code × ℕ × Option ℕ)) (old new : List Found) → n < length bytes
+    → placed place bytes new ≡ placed place bytes old ++ with_place place (text_of (take n bytes)) fault
+    → fault ≡ byte_fault last (text_of (take n bytes)) (get_or bytes n 0) → placed place bytes old ≡ word_faults place last (text_of (take n bytes))
+    → placed place bytes new ≡ word_faults place last (text_of (take (n + 1) bytes))
+judged_more place last bytes n fault old new inside puts told so_far =
     let here = text_of (take n bytes) in
-    let starts : at ≡ start_of here = is ∙ ap (λ s. unwrap_or s n) begins ∙ ap (unwrap_or (first_solid (stretch here))) (sym (length_taken bytes n (omega (arith, inside)))) in
-    puts ∙ ap (λ l. l ++ with_place (place at) fault) so_far ∙ ap (λ a. word_faults place last here ++ with_place (place a) fault) starts
-    ∙ ap (λ f. word_faults place last here ++ with_place (place (start_of here)) f) told ∙ sym (ap (word_faults place last) (next_byte bytes n (get_or bytes n 0) inside refl))
+    puts ∙ ap (λ l. l ++ with_place place here fault) so_far
+    ∙ ap (λ f. word_faults place last here ++ with_place place here f) told ∙ sym (ap (word_faults place last) (next_byte bytes n (get_or bytes n 0) inside refl))
 
 -- ## One word
 
@@ -83,15 +86,31 @@ not_true : (b : Bool) → not b ≡ true → b ≡ false
 not_true true e = cc
 not_true false e = refl
 
-pub told_further : (sources : List (Bor (List ℕ))) (most : ℕ) (text counts : List ℕ) (last : Known) (found : List Found) (passed : Bool) → text ≡ newest_first sources → counts ≡ counts_of (texts_of sources)
-    → last ≡ values (statements text) → ((place : ℕ → Place) → placed place found ≡ word_faults place last text)
+pub told_further : (sources : List (Bor (List ℕ))) (most : ℕ) (text bytes counts : List ℕ) (last : Known) (found : List Found) (passed : Bool) → text ≡ newest_first sources → counts ≡ counts_of (texts_of sources)
+    → last ≡ values (statements text) → ((place : ℕ → Place) → placed place bytes found ≡ word_faults place last text)
     → passed ≡ not (is_refused text || not (is_over text)) → passed ≡ true
-    → placed (λ at. place_by sources (place_in counts at)) (take most (drop 1 found)) ≡ further_faults sources most
-told_further sources most text counts last found passed is counted lasts are tested passes =
+    → placed (λ at. place_by sources (place_in counts at)) bytes (take most (drop 1 found)) ≡ further_faults sources most
+told_further sources most text bytes counts last found passed is counted lasts are tested passes =
     let others = take most (drop 1 (word_faults (place_at_byte sources) (values (statements (newest_first sources))) (newest_first sources))) in
     let fine : (is_refused (newest_first sources) || not (is_over (newest_first sources))) ≡ false =
     ap (λ t. is_refused t || not (is_over t)) (sym is) ∙ not_true (is_refused text || not (is_over text)) (sym tested ∙ passes) in
-    ap (λ c. placed (λ at. place_by sources (place_in c at)) (take most (drop 1 found))) counted ∙ placed_further (place_at_byte sources) most found
+    ap (λ c. placed (λ at. place_by sources (place_in c at)) bytes (take most (drop 1 found))) counted ∙ placed_further (place_at_byte sources) bytes most found
     ∙ ap (λ l. take most (drop 1 l))
     (are (place_at_byte sources) ∙ ap (λ k. word_faults (place_at_byte sources) k text) lasts ∙ ap (λ t. word_faults (place_at_byte sources) (values (statements t)) t) is)
-    ∙ sym (ap (λ (b : Bool). if b then [] else others) fine)
+    ∙ sym (ap (λ (b : Bool). if b then lexical_further (place_at_byte sources) most (newest_first sources) else others) fine)
+
+not_false : (b : Bool) → not b ≡ false → b ≡ true
+not_false true e = refl
+not_false false e = cc
+
+pub told_lexical : (sources : List (Bor (List ℕ))) (most : ℕ) (bytes counts : List ℕ) (passed : Bool) → text_of bytes ≡ newest_first sources → counts ≡ counts_of (texts_of sources)
+    → passed ≡ not (is_refused (text_of bytes) || not (is_over (text_of bytes))) → passed ≡ false
+    → lexical_further (λ at. place_by sources (place_in counts at)) most (text_of bytes) ≡ further_faults sources most
+told_lexical sources most bytes counts passed is counted tested fails =
+    let others = take most (drop 1 (word_faults (place_at_byte sources) (values (statements (newest_first sources))) (newest_first sources))) in
+    let text = newest_first sources in
+    let refused : (is_refused text || not (is_over text)) ≡ true =
+    ap (λ t. is_refused t || not (is_over t)) (sym is) ∙ not_false (is_refused (text_of bytes) || not (is_over (text_of bytes))) (sym tested ∙ fails) in
+    ap (λ c. lexical_further (λ at. place_by sources (place_in c at)) most (text_of bytes)) counted
+    ∙ ap (lexical_further (place_at_byte sources) most) is
+    ∙ sym (ap (λ (b : Bool). if b then lexical_further (place_at_byte sources) most text else others) refused)

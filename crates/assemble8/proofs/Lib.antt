@@ -3,6 +3,9 @@ pub mod PauseLemmas
 pub mod LocateLemmas
 pub mod ReadingLemmas
 pub mod StartLemmas
+pub mod RunLemmas
+pub mod MarkLemmas
+pub mod MendLemmas
 pub mod PlaceLemmas
 pub mod JoinLemmas
 pub mod NameLemmas

@@ -1,5 +1,5 @@
 -- Where a text has its fault.
-use Rattle.std.proofs.Common.{◌≡◌, ℕ, ◌+◌, ◌≤◌, ◌<◌, nat_eq, Bool, true, false, ◌||◌, not, if◌then◌else◌, Option, Some, None, Result, Ok, Err, is_some, length, take, drop, get_or, List, [], ◌∷◌, ◌++◌, refl, ap, sym, subst, ◌∙◌, arith}
+use Rattle.std.proofs.Common.{◌≡◌, ℕ, ◌+◌, ◌≤◌, ◌<◌, nat_eq, Bool, true, false, ◌||◌, not, if◌then◌else◌, Option, Some, None, Result, Ok, Err, is_some, length, take, drop, get_or, List, [], ◌∷◌, ◌++◌, refl, ap, sym, subst, ◌∙◌}
 use Rattle.std.proofs.lemmas.List.{take_all}
 use Rattle.pal_lex.specs.Text.{is_over, ends_statement, stretch, text_of, line_after}
 use Rattle.pal_lex.specs.Statements.{statements, first_fault, judged, radix_after}
@@ -20,11 +20,10 @@ use Rattle.pal_asm.specs.Laws.{LexicalFaultIsTold, NoLexicalFault, NoFaultBefore
 use Rattle.pal_asm.specs.Laws as asm_laws
 use Rattle.pal_asm.specs.Progress as asm
 use Rattle.pal_asm.specs.Passes.{IsFirst, IsSecond, AnswersSecond, BeginsSecond}
-use Rattle.assemble8.specs.Places.{shortest, is_refused, is_settled, start_of, statement_place, fault_place}
+use Rattle.assemble8.specs.Places.{shortest, is_refused, is_settled}
 use Rattle.assemble8.specs.Steps.{is_memory, step_behind, PassesStatement, PassesByte, Passes, MakesByte, IsSettledAt, IsMetAt}
 use Rattle.assemble8.specs.declared.locating.Step.TheVariants as step
 use Rattle.assemble8.specs.declared.locating.Passed.TheVariants as passed
-use Rattle.assemble8.proofs.StartLemmas.{length_from}
 use Rattle.assemble8.proofs.PauseLemmas.{none_ends, one_ends, ends_parts, over_stays, calm_byte, next_byte, whole_text, none_some, true_false, tells_fault}
 
 -- ## The shortest beginning
@@ -99,33 +98,11 @@ shortest_is holds stays bytes end inside now earlier =
     ap (shortest holds) (goes_on bytes end inside)
     ∙ shortest_at holds stays (text_of (drop (end + 1) bytes)) (text_of (take end bytes)) (get_or bytes end 0) (ap holds (sym next) ∙ now) earlier ∙ sym next
 
-shortest_of : (holds : List ℕ → Bool) → ((later text : List ℕ) → holds text ≡ true → holds (later ++ text) ≡ true) → (bytes : List ℕ) (end : ℕ) → end < length bytes
-    → holds (text_of (take (end + 1) bytes)) ≡ true → holds (text_of (take end bytes)) ≡ false → statement_place (shortest holds (text_of bytes)) ≡ start_of (text_of (take end bytes))
-shortest_of holds stays bytes end inside now earlier =
-    ap statement_place (shortest_is holds stays bytes end inside now earlier ∙ next_byte bytes end (get_or bytes end 0) inside refl)
-
--- ## The place of the fault
-
-by_refused : (text : List ℕ) → is_refused text ≡ true → fault_place text ≡ statement_place (shortest is_refused text)
-by_refused text now = rw now refl
-
-by_open : (text : List ℕ) → is_refused text ≡ false → is_over text ≡ false → fault_place text ≡ length text
-by_open text fine going = rw (fine, going) refl
-
-pub by_settled : (text : List ℕ) → is_refused text ≡ false → is_over text ≡ true → fault_place text ≡ statement_place (shortest (is_settled (values (statements text))) text)
-by_settled text fine over = rw (fine, over) refl
+-- ## A text with a fault
 
 pub refused_whole : (bytes : List ℕ) (end : ℕ) → IsMetAt bytes (passed.Refused end) → is_refused (text_of bytes) ≡ true
 refused_whole bytes end p =
     ap is_refused (whole_text bytes (end + 1)) ∙ refused_stays (text_of (drop (end + 1) bytes)) (text_of (take (end + 1) bytes)) p.1
-
-pub refused_place : (bytes : List ℕ) (end : ℕ) → IsMetAt bytes (passed.Refused end) → fault_place (text_of bytes) ≡ start_of (text_of (take end bytes))
-refused_place bytes end p =
-    by_refused (text_of bytes) (refused_whole bytes end p)
-    ∙ shortest_of is_refused refused_stays bytes end p.0 p.1 p.2
-
-pub open_place : (bytes : List ℕ) → IsMetAt bytes passed.Open → fault_place (text_of bytes) ≡ length bytes
-open_place bytes p = by_open (text_of bytes) p.0 p.1 ∙ length_from bytes [] ∙ omega arith
 
 -- a text has no further statement behind its `$`
 pub same_statements : (bytes : List ℕ) (end : ℕ) (assembler : asm.Progress) → EndsSource → Passes bytes (passed.Over end) assembler
@@ -138,12 +115,6 @@ over_whole bytes end assembler p = ap is_over (whole_text bytes (end + 1)) ∙ o
 
 pub fine_whole : (bytes : List ℕ) (end : ℕ) (assembler : asm.Progress) → EndsSource → Passes bytes (passed.Over end) assembler → is_refused (text_of bytes) ≡ false
 fine_whole bytes end assembler ends p = ap (λ s. is_some (first_order s)) (same_statements bytes end assembler ends p) ∙ ap is_some p.1.no_fault
-
-pub settled_place : (bytes : List ℕ) (end : ℕ) → IsMetAt bytes (passed.Over end) → fault_place (text_of bytes) ≡ start_of (text_of (take end bytes))
-settled_place bytes end p =
-    let at = p.0 in
-    by_settled (text_of bytes) p.1 p.2
-    ∙ shortest_of (is_settled (values (statements (text_of bytes)))) (settled_stays (values (statements (text_of bytes)))) bytes end at.0 at.1 at.2
 
 -- ## No word
 

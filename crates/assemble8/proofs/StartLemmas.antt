@@ -1,6 +1,6 @@
 -- Where a statement begins.
 use Rattle.std.proofs.Common.{◌≡◌, ℕ, ◌+◌, ◌≤◌, ◌<◌, Bool, true, false, ◌||◌, if◌then◌else◌, Option, Some, None, unwrap_or, length, take, get_or, List, [], ◌∷◌, refl, ap, sym, ◌∙◌, arith}
-use Rattle.std.proofs.lemmas.List.{length-take-le}
+use Rattle.std.proofs.lemmas.List.{length-take-le, take_all}
 use Rattle.std.specs.Option.{option_or}
 use Rattle.pal_lex.specs.Text.{is_ignored, in_comment, is_dead, is_end, stretch, text_from, text_of}
 use Rattle.pal_lex.specs.Cutting.{is_space}
@@ -38,8 +38,15 @@ start_more bytes n b start comment inside is quiet same =
     ∙ sym (solid_by (is_dead older b) (is_end b) b (length older) (stretch older))
     ∙ sym (ap (λ t. first_solid (stretch t)) next)
 
-pub start_found : (bytes : List ℕ) (end taken : ℕ) (start : Option ℕ) → end < length bytes → taken ≡ end → start ≡ first_solid (stretch (text_of (take taken bytes)))
-    → unwrap_or start end ≡ start_of (text_of (take end bytes))
-start_found bytes end taken start inside all is =
-    ap (λ s. unwrap_or s end) (is ∙ ap (λ n. first_solid (stretch (text_of (take n bytes)))) all)
-    ∙ ap (unwrap_or (first_solid (stretch (text_of (take end bytes))))) (sym (length_taken bytes end (omega (arith, inside))))
+pub length_whole : (bytes : List ℕ) → length (text_of bytes) ≡ length bytes
+length_whole bytes = length_from bytes [] ∙ omega arith
+
+-- all bytes are taken
+pub all_taken : (bytes : List ℕ) (taken : ℕ) → length bytes ≤ taken → text_of (take taken bytes) ≡ text_of bytes
+all_taken bytes taken all = ap text_of (take_all taken bytes all)
+
+pub start_found : (bytes : List ℕ) (taken : ℕ) (start : Option ℕ) → length bytes ≤ taken → start ≡ first_solid (stretch (text_of (take taken bytes)))
+    → unwrap_or start (length bytes) ≡ start_of (text_of bytes)
+start_found bytes taken start all is =
+    ap (λ s. unwrap_or s (length bytes)) (is ∙ ap (λ t. first_solid (stretch t)) (all_taken bytes taken all))
+    ∙ ap (unwrap_or (first_solid (stretch (text_of bytes)))) (sym (length_whole bytes))

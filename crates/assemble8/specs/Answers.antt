@@ -11,7 +11,12 @@ use Rattle.assemble8.specs.declared.assembling.Assembly.{Assembly}
 use Rattle.assemble8.specs.declared.faults.SourceFault.{SourceFault}
 use Rattle.assemble8.specs.declared.faults.SourceFault.TheVariants.{At, Memory}
 use Rattle.assemble8.specs.Sources.{texts_of, newest_first, counts_of}
-use Rattle.assemble8.specs.Places.{place_of}
+use Rattle.assemble8.specs.Places.{place_at_byte}
+use Rattle.assemble8.specs.Marks.{fault_mark}
+use Rattle.assemble8.specs.declared.faults.About.{About}
+use Rattle.assemble8.specs.declared.faults.Place.{Place}
+use Rattle.assemble8.specs.declared.marks.Mark.{Mark}
+use Rattle.pal_asm.specs.declared.faults.Code.{Code}
 use Rattle.assemble8.specs.Unknowns.{unknown_name, about}
 
 -- The sources have no fault, and this is the text that they join to, with how much of each is in it, and its words.
@@ -24,9 +29,17 @@ pub record IsAssemblyOf (sources : List (Bor (List ℕ))) (assembly : Assembly) 
 abbrev pub IsAssembled : List (Bor (List ℕ)) → List ℕ → Type 0
 IsAssembled sources frames = (fault_of (newest_first sources) ≡ None) × (frames ≡ tape_of (pairs_of (newest_first sources)))
 
--- the fault of the sources, with its place, and the name that it is about, if it is UA; or memory ran out
+-- where the fault of a text is, and what stands there, if it has this code
+abbrev pub mark_in : Code → List ℕ → Mark
+mark_in code text = fault_mark code (about code (unknown_name text)) text
+
+-- a fault of sources with this code has this place, and is about this
+abbrev pub IsMarked : List (Bor (List ℕ)) → Code → Place → About → Type 0
+IsMarked sources code place about =
+    (place ≡ place_at_byte sources (mark_in code (newest_first sources)).at) × (about ≡ (mark_in code (newest_first sources)).about)
+
+-- the fault of the sources, with its place and what it is about; or memory ran out
 abbrev pub IsTold : List (Bor (List ℕ)) → SourceFault → Type 0
 IsTold sources (At fault) =
-    (fault_of (newest_first sources) ≡ Some (asm.At fault.code fault.line)) × (fault.place ≡ place_of sources)
-    × (fault.about ≡ about fault.code (unknown_name (newest_first sources)))
+    (fault_of (newest_first sources) ≡ Some (asm.At fault.code fault.line)) × IsMarked sources fault.code fault.place fault.about
 IsTold sources Memory = Unit {0}

@@ -1,4 +1,4 @@
--- The faults of words behind the first (this project's profile of PAL III).
+-- The faults behind the first (this project's profile of PAL III).
 use Rattle.std.specs.Prelude.{ℕ, ◌||◌, not, if◌then◌else◌, Option, Some, None, Ok, Err, take, drop, List, [], ◌∷◌, ◌++◌}
 use Rattle.std.specs.Borrow.{Bor}
 use Rattle.pal_lex.specs.Text.{is_over, ends_statement}
@@ -9,7 +9,9 @@ use Rattle.pal_asm.specs.Places.{Source, place_at, values}
 use Rattle.pal_asm.specs.Words.{word_values}
 use Rattle.pal_asm.specs.Faults.{word_fault}
 use Rattle.assemble8.specs.Sources.{newest_first}
-use Rattle.assemble8.specs.Places.{is_refused, start_of, place_at_byte}
+use Rattle.assemble8.specs.Places.{is_refused, place_at_byte}
+use Rattle.assemble8.specs.Marks.{at_mark, mark_of}
+use Rattle.assemble8.specs.Lexical.{lexical_further}
 use Rattle.assemble8.specs.Unknowns.{unknown_in, about}
 use Rattle.assemble8.specs.declared.faults.Place.{Place}
 use Rattle.assemble8.specs.declared.faults.Fault.{Fault}
@@ -30,18 +32,20 @@ newest_fault last (Ok s ∷ older) =
 abbrev pub byte_fault : Known → List ℕ → ℕ → Option (Code × ℕ × Option ℕ)
 byte_fault last older b = if ends_statement older b then newest_fault last (statements (b ∷ older)) else None
 
-abbrev pub with_place : Place → Option (Code × ℕ × Option ℕ) → List Fault
-with_place at None = []
-with_place at (Some found) = record { code = found.0; line = found.1; place = at; about = found.2 } ∷ []
+-- the fault of the word that a byte behind a text ends, if it has one
+abbrev pub with_place : (ℕ → Place) → List ℕ → Option (Code × ℕ × Option ℕ) → List Fault
+with_place place older None = []
+with_place place older (Some found) = at_mark place found.0 found.1 (mark_of found.0 found.2 older) ∷ []
 
 -- the faults of the words of a text, in its order, where these are the places of its bytes
 abbrev pub word_faults : (ℕ → Place) → Known → List ℕ → List Fault
 word_faults place last [] = []
-word_faults place last (b ∷ older) = word_faults place last older ++ with_place (place (start_of older)) (byte_fault last older b)
+word_faults place last (b ∷ older) = word_faults place last older ++ with_place place older (byte_fault last older b)
 
--- So many faults behind the first, if this is one of a word: each word is judged by itself there, since what names stand for is
--- known. Behind another fault there is none: what the statement would have defined isn't known.
+-- So many faults behind the first. Behind one of a word each word is judged by itself, since what names stand for is known; behind IC, SY
+-- and NU the statement is made harmless. Behind another fault there is none.
 abbrev pub further_faults : List (Bor (List ℕ)) → ℕ → List Fault
 further_faults sources most =
-    if is_refused (newest_first sources) || not (is_over (newest_first sources)) then []
+    if is_refused (newest_first sources) || not (is_over (newest_first sources))
+    then lexical_further (place_at_byte sources) most (newest_first sources)
     else take most (drop 1 (word_faults (place_at_byte sources) (values (statements (newest_first sources))) (newest_first sources)))

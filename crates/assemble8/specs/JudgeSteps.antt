@@ -1,16 +1,18 @@
 -- What the small steps of judging words come to, for private clauses.
-use Rattle.std.specs.Prelude.{◌≡◌, ℕ, Option, List, [], ◌∷◌}
+use Rattle.std.specs.Prelude.{◌≡◌, ℕ, Option, take, List, [], ◌∷◌}
 use Rattle.std.specs.BTreeMap.{BTreeMap}
 use Rattle.pal_sym.specs.Values.{if_none}
 use Rattle.pal_asm.specs.declared.faults.Code.{Code}
 use Rattle.pal_asm.specs.Expressions.{Known}
 use Rattle.pal_asm.specs.Places.{Source, values_at}
+use Rattle.pal_lex.specs.Text.{text_of}
 use Rattle.pal_lex.specs.Statements.{statements}
 use Rattle.pal_lex.specs.Reading.{HasRead}
 use Rattle.pal_lex.specs.Progress.{Progress}
 use Rattle.assemble8.specs.Symbols.{known, Follows}
 use Rattle.assemble8.specs.Unknowns.{Standing}
 use Rattle.assemble8.specs.Further.{byte_fault}
+use Rattle.assemble8.specs.Marks.{at_mark, mark_of}
 use Rattle.assemble8.specs.declared.faults.Place.{Place}
 use Rattle.assemble8.specs.declared.faults.Fault.{Fault}
 use Rattle.assemble8.specs.declared.further.Found.{Found}
@@ -24,10 +26,11 @@ abbrev pub Stands : BTreeMap ℕ ℕ → Standing → Type 0
 Stands last standing =
     (now : BTreeMap ℕ ℕ) (tags : List ℕ) (older : Source) → known now ≡ values_at tags older → known_last now last ≡ standing tags older
 
--- words with faults, where these are the places of the bytes of a join
-abbrev pub placed : (ℕ → Place) → List Found → List Fault
-placed place [] = []
-placed place (found ∷ others) = record { code = found.code; line = found.line; place = place found.at; about = found.about } ∷ placed place others
+-- words of a text with faults, where these are the places of its bytes
+abbrev pub placed : (ℕ → Place) → List ℕ → List Found → List Fault
+placed place bytes [] = []
+placed place bytes (found ∷ others) =
+    at_mark place found.code found.line (mark_of found.code found.about (text_of (take found.end bytes))) ∷ placed place bytes others
 
 -- A byte behind a text was taken, and this is the fault of the word that it ends.
 pub record IsJudged (text : List ℕ) (b : ℕ) (last : Known) (fault : Option (Code × ℕ × Option ℕ)) (lexer : Progress) (symbols : BTreeMap ℕ ℕ) (place : ℕ) : Type 0 where

@@ -14,8 +14,8 @@ use Rattle.pal_asm.specs.Expressions.{Known, value_of}
 use Rattle.pal_asm.specs.Places.{values}
 use Rattle.pal_asm.specs.Faults.{terms_fault, first_order, fault_of}
 use Rattle.assemble8.specs.Sources.{newest_first}
-use Rattle.assemble8.specs.Places.{is_refused, place_at_byte, place_of}
-use Rattle.assemble8.specs.Unknowns.{unknown_name, about}
+use Rattle.assemble8.specs.Places.{is_refused, place_at_byte}
+use Rattle.assemble8.specs.Answers.{IsMarked}
 use Rattle.assemble8.specs.Symbols.{Entries, symbols_of}
 use Rattle.assemble8.specs.Further.{word_faults}
 use Rattle.assemble8.specs.declared.faults.Fault.{Fault}
@@ -51,11 +51,10 @@ SymbolsHaveLastValues =
 
 -- ## Further faults
 
--- The first of the words with a fault, where the first pass meets none, is the fault that is told, at its place and with the
--- name that it is about.
+-- The first of the words with a fault, where the first pass meets none, is the fault that is told, at its place and with what
+-- it is about.
 abbrev pub FirstIsTold : Type 0
 FirstIsTold =
     (sources : List (Bor (List ℕ))) (fault : Fault) (others : List Fault) → is_refused (newest_first sources) ≡ false → is_over (newest_first sources) ≡ true
     → word_faults (place_at_byte sources) (values (statements (newest_first sources))) (newest_first sources) ≡ fault ∷ others
-    → (fault_of (newest_first sources) ≡ Some (At fault.code fault.line)) × (fault.place ≡ place_of sources)
-    × (fault.about ≡ about fault.code (unknown_name (newest_first sources)))
+    → (fault_of (newest_first sources) ≡ Some (At fault.code fault.line)) × IsMarked sources fault.code fault.place fault.about

@@ -7,9 +7,8 @@ use Rattle.pal_lex.specs.Text.{text_of, stretch, is_over}
 use Rattle.pal_lex.specs.Cutting.{is_space}
 use Rattle.pal_lex.specs.Statements.{statements}
 use Rattle.pal_asm.specs.Expressions.{Known}
-use Rattle.pal_asm.specs.Places.{values}
 use Rattle.pal_asm.specs.Faults.{first_order, words_fault}
-use Rattle.assemble8.specs.Sources.{texts_of, newest_first, counts_of}
+use Rattle.assemble8.specs.Sources.{texts_of, counts_of}
 use Rattle.assemble8.specs.declared.faults.Place.{Place}
 
 -- ## In the join, by the byte from 0
@@ -35,19 +34,6 @@ first_solid (live ∷ older) = option_or (first_solid older) (if is_space live.0
 -- where the statement begins that a byte behind a text ends: at that byte, if the statement is empty
 abbrev pub start_of : List ℕ → ℕ
 start_of text = unwrap_or (first_solid (stretch text)) (length text)
-
--- the place of the statement that the newest byte of a text ends
-abbrev pub statement_place : List ℕ → ℕ
-statement_place [] = 0
-statement_place (b ∷ older) = start_of older
-
--- The place of the fault of a text: of the statement that has it, of the `$` where there is no word, and behind the text
--- where there is no `$`.
-abbrev pub fault_place : List ℕ → ℕ
-fault_place text =
-    if is_refused text then statement_place (shortest is_refused text)
-    else (if is_over text then statement_place (shortest (is_settled (values (statements text))) text)
-    else length text)
 
 -- ## In a source
 
@@ -88,7 +74,3 @@ place_by sources at =
 -- the place of a byte of the join of sources
 abbrev pub place_at_byte : List (Bor (List ℕ)) → ℕ → Place
 place_at_byte sources at = place_by sources (place_in (counts_of (texts_of sources)) at)
-
--- the place of the fault of sources
-abbrev pub place_of : List (Bor (List ℕ)) → Place
-place_of sources = place_at_byte sources (fault_place (newest_first sources))

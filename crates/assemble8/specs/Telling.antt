@@ -1,10 +1,12 @@
 -- The text of a fault, as a compiler tells it (this project's profile of PAL III).
-use Rattle.std.specs.Prelude.{ℕ, ◌-◌, Option, Some, None, nat_eq, nat_lt, nat_le, ◌&&◌, ◌||◌, if◌then◌else◌, zero, suc, take, codes, decimal, List, [], ◌∷◌, ◌++◌}
+use Rattle.std.specs.Prelude.{ℕ, ◌+◌, ◌-◌, ◌/◌, ◌%◌, nat_eq, nat_lt, nat_le, ◌&&◌, ◌||◌, if◌then◌else◌, zero, suc, take, codes, decimal, List, [], ◌∷◌, ◌++◌}
 use Rattle.std.specs.Borrow.{Bor}
 use Rattle.pal_asm.specs.declared.faults.Code.{Code}
 use Rattle.pal_asm.specs.declared.faults.Code.TheVariants.{IC, SY, NU, UA, DT, RD, IR, FD, PF, NE, NW}
 use Rattle.assemble8.specs.Places.{bytes_of}
 use Rattle.assemble8.specs.Spelling.{spelling}
+use Rattle.assemble8.specs.declared.faults.About.{About}
+use Rattle.assemble8.specs.declared.faults.About.TheVariants.{Nothing, Name, Character}
 use Rattle.assemble8.specs.declared.faults.Fault.{Fault}
 use Rattle.assemble8.specs.declared.faults.Place.{Place}
 
@@ -69,12 +71,18 @@ words_of PF = codes "past 7777"
 words_of NE = codes "no $"
 words_of NW = codes "no word"
 
--- the name that a fault is about, behind a blank
-abbrev pub named : Option ℕ → List ℕ
-named None = []
-named (Some name) = codes " " ++ spelling name
+-- a byte as it is, if it is printable ASCII, and else its three octal digits
+abbrev pub character_text : ℕ → List ℕ
+character_text b =
+    if nat_lt 0o40 b && nat_lt b 0o177 then b ∷ [] else (0o60 + b / 0o100) ∷ (0o60 + b / 8 % 8) ∷ (0o60 + b % 8) ∷ []
 
--- `CODE: WORDS`, and behind it the name that the fault is about
+-- what a fault is about, behind a blank
+abbrev pub named : About → List ℕ
+named Nothing = []
+named (Name name) = codes " " ++ spelling name
+named (Character b) = codes " " ++ character_text b
+
+-- `CODE: WORDS`, and behind it what the fault is about
 abbrev pub told : Fault → List ℕ
 told fault = letters_of fault.code ++ codes ": " ++ words_of fault.code ++ named fault.about
 
@@ -82,7 +90,7 @@ told fault = letters_of fault.code ++ codes ": " ++ words_of fault.code ++ named
 abbrev pub located : List ℕ → Place → List ℕ
 located name place = name ++ codes ":" ++ decimal place.line ++ codes ":" ++ decimal place.column ++ codes ": "
 
--- `NAME:LINE:COLUMN: CODE: WORDS`, with the name that the fault is about
+-- `NAME:LINE:COLUMN: CODE: WORDS`, with what the fault is about
 abbrev pub headline : List ℕ → Fault → List ℕ
 headline name fault = located name fault.place ++ told fault ++ codes "\n"
 
@@ -98,7 +106,7 @@ marked_line source place = with_caret (shown_line source place.line) place.colum
 abbrev pub numbered : Fault → List ℕ
 numbered fault = codes "? 5 " ++ letters_of fault.code ++ codes " " ++ decimal fault.line ++ codes "\n"
 
--- the text of a fault of sources with these names: the fault, its line with a caret below where the statement begins, and
+-- the text of a fault of sources with these names: the fault, its line with a caret below its place, and
 -- the line that scripts are told
 abbrev pub fault_text : List (Bor (List ℕ)) → List (Bor (List ℕ)) → Fault → List ℕ
 fault_text sources names fault =

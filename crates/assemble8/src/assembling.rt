@@ -3,16 +3,15 @@ ghost use Rattle.std.specs.Prelude.{◌≡◌, IfOk, IfErr};
 ghost use Rattle.pal_lex.specs.Text.{text_of};
 ghost use Rattle.pal_asm.specs.Texts.{IsFaultOf};
 ghost use Rattle.assemble8.specs.Sources.{texts_of, newest_first, counts_of};
-ghost use Rattle.assemble8.specs.Places.{place_of};
-ghost use Rattle.assemble8.specs.Unknowns.{unknown_name, about};
-ghost use Rattle.assemble8.specs.Answers.{IsAssembled, IsAssemblyOf, IsTold};
+ghost use Rattle.assemble8.specs.Answers.{IsAssembled, IsAssemblyOf, IsMarked, IsTold};
 ghost use Rattle.assemble8.specs.declared.faults.SourceFault.TheVariants.{Memory};
 
 use crate::joins::{Join, join_all};
-use crate::locating::{fault_end, fault_place};
+use crate::locating::fault_end;
+use crate::marks::fault_mark;
 use crate::places::place_of;
 use crate::unknowns::name_told;
-use crate::{Fault, Place, SourceFault};
+use crate::{About, Fault, Place, SourceFault};
 use bin_tape::tape_of;
 use pal_asm::laws::has_words;
 use pal_asm::{AsmFault, Code, assemble};
@@ -28,8 +27,8 @@ pub struct Assembly {
     pub pairs: Vec<(Cell, Word)>,
 }
 
-/// Sources of the host, assembled as one; or their first fault, with the place of the statement that has it, and of UA with the
-/// first name of the statement that stands for nothing there.
+/// Sources of the host, assembled as one; or their first fault, with its place, of UA with the first name of the statement that stands for
+/// nothing there, and of IC with the character.
 ///
 /// A source is taken as its text stands in a file of a volume: LF ends a line, with a CR before it or not. Each source but
 /// the last goes on in the next one at its first PAUSE that stands alone, and no source at all is an empty one (PAL III
@@ -57,7 +56,7 @@ pub fn assemble_sources(alloc: Global, sources: &[&[u8]]) -> Result<Vec<u8>, Sou
     Ok(frames)
 }
 
-/// A fault of a join of sources, with the place of the statement that has it and the name that it is about.
+/// A fault of a join of sources, with its place and what it is about.
 fn told(alloc: Global, sources: &[&[u8]], join: &Join, fault: AsmFault) -> SourceFault
     requires text { text_of join.now.text.items ≡ newest_first sources.now }
     requires counts { join.now.counts.items ≡ counts_of (texts_of sources.now) }
@@ -78,22 +77,21 @@ fn told(alloc: Global, sources: &[&[u8]], join: &Join, fault: AsmFault) -> Sourc
     }
 }
 
-/// The place of the fault of a join of sources, and the name that it is about, if it is UA. The only fault of the call is
-/// `Memory`.
+/// The place of the fault of a join of sources, and what it is about. The only fault of the call is `Memory`.
 fn fault_spot(
     alloc: Global,
     sources: &[&[u8]],
     join: &Join,
     code: Code,
-) -> Result<(Place, Option<u64>), SourceFault>
+) -> Result<(Place, About), SourceFault>
     requires text { text_of join.now.text.items ≡ newest_first sources.now }
     requires counts { join.now.counts.items ≡ counts_of (texts_of sources.now) }
-    ensures place { IfOk result (λ spot. spot.0 ≡ place_of sources.now) }
-    ensures name { IfOk result (λ spot. spot.1 ≡ about code (unknown_name (newest_first sources.now))) }
+    ensures spot { IfOk result (λ spot. IsMarked sources.now code spot.0 spot.1) }
     ensures fault { IfErr result (λ fault. fault ≡ Memory) }
 {
     let met = fault_end(alloc, &join.text)?;
-    let place = place_of(alloc, sources, &join.counts, fault_place(&join.text, met))?;
-    let about = name_told(alloc, &join.text, met, code)?;
-    Ok((place, about))
+    let name = name_told(alloc, &join.text, met, code)?;
+    let mark = fault_mark(alloc, &join.text, met, code, name)?;
+    let place = place_of(alloc, sources, &join.counts, mark.at)?;
+    Ok((place, mark.about))
 }

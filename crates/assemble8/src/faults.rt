@@ -18,22 +18,34 @@ pub struct Place {
     pub column: usize,
 }
 
+/// What a fault is about.
+#[derive(Clone, Copy, PartialEq, Eq, Debug)]
+pub enum About {
+    Nothing,
+    /// A name, as the number that the sixbit codes of its six characters make.
+    Name(u64),
+    /// A byte.
+    Character(u8),
+}
+
 /// A fault of sources.
 #[derive(Clone, Copy, PartialEq, Eq, Debug)]
 pub struct Fault {
     pub code: Code,
     /// The line over the sources joined, as scripts are told it: 1 and up, or 2^64 - 1 where it would be more.
     pub line: u64,
+    /// Of IC where the character stands, of NU where the first bad number of the statement begins, of UA where the name first stands in the
+    /// statement; of any other fault where the statement begins.
     pub place: Place,
-    /// Of UA, the first name of the statement, from the left, that stands for nothing where the statement is judged, as the
-    /// number that the sixbit codes of its six characters make; of any other fault none.
-    pub about: Option<u64>,
+    /// Of UA, the first name of the statement, from the left, that stands for nothing where the statement is judged; of IC the first byte of
+    /// the statement that is no character of PAL III; of any other fault nothing.
+    pub about: About,
 }
 
 /// Why sources are not assembled.
 #[derive(Clone, Copy, PartialEq, Eq, Debug, Error)]
 pub enum SourceFault {
-    /// The first fault of the sources, with the place of the statement that has it: of the `$` where there is no word, and
+    /// The first fault of the sources, with its place: of the `$` where there is no word, and
     /// behind the last source where there is no `$`. The text leaves the source to who knows its name.
     #[error("{code} in line {line}, column {column}", code = .0.code, line = .0.place.line, column = .0.place.column)]
     At(Fault),

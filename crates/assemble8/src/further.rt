@@ -1,5 +1,5 @@
 //! Faults behind the first.
-ghost use Rattle.std.specs.Prelude.{◌≡◌, ℕ, ◌++◌, ◌∷◌, [], take, drop, false, Option, None, unwrap_or, List, IfOk, IfErr, OnOk};
+ghost use Rattle.std.specs.Prelude.{◌≡◌, ℕ, ◌++◌, ◌∷◌, [], take, drop, false, Option, None, List, IfOk, IfErr, OnOk};
 ghost use Rattle.pal_lex.specs.Text.{text_of};
 ghost use Rattle.pal_lex.specs.Statements.{statements};
 ghost use Rattle.pal_lex.specs.Reading.{HasRead};
@@ -8,16 +8,18 @@ ghost use Rattle.assemble8.specs.Places.{place_in, place_by};
 ghost use Rattle.assemble8.specs.Symbols.{known, Follows};
 ghost use Rattle.assemble8.specs.JudgeSteps.{placed, IsJudged};
 ghost use Rattle.assemble8.specs.Further.{with_place, word_faults, further_faults};
+ghost use Rattle.assemble8.specs.Marks.{at_mark, mark_of};
 ghost use Rattle.assemble8.specs.declared.faults.Place.{Place};
 ghost use Rattle.assemble8.specs.declared.faults.SourceFault.TheVariants.{Memory};
 
-use crate::joins::join_all;
+use crate::joins::{Join, join_all};
 use crate::judging::judge;
+use crate::lexical::{lexical_further, put};
 use crate::locating::is_passed;
+use crate::marks::mark_of;
 use crate::names::{Names, names_of, no_names};
-use crate::places::place_of;
+use crate::places::{first_bytes, place_of};
 use crate::reading::statement_ended;
-use crate::starts::{comment_behind, start_behind};
 use crate::{Fault, SourceFault};
 use pal_asm::Code;
 use pal_asm::laws::{no_fault_before, statements_stay};
@@ -31,16 +33,17 @@ struct Found {
     code: Code,
     /// The line over the join.
     line: u64,
-    /// The place in the join at which the statement begins.
-    at: usize,
+    /// The place in the join of the byte that ends the statement.
+    end: usize,
     /// The name that it is about, if it is UA.
     about: Option<u64>,
 }
 
-/// So many of the faults of sources of the host behind the first, in the order of the sources, where the first is one of a
-/// word (UA or IR), which the second pass meets: what names stand for is known then, and each word is judged by itself.
-/// None where the sources have another fault, or none at all (this project's profile of PAL III). The only fault of the call
-/// is `Memory`.
+/// So many of the faults of sources of the host behind the first, in the order of the sources. Where the first is one of a word (UA or IR),
+/// which the second pass meets, what names stand for is known, and each word is judged by itself. Where it is IC, SY or NU, its statement is
+/// read as its first tag, if that has no fault, and the word 0; the next fault is the first of that text, if it is IC, SY or NU, and so on,
+/// unless the statement has DECIMAL, OCTAL or PAUSE, which say how what follows is read. None where the sources have another fault, or none
+/// at all (this project's profile of PAL III). The only fault of the call is `Memory`.
 pub fn further_faults(
     alloc: Global,
     sources: &[&[u8]],
@@ -51,11 +54,12 @@ pub fn further_faults(
 {
     let join = join_all(alloc, sources)?;
     if !is_passed(alloc, &join.text)? {
-        return Ok(Vec::new(alloc));
+        let faults = lexical_further(alloc, sources, join, most)?;
+        return Ok(faults);
     }
     let last = names_of(alloc, &join.text)?;
     let found = word_faults(alloc, &join.text, &last.symbols)?;
-    let faults = placed(alloc, sources, &join.counts, further(&found, most))?;
+    let faults = placed(alloc, sources, &join, further(&found, most))?;
     Ok(faults)
 }
 
@@ -74,29 +78,54 @@ fn further(found: &[Found], most: usize) -> &[Found]
     }
 }
 
-/// Words with faults as faults of sources that have so many bytes each in their join.
+/// Words of a join of sources with faults as faults of the sources.
 fn placed(
     alloc: Global,
     sources: &[&[u8]],
-    counts: &[usize],
+    join: &Join,
     found: &[Found],
-) -> Result<Vec<Fault>, AllocError>
-    ensures { IfOk result (λ faults. faults.items ≡ placed
-        (λ at. place_by sources.now (place_in counts.now at)) found.now) }
+) -> Result<Vec<Fault>, SourceFault>
+    requires { first_order (statements (text_of join.now.text.items)) ≡ None }
+    ensures faults { IfOk result (λ faults. faults.items ≡ placed
+        (λ at. place_by sources.now (place_in join.now.counts.items at)) join.now.text.items
+        found.now) }
+    ensures fault { IfErr result (λ fault. fault ≡ Memory) }
 {
     let mut faults = Vec::new(alloc);
     let mut rest = found;
     while let [first, others @ ..] = rest {
-        let place = place_of(alloc, sources, counts, first.at)?;
-        faults.push(Fault {
-            code: first.code,
-            line: first.line,
-            place,
-            about: first.about,
-        })?;
+        let fault = at_mark(alloc, sources, join, first)?;
+        put(&mut faults, fault)?;
         rest = others;
     }
     Ok(faults)
+}
+
+/// A word of a join of sources with a fault as a fault of the sources.
+fn at_mark(
+    alloc: Global,
+    sources: &[&[u8]],
+    join: &Join,
+    found: &Found,
+) -> Result<Fault, SourceFault>
+    requires { first_order (statements (text_of join.now.text.items)) ≡ None }
+    ensures fault { IfOk result (λ fault. fault ≡ at_mark
+        (λ at. place_by sources.now (place_in join.now.counts.items at)) found.now.code found.now.line
+        (mark_of found.now.code found.now.about
+        (text_of (take found.now.end join.now.text.items)))) }
+    ensures memory { IfErr result (λ fault. fault ≡ Memory) }
+{
+    statements_stay();
+    no_fault_before();
+    let before = first_bytes(&join.text, found.end);
+    let mark = mark_of(alloc, before, found.code, found.about)?;
+    let place = place_of(alloc, sources, &join.counts, mark.at)?;
+    Ok(Fault {
+        code: found.code,
+        line: found.line,
+        place,
+        about: mark.about,
+    })
 }
 
 /// The words of a text that have a fault, where the first pass meets none, and these are the names that it defines at last.
@@ -107,7 +136,7 @@ fn word_faults(
     last: &BTreeMap<u64, u16>,
 ) -> Result<Vec<Found>, SourceFault>
     requires { first_order (statements (text_of text.now)) ≡ None }
-    ensures found { IfOk result (λ found. (place : ℕ → Place) → placed place found.items
+    ensures found { IfOk result (λ found. (place : ℕ → Place) → placed place text.now found.items
         ≡ word_faults place (known last.now) (text_of text.now)) }
     ensures fault { IfErr result (λ fault. fault ≡ Memory) }
 {
@@ -116,15 +145,10 @@ fn word_faults(
     let mut lexer = Lexer::without_tokens(alloc);
     let mut names = no_names(alloc);
     let mut found = Vec::new(alloc);
-    let mut comment = false;
-    let mut start = None;
     let mut taken = 0;
     while taken < text.len() {
-        let byte = text[taken];
-        let fault = judge_byte(&mut lexer, &mut names, last, byte)?;
-        keep(&mut found, fault, start.unwrap_or(taken))?;
-        comment = comment_behind(comment, byte);
-        start = start_behind(start, comment, byte, taken);
+        let fault = judge_byte(&mut lexer, &mut names, last, text[taken])?;
+        keep(&mut found, fault, taken)?;
         taken += 1;
     }
     Ok(found)
@@ -134,17 +158,17 @@ fn word_faults(
 fn keep(
     found: &mut Vec<Found>,
     fault: Option<(Code, u64, Option<u64>)>,
-    at: usize,
+    end: usize,
 ) -> Result<(), AllocError>
-    ensures { OnOk result ((place : ℕ → Place) → placed place found.new.items
-        ≡ placed place found.old.items ++ with_place (place at) fault) }
+    ensures { OnOk result ((place : ℕ → Place) (text : List ℕ) → placed place text found.new.items
+        ≡ placed place text found.old.items ++ with_place place (text_of (take end text)) fault) }
 {
     match fault {
         Some((code, line, about)) => {
             found.push(Found {
                 code,
                 line,
-                at,
+                end,
                 about,
             })?;
             Ok(())

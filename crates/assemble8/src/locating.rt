@@ -5,13 +5,13 @@ ghost use Rattle.pal_lex.specs.Statements.{statements};
 ghost use Rattle.pal_lex.specs.Reading.{HasRead};
 ghost use Rattle.pal_asm.specs.Places.{Source};
 ghost use Rattle.pal_asm.specs.Passes.{IsFirst, IsSecond};
-ghost use Rattle.assemble8.specs.Places.{is_refused, fault_place};
+ghost use Rattle.assemble8.specs.Places.{is_refused};
+ghost use Rattle.assemble8.specs.Places as spec;
 ghost use Rattle.assemble8.specs.Steps.{step_behind, Passes, PassesByte, PassesStatement, MakesByte, IsSettledAt, IsMetAt};
 ghost use Rattle.assemble8.specs.declared.faults.SourceFault.TheVariants.{Memory};
 
 use crate::SourceFault;
 use crate::faults::unless_memory;
-use crate::starts::statement_place;
 use pal_asm::laws::{lexical_fault_is_told, no_fault_before, no_lexical_fault, statements_stay};
 use pal_asm::{AsmFault, Assembler};
 use pal_lex::laws::dollar_ends_source;
@@ -59,19 +59,6 @@ pub(crate) fn fault_end(alloc: Global, text: &[u8]) -> Result<Passed, SourceFaul
     }
 }
 
-/// The place of the fault of a text: of the statement that has it, of the `$` where there is no word, and behind the text
-/// where there is no `$`.
-pub(crate) fn fault_place(text: &[u8], met: Passed) -> usize
-    requires { IsMetAt text.now met }
-    ensures { result ≡ fault_place (text_of text.now) }
-{
-    match met {
-        Passed::Refused(end) => statement_place(text, end),
-        Passed::Over(end) => statement_place(text, end),
-        Passed::Open => text.len(),
-    }
-}
-
 /// Whether a text has its `$`, and no fault that the first pass meets. The only fault of the call is `Memory`.
 pub(crate) fn is_passed(alloc: Global, text: &[u8]) -> Result<bool, SourceFault>
     ensures passed { IfOk result
@@ -83,6 +70,20 @@ pub(crate) fn is_passed(alloc: Global, text: &[u8]) -> Result<bool, SourceFault>
     match first_pass(alloc, text, &mut assembler)? {
         Passed::Over(_) => Ok(true),
         Passed::Refused(_) => Ok(false),
+        Passed::Open => Ok(false),
+    }
+}
+
+/// Whether a text has a fault that the first pass meets. The only fault of the call is `Memory`.
+pub(crate) fn is_refused(alloc: Global, text: &[u8]) -> Result<bool, SourceFault>
+    ensures refused { IfOk result (λ refused. refused ≡ spec.is_refused (text_of text.now)) }
+    ensures fault { IfErr result (λ fault. fault ≡ Memory) }
+{
+    dollar_ends_source();
+    let mut assembler = Assembler::new(alloc);
+    match first_pass(alloc, text, &mut assembler)? {
+        Passed::Refused(_) => Ok(true),
+        Passed::Over(_) => Ok(false),
         Passed::Open => Ok(false),
     }
 }

@@ -1,25 +1,24 @@
 //! Where a statement begins.
-ghost use Rattle.std.specs.Prelude.{◌≡◌, ◌<◌, ◌||◌, Option, length, take};
+ghost use Rattle.std.specs.Prelude.{◌≡◌, ◌||◌, Option};
 ghost use Rattle.pal_lex.specs.Text as spec;
 ghost use Rattle.pal_lex.specs.Text.{text_of};
 ghost use Rattle.assemble8.specs.Places.{start_of};
 ghost use Rattle.assemble8.specs.Steps.{comment_by, start_by};
 
-/// The place of the statement that a byte of a text ends; that of this byte, where the statement is empty.
-pub(crate) fn statement_place(text: &[u8], end: usize) -> usize
-    requires { end < length text.now }
-    ensures { result ≡ start_of (text_of (take end text.now)) }
+/// The place of the statement that a byte behind a text ends; that of this byte, where the statement is empty.
+pub(crate) fn statement_place(before: &[u8]) -> usize
+    ensures { result ≡ start_of (text_of before.now) }
 {
     let mut comment = false;
     let mut start = None;
     let mut taken = 0;
-    while taken < end {
-        let byte = text[taken];
+    while taken < before.len() {
+        let byte = before[taken];
         comment = comment_behind(comment, byte);
         start = start_behind(start, comment, byte, taken);
         taken += 1;
     }
-    start.unwrap_or(end)
+    start.unwrap_or(before.len())
 }
 
 /// Whether a comment goes on behind a byte.
@@ -53,6 +52,13 @@ pub(crate) fn start_behind(
         return start;
     }
     Some(place)
+}
+
+/// Whether a byte means nothing, behind which a comment goes on or not.
+pub(crate) fn is_dead(comment: bool, byte: u8) -> bool
+    ensures { result ≡ (spec.is_ignored byte || comment) }
+{
+    is_ignored(byte) || comment
 }
 
 /// Whether a byte is as if it weren't there.

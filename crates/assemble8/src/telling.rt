@@ -1,18 +1,18 @@
 //! Faults, as a compiler tells them.
 ghost use Rattle.std.specs.Prelude.{◌≡◌, ◌++◌, decimal, IfOk, OnOk};
 ghost use Rattle.assemble8.specs.Places.{bytes_of};
-ghost use Rattle.assemble8.specs.Telling.{letters_of, words_of, named, told, located, headline, with_caret, marked_line, numbered, fault_text};
+ghost use Rattle.assemble8.specs.Telling.{letters_of, words_of, character_text, named, told, located, headline, with_caret, marked_line, numbered, fault_text};
 
 use crate::places::{bytes_of, first_bytes};
 use crate::showing::{put_below, shown_line};
 use crate::spelling::put_spelling;
-use crate::{Fault, Place};
+use crate::{About, Fault, Place};
 use pal_asm::Code;
 use std::alloc::{AllocError, Global};
 
 /// The text of a fault of sources with these names, four lines that LF ends: the fault behind the name of its source and its
-/// place there, of UA with the undefined name by the six characters that count; the line of the source; a caret below the
-/// column; and the fault as scripts are told it.
+/// place there, of UA with the undefined name by the six characters that count, of IC with the character, one that isn't printable ASCII by its
+/// three octal digits; the line of the source; a caret below the column; and the fault as scripts are told it.
 ///
 /// In the line of the source a byte that is neither printable ASCII nor a tab is shown as `?`, and no CR stands in it (this
 /// project's profile).
@@ -86,7 +86,7 @@ pub fn put_marked_line(
     put_caret(text, &line, place.column)
 }
 
-/// Puts a fault by its letters and words, and behind them the name that it is about.
+/// Puts a fault by its letters and words, and behind them what it is about.
 fn put_told(text: &mut Vec<u8>, fault: Fault) -> Result<(), AllocError>
     ensures { OnOk result (text.new.items ≡ text.old.items ++ told fault) }
 {
@@ -97,18 +97,35 @@ fn put_told(text: &mut Vec<u8>, fault: Fault) -> Result<(), AllocError>
     Ok(())
 }
 
-/// Puts the name that a fault is about behind a blank, if there is one.
-fn put_named(text: &mut Vec<u8>, name: Option<u64>) -> Result<(), AllocError>
-    ensures { OnOk result (text.new.items ≡ text.old.items ++ named name) }
+/// Puts the name or the character that a fault is about behind a blank, if there is one.
+fn put_named(text: &mut Vec<u8>, about: About) -> Result<(), AllocError>
+    ensures { OnOk result (text.new.items ≡ text.old.items ++ named about) }
 {
-    match name {
-        Some(name) => {
+    match about {
+        About::Name(name) => {
             text.extend_from_slice(b" ")?;
             put_spelling(text, name)?;
             Ok(())
         }
-        None => Ok(()),
+        About::Character(byte) => {
+            text.extend_from_slice(b" ")?;
+            put_character(text, byte)?;
+            Ok(())
+        }
+        About::Nothing => Ok(()),
     }
+}
+
+/// Puts a byte as it is, if it is printable ASCII, and else its three octal digits (this project's profile).
+pub fn put_character(text: &mut Vec<u8>, byte: u8) -> Result<(), AllocError>
+    ensures { OnOk result (text.new.items ≡ text.old.items ++ character_text byte) }
+{
+    if byte > 0o40 && byte < 0o177 {
+        text.push(byte)?;
+        return Ok(());
+    }
+    text.extend_from_slice(&[0o60 + byte / 0o100, 0o60 + byte / 8 % 8, 0o60 + byte % 8])?;
+    Ok(())
 }
 
 /// Puts a line with a caret below a column of it, from 1.

@@ -1,2 +1,3 @@
 pub mod PlaceLemmas
 pub mod WordLemmas
+pub mod MarkLemmas

@@ -9,7 +9,7 @@ grown text [] b = refl
 grown text (x ∷ bytes) b = grown (x ∷ text) bytes b
 
 -- a byte more
-next_byte : (bytes : List ℕ) (n b : ℕ) → n < length bytes → b ≡ get_or bytes n 0 → text_of (take (n + 1) bytes) ≡ b ∷ text_of (take n bytes)
+pub next_byte : (bytes : List ℕ) (n b : ℕ) → n < length bytes → b ≡ get_or bytes n 0 → text_of (take (n + 1) bytes) ≡ b ∷ text_of (take n bytes)
 next_byte bytes n b inside is =
     let next : n + 1 ≡ suc n = omega arith in
     ap (λ k. text_of (take k bytes)) next ∙ ap text_of (take-suc bytes n 0 inside) ∙ grown [] (take n bytes) (get_or bytes n 0)

@@ -1,10 +1,9 @@
 -- A text with no fault has a word.
-use Rattle.std.proofs.Common.{◌≡◌, ℕ, ◌+◌, ◌<◌, length, Bool, true, false, Result, Ok, Err, List, [], ◌∷◌, ◌++◌, refl, sym, ap, subst, ◌∙◌, arith}
+use Rattle.std.proofs.Common.{◌≡◌, ℕ, ◌<◌, length, Bool, true, false, Result, Ok, Err, List, [], ◌∷◌, ◌++◌, refl, sym, ap, subst, ◌∙◌, arith}
 use Rattle.pal8_asm.specs.Places.{stands}
 use Rattle.pal8_asm.specs.Tapes.{Made, cleared, made_of}
 use Rattle.pal8_asm.specs.Sources.{Passed, left_of}
 use Rattle.pal8_asm.specs.Assembled.{dollar_in, has_words, judged, judged_by, made_by}
-use Rattle.pal8_asm.specs.Assembling.{IsAssembled}
 use Rattle.pal8_asm.specs.declared.faults.Fault.{Fault}
 use Rattle.pal8_asm.specs.declared.faults.Place.{Place}
 use Rattle.pal8_tape.specs.Laws.{HasWords}

@@ -1,4 +1,5 @@
 pub mod Places
+pub mod Marks
 pub mod Telling
 pub mod Answers
 pub mod Laws

@@ -4,7 +4,7 @@ use Rattle.word12.specs.Octal.{octal5}
 use Rattle.pal8_asm.specs.declared.faults.Code.{Code}
 use Rattle.pal8_asm.specs.declared.faults.Code.TheVariants.{IC, SY, NU, UA, DT, RD, IR, II, FD, PG, PF, DZ, PE, ZE, PageClash, ZeroClash, PH, NE, NW}
 use Rattle.assemble8.specs.Spelling.{spelling}
-use Rattle.assemble8.specs.Telling.{located, marked_line}
+use Rattle.assemble8.specs.Telling.{character_text, located, marked_line}
 use Rattle.pal8_tape.specs.declared.faults.Fault.{Fault}
 
 -- the two letters of a fault
@@ -51,37 +51,37 @@ words_of PH = codes "unmatched bracket"
 words_of NE = codes "no $"
 words_of NW = codes "no word"
 
--- the name or the cell that a fault is about: the name that stands for nothing, or the cell that is a word's and a pool's
-abbrev pub about : Code → List ℕ
-about IC = []
-about SY = []
-about NU = []
-about (UA name) = codes " " ++ spelling name
-about DT = []
-about RD = []
-about IR = []
-about II = []
-about FD = []
-about PG = []
-about PF = []
-about DZ = []
-about PE = []
-about ZE = []
-about (PageClash cell) = codes " at " ++ octal5 cell
-about (ZeroClash cell) = codes " at " ++ octal5 cell
-about PH = []
-about NE = []
-about NW = []
+-- what a fault is about: the character, the name that stands for nothing, or the cell that is a word's and a pool's
+abbrev pub about : Code → ℕ → List ℕ
+about IC byte = codes " " ++ character_text byte
+about SY byte = []
+about NU byte = []
+about (UA name) byte = codes " " ++ spelling name
+about DT byte = []
+about RD byte = []
+about IR byte = []
+about II byte = []
+about FD byte = []
+about PG byte = []
+about PF byte = []
+about DZ byte = []
+about PE byte = []
+about ZE byte = []
+about (PageClash cell) byte = codes " at " ++ octal5 cell
+about (ZeroClash cell) byte = codes " at " ++ octal5 cell
+about PH byte = []
+about NE byte = []
+about NW byte = []
 
 -- `CODE: WORDS`, and behind it what the fault is about
-abbrev pub told : Code → List ℕ
-told code = letters_of code ++ codes ": " ++ words_of code ++ about code ++ codes "\n"
+abbrev pub told : Code → ℕ → List ℕ
+told code byte = letters_of code ++ codes ": " ++ words_of code ++ about code byte ++ codes "\n"
 
 -- `? 5 CODE LINE`, as scripts are told it
 abbrev pub numbered : Fault → List ℕ
 numbered fault = codes "? 5 " ++ letters_of fault.code ++ codes " " ++ decimal fault.line ++ codes "\n"
 
--- the text of a fault of a source with this name: the fault with its place, its line with a caret below where the statement begins, and the
+-- the text of a fault of a source with this name: the fault with its place, its line with a caret below its place, and the
 -- line that scripts are told
 abbrev pub fault_text : List ℕ → List ℕ → Fault → List ℕ
-fault_text source name fault = located name fault.place ++ told fault.code ++ marked_line source fault.place ++ numbered fault
+fault_text source name fault = located name fault.place ++ told fault.code fault.byte ++ marked_line source fault.place ++ numbered fault

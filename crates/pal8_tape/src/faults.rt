@@ -13,8 +13,10 @@ pub struct Fault {
     pub code: Code,
     /// The line, as scripts are told it: 1 and up, or 2^64 - 1 where it would be more.
     pub line: u64,
-    /// Where the statement begins that has it.
+    /// Of IC where the character stands, of UA where the name first stands in the statement; of any other fault where the statement begins.
     pub place: Place,
+    /// The byte that stands there.
+    pub byte: u8,
 }
 
 /// Why a source isn't assembled.

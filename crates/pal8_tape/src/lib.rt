@@ -8,6 +8,7 @@
 mod codes;
 mod faults;
 pub mod laws;
+mod marks;
 mod places;
 mod signs;
 mod tapes;

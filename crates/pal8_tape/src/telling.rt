@@ -6,13 +6,13 @@ ghost use Rattle.std.specs.Prelude.{codes};
 
 use crate::Fault;
 use crate::codes::{letters_of, words_of};
-use assemble8::{put_marked_line, put_number, put_place, put_spelling};
+use assemble8::{put_character, put_marked_line, put_number, put_place, put_spelling};
 use pal8_asm::Code;
 use std::alloc::{AllocError, Global};
 use word12::Cell;
 
 /// The text of a fault of a source with this name, four lines that LF ends: the fault behind the name of the source and its place there, UA
-/// with the undefined name by the six characters that count, and a word on a pool's cell with the cell; the line of the source; a caret below
+/// with the undefined name by the six characters that count, IC with the character, and a word on a pool's cell with the cell; the line of the source; a caret below
 /// the column; and the fault as scripts are told it.
 ///
 /// In the line of the source a byte that is neither printable ASCII nor a tab is shown as `?`, and no CR stands in it (this project's
@@ -27,31 +27,36 @@ pub fn fault_text(
 {
     let mut text = Vec::new(alloc);
     put_place(&mut text, name, fault.place)?;
-    put_told(&mut text, fault.code)?;
+    put_told(&mut text, fault.code, fault.byte)?;
     put_marked_line(alloc, &mut text, source, fault.place)?;
     put_numbered(&mut text, fault)?;
     Ok(text)
 }
 
 /// Puts a fault by its letters and words, and behind them what it is about.
-fn put_told(text: &mut Vec<u8>, code: Code) -> Result<(), AllocError>
-    ensures { OnOk result (text.new.items ≡ text.old.items ++ told code) }
+fn put_told(text: &mut Vec<u8>, code: Code, byte: u8) -> Result<(), AllocError>
+    ensures { OnOk result (text.new.items ≡ text.old.items ++ told code byte) }
 {
     let again = code;
     let last = code;
     text.extend_from_slice(letters_of(code))?;
     text.extend_from_slice(b": ")?;
     text.extend_from_slice(words_of(again))?;
-    put_about(text, last)?;
+    put_about(text, last, byte)?;
     text.extend_from_slice(b"\n")?;
     Ok(())
 }
 
-/// Puts the name or the cell that a fault is about.
-fn put_about(text: &mut Vec<u8>, code: Code) -> Result<(), AllocError>
-    ensures { OnOk result (text.new.items ≡ text.old.items ++ about code) }
+/// Puts the character, the name or the cell that a fault is about.
+fn put_about(text: &mut Vec<u8>, code: Code, byte: u8) -> Result<(), AllocError>
+    ensures { OnOk result (text.new.items ≡ text.old.items ++ about code byte) }
 {
     match code {
+        Code::IC => {
+            text.extend_from_slice(b" ")?;
+            put_character(text, byte)?;
+            Ok(())
+        }
         Code::UA(name) => {
             text.extend_from_slice(b" ")?;
             put_spelling(text, name)?;
@@ -59,9 +64,7 @@ fn put_about(text: &mut Vec<u8>, code: Code) -> Result<(), AllocError>
         }
         Code::PageClash(cell) => put_cell(text, cell),
         Code::ZeroClash(cell) => put_cell(text, cell),
-        Code::IC | Code::SY | Code::NU | Code::DT | Code::RD | Code::IR | Code::II | Code::FD => {
-            Ok(())
-        }
+        Code::SY | Code::NU | Code::DT | Code::RD | Code::IR | Code::II | Code::FD => Ok(()),
         Code::PG | Code::PF | Code::DZ | Code::PE | Code::ZE | Code::PH | Code::NE | Code::NW => {
             Ok(())
         }

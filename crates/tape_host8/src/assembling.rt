@@ -1,7 +1,7 @@
 //! Sources in files of the host to a BIN tape and a listing, each written whole or not at all.
 
 use crate::pal8_assembling::assemble_pal8;
-use assemble8::{Fault, SourceFault, assemble_sources, fault_text, further_faults};
+use assemble8::{About, SourceFault, assemble_sources, fault_text, further_faults};
 use file_kind::{are_marked, is_text};
 use image_file8::{bytes_of, input_bytes, make_file, print_bytes, tell, tell_text, texts_of};
 use outcome::{Content, Ending, NameNote, Note, PlainNote};
@@ -136,7 +136,7 @@ fn tell_faults<R: Eprint + AllocGlobal>(
             let names = texts_of(rt.alloc(), &form.sources)?;
             tell_top_bits(rt, sources, &names);
             tell_text(rt, &fault_text(rt.alloc(), sources, &names, first)?);
-            tell_sign(rt, sources, first)?;
+            tell_sign(rt, first.about)?;
             tell_further_faults(rt, sources, &names)
         }
     }
@@ -152,15 +152,8 @@ pub(crate) fn tell_top_bits<R: Eprint>(rt: &R, sources: &[&[u8]], names: &[&str]
 }
 
 /// Prints at which word of PAL8 a source of PAL III has its fault, if it has it at one.
-fn tell_sign<R: Eprint + AllocGlobal>(
-    rt: &R,
-    sources: &[&[u8]],
-    fault: Fault,
-) -> Result<(), AllocError> {
-    let Some(source) = sources.get(fault.place.source) else {
-        return Ok(());
-    };
-    let sign = sign_text(rt.alloc(), source, fault)?;
+fn tell_sign<R: Eprint + AllocGlobal>(rt: &R, about: About) -> Result<(), AllocError> {
+    let sign = sign_text(rt.alloc(), about)?;
     if let Ok(sign) = str::from_utf8(&sign) {
         if !sign.is_empty() {
             tell(rt, Note::OnName(NameNote::Pal8, sign));

@@ -8,18 +8,15 @@ use Rattle.assemble8.specs.JudgeSteps.{placed}
 use Rattle.assemble8.proofs.LocateLemmas.{nothing_read}
 use Rattle.assemble8.proofs.PauseLemmas.{next_byte}
 use Rattle.assemble8.proofs.ReadingLemmas.{fine_order}
-use Rattle.assemble8.proofs.StartLemmas.{comment_more, start_more}
 use Rattle.assemble8.proofs.FurtherLemmas.{judged_more}
 use Rattle.assemble8.proofs.further.word_faults.Goals as goal
 
 pub loop-taken-init : goal.loop-taken-init
 loop-taken-init c = record {
-  told = λ place. ap (placed place) c.new-found.ensures.items;
+  told = λ place. ap (placed place c.args.text.now) c.new-found.ensures.items;
   follows = subst (Follows c.no_names-names.result.symbols c.no_names-names.result.place) (sym nothing_read) c.no_names-names.ensures;
   read = c.without_tokens-lexer.ensures.read;
   may = ap (λ (s : Setting). s.may_pause) c.without_tokens-lexer.ensures.setting;
-  quiet = refl;
-  begins = refl;
 }
 
 pub loop-taken-preserved : goal.loop-taken-preserved
@@ -33,14 +30,11 @@ loop-taken-preserved c =
     let judged =
     c.in_ok-fault.ensures.judges (text_of (take taken text)) stands.read stands.may (fine_order text taken c.statements_stay.ensures c.no_fault_before.ensures inside c.requires)
     stands.follows in
-    let quiet = c.comment_behind-comment.ensures ∙ comment_more text taken byte c.loop-taken.comment inside refl stands.quiet in
     record {
       told = λ place.
-          judged_more place (known c.args.last.now) text taken c.in_ok-fault.fault c.loop-taken.start c.unwrap_or.result c.loop-taken.found.items c.keep.new.found.items inside
-          (c.in_ok-keep.ensures place) c.unwrap_or.ensures stands.begins judged.told (stands.told place);
+          judged_more place (known c.args.last.now) text taken c.in_ok-fault.fault c.loop-taken.found.items c.keep.new.found.items inside
+          (c.in_ok-keep.ensures place text) judged.told (stands.told place);
       follows = subst (λ t. Follows c.judge_byte.new.names.symbols c.judge_byte.new.names.place (statements t)) next judged.follows;
       read = subst (HasRead c.judge_byte.new.lexer 0) next judged.read;
       may = c.judge_byte.ensures.setting ∙ stands.may;
-      quiet = quiet;
-      begins = c.start_behind-start.ensures ∙ start_more text taken byte c.loop-taken.start c.comment_behind-comment.result inside refl quiet stands.begins;
     }
