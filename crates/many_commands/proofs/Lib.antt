@@ -5,3 +5,4 @@ pub mod Keeping
 pub mod Looking
 pub mod Refusing
 pub mod PuttingMany
+pub mod Sounding

@@ -1,5 +1,7 @@
-//! What the commands on volumes leave as it was, as laws.
-ghost use Rattle.std.specs.Prelude.{ℕ, List};
+//! What the commands on volumes leave as it was, and what a check that ends well says, as laws.
+ghost use Rattle.std.specs.Prelude.{ℕ, List, Ok, map};
+ghost use Rattle.hosts.specs.Event.{Event};
+ghost use Rattle.hosts.specs.Streams.{read};
 ghost use Rattle.archive8.specs.Asking.{Wanted};
 ghost use Rattle.archive8.specs.Getting.{Gets};
 ghost use Rattle.archive8.specs.Listing.{ListsFiles};
@@ -19,7 +21,7 @@ ghost use Rattle.volume_commands.specs.Putting.{Puts};
 ghost use Rattle.volume_commands.specs.Showing.{Shows, wanted_file};
 ghost use Rattle.volume_commands.specs.ShowingParts.{ShowsBlocks, ShowsTape};
 ghost use Rattle.many_commands.specs.Checking.{ChecksImages};
-ghost use Rattle.many_commands.specs.Laws.{LeavesFiles, NeverChanges};
+ghost use Rattle.many_commands.specs.Laws.{AreSound, LeavesFiles, NeverChanges};
 ghost use Rattle.many_commands.specs.PuttingMany.{PutsMany};
 
 /// A command that shows what images have changes no file, in whichever way it ends.
@@ -39,4 +41,10 @@ pub fn refused_changes()
     ensures copies { (form : Copy) → LeavesFiles (Copies form) }
     ensures renames { (wanted : Wanted) (other : List ℕ) (form : Image) → LeavesFiles (Renames wanted other form) }
     ensures squeezes { (form : Image) → LeavesFiles (Squeezes form) }
+{}
+
+/// Where a check ends well, each image file was read whole, in its order and nothing else, and each image is sound.
+pub fn sound_images()
+    ensures { (form : Check) (old new : List Event) → ChecksImages form old (Ok tt) new
+        → AreSound form.is_all form.layout (map (λ file. file.bytes.items) form.images.items) (read old) (read new) }
 {}
