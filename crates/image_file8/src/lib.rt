@@ -11,9 +11,9 @@ mod streams;
 mod words;
 
 pub use files::{answer_of, bytes_of_file, core_of_file, refusal};
-pub use images::{Image, bytes_of, image_bytes, make_file, save_and_print};
+pub use images::{Image, bytes_of, image_bytes, make_file};
 pub use inputs::{CountedInput, input_bytes};
-pub use printing::{print_bytes, print_of, tell, tell_bad_text, tell_line, tell_text};
+pub use printing::{print_bytes, print_of, tell, tell_line, tell_text};
 pub use progress::Progress;
 pub use streams::Output;
-pub use words::{given_words, texts_of};
+pub use words::texts_of;

@@ -1,7 +1,6 @@
 //! Lines on standard output and on standard error.
 
 use crate::Output;
-use archive8::bad_text_at;
 use outcome::{Ending, Note};
 use report8::{ProgramLine, put_program, with_prefix};
 use std::io::Write;
@@ -40,11 +39,4 @@ pub fn tell_text<R: Eprint>(rt: &R, text: &[u8]) {
 /// Prints a note on standard error.
 pub fn tell<R: Eprint>(rt: &R, note: Note<'_>) {
     let _ = rt.eprint(note);
-}
-
-/// Prints where a text that can't be put has the first byte that may not stand in one.
-pub fn tell_bad_text<R: Eprint>(rt: &R, text: &[u8]) {
-    if let Some(place) = bad_text_at(text) {
-        tell(rt, Note::OnText(place));
-    }
 }

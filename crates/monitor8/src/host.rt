@@ -6,8 +6,8 @@ use archive_commands::{WordPatch, dump_blocks, list_dates, patch_word};
 use command8::{TaskFault, task};
 use hosts::Host;
 use image_file8::{tell, texts_of};
-use image_host8::check_images;
-use many_host8::{get_files, put_files};
+use many_commands::{check_images, put_files};
+use many_host8::get_files;
 use outcome::{Content, Ending, Note, PlainNote, ending_of_output, gives_data, no_memory_line};
 use script8::SessionFault;
 use std::alloc::AllocError;
@@ -100,7 +100,7 @@ where
         Task::GetMany(form) => get_files(rt, &form),
         Task::GetBlocks(form) => get_blocks(host, alloc, &form),
         Task::Put(form) => wait_for_image!(rt, form.image.wait, put_file(host, alloc, &form)),
-        Task::PutMany(form) => put_files(rt, &form),
+        Task::PutMany(form) => wait_for_image!(rt, form.image.wait, put_files(host, alloc, &form)),
         Task::Delete(form) => {
             wait_for_image!(rt, form.image.wait, delete_files(host, alloc, &form))
         }
@@ -114,7 +114,7 @@ where
         }
         Task::Copy(form) => wait_for_image!(rt, form.to.wait, copy_file(host, alloc, &form)),
         Task::Squeeze(image) => wait_for_image!(rt, image.wait, squeeze_files(host, alloc, &image)),
-        Task::Check(form) => check_images(rt, form),
+        Task::Check(form) => check_images(host, alloc, &form),
         Task::Dump(form) => dump_blocks(host, alloc, &form.image, form.span, form.is_sixbit),
         Task::Patch(form) => {
             let wanted = WordPatch {

@@ -1,0 +1,177 @@
+-- Steps that change no file.
+use Rattle.std.proofs.Common.{◌≡◌, ◌∙◌, ◌∷◌, ℕ, Bool, true, false, Option, None, Some, Result, Ok, Err, List, ap, inl, inr, refl}
+use Rattle.std.specs.Str.{bytes_eq}
+use Rattle.hosts.specs.Event.{Event, tell_call}
+use Rattle.hosts.specs.Place.{about}
+use Rattle.outcome.specs.Hints.{image_note}
+use Rattle.outcome.specs.declared.contents.Content.TheVariants as content
+use Rattle.outcome.specs.declared.endings.Ending.{Ending}
+use Rattle.outcome.specs.declared.endings.Ending.TheVariants.{Line, Fault, Failure, Busy, NotWritten, FullOutput, NoReader, Misuse}
+use Rattle.outcome.specs.declared.notes.PlainNote.{PlainNote}
+use Rattle.archive8.specs.declared.faults.ArchiveFault.{ArchiveFault}
+use Rattle.report8.specs.declared.programs.ProgramLine.TheVariants as line
+use Rattle.script8.specs.declared.faults.SessionFault.TheVariants as fault
+use Rattle.task8.specs.declared.forms.ImageForm.{ImageForm}
+use Rattle.volume_commands.specs.Answers.{Answers, Refuses}
+use Rattle.volume_commands.specs.Notes.{Tells}
+use Rattle.volume_commands.specs.Reading.{FindsVolume, Holds, HoldsAt, Looks, LooksAt, MakesImage, Opens, hold_calls, looked_name, with_lock_note}
+use Rattle.volume_commands.specs.Saving.{Prints, SavesIf, Stores, Writes}
+use Rattle.volume_commands.specs.Work.{Then, Purely}
+use Rattle.volume_commands.specs.declared.images.Image.{Image}
+use Rattle.volume_commands.specs.declared.reading.ImagePlace.{ImagePlace}
+use Rattle.many_commands.specs.Laws.{ChangesNothing, LeavesFiles, NeverChanges, is_refusal}
+
+pub same : (old new : List Event) → new ≡ old → ChangesNothing old new
+same old new is = λ path. ap (λ (events : List Event). about path events) is
+
+-- after a note, or after nothing
+pub told : (ok : Bool) (text : List ℕ) (old new : List Event) → new ≡ tell_call ok text ∷ old → ChangesNothing old new
+told ok text old new is = λ path. ap (λ (events : List Event). about path events) is
+
+pub then-never : {A B : Type 0} (first : List Event → Result A Ending → List Event → Type 0) (next : A → List Event → Result B Ending → List Event → Type 0)
+    → NeverChanges first → ((a : A) → NeverChanges (next a)) → NeverChanges (Then first next)
+then-never first next f n old (Ok r) new (inl ends) = absurd ends
+then-never first next f n old (Err e) new (inl ends) = f old (Err e) new ends
+then-never first next f n old (Ok r) new (inr it) = λ path. n it.given it.between (Ok r) new it.after path ∙ f old (Ok it.given) it.between it.done path
+then-never first next f n old (Err e) new (inr it) = λ path. n it.given it.between (Err e) new it.after path ∙ f old (Ok it.given) it.between it.done path
+
+pub then-leaves : {A B : Type 0} (first : List Event → Result A Ending → List Event → Type 0) (next : A → List Event → Result B Ending → List Event → Type 0)
+    → NeverChanges first → ((a : A) → LeavesFiles (next a)) → LeavesFiles (Then first next)
+then-leaves first next f n old ending new (inl ends) is = f old (Err ending) new ends
+then-leaves first next f n old ending new (inr it) is = λ path. n it.given it.between ending new it.after is path ∙ f old (Ok it.given) it.between it.done path
+
+pub purely-never : {A : Type 0} (gives : Result A Ending → Type 0) → NeverChanges (Purely gives)
+purely-never gives old result new p = same old new p.1
+
+-- ## What is printed
+
+pub prints-never : (bytes : List ℕ) → NeverChanges (Prints bytes)
+prints-never bytes old (Ok it) new p = λ path. ap (λ (events : List Event). about path events) p
+prints-never bytes old (Err (Line it)) new p = absurd p
+prints-never bytes old (Err (Fault it)) new p = absurd p
+prints-never bytes old (Err Failure) new p = absurd p
+prints-never bytes old (Err (Busy it)) new p = absurd p
+prints-never bytes old (Err (NotWritten it left)) new p = absurd p
+prints-never bytes old (Err FullOutput) new p = λ path. ap (λ (events : List Event). about path events) p
+prints-never bytes old (Err NoReader) new p = λ path. ap (λ (events : List Event). about path events) p
+prints-never bytes old (Err Misuse) new p = absurd p
+
+pub tells-never : (note : Option PlainNote) (old new : List Event) → Tells note old new → ChangesNothing old new
+tells-never None old new p = same old new p
+tells-never (Some note) old new p = told p.0 _ old new p.1
+
+pub refuses-never : (fault : ArchiveFault) (size : ℕ) (old : List Event) (ending : Ending) (new : List Event) → Refuses fault size old ending new → ChangesNothing old new
+refuses-never fault size old ending new p = tells-never (image_note size fault) old new p.1
+
+pub answers-never : {A : Type 0} (gives : Result A ArchiveFault → Type 0) (size : ℕ) → NeverChanges (Answers gives size)
+answers-never gives size old (Ok it) new p = same old new p.1
+answers-never gives size old (Err ending) new (fault, gave, p) = refuses-never fault size old ending new p
+
+-- ## What is read
+
+pub looks-never : (name shown : List ℕ) → NeverChanges (Looks name shown)
+looks-never name shown old (Ok bytes) new p = λ path. ap (λ (events : List Event). about path events) p.1
+looks-never name shown old (Err (Line (line.Created n))) new p = absurd p
+looks-never name shown old (Err (Line line.HostRead)) new (inl p) = λ path. ap (λ (events : List Event). about path events) p
+looks-never name shown old (Err (Line line.HostRead)) new (inr (bytes, many, ok, p)) = λ path. ap (λ (events : List Event). about path events) p
+looks-never name shown old (Err (Line line.HostWrite)) new p = absurd p
+looks-never name shown old (Err (Line line.HostBusy)) new p = absurd p
+looks-never name shown old (Err (Line line.NoWord)) new p = absurd p
+looks-never name shown old (Err (Line (line.NoStart n))) new p = absurd p
+looks-never name shown old (Err (Line (line.Names n why))) new p = absurd p
+looks-never name shown old (Err (Line (line.Renamed one other))) new p = absurd p
+looks-never name shown old (Err (Line line.Exists)) new p = absurd p
+looks-never name shown old (Err (Line (line.Squeezed n))) new p = absurd p
+looks-never name shown old (Err (Line (line.Got got n))) new p = absurd p
+looks-never name shown old (Err (Line line.HostExists)) new p = absurd p
+looks-never name shown old (Err (Line line.SameName)) new p = absurd p
+looks-never name shown old (Err (Line (line.OnlyBlocks n))) new p = absurd p
+looks-never name shown old (Err (Line (line.Images n refused))) new p = absurd p
+looks-never name shown old (Err (Line (line.Disk fault))) new p = absurd p
+looks-never name shown old (Err (Line line.NothingToRun)) new p = absurd p
+looks-never name shown old (Err (Line (line.Halted cell ac l))) new p = absurd p
+looks-never name shown old (Err (Line (line.Unassigned cell word))) new p = absurd p
+looks-never name shown old (Err (Line (line.KeysEnd cell))) new p = absurd p
+looks-never name shown old (Err (Line (line.Limit cell))) new p = absurd p
+looks-never name shown old (Err (Line (line.Steps ended cell))) new p = absurd p
+looks-never name shown old (Err (Line (line.Start cell))) new p = absurd p
+looks-never name shown old (Err (Line (line.Core fault))) new p = absurd p
+looks-never name shown old (Err (Line (line.Rim fault))) new p = absurd p
+looks-never name shown old (Err (Line (line.Image fault))) new p = absurd p
+looks-never name shown old (Err (Line (line.Directory fault))) new p = absurd p
+looks-never name shown old (Err (Fault fault.BadLine)) new p = absurd p
+looks-never name shown old (Err (Fault fault.NoJob)) new p = absurd p
+looks-never name shown old (Err (Fault fault.TooManyJobs)) new p = absurd p
+looks-never name shown old (Err (Fault (fault.File why))) new p = absurd p
+looks-never name shown old (Err (Fault (fault.Asm why))) new p = absurd p
+looks-never name shown old (Err (Fault (fault.Tape why))) new p = absurd p
+looks-never name shown old (Err (Fault fault.BadText)) new p = absurd p
+looks-never name shown old (Err (Fault fault.Reader)) new p = absurd p
+looks-never name shown old (Err (Fault fault.Writer)) new p = absurd p
+looks-never name shown old (Err (Fault fault.Memory)) new (inl p) = λ path. ap (λ (events : List Event). about path events) p
+looks-never name shown old (Err (Fault fault.Memory)) new (inr (bytes, many, p)) = λ path. ap (λ (events : List Event). about path events) p
+looks-never name shown old (Err (Fault fault.TooManyBreaks)) new p = absurd p
+looks-never name shown old (Err Failure) new p = absurd p
+looks-never name shown old (Err (Busy content.Image)) new p = λ path. ap (λ (events : List Event). about path events) p
+looks-never name shown old (Err (Busy content.Tape)) new p = absurd p
+looks-never name shown old (Err (Busy content.Listing)) new p = absurd p
+looks-never name shown old (Err (NotWritten it left)) new p = absurd p
+looks-never name shown old (Err FullOutput) new p = absurd p
+looks-never name shown old (Err NoReader) new p = absurd p
+looks-never name shown old (Err Misuse) new p = absurd p
+
+pub looks-at-never : (form : ImageForm) → NeverChanges (LooksAt form)
+looks-at-never form = then-never (Looks form.file.bytes.items form.file.bytes.items) (λ file. Purely (FindsVolume form.layout file.items))
+    (looks-never form.file.bytes.items form.file.bytes.items) (λ file. purely-never (FindsVolume form.layout file.items))
+
+noted-lock : (has ok : Bool) (path : List ℕ) (old : List Event) → about path (with_lock_note has ok old) ≡ about path old
+noted-lock true ok path old = refl
+noted-lock false ok path old = refl
+
+holds-at : (name : List ℕ) (place : ImagePlace) (is_held : Bool) (old new : List Event) → HoldsAt name place is_held old new → ChangesNothing old new
+holds-at name place true old new (has, ok, p) = λ path. ap (λ (events : List Event). about path events) p ∙ noted-lock has ok path (hold_calls name place.path.bytes.items old)
+holds-at name place false old new (idle, failed) = idle.files
+
+holds-never : (name : List ℕ) → NeverChanges (Holds name)
+holds-never name old (Ok place) new p = holds-at name place place.is_held old new p
+holds-never name old (Err ending) new (unheld, idle, failed) = idle.files
+
+pub opens-never : (form : ImageForm) → NeverChanges (Opens form)
+opens-never form = then-never (Holds form.file.bytes.items) (λ place. Then (Looks (looked_name place form.file.bytes.items) form.file.bytes.items) (λ file. Purely (MakesImage place form.layout file.items)))
+    (holds-never form.file.bytes.items)
+    (λ place. then-never (Looks (looked_name place form.file.bytes.items) form.file.bytes.items) (λ file. Purely (MakesImage place form.layout file.items))
+    (looks-never (looked_name place form.file.bytes.items) form.file.bytes.items) (λ file. purely-never (MakesImage place form.layout file.items)))
+
+-- ## What is saved
+
+never : false ≡ true → ⊥
+never is = cc
+
+writes-no-refusal : (path file : List ℕ) (old : List Event) (ending : Ending) (new : List Event) → Writes path file old (Err ending) new → is_refusal ending ≡ true → ⊥
+writes-no-refusal path file old (Line it) new p is = p
+writes-no-refusal path file old (Fault it) new p is = p
+writes-no-refusal path file old Failure new p is = p
+writes-no-refusal path file old (Busy it) new p is = p
+writes-no-refusal path file old (NotWritten it left) new p is = never is
+writes-no-refusal path file old FullOutput new p is = never is
+writes-no-refusal path file old NoReader new p is = never is
+writes-no-refusal path file old Misuse new p is = p
+
+prints-no-refusal : (bytes : List ℕ) (old : List Event) (ending : Ending) (new : List Event) → Prints bytes old (Err ending) new → is_refusal ending ≡ true → ⊥
+prints-no-refusal bytes old (Line it) new p is = p
+prints-no-refusal bytes old (Fault it) new p is = p
+prints-no-refusal bytes old Failure new p is = p
+prints-no-refusal bytes old (Busy it) new p is = p
+prints-no-refusal bytes old (NotWritten it left) new p is = never is
+prints-no-refusal bytes old FullOutput new p is = never is
+prints-no-refusal bytes old NoReader new p is = never is
+prints-no-refusal bytes old Misuse new p is = p
+
+saves-no-refusal : (is_same : Bool) (image : Image) (bytes : List ℕ) (old : List Event) (ending : Ending) (new : List Event) → SavesIf is_same image bytes old (Err ending) new → is_refusal ending ≡ true → ⊥
+saves-no-refusal true image bytes old ending new (done, stays) is = done
+saves-no-refusal false image bytes old ending new (inl (refused, cannot, stays)) is = never (rw refused at is)
+saves-no-refusal false image bytes old ending new (inr (held, file, laid, p)) is = writes-no-refusal image.place.path.bytes.items file old ending new p is
+
+pub stores-leaves : (image : Image) (bytes lines : List ℕ) → LeavesFiles (Stores image bytes lines)
+stores-leaves image bytes lines old ending new (inl p) is = absurd (saves-no-refusal (bytes_eq image.bytes.items bytes) image bytes old ending new p is)
+stores-leaves image bytes lines old ending new (inr it) is = absurd (prints-no-refusal lines it.between ending new it.after is)

@@ -1,0 +1,137 @@
+-- Commands that change no file at all.
+use Rattle.std.proofs.Common.{◌≡◌, ◌∙◌, ◌+◌, ℕ, Bool, true, false, Option, Result, Ok, Err, List, [], ◌∷◌, inl, inr, length, map, nat_eq}
+use Rattle.std.specs.Global.{Vec}
+use Rattle.hosts.specs.Event.{Event}
+use Rattle.char_pack.specs.declared.forms.GetForm.TheVariants.{Frames}
+use Rattle.disk8.specs.declared.layouts.Layout.{Layout}
+use Rattle.outcome.specs.declared.endings.Ending.{Ending}
+use Rattle.archive8.specs.declared.faults.ArchiveFault.{ArchiveFault}
+use Rattle.archive8.specs.Getting.{Gets}
+use Rattle.many8.specs.declared.faults.BlocksFault.{BlocksFault}
+use Rattle.many8.specs.declared.faults.BlocksFault.TheVariants.{Archive, NoBlocks}
+use Rattle.report8.specs.Program.{program_line}
+use Rattle.report8.specs.declared.programs.ProgramLine.TheVariants as line
+use Rattle.task8.specs.declared.forms.BlocksForm.{BlocksForm}
+use Rattle.task8.specs.declared.forms.CheckForm.{CheckForm}
+use Rattle.task8.specs.declared.forms.FileForm.{FileForm}
+use Rattle.task8.specs.declared.forms.ImageForm.{ImageForm}
+use Rattle.volume_commands.specs.Answers.{Answers, AreLines}
+use Rattle.volume_commands.specs.Ending.{TellsLine}
+use Rattle.volume_commands.specs.Reading.{LooksAt}
+use Rattle.volume_commands.specs.Saving.{Prints}
+use Rattle.volume_commands.specs.Showing.{Shows, wanted_file}
+use Rattle.volume_commands.specs.ShowingParts.{EndsTelling, GivesBlocks, GivesTape, PrintsTape, RefusesBlocks, ShowsBlocks, ShowsTape}
+use Rattle.volume_commands.specs.Work.{Then, Purely}
+use Rattle.many_commands.specs.declared.reports.Report.{Report}
+use Rattle.many_commands.specs.Checking.{ChecksEach, ChecksFiles, ChecksImages, ChecksNext, ChecksOne, ChecksSeveral, EndsSound, IsImageOf, LooksAmong, PrintsCount, PrintsNamed, PrintsReport, Reports, named_lines, with_refusal}
+use Rattle.many_commands.specs.Laws.{ChangesNothing, NeverChanges}
+use Rattle.many_commands.specs.Progressing.{BeginsProgress, EndsProgress, TellsDone, TellsProgress, WithProgress}
+use Rattle.many_commands.proofs.Keeping.{answers-never, looks-at-never, prints-never, purely-never, refuses-never, same, then-never}
+
+-- ## What the commands on volumes show
+
+pub shows-never : (gives : List ℕ → Result (Vec ℕ) ArchiveFault → Type 0) (form : ImageForm) → NeverChanges (Shows gives form)
+shows-never gives form = then-never (LooksAt form) (λ image. Then (Answers (gives image.items) (length image.items)) (λ bytes. Prints bytes.items)) (looks-at-never form)
+    (λ image. then-never (Answers (gives image.items) (length image.items)) (λ bytes. Prints bytes.items) (answers-never (gives image.items) (length image.items)) (λ bytes. prints-never bytes.items))
+
+gives-blocks-never : (form : BlocksForm) (image : List ℕ) → NeverChanges (GivesBlocks form image)
+gives-blocks-never form image old (Ok bytes) new p = same old new p.1
+gives-blocks-never form image old (Err ending) new (why, gets, p) = refused why p
+  where
+    refused : (fault : BlocksFault) → RefusesBlocks fault (length image) old ending new → ChangesNothing old new
+    refused (Archive fault) r = refuses-never fault (length image) old ending new r
+    refused (NoBlocks has) r = same old new r.1
+
+pub blocks-never : (form : BlocksForm) → NeverChanges (ShowsBlocks form)
+blocks-never form = then-never (LooksAt form.image) (λ image. Then (GivesBlocks form image.items) (λ bytes. Prints bytes.items)) (looks-at-never form.image)
+    (λ image. then-never (GivesBlocks form image.items) (λ bytes. Prints bytes.items) (gives-blocks-never form image.items) (λ bytes. prints-never bytes.items))
+
+tells-line-never : (text : List ℕ) (old new : List Event) → TellsLine text old new → ChangesNothing old new
+tells-line-never text old new (inl (is, ok, p)) = same _ new p
+tells-line-never text old new (inr p) = same old new p.1
+
+ends-telling-never : (text : List ℕ) → NeverChanges (EndsTelling text)
+ends-telling-never text old result new p = tells-line-never text old new p.1
+
+prints-tape-never : (bin : Vec ℕ × ℕ) → NeverChanges (PrintsTape bin)
+prints-tape-never bin = then-never (Purely (AreLines (program_line (line.Start bin.1)))) (λ start. Then (Prints bin.0.items) (λ it. EndsTelling start.items)) (purely-never (AreLines (program_line (line.Start bin.1))))
+    (λ start. then-never (Prints bin.0.items) (λ it. EndsTelling start.items) (prints-never bin.0.items) (λ it. ends-telling-never start.items))
+
+pub tape-never : (file : FileForm) (form : ImageForm) → NeverChanges (ShowsTape file form)
+tape-never file form =
+    then-never (LooksAt form) (λ image. Then (Answers (Gets image.items (wanted_file file) Frames) (length image.items)) (λ frames. Then (Purely (GivesTape frames.items)) PrintsTape)) (looks-at-never form)
+    (λ image. then-never (Answers (Gets image.items (wanted_file file) Frames) (length image.items)) (λ frames. Then (Purely (GivesTape frames.items)) PrintsTape)
+    (answers-never (Gets image.items (wanted_file file) Frames) (length image.items))
+    (λ frames. then-never (Purely (GivesTape frames.items)) PrintsTape (purely-never (GivesTape frames.items)) prints-tape-never))
+
+-- ## What is told of images
+
+prints-report-never : (report : Report) → NeverChanges (PrintsReport report)
+prints-report-never report = then-never (Prints report.text.items) (λ it. Purely (EndsSound report.is_sound)) (prints-never report.text.items) (λ it. purely-never (EndsSound report.is_sound))
+
+one-never : (is_all : Bool) (layout : Option Layout) (file : List ℕ) → NeverChanges (ChecksOne is_all layout file)
+one-never is_all layout file =
+    then-never (Purely (IsImageOf file layout)) (λ form. Then (LooksAt form) (λ bytes. Then (Answers (Reports is_all bytes.items) (length bytes.items)) PrintsReport)) (purely-never (IsImageOf file layout))
+    (λ form. then-never (LooksAt form) (λ bytes. Then (Answers (Reports is_all bytes.items) (length bytes.items)) PrintsReport) (looks-at-never form)
+    (λ bytes. then-never (Answers (Reports is_all bytes.items) (length bytes.items)) PrintsReport (answers-never (Reports is_all bytes.items) (length bytes.items)) prints-report-never))
+
+looks-among-never : (is_all : Bool) (form : ImageForm) → NeverChanges (LooksAmong is_all form)
+looks-among-never is_all form old result new (inl (bytes, looks, p)) = looks-at-never form old (Ok bytes) new looks
+looks-among-never is_all form old result new (inr (ending, looks, p)) = looks-at-never form old (Err ending) new looks
+
+prints-named-never : (file : List ℕ) (report : Report) → NeverChanges (PrintsNamed file report)
+prints-named-never file report =
+    then-never (Purely (AreLines (named_lines file report.text.items))) (λ lines. Then (Prints lines.items) (λ it. Purely (λ (result : Result Bool Ending). result ≡ Ok report.is_sound)))
+    (purely-never (AreLines (named_lines file report.text.items)))
+    (λ lines. then-never (Prints lines.items) (λ it. Purely (λ (result : Result Bool Ending). result ≡ Ok report.is_sound)) (prints-never lines.items) (λ it. purely-never (λ (result : Result Bool Ending). result ≡ Ok report.is_sound)))
+
+tells-done-never : (is_told : Bool) (done all : ℕ) (old new : List Event) → TellsDone is_told done all old new → ChangesNothing old new
+tells-done-never false done all old new p = same old new p
+tells-done-never true done all old new (inl p) = same _ new p
+tells-done-never true done all old new (inr p) = same _ new p.1
+
+progress-never : (is_told : Bool) (done all : ℕ) → NeverChanges (TellsProgress is_told done all)
+progress-never is_told done all old result new p = tells-done-never is_told done all old new p.1
+
+next-never : (form : CheckForm) (is_told : Bool) (done all : ℕ) (file : List ℕ) → NeverChanges (ChecksNext form is_told done all file)
+next-never form is_told done all file =
+    then-never (TellsProgress is_told done all) (λ it. Then (Purely (IsImageOf file form.layout)) (λ one. Then (LooksAmong form.is_all one) (PrintsNamed file))) (progress-never is_told done all)
+    (λ it. then-never (Purely (IsImageOf file form.layout)) (λ one. Then (LooksAmong form.is_all one) (PrintsNamed file)) (purely-never (IsImageOf file form.layout))
+    (λ one. then-never (LooksAmong form.is_all one) (PrintsNamed file) (looks-among-never form.is_all one) (prints-named-never file)))
+
+each-never : (form : CheckForm) (is_told : Bool) (done all refused : ℕ) (files : List (List ℕ)) → NeverChanges (ChecksEach form is_told done all refused files)
+each-never form is_told done all refused [] = purely-never (λ (result : Result ℕ Ending). result ≡ Ok refused)
+each-never form is_told done all refused (file ∷ files) =
+    then-never (ChecksNext form is_told done all file) (λ is_sound. ChecksEach form is_told (done + 1) all (with_refusal is_sound refused) files) (next-never form is_told done all file)
+    (λ is_sound. each-never form is_told (done + 1) all (with_refusal is_sound refused) files)
+
+begins-never : (is_told : Bool) (old new : List Event) → BeginsProgress is_told old new → ChangesNothing old new
+begins-never true old new p = same _ new p
+begins-never false old new (inl p) = same _ new p
+begins-never false old new (inr p) = same _ new p
+
+ends-never : (is_told : Bool) (old new : List Event) → EndsProgress is_told old new → ChangesNothing old new
+ends-never false old new p = same old new p
+ends-never true old new (inl p) = same old new p
+ends-never true old new (inr p) = same _ new p.1
+
+pub with-progress-never : {A : Type 0} (work : Bool → List Event → Result A Ending → List Event → Type 0) → ((is_told : Bool) → NeverChanges (work is_told)) → NeverChanges (WithProgress work)
+with-progress-never work n old result new p = λ path. ends-never p.is_told p.done new p.ends path ∙ (n p.is_told p.begun result p.done p.works path ∙ begins-never p.is_told old p.begun p.begins path)
+
+count-never : (count refused : ℕ) → NeverChanges (PrintsCount count refused)
+count-never count refused =
+    then-never (Purely (AreLines (program_line (line.Images count refused)))) (λ text. Then (Prints text.items) (λ it. Purely (EndsSound (nat_eq refused 0)))) (purely-never (AreLines (program_line (line.Images count refused))))
+    (λ text. then-never (Prints text.items) (λ it. Purely (EndsSound (nat_eq refused 0))) (prints-never text.items) (λ it. purely-never (EndsSound (nat_eq refused 0))))
+
+several-never : (form : CheckForm) (files : List (List ℕ)) → NeverChanges (ChecksSeveral form files)
+several-never form files =
+    then-never (WithProgress (λ is_told. ChecksEach form is_told 0 (length files) 0 files)) (PrintsCount (length files))
+    (with-progress-never (λ is_told. ChecksEach form is_told 0 (length files) 0 files) (λ is_told. each-never form is_told 0 (length files) 0 files)) (count-never (length files))
+
+files-never : (form : CheckForm) (files : List (List ℕ)) → NeverChanges (ChecksFiles form files)
+files-never form [] = several-never form []
+files-never form (file ∷ []) = one-never form.is_all form.layout file
+files-never form (file ∷ other ∷ files) = several-never form (file ∷ other ∷ files)
+
+pub checks-never : (form : CheckForm) → NeverChanges (ChecksImages form)
+checks-never form = files-never form (map (λ file. file.bytes.items) form.images.items)

@@ -1,0 +1,123 @@
+-- The command that puts several files has changed none where it is refused.
+use Rattle.std.proofs.Common.{◌∙◌, ◌||◌, ◌++◌, ℕ, Bool, true, false, not, Option, None, Some, Ok, Err, List, [], ◌∷◌, inl, inr, length, slice_get}
+use Rattle.hosts.specs.Event.{Event}
+use Rattle.archive8.specs.declared.places.TextPlace.{TextPlace}
+use Rattle.many8.specs.declared.faults.ManyFault.{ManyFault}
+use Rattle.many8.specs.declared.faults.ManyFault.TheVariants as many
+use Rattle.many8.specs.declared.putting.NewFile.{NewFile}
+use Rattle.outcome.specs.declared.endings.Ending.{Ending}
+use Rattle.task8.specs.declared.forms.ImageForm.{ImageForm}
+use Rattle.task8.specs.declared.forms.PutManyForm.{PutManyForm}
+use Rattle.task8.specs.declared.forms.TextsForm.{TextsForm}
+use Rattle.volume_commands.specs.Answers.{AreLines}
+use Rattle.volume_commands.specs.Putting.{TellsPlace, is_bad}
+use Rattle.volume_commands.specs.Reading.{Opens}
+use Rattle.volume_commands.specs.Saving.{Stores}
+use Rattle.volume_commands.specs.Work.{Then, Purely}
+use Rattle.volume_commands.specs.declared.images.Image.{Image}
+use Rattle.many_commands.specs.Checking.{IsImageOf}
+use Rattle.many_commands.specs.Laws.{ChangesNothing, LeavesFiles, NeverChanges}
+use Rattle.many_commands.specs.PuttingMany.{AreFiles, FindsFiles, IsNewFile, IsNoName, KeepsIf, KeepsWords, LooksWhole, MakesMany, PutsFiles, PutsMany, ReadsEach, ReadsNext, RefusesLoss, RefusesMany, TakesName, TellsEmpty, TellsPath, TellsText, TellsUnread, WantsMemory, has_empty, loss_from, paths_of, stored_lines}
+use Rattle.many_commands.specs.Texts.{TakesLists, TellsBadList, lists_of}
+use Rattle.many_commands.proofs.Keeping.{looks-at-never, opens-never, purely-never, refuses-never, same, stores-leaves, then-leaves, then-never, told}
+
+tells-list : (list : Option (List ℕ)) (old new : List Event) → TellsBadList list old new → ChangesNothing old new
+tells-list None old new p = same old new p
+tells-list (Some list) old new p = told p.0 _ old new p.1
+
+lists-never : (texts : TextsForm) → NeverChanges (TakesLists texts)
+lists-never texts old (Ok it) new p = same old new p.1
+lists-never texts old (Err ending) new (inl (is, place, first, p)) = tells-list (slice_get (lists_of texts) place) old new p
+lists-never texts old (Err ending) new (inr p) = same old new p.1
+
+no-name : (files : List NewFile) (path : List ℕ) (old : List Event) (ending : Ending) (new : List Event) → IsNoName files path old ending new → ChangesNothing old new
+no-name files path old ending new (inl (names, (is, ok, other, p))) = same _ new p
+no-name files path old ending new (inr (inl (name, names, has, (is, ok, p)))) = same _ new p
+no-name files path old ending new (inr (inr p)) = same old new p.1
+
+name-never : (files : List NewFile) (path : List ℕ) → NeverChanges (TakesName files path)
+name-never files path old (Ok name) new (names, has, p) = same old new p
+name-never files path old (Err ending) new p = no-name files path old ending new p
+
+tells-unread : (path : List ℕ) (why : Ending) (old : List Event) (ending : Ending) (new : List Event) → TellsUnread path why old ending new → ChangesNothing old new
+tells-unread path why old ending new (inl (is, ok, p)) = same _ new p
+tells-unread path why old ending new (inr p) = same old new p.1
+
+whole-never : (path : List ℕ) (form : ImageForm) → NeverChanges (LooksWhole path form)
+whole-never path form old (Ok bytes) new p = looks-at-never form old (Ok bytes) new p
+whole-never path form old (Err ending) new (why, between, looks, p) = λ at. tells-unread path why between ending new p at ∙ looks-at-never form old (Err why) between looks at
+
+next-never : (texts : TextsForm) (files : List NewFile) (path : List ℕ) → NeverChanges (ReadsNext texts files path)
+next-never texts files path =
+    then-never (TakesName files path) (λ name. Then (Purely (IsImageOf path None)) (λ form. Then (LooksWhole path form) (λ bytes. Purely (IsNewFile texts name bytes.items)))) (name-never files path)
+    (λ name. then-never (Purely (IsImageOf path None)) (λ form. Then (LooksWhole path form) (λ bytes. Purely (IsNewFile texts name bytes.items))) (purely-never (IsImageOf path None))
+    (λ form. then-never (LooksWhole path form) (λ bytes. Purely (IsNewFile texts name bytes.items)) (whole-never path form) (λ bytes. purely-never (IsNewFile texts name bytes.items))))
+
+each-never : (texts : TextsForm) (files : List NewFile) (paths : List (List ℕ)) → NeverChanges (ReadsEach texts files paths)
+each-never texts files [] = purely-never (AreFiles files)
+each-never texts files (path ∷ paths) = then-never (ReadsNext texts files path) (λ file. ReadsEach texts (files ++ file ∷ []) paths) (next-never texts files path) (λ file. each-never texts (files ++ file ∷ []) paths)
+
+finds-never : (image : List ℕ) → NeverChanges (FindsFiles image)
+finds-never image old (Ok files) new (blocks, opens, are, p) = same old new p
+finds-never image old (Err ending) new (inl (why, opens, p)) = refuses-never why (length image) old ending new p
+finds-never image old (Err ending) new (inr p) = same old new p.1
+
+tells-empty : (path : Option (List ℕ)) (old new : List Event) → TellsEmpty path old new → ChangesNothing old new
+tells-empty None old new p = same old new p
+tells-empty (Some path) old new p = told p.0 _ old new p.1
+
+loss-never : (paths : List (List ℕ)) (loss : Option ℕ) → NeverChanges (RefusesLoss paths loss)
+loss-never paths None old result new p = same old new p.1
+loss-never paths (Some place) old (Ok it) new p = absurd p
+loss-never paths (Some place) old (Err ending) new (inl p) = tells-empty (slice_get paths place) old new p.1
+loss-never paths (Some place) old (Err ending) new (inr p) = same old new p.1
+
+keeps-if : (is : Bool) (paths : List (List ℕ)) (files : List NewFile) (image : List ℕ) → NeverChanges (KeepsIf is paths files image)
+keeps-if true paths files image old result new p = same old new p.1
+keeps-if false paths files image old result new p =
+    then-never (FindsFiles image) (λ older. RefusesLoss paths (loss_from older.items 0 files)) (finds-never image) (λ older. loss-never paths (loss_from older.items 0 files)) old result new p
+
+keeps-never : (form : PutManyForm) (files : List NewFile) (image : List ℕ) → NeverChanges (KeepsWords form files image)
+keeps-never form files image old result new p = keeps-if (form.may_empty || not (has_empty files)) (paths_of form) files image old result new p
+
+tells-path : (path : Option (List ℕ)) (old new : List Event) → TellsPath path old new → ChangesNothing old new
+tells-path None old new p = same old new p
+tells-path (Some path) old new p = told p.0 _ old new p.1
+
+tells-place : (place : Option TextPlace) (old new : List Event) → TellsPlace place old new → ChangesNothing old new
+tells-place None old new p = same old new p
+tells-place (Some place) old new p = told p.0 _ old new p.1
+
+tells-text : (is : Bool) (file : Option NewFile) (old new : List Event) → TellsText is file old new → ChangesNothing old new
+tells-text false file old new p = same old new p
+tells-text true None old new p = same old new p
+tells-text true (Some file) old new (place, finds, p) = tells-place place old new p
+
+refuses-many : (paths : List (List ℕ)) (files : List NewFile) (fault : ManyFault) (size : ℕ) (old : List Event) (ending : Ending) (new : List Event) → RefusesMany paths files fault size old ending new → ChangesNothing old new
+refuses-many paths files (many.Archive fault) size old ending new p = refuses-never fault size old ending new p
+refuses-many paths files (many.File place fault) size old ending new (is, between, tells, p) = λ at. tells-text (is_bad fault) (slice_get files place) between new p at ∙ tells-path (slice_get paths place) old between tells at
+
+wants-memory : (paths : List (List ℕ)) (fault : ManyFault) (old : List Event) (ending : Ending) (new : List Event) → WantsMemory paths fault old ending new → ChangesNothing old new
+wants-memory paths (many.Archive fault) old ending new p = same old new p.1
+wants-memory paths (many.File place fault) old ending new (is, inl p) = same old new p
+wants-memory paths (many.File place fault) old ending new (is, inr p) = tells-path (slice_get paths place) old new p
+
+makes-never : (form : PutManyForm) (files : List NewFile) (image : List ℕ) → NeverChanges (MakesMany form files image)
+makes-never form files image old (Ok it) new p = same old new p.1
+makes-never form files image old (Err ending) new (fault, puts, inl p) = refuses-many (paths_of form) files fault (length image) old ending new p
+makes-never form files image old (Err ending) new (fault, puts, inr p) = wants-memory (paths_of form) fault old ending new p
+
+puts-files : (form : PutManyForm) (image : Image) (files : List NewFile) → LeavesFiles (PutsFiles form image files)
+puts-files form image files =
+    then-leaves (KeepsWords form files image.bytes.items) (λ it. Then (MakesMany form files image.bytes.items) (λ made. Then (Purely (AreLines (stored_lines files made.blocks.items))) (λ lines. Stores image made.bytes.items lines.items)))
+    (keeps-never form files image.bytes.items)
+    (λ it. then-leaves (MakesMany form files image.bytes.items) (λ made. Then (Purely (AreLines (stored_lines files made.blocks.items))) (λ lines. Stores image made.bytes.items lines.items))
+    (makes-never form files image.bytes.items)
+    (λ made. then-leaves (Purely (AreLines (stored_lines files made.blocks.items))) (λ lines. Stores image made.bytes.items lines.items) (purely-never (AreLines (stored_lines files made.blocks.items)))
+    (λ lines. stores-leaves image made.bytes.items lines.items)))
+
+pub puts-many-leave : (form : PutManyForm) → LeavesFiles (PutsMany form)
+puts-many-leave form =
+    then-leaves (TakesLists form.texts) (λ it. Then (Opens form.image) (λ image. Then (ReadsEach form.texts [] (paths_of form)) (λ files. PutsFiles form image files.items))) (lists-never form.texts)
+    (λ it. then-leaves (Opens form.image) (λ image. Then (ReadsEach form.texts [] (paths_of form)) (λ files. PutsFiles form image files.items)) (opens-never form.image)
+    (λ image. then-leaves (ReadsEach form.texts [] (paths_of form)) (λ files. PutsFiles form image files.items) (each-never form.texts [] (paths_of form)) (λ files. puts-files form image files.items)))

@@ -1,0 +1,49 @@
+-- What the commands on volumes leave as it was, and what a check that ends well says.
+use Rattle.std.specs.Prelude.{◌≡◌, ℕ, Bool, true, false, Option, Result, Ok, Err, List, [], ◌∷◌}
+use Rattle.std.specs.Global.{Vec}
+use Rattle.hosts.specs.Event.{Event, look_call}
+use Rattle.hosts.specs.Place.{about}
+use Rattle.outcome.specs.declared.endings.Ending.{Ending}
+use Rattle.outcome.specs.declared.endings.Ending.TheVariants.{Line, Fault, Failure, Busy, NotWritten, FullOutput, NoReader, Misuse}
+use Rattle.disk8.specs.declared.layouts.Layout.{Layout}
+use Rattle.volume_commands.specs.Reading.{FindsVolume}
+use Rattle.many_commands.specs.Checking.{Reports}
+use Rattle.many_commands.specs.declared.reports.Report.{Report}
+
+-- A command is refused: by its words, or by what it reads. The other endings come of a file that can't be written, and of standard output.
+abbrev pub is_refusal : Ending → Bool
+is_refusal (Line line) = true
+is_refusal (Fault fault) = true
+is_refusal Failure = true
+is_refusal (Busy content) = true
+is_refusal (NotWritten content left) = false
+is_refusal FullOutput = false
+is_refusal NoReader = false
+is_refusal Misuse = true
+
+-- no call has changed a file, whatever its path
+abbrev pub ChangesNothing : List Event → List Event → Type 0
+ChangesNothing old new = (path : List ℕ) → about path new ≡ about path old
+
+-- a command changes no file, in whichever way it ends
+abbrev pub NeverChanges : {A : Type 0} → (List Event → Result A Ending → List Event → Type 0) → Type 0
+NeverChanges {A} command = (old : List Event) (result : Result A Ending) (new : List Event) → command old result new → ChangesNothing old new
+
+-- a command that is refused has changed no file
+abbrev pub LeavesFiles : {A : Type 0} → (List Event → Result A Ending → List Event → Type 0) → Type 0
+LeavesFiles command = (old : List Event) (ending : Ending) (new : List Event) → command old (Err ending) new → is_refusal ending ≡ true → ChangesNothing old new
+
+-- ## Images that are sound
+
+-- the image in a file of these bytes is sound
+pub record IsSoundFile (is_all : Bool) (layout : Option Layout) (file : List ℕ) : Type 0 where
+  pub image : Vec ℕ
+  pub found : FindsVolume layout file (Ok image)
+  pub report : Report
+  pub reports : Reports is_all image.items (Ok report)
+  pub sound : report.is_sound ≡ true
+
+-- each of these files was read, in their order and nothing else, and the image in each is sound; by what was read before and after
+abbrev pub AreSound : Bool → Option Layout → List (List ℕ) → List Event → List Event → Type 0
+AreSound is_all layout [] old new = new ≡ old
+AreSound is_all layout (name ∷ names) old new = (file : List ℕ) × IsSoundFile is_all layout file × AreSound is_all layout names (look_call name true file ∷ old) new

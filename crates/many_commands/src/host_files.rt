@@ -1,0 +1,158 @@
+//! Files of the host that are to be put under their own names.
+ghost use Rattle.std.specs.Prelude.{◌≡◌, ◌⊎◌, ◌||◌, List, [], ◌∷◌, ◌++◌, not, nat_eq, map, ℕ, IfOk, OnOk};
+ghost use Rattle.script8.specs.declared.faults.SessionFault.TheVariants.{Memory};
+ghost use Rattle.outcome.specs.declared.endings.Ending.TheVariants.{Fault};
+ghost use Rattle.many8.specs.declared.putting.NewFile.{NewFile as AsNew};
+ghost use Rattle.many_commands.specs.PuttingMany.{LooksWhole, ReadsEach, ReadsNext, RefusesName, RefusesPath, TakesName, TellsUnread};
+ghost use Rattle.many_commands.specs.NameSteps.{KnowsNames, has_key};
+
+use crate::images::image_of;
+use crate::texts::put_form;
+use hosts::Host;
+use many8::{NewFile, volume_name};
+use os8_dir::{FileFault, Name};
+use outcome::{Ending, NameNote, Note, PlainNote};
+use report8::ProgramLine;
+use script8::SessionFault;
+use std::alloc::{AllocError, Global};
+use std::collections::BTreeSet;
+use task8::{ImageForm, TextsForm};
+use volume_commands::{look_at, tell_note};
+
+/// The files of these paths, which are read in their order.
+pub(crate) fn read_files<H: Host>(
+    host: &mut H,
+    alloc: Global,
+    texts: &TextsForm,
+    paths: &[String],
+) -> Result<Vec<NewFile>, Ending>
+    ensures { ReadsEach texts.now [] (map (λ path. path.bytes.items) paths.now) (H.history host.old) result (H.history host.new) }
+{
+    let mut files = Vec::new(alloc);
+    let mut names = BTreeSet::new(alloc);
+    let mut rest = paths;
+    while let [path, others @ ..] = rest {
+        let file = read_next(host, alloc, texts, path.as_str(), &mut names)?;
+        add(&mut files, file)?;
+        rest = others;
+    }
+    Ok(files)
+}
+
+fn add(files: &mut Vec<NewFile>, file: NewFile) -> Result<(), AllocError>
+    ensures { OnOk result (files.new.items ≡ files.old.items ++ file ∷ []) }
+{
+    files.push(file)?;
+    Ok(())
+}
+
+/// The file of a path, whose name none of those has that are known; it is known from then on.
+fn read_next<H: Host>(
+    host: &mut H,
+    alloc: Global,
+    texts: &TextsForm,
+    path: &str,
+    names: &mut BTreeSet<u64>,
+) -> Result<NewFile, Ending>
+    ensures reads { (files : List AsNew) → KnowsNames names.old files
+        → ReadsNext texts.now files path.now (H.history host.old) result (H.history host.new) }
+    ensures names { IfOk result (λ file. (q : ℕ) → has_key names.new q ≡ (has_key names.old q || nat_eq file.name q)) }
+{
+    let name = take_name(host, alloc, path, names)?;
+    let form = image_of(alloc, path, None)?;
+    let bytes = look_whole(host, alloc, path, &form)?;
+    Ok(NewFile {
+        name,
+        bytes,
+        form: put_form(texts, name),
+    })
+}
+
+/// The name that a path gives a file, which none of those is that are known; it is known from then on.
+fn take_name<H: Host>(
+    host: &mut H,
+    alloc: Global,
+    path: &str,
+    names: &mut BTreeSet<u64>,
+) -> Result<Name, Ending>
+    ensures takes { (files : List AsNew) → KnowsNames names.old files
+        → TakesName files path.now (H.history host.old) result (H.history host.new) }
+    ensures names { IfOk result (λ name. (q : ℕ) → has_key names.new q ≡ (has_key names.old q || nat_eq name q)) }
+{
+    let Some(name) = volume_name(path.as_bytes()) else {
+        return Err(refuse_path(host, alloc, path));
+    };
+    if add_name(names, name)? {
+        return Ok(name);
+    }
+    Err(refuse_name(host, alloc, path))
+}
+
+/// Adds a name to those that are known, and answers whether it is new.
+fn add_name(names: &mut BTreeSet<u64>, name: Name) -> Result<bool, AllocError>
+    ensures new { IfOk result (λ new. new ≡ not (has_key names.old name)) }
+    ensures more { IfOk result (λ new. (q : ℕ) → has_key names.new q ≡ (has_key names.old q || nat_eq name q)) }
+{
+    let new = names.insert(number_of(name))?;
+    Ok(new)
+}
+
+/// The four words of a name as one number to the base 0o10000.
+fn number_of(name: Name) -> u64
+    ensures { result ≡ name }
+{
+    let [a, b, c, d] = name.words();
+    let high = u64::from(a.get()) * 0o10000 + u64::from(b.get());
+    let low = u64::from(c.get()) * 0o10000 + u64::from(d.get());
+    high * 0o100000000 + low
+}
+
+/// How the command ends where a path spells no name of a volume. The path is printed, and what such names are.
+fn refuse_path<H: Host>(host: &mut H, alloc: Global, path: &str) -> Ending
+    ensures { RefusesPath path.now (H.history host.old) result (H.history host.new)
+        ⊎ ((result ≡ Fault Memory) × (H.history host.new ≡ H.history host.old)) }
+{
+    match tell_note(host, alloc, Note::OnName(NameNote::NotPut, path)) {
+        Ok(()) => {
+            let _ = host.tell(PlainNote::FileNames.text());
+            Ending::Fault(SessionFault::File(FileFault::BadName))
+        }
+        Err(error) => Ending::from(error),
+    }
+}
+
+/// How the command ends where an earlier path gives the name of this one, which is printed.
+fn refuse_name<H: Host>(host: &mut H, alloc: Global, path: &str) -> Ending
+    ensures { RefusesName path.now (H.history host.old) result (H.history host.new)
+        ⊎ ((result ≡ Fault Memory) × (H.history host.new ≡ H.history host.old)) }
+{
+    match tell_note(host, alloc, Note::OnName(NameNote::NotPut, path)) {
+        Ok(()) => Ending::Line(ProgramLine::SameName),
+        Err(error) => Ending::from(error),
+    }
+}
+
+/// All bytes of the file of a path. Where it is not read, the path is printed.
+fn look_whole<H: Host>(
+    host: &mut H,
+    alloc: Global,
+    path: &str,
+    form: &ImageForm,
+) -> Result<Vec<u8>, Ending>
+    ensures { LooksWhole path.now form.now (H.history host.old) result (H.history host.new) }
+{
+    match look_at(host, alloc, form) {
+        Ok(bytes) => Ok(bytes),
+        Err(ending) => Err(tell_unread(host, alloc, path, ending)),
+    }
+}
+
+/// How the command ends where a file is not read for this. Its path is printed.
+fn tell_unread<H: Host>(host: &mut H, alloc: Global, path: &str, ending: Ending) -> Ending
+    ensures { TellsUnread path.now ending (H.history host.old) result (H.history host.new) }
+{
+    match tell_note(host, alloc, Note::OnName(NameNote::NotPut, path)) {
+        Ok(()) => ending,
+        Err(error) => Ending::from(error),
+    }
+}

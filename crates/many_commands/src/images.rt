@@ -1,0 +1,23 @@
+//! The files of images.
+ghost use Rattle.many_commands.specs.Checking.{IsImageOf};
+
+use disk8::Layout;
+use outcome::Ending;
+use std::alloc::Global;
+use task8::ImageForm;
+
+/// The image in a file of this name.
+pub(crate) fn image_of(
+    alloc: Global,
+    file: &str,
+    layout: Option<Layout>,
+) -> Result<ImageForm, Ending>
+    ensures { IsImageOf file.now layout result }
+{
+    let file = String::from_str(alloc, file)?;
+    Ok(ImageForm {
+        file,
+        layout,
+        wait: 0,
+    })
+}

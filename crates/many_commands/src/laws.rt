@@ -1,0 +1,50 @@
+//! What the commands on volumes leave as it was, and what a check that ends well says, as laws.
+ghost use Rattle.std.specs.Prelude.{ℕ, List, Ok, map};
+ghost use Rattle.hosts.specs.Event.{Event};
+ghost use Rattle.hosts.specs.Streams.{read};
+ghost use Rattle.archive8.specs.Asking.{Wanted};
+ghost use Rattle.archive8.specs.Getting.{Gets};
+ghost use Rattle.archive8.specs.Listing.{ListsFiles};
+ghost use Rattle.char_pack.specs.declared.forms.GetForm.{GetForm as How};
+ghost use Rattle.task8.specs.declared.forms.BlocksForm.{BlocksForm as Blocks};
+ghost use Rattle.task8.specs.declared.forms.CheckForm.{CheckForm as Check};
+ghost use Rattle.task8.specs.declared.forms.CopyForm.{CopyForm as Copy};
+ghost use Rattle.task8.specs.declared.forms.DeleteForm.{DeleteForm as Delete};
+ghost use Rattle.task8.specs.declared.forms.FileForm.{FileForm as File};
+ghost use Rattle.task8.specs.declared.forms.ImageForm.{ImageForm as Image};
+ghost use Rattle.task8.specs.declared.forms.PutManyForm.{PutManyForm as PutMany};
+ghost use Rattle.task8.specs.declared.forms.PutOneForm.{PutOneForm as PutOne};
+ghost use Rattle.volume_commands.specs.Changing.{Squeezes, Renames};
+ghost use Rattle.volume_commands.specs.Copying.{Copies};
+ghost use Rattle.volume_commands.specs.Deleting.{Deletes};
+ghost use Rattle.volume_commands.specs.Putting.{Puts};
+ghost use Rattle.volume_commands.specs.Showing.{Shows, wanted_file};
+ghost use Rattle.volume_commands.specs.ShowingParts.{ShowsBlocks, ShowsTape};
+ghost use Rattle.many_commands.specs.Checking.{ChecksImages};
+ghost use Rattle.many_commands.specs.Laws.{AreSound, LeavesFiles, NeverChanges};
+ghost use Rattle.many_commands.specs.PuttingMany.{PutsMany};
+
+/// A command that shows what images have changes no file, in whichever way it ends.
+pub fn shown_images()
+    ensures lists { (form : Image) → NeverChanges (Shows ListsFiles form) }
+    ensures gets { (file : File) (how : How) (form : Image) → NeverChanges (Shows (λ bytes. Gets bytes (wanted_file file) how) form) }
+    ensures blocks { (form : Blocks) → NeverChanges (ShowsBlocks form) }
+    ensures tape { (file : File) (form : Image) → NeverChanges (ShowsTape file form) }
+    ensures checks { (form : Check) → NeverChanges (ChecksImages form) }
+{}
+
+/// A command that is to change an image, and is refused, has changed no file: of several files none is put, and none is deleted.
+pub fn refused_changes()
+    ensures puts { (form : PutOne) → LeavesFiles (Puts form) }
+    ensures many { (form : PutMany) → LeavesFiles (PutsMany form) }
+    ensures deletes { (form : Delete) → LeavesFiles (Deletes form) }
+    ensures copies { (form : Copy) → LeavesFiles (Copies form) }
+    ensures renames { (wanted : Wanted) (other : List ℕ) (form : Image) → LeavesFiles (Renames wanted other form) }
+    ensures squeezes { (form : Image) → LeavesFiles (Squeezes form) }
+{}
+
+/// Where a check ends well, each image file was read whole, in its order and nothing else, and each image is sound.
+pub fn sound_images()
+    ensures { (form : Check) (old new : List Event) → ChecksImages form old (Ok tt) new
+        → AreSound form.is_all form.layout (map (λ file. file.bytes.items) form.images.items) (read old) (read new) }
+{}

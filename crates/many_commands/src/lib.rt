@@ -1,0 +1,16 @@
+//! The commands on many image files, or on many files of one, over any host: which files are read and written, in which order, and what each
+//! stream gets.
+#![tactic(auto)]
+
+mod checks;
+mod host_files;
+mod images;
+pub mod laws;
+mod progress;
+mod putting;
+mod reports;
+mod texts;
+
+pub use checks::check_images;
+pub use putting::put_files;
+pub use reports::Report;
