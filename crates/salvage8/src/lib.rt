@@ -1,0 +1,11 @@
+//! A new volume with the files that a damaged one still tells, and the lines of what is lost.
+//!
+//! In each contract an image is the list of its bytes, and a block the list of its words.
+#![tactic(auto)]
+
+pub mod laws;
+mod lines;
+mod salvages;
+mod words;
+
+pub use salvages::{Salvage, salvage_image};
