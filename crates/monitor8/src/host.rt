@@ -9,6 +9,7 @@ use image_file8::{tell_bad_argument, texts_of};
 use image_host8::check_images;
 use many_host8::{get_files, put_files};
 use outcome::{Content, Ending, ending_of_output, gives_data, no_memory_line};
+use salvage_commands::rescue_image;
 use script8::SessionFault;
 use std::alloc::AllocError;
 use std::env::{self, Env};
@@ -115,6 +116,8 @@ where
         Task::Copy(form) => wait_for_image!(rt, form.to.wait, copy_file(host, alloc, &form)),
         Task::Squeeze(image) => wait_for_image!(rt, image.wait, squeeze_files(host, alloc, &image)),
         Task::Check(form) => check_images(rt, form),
+        Task::Rescue(form) => rescue_image(host, alloc, &form.image, form.new.as_str()),
+        Task::Index(_) | Task::Scan(_) => Err(Ending::Misuse),
         Task::Dump(form) => dump_blocks(host, alloc, &form.image, form.span, form.is_sixbit),
         Task::Patch(form) => {
             let wanted = WordPatch {
