@@ -9,7 +9,7 @@ use image_file8::{tell_bad_argument, texts_of};
 use image_host8::check_images;
 use many_host8::{get_files, put_files};
 use outcome::{Content, Ending, ending_of_output, gives_data, no_memory_line};
-use salvage_commands::rescue_image;
+use salvage_commands::{rescue_image, scan_blocks};
 use script8::SessionFault;
 use std::alloc::AllocError;
 use std::env::{self, Env};
@@ -117,7 +117,14 @@ where
         Task::Squeeze(image) => wait_for_image!(rt, image.wait, squeeze_files(host, alloc, &image)),
         Task::Check(form) => check_images(rt, form),
         Task::Rescue(form) => rescue_image(host, alloc, &form.image, form.new.as_str()),
-        Task::Index(_) | Task::Scan(_) => Err(Ending::Misuse),
+        Task::Scan(form) => {
+            if form.folder.is_some() {
+                tell_no_folder(rt);
+                return Err(Ending::Misuse);
+            }
+            scan_blocks(host, alloc, &form.image)
+        }
+        Task::Index(_) => Err(Ending::Misuse),
         Task::Dump(form) => dump_blocks(host, alloc, &form.image, form.span, form.is_sixbit),
         Task::Patch(form) => {
             let wanted = WordPatch {
@@ -161,6 +168,11 @@ fn refuse_words<H: Host, R: Env + Print + Eprint + AllocGlobal>(
         }
     };
     ExitCode::from(end(host, rooms, false, Err(ending)))
+}
+
+/// Says that what is scanned goes to no folder.
+fn tell_no_folder<R: Eprint>(rt: &R) {
+    let _ = eprintln!(rt; "error: '--into' is not there yet for 'scan': it writes no files");
 }
 
 /// Says why words are refused, as `clap` says it of those that it refuses itself.

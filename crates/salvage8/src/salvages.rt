@@ -61,7 +61,7 @@ pub fn salvage_image(alloc: Global, image: &[u8]) -> Result<Salvage, ArchiveFaul
 }
 
 /// The volume of an image, whatever its directory says.
-fn volume_of(alloc: Global, image: &[u8]) -> Result<MemoryVolume, ArchiveFault>
+pub(crate) fn volume_of(alloc: Global, image: &[u8]) -> Result<MemoryVolume, ArchiveFault>
     ensures volume { IfOk result (λ volume. IsImageOf image.now volume.blocks) }
     ensures fault { IfErr result (IsNoImage image.now) }
 {

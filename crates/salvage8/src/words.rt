@@ -34,7 +34,7 @@ pub fn files_with_words(
 }
 
 /// The words of a run of blocks.
-fn words_at(
+pub(crate) fn words_at(
     alloc: Global,
     volume: &MemoryVolume,
     place: usize,
