@@ -1,8 +1,9 @@
 #!/usr/bin/env python3
 """check_damaged_images.py: what the commands make of damaged images. A volume with files has words changed, blocks exchanged, emptied or copied, is cut or
 goes on; then each command works on it. None breaks off. One that looks, or is refused, leaves each byte as it was; behind one that
-writes, each file that could be got before, and that it doesn't name, is got as before. The last line is 'N passed, M failed', each
-image being one.
+writes, each file that could be got before, and that it doesn't name, is got as before. `rescue` makes a sound volume with each file that
+`check --all` tells as sound, in their order and with its words, but for those that it tells as left out. The last line is 'N passed,
+M failed', each image being one.
 
 usage: check_damaged_images.py [--program FILE] [--images N] [--seed N]
 """
@@ -22,7 +23,7 @@ def option(name: str, value: str) -> str:
 
 
 PROGRAM = os.path.abspath(option("--program", f"{TOP}/crates/pdp8/out/pdp8"))
-IMAGES = int(option("--images", "100"))
+IMAGES = int(option("--images", "300"))
 SEED = int(option("--seed", "1"))
 # A script that writes, with the names that it may change.
 SCRIPT = b"DELETE C.TX\nSTORE NEW.TX 2\nONE\nTWO\nSQUEEZE\nFINISH\nDIRECT\n"
@@ -69,6 +70,27 @@ def damage(whole: bytes, chance: random.Random) -> bytes:
                 if place + 1 < len(image):
                     image[place : place + 2] = chance.randrange(65536 if kind == 4 else 4096).to_bytes(2, "little")
     return bytes(image)
+
+
+def pdp8_of(image: bytes, name: str, command: str, *words: str) -> tuple[int, bytes]:
+    """What a command that looks says of an image."""
+    with open(name, "wb") as file:
+        file.write(image)
+    try:
+        return pdp8(command, name, *words)
+    finally:
+        os.remove(name)
+
+
+def files_of(lines: bytes, head: bytes) -> list[list[bytes]]:
+    """The name, the first block and the length of each file among lines, by their head."""
+    return [line.removeprefix(head).rsplit(b" ", 2) for line in lines.splitlines() if line.startswith(head)]
+
+
+def words_of(image: bytes, file: list[bytes]) -> tuple[bytes, bytes]:
+    """A file's name as it is shown, and the bytes of its blocks, by its line."""
+    name, place, size = file[0], int(file[1]), int(file[2])
+    return name, image[BLOCK * place : BLOCK * (place + size)]
 
 
 class Damaged:
@@ -118,10 +140,32 @@ class Damaged:
             if words[0] == "put" and not status and self.looks("get", self.name, "NEW.TX", "--text")[1] != given:
                 raise AssertionError("what was put isn't got")
 
+    def rescued(self) -> None:
+        """Whether each file that `check --all` tells as sound is one of a new volume, but for those that are told as left out."""
+        status, told = self.looks("check", self.name, "--all")
+        new = f"{self.name}.new"
+        done, lines = self.looks("rescue", self.name, new)
+        if told.startswith((b"? IMAGE", b"? HOST")):
+            if lines != told or not done or os.path.exists(new):
+                raise AssertionError("rescue takes an image that check refuses")
+            return
+        left = files_of(lines, b"LEFT FILE ")
+        found = files_of(told, b"FILE ")
+        kept = [it for it in found if it not in left]
+        image = open(new, "rb").read()
+        os.remove(new)
+        listed = pdp8_of(image, self.name + ".look", "check", "--all")
+        files = files_of(listed[1], b"FILE ")
+        if listed[0] or len(image) != len(self.image) or (status and not done):
+            raise AssertionError("the new volume is not sound, or has another size, or nothing is said of a loss")
+        if not lines.endswith(f"RESCUED {len(kept)}\n".encode()) or [words_of(self.image, it) for it in kept] != [words_of(image, it) for it in files]:
+            raise AssertionError("the new volume has other files")
+
     def tried(self) -> str | None:
         """What is wrong with the commands on this image, if something is."""
         try:
             self.looks("check", self.name)
+            self.rescued()
             self.looks("run", self.name, given=b"DIRECT\n")
             image = self.image
             self.writes({"NEW.TX"}, "put", self.name, "-", "--as", "NEW.TX", "--text", given=b"new\n" * 50)

@@ -38,6 +38,9 @@ PLACES: dict[str, dict[str, tuple[int, str]]] = {
     "report8/src/given.rt": {
         "flags_of": (1, "a flag for each cell of core, which is asked for once"),
     },
+    "salvage8/src/salvages.rt": {
+        "fitted_volume": (1, "a volume of as many blocks as one that is there can be refused for nothing else"),
+    },
     "os8_files/src/service/changes.rt": {
         "changed": (1, "`removed`, `placed` and `moved_down` can fail for nothing else"),
     },

@@ -2,6 +2,7 @@
 ghost use Rattle.std.specs.Prelude.{◌≡◌, ◌∷◌, [], ℕ, List, codes, false, map, option_map, true, None, Some};
 ghost use Rattle.std.specs.List.{list_all};
 ghost use Rattle.clap.specs.Words.{IsUnsignedIn};
+ghost use Rattle.task8.specs.declared.archives.LineForm.TheVariants.{Columns, Json};
 ghost use Rattle.task8.specs.declared.tasks.RimForm.TheVariants.{Lines, Bin};
 ghost use Rattle.task8.specs.declared.tasks.Saving.TheVariants.{AtEnd, Never, Always};
 ghost use Rattle.char_pack.specs.declared.forms.GetForm.TheVariants as get_as;
@@ -11,7 +12,8 @@ ghost use Rattle.disk8.specs.declared.layouts.Layout.TheVariants.{Dectape};
 ghost use Rattle.word12.specs.declared.sizes.TheConstants.{MOST_BLOCKS};
 ghost use Rattle.command8.specs.Found.{capitals, cell_of, number_in, number_of, place_of, word_of};
 ghost use Rattle.command8.specs.Tables.{are_apart, are_distinct, entry_named, is_usual, letters_of, pairs, table};
-ghost use Rattle.command8.specs.Tasks.{IsAssembleOf, IsAt, IsCheckOf, IsCopyOf, IsCreateOf, IsCreateTapeOf, IsDeleteOf, IsGetBinOf};
+ghost use Rattle.command8.specs.Tasks.{IsAssembleFromOf, IsAssembleOf, IsAt, IsCheckOf, IsCopyOf, IsCreateOf, IsCreateTapeOf, IsDeleteOf, IsGetBinOf};
+ghost use Rattle.command8.specs.Tasks.{IsIndexOf, IsRescueOf, IsScanOf};
 ghost use Rattle.command8.specs.Tasks.{IsGetBlocksOf, IsGetManyOf, IsGetOf, IsListLongOf, IsListOf, IsNamed, IsPlain, IsProfileOf};
 ghost use Rattle.command8.specs.Tasks.{IsPutManyOf, IsPutOf, IsRenameOf, IsRimOf, IsRunOf, IsSourceOf, IsSqueezeOf, IsTakenAs, IsTapeOf};
 ghost use Rattle.command8.specs.Tasks.{IsTeletypeOf, IsTraceOf, IsVolume};
@@ -169,6 +171,12 @@ pub fn plain_words()
     ensures assemble_output { (name file output : List ℕ) → IsPlain file → IsPlain output
         → IsTakenAs (name ∷ codes "assemble" ∷ file ∷ codes "--output" ∷ output ∷ [])
         (IsAssembleOf (file ∷ []) (Some output)) }
+    ensures assemble_from { (name image file : List ℕ) → IsPlain image → IsPlain file
+        → IsTakenAs (name ∷ codes "assemble" ∷ codes "--from" ∷ image ∷ file ∷ [])
+        (IsAssembleFromOf image (capitals file ∷ []) None) }
+    ensures assemble_onto { (name image file tape : List ℕ) → IsPlain image → IsPlain file → IsPlain tape
+        → IsTakenAs (name ∷ codes "assemble" ∷ codes "--from" ∷ image ∷ file ∷ codes "--onto" ∷ tape ∷ [])
+        (IsAssembleFromOf image (capitals file ∷ []) (Some (capitals tape))) }
     ensures teletype { (name tape : List ℕ) → IsPlain tape
         → IsTakenAs (name ∷ codes "teletype" ∷ tape ∷ []) (IsTeletypeOf tape None None) }
     ensures teletype_file { (name image file : List ℕ) → IsPlain image → IsPlain file
@@ -206,6 +214,42 @@ pub fn plain_words()
     ensures check_dectape { (name image : List ℕ) → IsPlain image
         → IsTakenAs (name ∷ codes "check" ∷ image ∷ codes "--dectape" ∷ [])
         (IsCheckOf (image ∷ []) (Some Dectape) false) }
+    ensures index { (name image : List ℕ) → IsPlain image
+        → IsTakenAs (name ∷ codes "index" ∷ image ∷ [])
+        (IsIndexOf (image ∷ []) None Columns None None false) }
+    ensures index_two { (name image other : List ℕ) → IsPlain image → IsPlain other
+        → IsTakenAs (name ∷ codes "index" ∷ image ∷ other ∷ [])
+        (IsIndexOf (image ∷ other ∷ []) None Columns None None false) }
+    ensures index_json { (name image : List ℕ) → IsPlain image
+        → IsTakenAs (name ∷ codes "index" ∷ image ∷ codes "--json" ∷ [])
+        (IsIndexOf (image ∷ []) None Json None None false) }
+    ensures index_find { (name image pattern : List ℕ) → IsPlain image → IsPlain pattern
+        → IsTakenAs (name ∷ codes "index" ∷ image ∷ codes "--find" ∷ pattern ∷ [])
+        (IsIndexOf (image ∷ []) None Columns (Some (capitals pattern)) None false) }
+    ensures index_grep { (name image text : List ℕ) → IsPlain image → IsPlain text
+        → IsTakenAs (name ∷ codes "index" ∷ image ∷ codes "--grep" ∷ text ∷ [])
+        (IsIndexOf (image ∷ []) None Columns None (Some text) false) }
+    ensures index_same { (name image : List ℕ) → IsPlain image
+        → IsTakenAs (name ∷ codes "index" ∷ image ∷ codes "--same" ∷ [])
+        (IsIndexOf (image ∷ []) None Columns None None true) }
+    ensures index_dectape { (name image : List ℕ) → IsPlain image
+        → IsTakenAs (name ∷ codes "index" ∷ image ∷ codes "--dectape" ∷ [])
+        (IsIndexOf (image ∷ []) (Some Dectape) Columns None None false) }
+    ensures rescue { (name image new : List ℕ) → IsPlain image → IsPlain new
+        → IsTakenAs (name ∷ codes "rescue" ∷ image ∷ new ∷ [])
+        (IsRescueOf image new None) }
+    ensures rescue_volume { (name image new text : List ℕ) (layout : Layout) → IsPlain image → IsPlain new → IsVolume text layout
+        → IsTakenAs (name ∷ codes "rescue" ∷ image ∷ new ∷ codes "--volume" ∷ text ∷ [])
+        (IsRescueOf image new (Some layout)) }
+    ensures scan { (name image : List ℕ) → IsPlain image
+        → IsTakenAs (name ∷ codes "scan" ∷ image ∷ [])
+        (IsScanOf image None None) }
+    ensures scan_into { (name image folder : List ℕ) → IsPlain image → IsPlain folder
+        → IsTakenAs (name ∷ codes "scan" ∷ image ∷ codes "--into" ∷ folder ∷ [])
+        (IsScanOf image None (Some folder)) }
+    ensures scan_dectape { (name image : List ℕ) → IsPlain image
+        → IsTakenAs (name ∷ codes "scan" ∷ image ∷ codes "--dectape" ∷ [])
+        (IsScanOf image (Some Dectape) None) }
 {}
 
 /// A law: the letters of options are the usual ones, no subcommand has one twice, and these subcommands have these.
@@ -213,7 +257,7 @@ pub fn letters()
     ensures distinct { list_all (λ entry. are_apart (letters_of entry)) table ≡ true }
     ensures usual { list_all (λ entry. list_all is_usual (letters_of entry)) table ≡ true }
     ensures assemble { option_map letters_of (entry_named (codes "assemble"))
-        ≡ Some ((codes "o", codes "output") ∷ (codes "l", codes "list") ∷ []) }
+        ≡ Some ((codes "o", codes "output") ∷ (codes "l", codes "list") ∷ (codes "v", codes "volume") ∷ []) }
     ensures list { option_map letters_of (entry_named (codes "list"))
         ≡ Some ((codes "l", codes "long") ∷ (codes "v", codes "volume") ∷ []) }
     ensures get { option_map letters_of (entry_named (codes "get"))
@@ -228,6 +272,6 @@ pub fn excluded_arguments()
         ∷ (codes "blocks", codes "all") ∷ (codes "blocks", codes "force") ∷ (codes "blocks", codes "text-of")
         ∷ (codes "blocks", codes "tape") ∷ (codes "blocks", codes "bin") ∷ (codes "tape", codes "into")
         ∷ (codes "bin", codes "into") ∷ (codes "as", codes "text-of") ∷ (codes "list", codes "pal8")
-        ∷ (codes "cross", codes "pal8") ∷ (codes "look", codes "keep") ∷ (codes "look", codes "wait")
-        ∷ (codes "new", codes "wait") ∷ (codes "info", codes "date") ∷ [] }
+        ∷ (codes "cross", codes "pal8") ∷ (codes "output", codes "onto") ∷ (codes "look", codes "keep")
+        ∷ (codes "look", codes "wait") ∷ (codes "new", codes "wait") ∷ (codes "info", codes "date") ∷ [] }
 {}

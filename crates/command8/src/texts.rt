@@ -31,10 +31,13 @@ Volumes:
 Whole archives:
   squeeze   Move the files of a volume together
   check     Show what a volume's directory says
+  index     List the files of many volumes, with what each holds
 
 Damaged volumes:
   dump      Show the words of a volume's blocks
   patch     Put a word of an image in place of another
+  rescue    Write a new volume with the files that a damaged one still has
+  scan      List what the blocks of a volume hold, whatever its directory says
 
 Help:
   help      Print this message, or the help of a command
@@ -93,6 +96,9 @@ pub fn about_of(verb: Verb) -> &'static str {
         Verb::Check => "Show what a volume's directory says",
         Verb::Dump => "Show the words of a volume's blocks",
         Verb::Patch => "Put a word of an image in place of another",
+        Verb::Index => "List the files of many volumes, with what each holds",
+        Verb::Rescue => "Write a new volume with the files that a damaged one still has",
+        Verb::Scan => "List what the blocks of a volume hold, whatever its directory says",
     }
 }
 
@@ -109,7 +115,7 @@ pub fn long_about_of(verb: Verb) -> &'static str {
             "Reads a BIN paper tape from standard input, from the file TAPE, or from what the file NAME of the OS/8{n}volume in the image TAPE holds, and prints a PAL III source that assembles to the words that it{n}loads, one line a word, with the cell and the word in octal after it. With --start the words that{n}a program reaches from there are shown as instructions, and all others as numbers. The line of a{n}fault goes to standard error."
         }
         Verb::Assemble => {
-            "Assembles the PAL III sources in the files FILE, one after the other as one program, to a BIN paper{n}tape, which goes to standard output, or to the file TAPE. With --pal8 the one source FILE is PAL8, the{n}language of OS/8's assembler. The line of a fault goes to standard error. The exit status is 1 after a{n}fault of a source or of a file."
+            "Assembles the PAL III sources in the files FILE, one after the other as one program, to a BIN paper{n}tape, which goes to standard output, or to the file TAPE. With --from the sources are files of the{n}OS/8 volume in the file IMAGE, and with --onto the tape is put there. With --pal8 the one source FILE{n}is PAL8, the language of OS/8's assembler. The line of a fault goes to standard error. The exit{n}status is 1 after a fault of a source or of a file."
         }
         Verb::Teletype => {
             "Loads the BIN paper tape in the file TAPE into core, or the tape that the file NAME of the OS/8{n}volume in the image TAPE begins with, and starts the processor. What it prints goes to standard{n}output with its top bit dropped; standard input is the keyboard. It ends where the processor{n}halts, where the program waits for a key and there are no more, and at a limit. The exit status is{n}0 after HALT or where the keys ended, 1 after a word that is no instruction, the limit or a fault{n}of the tape, and 2 for a command line that is refused."
@@ -156,6 +162,15 @@ pub fn long_about_of(verb: Verb) -> &'static str {
         Verb::Patch => {
             "Puts the word NEW in place of the word OLD in a block of the OS/8 volume in the file IMAGE, by its{n}number from 0, and prints PATCHED and what it did. Where another word than OLD stands there nothing is{n}written. The volume may be damaged, and each other byte of the file stays as it is."
         }
+        Verb::Index => {
+            "Prints a line for each file of the OS/8 volumes in the files IMAGE, image after image and by place: the{n}image, the volume, the first block, the length, the name, the date, what the file holds, and a digest{n}of its words, which equal files share. With --find, --grep and --same only those files are listed that{n}these let through. Names of files are quoted, so that none can tear a line. No image is written."
+        }
+        Verb::Rescue => {
+            "Writes a new OS/8 volume to the file NEW, with each file that is still found on the damaged volume in{n}the file IMAGE, in their order, with their words, information words, dates and names, and prints what{n}is lost, and why. IMAGE is not written."
+        }
+        Verb::Scan => {
+            "Prints what the blocks of the OS/8 volume in the file IMAGE hold, by content alone, whatever its{n}directory says: segments of a directory, texts, BIN and RIM tapes, and core images. With --into each{n}is written to a file in FOLDER. The image is not written."
+        }
     }
 }
 
@@ -172,7 +187,7 @@ pub fn examples_of(verb: Verb) -> &'static str {
             "Examples:\n  pdp8 source examples/add-one.bin\n  pdp8 source disk.rk05 add.bn -v 2 --start 200"
         }
         Verb::Assemble => {
-            "Examples:\n  pdp8 assemble add.pa -o add.bin\n  pdp8 assemble main.pa tables.pa -l main.ls --cross > main.bin"
+            "Examples:\n  pdp8 assemble main.pa tables.pa -o main.bin -l main.ls --cross\n  pdp8 assemble --from disk.img add.pa --onto add.bn"
         }
         Verb::Teletype => {
             "Examples:\n  pdp8 teletype hello.bin\n  pdp8 teletype disk.rk05 hello.bn --start 200 --switches 17"
@@ -208,5 +223,10 @@ pub fn examples_of(verb: Verb) -> &'static str {
         Verb::Patch => {
             "Examples:\n  pdp8 patch disk.img 1 2 7 0\n  pdp8 patch disk.rk05 70 12 103421 3421 -v 2"
         }
+        Verb::Index => { "Examples:\n  pdp8 index *.img\n  pdp8 index *.img --find '*.pa' --same" }
+        Verb::Rescue => {
+            "Examples:\n  pdp8 rescue damaged.img new.img\n  pdp8 rescue damaged.rk05 new.img -v 2"
+        }
+        Verb::Scan => "Examples:\n  pdp8 scan damaged.img\n  pdp8 scan damaged.img --into found",
     }
 }

@@ -5,10 +5,11 @@ use crate::runs::run_image;
 use archive_commands::{WordPatch, dump_blocks, list_dates, patch_word};
 use command8::{TaskFault, task};
 use hosts::Host;
-use image_file8::{tell, texts_of};
+use image_file8::{tell_bad_argument, texts_of};
 use many_commands::{check_images, put_files};
 use many_host8::get_files;
-use outcome::{Content, Ending, Note, PlainNote, ending_of_output, gives_data, no_memory_line};
+use outcome::{Content, Ending, ending_of_output, gives_data, no_memory_line};
+use salvage_commands::{rescue_image, scan_blocks};
 use script8::SessionFault;
 use std::alloc::AllocError;
 use std::env::{self, Env};
@@ -115,6 +116,15 @@ where
         Task::Copy(form) => wait_for_image!(rt, form.to.wait, copy_file(host, alloc, &form)),
         Task::Squeeze(image) => wait_for_image!(rt, image.wait, squeeze_files(host, alloc, &image)),
         Task::Check(form) => check_images(host, alloc, &form),
+        Task::Rescue(form) => rescue_image(host, alloc, &form.image, form.new.as_str()),
+        Task::Scan(form) => {
+            if form.folder.is_some() {
+                tell_no_folder(rt);
+                return Err(Ending::Misuse);
+            }
+            scan_blocks(host, alloc, &form.image)
+        }
+        Task::Index(_) => Err(Ending::Misuse),
         Task::Dump(form) => dump_blocks(host, alloc, &form.image, form.span, form.is_sixbit),
         Task::Patch(form) => {
             let wanted = WordPatch {
@@ -133,17 +143,17 @@ where
 }
 
 /// Prints why the words ask for nothing, and gives the exit status. Help that is asked for is output as that of a command is.
-fn refuse_words<H: Host, R: Print + Eprint>(
+fn refuse_words<H: Host, R: Env + Print + Eprint + AllocGlobal>(
     rt: &R,
     host: &mut H,
     rooms: Rooms,
     fault: WordsFault,
 ) -> ExitCode {
     let ending = match fault {
-        WordsFault::NoText => {
-            tell(rt, Note::Plain(PlainNote::NoText));
-            Ending::Misuse
-        }
+        WordsFault::NoText => match tell_bad_argument(rt) {
+            Ok(()) => Ending::Misuse,
+            Err(error) => Ending::from(error),
+        },
         WordsFault::Task(TaskFault::Memory) => Ending::Fault(SessionFault::Memory),
         WordsFault::Task(TaskFault::Words(error)) => {
             let status = error.exit_code() as u8;
@@ -158,6 +168,11 @@ fn refuse_words<H: Host, R: Print + Eprint>(
         }
     };
     ExitCode::from(end(host, rooms, false, Err(ending)))
+}
+
+/// Says that what is scanned goes to no folder.
+fn tell_no_folder<R: Eprint>(rt: &R) {
+    let _ = eprintln!(rt; "error: '--into' is not there yet for 'scan': it writes no files");
 }
 
 /// Says why words are refused, as `clap` says it of those that it refuses itself.

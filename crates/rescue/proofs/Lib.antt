@@ -1,2 +1,3 @@
 pub mod RescueLemmas
 pub mod LawLemmas
+pub mod FitLemmas

@@ -1,13 +1,13 @@
 -- A new volume with just some files.
-use Rattle.std.specs.Prelude.{◌≡◌, ℕ, ◌*◌, ◌<◌, ◌≤◌, Result, Ok, Err, List, [], ◌∷◌, ◌++◌, length}
+use Rattle.std.specs.Prelude.{◌≡◌, ℕ, suc, ◌-◌, ◌*◌, ◌<◌, ◌≤◌, Option, None, Some, Result, Ok, Err, List, [], ◌∷◌, ◌++◌, length}
 use Rattle.std.specs.Global.{Vec}
 use Rattle.std.specs.FinMap.{from_entries, insert}
-use Rattle.word12.specs.declared.sizes.TheConstants.{BLOCK, MOST_BLOCKS}
+use Rattle.word12.specs.declared.sizes.TheConstants.{BLOCK, FIRST_FILE_BLOCK, MOST_BLOCKS}
 use Rattle.volume_image.specs.Image.{Creates, IsImageOf}
 use Rattle.os8_dir.specs.declared.file_faults.FileFault.{FileFault}
 use Rattle.os8_dir.specs.declared.file_faults.FileFault.TheVariants as file
 use Rattle.os8_dir.specs.Entries.{IsNamed}
-use Rattle.os8_dir.specs.Files.{Files, files_of}
+use Rattle.os8_dir.specs.Files.{Files, capacity_of, files_of}
 use Rattle.os8_dir.specs.Names.{padded}
 use Rattle.os8_files.specs.Calls.{info_of}
 use Rattle.os8_files.specs.Mounted.{Mounted}
@@ -16,6 +16,7 @@ use Rattle.rescue.specs.declared.faults.RescueFault.{RescueFault}
 use Rattle.rescue.specs.declared.faults.RescueFault.TheVariants.{Image, Unread, Refused}
 use Rattle.rescue.specs.declared.faults.Refusal.{Refusal}
 use Rattle.rescue.specs.declared.faults.Refusal.TheVariants.{NoName, NotWhole, NoRoom, DirectoryFull, Failed}
+use Rattle.rescue.specs.declared.fitting.FittedVolume.{FittedVolume}
 use Rattle.rescue.specs.declared.volumes.KeptFile.{KeptFile}
 
 -- Files with others put among them: each has its words, and the first of its information words, so many of them.
@@ -50,8 +51,8 @@ pub record Refuses (old : Mounted) (f : KeptFile) (fault : FileFault) (new : Mou
 -- A file is put into a volume, or why not.
 abbrev pub Keeps : Mounted → KeptFile → ℕ → Result (Unit {0}) Refusal → Mounted → Type 0
 Keeps old f place (Ok done) new = HasPutWith old f.name f.info f.words.items new
-Keeps old f place (Err (NoName at)) new = (at ≡ place) × (IsNamed f.name → ⊥)
-Keeps old f place (Err (NotWhole at)) new = (at ≡ place) × (AreBlocks f.words.items → ⊥)
+Keeps old f place (Err (NoName at)) new = (at ≡ place) × (IsNamed f.name → ⊥) × (new ≡ old)
+Keeps old f place (Err (NotWhole at)) new = (at ≡ place) × (AreBlocks f.words.items → ⊥) × (new ≡ old)
 Keeps old f place (Err (NoRoom at largest)) new = (at ≡ place) × Refuses old f (file.NoRoom largest) new
 Keeps old f place (Err (DirectoryFull at)) new = (at ≡ place) × Refuses old f file.DirectoryFull new
 Keeps old f place (Err (Failed at)) new = (at ≡ place) × ((fault : FileFault) × Refuses old f fault new)
@@ -73,3 +74,51 @@ Rescues count kept (Ok image) = IsRescued kept image.items
 Rescues count kept (Err (Image fault)) = Creates count (Err fault)
 Rescues count kept (Err Unread) = (8 ≤ count) × (count ≤ MOST_BLOCKS)
 Rescues count kept (Err (Refused refusal)) = IsRefusedOf kept refusal
+
+-- ## What fits
+
+-- the files that are kept, by why each is not
+abbrev pub kept_of : List KeptFile → List (Option Refusal) → List KeptFile
+kept_of [] refusals = []
+kept_of (f ∷ fs) [] = []
+kept_of (f ∷ fs) (None ∷ refusals) = f ∷ kept_of fs refusals
+kept_of (f ∷ fs) (Some refusal ∷ refusals) = kept_of fs refusals
+
+-- a refusal is one of the file, and not for want of memory
+abbrev pub IsOfFile : Refusal → Type 0
+IsOfFile (NoName at) = Unit {0}
+IsOfFile (NotWhole at) = Unit {0}
+IsOfFile (NoRoom at largest) = Unit {0}
+IsOfFile (DirectoryFull at) = Unit {0}
+IsOfFile (Failed at) = ⊥
+
+-- a volume with these files, and so many blocks for files in all, refuses one more
+pub record HasNoPlace (info capacity : ℕ) (kept : List KeptFile) (place : ℕ) (f : KeptFile) (refusal : Refusal) : Type 0 where
+  pub old : Mounted
+  pub new : Mounted
+  pub files : files_of old.blocks ≡ with_files info (from_entries []) kept
+  pub capacity_is : capacity_of old.blocks ≡ capacity
+  pub of_file : IsOfFile refusal
+  pub why : Keeps old f place (Err refusal) new
+
+-- behind files that are kept each of these is kept too, or is refused by the volume with those kept before it
+abbrev pub AreJudged : ℕ → ℕ → List KeptFile → ℕ → List KeptFile → List (Option Refusal) → Type 0
+AreJudged info capacity kept place [] [] = Unit {0}
+AreJudged info capacity kept place [] (refusal ∷ refusals) = ⊥
+AreJudged info capacity kept place (f ∷ fs) [] = ⊥
+AreJudged info capacity kept place (f ∷ fs) (None ∷ refusals) = AreJudged info capacity (kept ++ f ∷ []) (suc place) fs refusals
+AreJudged info capacity kept place (f ∷ fs) (Some refusal ∷ refusals) =
+    HasNoPlace info capacity kept place f refusal × AreJudged info capacity kept (suc place) fs refusals
+
+-- the image is that of a volume of so many blocks with just the files that are kept, and each other one is refused
+pub record IsFitted (count : ℕ) (files : List KeptFile) (volume : FittedVolume) : Type 0 where
+  pub info : ℕ
+  pub rescued : IsRescued (kept_of files volume.refusals.items) volume.image.items
+  pub judged : AreJudged info (count - FIRST_FILE_BLOCK) [] 0 files volume.refusals.items
+
+-- what is answered where a volume of so many blocks with what fits of these files is wanted
+abbrev pub FitsFiles : ℕ → List KeptFile → Result FittedVolume RescueFault → Type 0
+FitsFiles count files (Ok volume) = IsFitted count files volume
+FitsFiles count files (Err (Image fault)) = Creates count (Err fault)
+FitsFiles count files (Err Unread) = (8 ≤ count) × (count ≤ MOST_BLOCKS)
+FitsFiles count files (Err (Refused refusal)) = (place : ℕ) × (refusal ≡ Failed place)

@@ -5,8 +5,10 @@
 #![tactic(auto)]
 
 mod faults;
+mod fitting;
 pub mod laws;
 mod volumes;
 
 pub use faults::{Refusal, RescueFault};
+pub use fitting::{FittedVolume, volume_of_what_fits};
 pub use volumes::{KeptFile, volume_of_files};

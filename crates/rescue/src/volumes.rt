@@ -33,18 +33,23 @@ pub fn volume_of_files(
 {
     new_volumes();
     let volume = MemoryVolume::create(alloc, blocks)?;
-    let mut service = mount_new(alloc, volume)?;
+    let mut service = mount_new(alloc, blocks, volume)?;
     keep_files(alloc, &mut service, files)?;
     let full = service.into_store();
     let image = full.to_bytes(alloc)?;
     Ok(image)
 }
 
-/// The files of a new volume, of which there are none.
-fn mount_new(alloc: Global, volume: MemoryVolume) -> Result<FileService<MemoryVolume>, RescueFault>
-    requires { (count : ℕ) × IsNewVolume count volume.blocks }
-    ensures { Mounts result }
+/// The files of a new volume of so many blocks, of which there are none.
+pub(crate) fn mount_new(
+    alloc: Global,
+    blocks: usize,
+    volume: MemoryVolume,
+) -> Result<FileService<MemoryVolume>, RescueFault>
+    requires { IsNewVolume blocks volume.blocks }
+    ensures { Mounts blocks result }
 {
+    let _size = blocks;
     new_volumes();
     match FileService::mount(alloc, volume) {
         Ok(service) => Ok(service),
@@ -72,7 +77,7 @@ fn keep_files(
 }
 
 /// Puts a file, which has this place among others, into a volume.
-fn keep_file(
+pub(crate) fn keep_file(
     alloc: Global,
     service: &mut FileService<MemoryVolume>,
     file: &KeptFile,

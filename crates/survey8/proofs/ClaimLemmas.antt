@@ -1,5 +1,5 @@
 -- Claims of blocks, and runs of blocks that have two.
-use Rattle.std.proofs.Common.{◌≡◌, ◌∙◌, ℕ, zero, suc, ◌+◌, ◌-◌, ◌<◌, min, ◌&&◌, Bool, true, not, if◌then◌else◌, codes, List, [], ◌++◌, length, slice_index, nat_lt, refl, sym, ap, arith, append_assoc, inl, inr}
+use Rattle.std.proofs.Common.{◌≡◌, ◌∙◌, ℕ, zero, suc, ◌+◌, ◌-◌, ◌<◌, min, ◌&&◌, Bool, true, false, not, if◌then◌else◌, codes, List, [], ◌++◌, length, slice_index, nat_lt, refl, sym, ap, arith, append_assoc, inl, inr}
 use Rattle.std.proofs.lemmas.Bool.{lt-ltb, le-ltb, cases_lt}
 use Rattle.survey8.specs.Lines.{extent_text, run_length, run_lines, count_runs, claims, is_twice}
 use Rattle.survey8.specs.Steps.{is_two}
@@ -65,3 +65,13 @@ pub tests_same : (old counts : List ℕ) (found : List Finding) (volume : ℕ) �
 tests_same old counts found volume size zeros is k low =
     two_same (slice_index counts k) (claims found k)
     (is k (omega (arith, size)) ∙ ap (min 2) (ap (λ n. n + claims found k) (zeros k) ∙ omega arith))
+
+-- lines, and behind them those of the runs by a test that agrees
+pub runs-behind : (t s : ℕ → Bool) (volume size : ℕ) (out lines mid new : List ℕ) → size ≡ volume → ((k : ℕ) → k < 0 + volume → t k ≡ s k)
+    → mid ≡ out ++ lines → new ≡ mid ++ run_lines t false size 0 → new ≡ out ++ (lines ++ run_lines s false volume 0)
+runs-behind t s volume size out lines mid new is_size same is_mid is_new =
+    is_new
+    ∙ ap (λ l. l ++ run_lines t false size 0) is_mid
+    ∙ append_assoc out lines (run_lines t false size 0)
+    ∙ ap (λ n. out ++ (lines ++ run_lines t false n 0)) is_size
+    ∙ ap (λ l. out ++ (lines ++ l)) (run_lines-same t s false volume 0 same)

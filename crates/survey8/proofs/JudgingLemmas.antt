@@ -8,11 +8,11 @@ use Rattle.survey8.specs.declared.judging.Verdict.{Verdict}
 use Rattle.survey8.specs.declared.judging.Verdict.TheVariants as verdict
 use Rattle.survey8.specs.declared.parts.Part.{Part}
 use Rattle.survey8.specs.declared.parts.Part.TheVariants.{Segment, Fault, File, Empty}
-use Rattle.survey8.specs.Findings.{Finding, Told, Unsound, why_unsound, with_verdict, finding_of, names_behind, judged}
-use Rattle.survey8.specs.Lines.{part_line, fault_line, finding_lines, count_faults, has_block, claims}
+use Rattle.survey8.specs.Findings.{Finding, Told, Unsound, why_unsound, with_verdict, finding_of, names_behind, judged, file_of, files_found}
+use Rattle.survey8.specs.Lines.{part_line, fault_line, finding_lines, loss_line, loss_lines, count_faults, has_block, claims}
 use Rattle.survey8.specs.Steps.{KnowsNames, has_key, verdict_by, verdict_of, told_by, counted}
 
-contains_more : (ns : List ℕ) (name q : ℕ) → contains (ns ++ name ∷ []) q ≡ (contains ns q || eqb name q)
+pub contains_more : (ns : List ℕ) (name q : ℕ) → contains (ns ++ name ∷ []) q ≡ (contains ns q || eqb name q)
 contains_more [] name q = elim (eqb name q) as (λ b. cond b true false ≡ (false || b)) [ true ↦ refl | false ↦ refl ]
 contains_more (n ∷ ns) name q = elim (eqb n q) as (λ b. cond b true (contains (ns ++ name ∷ []) q) ≡ (cond b true (contains ns q) || eqb name q)) [ true ↦ refl | false ↦ contains_more ns name q ]
 
@@ -31,7 +31,7 @@ told_if false None part = refl
 pub told_is : (volume : ℕ) (names : List ℕ) (part : Part) → told_by (verdict_of volume names part) part ≡ finding_of volume names part
 told_is volume names (Segment number count) = refl
 told_is volume names (Fault fault) = refl
-told_is volume names (File name place size) = told_if (is_zero size) (why_unsound volume place size (contains names name)) (File name place size)
+told_is volume names (File name info place size) = told_if (is_zero size) (why_unsound volume place size (contains names name)) (File name info place size)
 told_is volume names (Empty place size) = told_if (is_zero size) (why_unsound volume place size false) (Empty place size)
 
 pub lines-append : (xs ys : List Finding) → finding_lines (xs ++ ys) ≡ finding_lines xs ++ finding_lines ys
@@ -40,6 +40,18 @@ lines-append (Told part ∷ xs) ys = ap (λ l. part_line part ++ l) (lines-appen
 lines-append (Unsound fault part ∷ xs) ys =
     ap (λ l. fault_line fault ++ codes "UNSOUND " ++ part_line part ++ l) (lines-append xs ys)
     ∙ sym (append_assoc (fault_line fault ++ codes "UNSOUND " ++ part_line part) (finding_lines xs) (finding_lines ys))
+
+pub losses-append : (xs ys : List Finding) → loss_lines (xs ++ ys) ≡ loss_lines xs ++ loss_lines ys
+losses-append [] ys = refl
+losses-append (Told part ∷ xs) ys = ap (λ l. loss_line part ++ l) (losses-append xs ys) ∙ sym (append_assoc (loss_line part) (loss_lines xs) (loss_lines ys))
+losses-append (Unsound fault part ∷ xs) ys =
+    ap (λ l. fault_line fault ++ codes "UNSOUND " ++ part_line part ++ l) (losses-append xs ys)
+    ∙ sym (append_assoc (fault_line fault ++ codes "UNSOUND " ++ part_line part) (loss_lines xs) (loss_lines ys))
+
+pub files-append : (xs ys : List Finding) → files_found (xs ++ ys) ≡ files_found xs ++ files_found ys
+files-append [] ys = refl
+files-append (Told part ∷ xs) ys = ap (λ l. file_of part ++ l) (files-append xs ys) ∙ sym (append_assoc (file_of part) (files_found xs) (files_found ys))
+files-append (Unsound fault part ∷ xs) ys = files-append xs ys
 
 pub count-append : (xs ys : List Finding) → count_faults (xs ++ ys) ≡ count_faults xs + count_faults ys
 count-append [] ys = omega arith
@@ -74,15 +86,16 @@ counted_min (suc (suc n)) count rest one = absurd (omega arith)
 pub first_item : (parts : List Part) (part : Part) → 0 < length parts → part ≡ get_or parts 0 part → parts ≡ part ∷ take (length parts - 1) (drop 1 parts)
 first_item parts part some is = first_rest parts part some ∙ ap (λ p. p ∷ take (length parts - 1) (drop 1 parts)) (sym is)
 
--- one part more
-pub lines_told : (volume : ℕ) (known : List ℕ) (v : Verdict) (part : Part) (rest parts : List Part) (out new all : List ℕ) → parts ≡ part ∷ rest → v ≡ verdict_of volume known part
-    → new ≡ out ++ finding_lines (told_by v part) → out ++ finding_lines (judged volume known parts) ≡ all
-    → new ++ finding_lines (judged volume (names_behind volume known part) rest) ≡ all
-lines_told volume known v part rest parts out new all whole is put before =
+-- one part more, by what is told of a list of findings
+pub told_more : {A : Type 0} (tells : List Finding → List A) (joins : (xs ys : List Finding) → tells (xs ++ ys) ≡ tells xs ++ tells ys) (volume : ℕ) (known : List ℕ) (v : Verdict) (part : Part)
+    (rest parts : List Part) (out new all : List A) → parts ≡ part ∷ rest → v ≡ verdict_of volume known part
+    → new ≡ out ++ tells (told_by v part) → out ++ tells (judged volume known parts) ≡ all
+    → new ++ tells (judged volume (names_behind volume known part) rest) ≡ all
+told_more tells joins volume known v part rest parts out new all whole is put before =
     let told : told_by v part ≡ finding_of volume known part = ap (λ w. told_by w part) is ∙ told_is volume known part in
     rw (put, told)
-    (append_assoc out (finding_lines (finding_of volume known part)) (finding_lines (judged volume (names_behind volume known part) rest))
-    ∙ ap (λ l. out ++ l) (sym (lines-append (finding_of volume known part) (judged volume (names_behind volume known part) rest))) ∙ (rw whole at before))
+    (append_assoc out (tells (finding_of volume known part)) (tells (judged volume (names_behind volume known part) rest))
+    ∙ ap (λ l. out ++ l) (sym (joins (finding_of volume known part) (judged volume (names_behind volume known part) rest))) ∙ (rw whole at before))
 
 pub faults_more : (volume : ℕ) (known : List ℕ) (v : Verdict) (part : Part) (rest parts : List Part) (faults told all : ℕ) → parts ≡ part ∷ rest → v ≡ verdict_of volume known part
     → told ≡ count_faults (told_by v part) → faults + count_faults (judged volume known parts) ≡ all

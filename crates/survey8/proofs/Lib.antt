@@ -2,3 +2,4 @@ mod ReadingLemmas
 mod JudgingLemmas
 mod ClaimLemmas
 mod SoundLemmas
+mod FoundLemmas

@@ -13,9 +13,10 @@ use Rattle.os8_dir.specs.Found.{Placed, files_at}
 use Rattle.os8_dir.specs.Reading.{◌>>=◌, needs, word, block, empty_at, file_at, entry_at, is_new, with_entry, with_entries, with_segment, is_unread, with_links, is_first, head_of, directory_of, Sound}
 use Rattle.survey8.specs.declared.parts.Part.{Part}
 use Rattle.survey8.specs.declared.parts.Part.TheVariants.{Segment, Fault, File, Empty}
-use Rattle.survey8.specs.Findings.{Finding, Told, Unsound, part_of, seen, blocks_of, blocks_in, with_those, entries_at, info_of, count_of, first_of, segment_entries, segment_end, unless, later_faults, later_segment, later_segments, parts, finding_of, names_behind, judged, findings}
+use Rattle.survey8.specs.Findings.{Finding, Told, Unsound, part_of, seen, blocks_of, blocks_in, with_those, entries_at, info_of, count_of, first_of, segment_entries, segment_end, unless, later_faults, later_segment, later_segments, parts, finding_of, names_behind, judged, findings, files_found}
 use Rattle.survey8.specs.Lines.{claims, is_twice, count_faults, count_runs, survey_faults}
-use Rattle.survey8.specs.Laws.{first_fault, fault_of, told_files, placed_files}
+use Rattle.survey8.specs.declared.answers.FoundFile.{FoundFile}
+use Rattle.survey8.specs.Laws.{first_fault, fault_of, placed_files}
 use Rattle.survey8.proofs.JudgingLemmas.{claims-append}
 
 -- ## Lists of entries
@@ -92,10 +93,10 @@ files_at-append p (entry.Empty size ∷ xs) ys = files_at-append (p + size) xs y
 
 placed-append : (xs ys : List Placed) → placed_files (xs ++ ys) ≡ placed_files xs ++ placed_files ys
 placed-append [] ys = refl
-placed-append (x ∷ xs) ys = ap (λ l. (x.name, x.place, x.size) ∷ l) (placed-append xs ys)
+placed-append (x ∷ xs) ys = ap (λ l. record { name = x.name; info = x.info; place = x.place; size = x.size } ∷ l) (placed-append xs ys)
 
 -- the files of a list with one entry more
-placed-more : (p : ℕ) (es : List DirEntry) (e : DirEntry) (rest : List (ℕ × ℕ × ℕ))
+placed-more : (p : ℕ) (es : List DirEntry) (e : DirEntry) (rest : List FoundFile)
     → placed_files (files_at p (tidy (es ++ e ∷ []))) ++ rest ≡ placed_files (files_at p es) ++ (placed_files (files_at (p + total es) (e ∷ [])) ++ rest)
 placed-more p es e rest =
     ap (λ fs. placed_files fs ++ rest) (files_at-tidy (es ++ e ∷ []) p ∙ files_at-append p es (e ∷ []))
@@ -119,8 +120,8 @@ pub record GoesOn (volume : ℕ) (d : Listed) (xs : List Part) (more : Listed) :
   pub end_is : end_of more ≡ end_of d + blocks_in xs
   pub inside : end_of more ≤ volume
   pub info : more.info ≡ d.info
-  pub files : (rest : List Part) → placed_files (files_at more.first more.entries) ++ told_files (judged volume (names_of more.entries) rest)
-      ≡ placed_files (files_at d.first d.entries) ++ told_files (judged volume (names_of d.entries) (xs ++ rest))
+  pub files : (rest : List Part) → placed_files (files_at more.first more.entries) ++ files_found (judged volume (names_of more.entries) rest)
+      ≡ placed_files (files_at d.first d.entries) ++ files_found (judged volume (names_of d.entries) (xs ++ rest))
 
 -- parts that are read as a directory behind another, or of which a fault is the first
 abbrev pub Follows : ℕ → Listed → List Part → Result Listed DirFault → Type 0
@@ -192,7 +193,7 @@ size-part place (entry.Empty size) = refl
 
 entry_on : (volume : ℕ) (d : Listed) (e : DirEntry) (told : List Finding) → finding_of volume (names_of d.entries) (part_of (end_of d) e) ≡ told
     → ((rest : List Finding) → first_fault (told ++ rest) ≡ first_fault rest)
-    → ((rest : List Finding) → told_files (told ++ rest) ≡ placed_files (files_at (end_of d) (e ∷ [])) ++ told_files rest) → ((k : ℕ) → claims told k ≡ within (end_of d) (end_of d + size_of e) k)
+    → ((rest : List Finding) → files_found (told ++ rest) ≡ placed_files (files_at (end_of d) (e ∷ [])) ++ files_found rest) → ((k : ℕ) → claims told k ≡ within (end_of d) (end_of d + size_of e) k)
     → names_behind volume (names_of d.entries) (part_of (end_of d) e) ≡ names_of d.entries ++ names_of (e ∷ []) → end_of d + size_of e ≤ volume
     → GoesOn volume d (part_of (end_of d) e ∷ []) (record d { entries = tidy (d.entries ++ e ∷ []) })
 entry_on volume d e told is passes tells claimed names inside =
@@ -205,12 +206,12 @@ entry_on volume d e told is passes tells claimed names inside =
       inside = omega (arith, end);
       info = refl;
       files = λ rest. rw (is, names, names-more d.entries e)
-          (placed-more d.first d.entries e (told_files (behind rest)) ∙ ap (λ l. placed_files (files_at d.first d.entries) ++ l) (sym (tells (behind rest))));
+          (placed-more d.first d.entries e (files_found (behind rest)) ∙ ap (λ l. placed_files (files_at d.first d.entries) ++ l) (sym (tells (behind rest))));
     }
 
 -- a file that has blocks and lies inside the volume, by whether its name is known
 file_follows : (volume : ℕ) (d : Listed) (name : Name) (info : List Word) (size : ℕ) (known : Bool) → contains (names_of d.entries) name ≡ known → end_of d + suc size ≤ volume
-    → Follows volume d (File name (end_of d) (suc size) ∷ []) (with_entry volume d (entry.File name info (suc size)))
+    → Follows volume d (File name info (end_of d) (suc size) ∷ []) (with_entry volume d (entry.File name info (suc size)))
 file_follows volume d name info size true is inside =
     let e = entry.File name info (suc size) in
     subst (λ (r : Result Listed DirFault). Follows volume d (part_of (end_of d) e ∷ []) r) (sym (with_entry-same volume d e inside (rw is refl)))
@@ -218,7 +219,7 @@ file_follows volume d name info size true is inside =
 file_follows volume d name info size false is inside =
     let e = entry.File name info (suc size) in
     subst (λ (r : Result Listed DirFault). Follows volume d (part_of (end_of d) e ∷ []) r) (sym (with_entry-more volume d e inside (rw is refl)))
-    (entry_on volume d e (Told (File name (end_of d) (suc size)) ∷ []) (rw (le-ltb volume (end_of d + suc size) inside, is) refl) (λ rest. refl) (λ rest. refl) (λ k. refl)
+    (entry_on volume d e (Told (File name info (end_of d) (suc size)) ∷ []) (rw (le-ltb volume (end_of d + suc size) inside, is) refl) (λ rest. refl) (λ rest. refl) (λ k. refl)
     (rw (le-ltb volume (end_of d + suc size) inside, is) refl) inside)
 
 pub entry_follows : (volume : ℕ) (d : Listed) (e : DirEntry) → end_of d ≤ volume → Follows volume d (part_of (end_of d) e ∷ []) (with_entry volume d e)
@@ -471,7 +472,7 @@ counted_none : (found : List Finding) → first_fault found ≡ None → count_f
 counted_none [] is = refl
 counted_none (Told (Segment number count) ∷ rest) is = omega (arith, counted_none rest is)
 counted_none (Told (Fault fault) ∷ rest) is = absurd (cc)
-counted_none (Told (File name place size) ∷ rest) is = omega (arith, counted_none rest is)
+counted_none (Told (File name info place size) ∷ rest) is = omega (arith, counted_none rest is)
 counted_none (Told (Empty place size) ∷ rest) is = omega (arith, counted_none rest is)
 counted_none (Unsound fault part ∷ rest) is = absurd (cc)
 
@@ -479,7 +480,7 @@ none_counted : (found : List Finding) → count_faults found ≡ 0 → first_fau
 none_counted [] is = refl
 none_counted (Told (Segment number count) ∷ rest) is = none_counted rest (omega (arith, is))
 none_counted (Told (Fault fault) ∷ rest) is = absurd (omega (arith, is))
-none_counted (Told (File name place size) ∷ rest) is = none_counted rest (omega (arith, is))
+none_counted (Told (File name info place size) ∷ rest) is = none_counted rest (omega (arith, is))
 none_counted (Told (Empty place size) ∷ rest) is = none_counted rest (omega (arith, is))
 none_counted (Unsound fault part ∷ rest) is = absurd (omega (arith, is))
 
@@ -523,14 +524,14 @@ unfaulted_sound blocks is =
 -- ## Files
 
 files_told : (volume : ℕ) (words : List ℕ) (xs : List Part) (r : Result Listed DirFault) (d : Listed) → Follows volume (begun words) xs r → r ≡ Ok d
-    → told_files (judged volume [] xs) ≡ placed_files (files_at d.first d.entries)
+    → files_found (judged volume [] xs) ≡ placed_files (files_at d.first d.entries)
 files_told volume words xs (Ok more) d g is =
     let same : more ≡ d = cc in
-    let all : placed_files (files_at more.first more.entries) ++ [] ≡ told_files (judged volume [] xs) =
-    subst (λ (l : List Part). placed_files (files_at more.first more.entries) ++ [] ≡ told_files (judged volume [] l)) (append-nil xs) (g.files []) in
+    let all : placed_files (files_at more.first more.entries) ++ [] ≡ files_found (judged volume [] xs) =
+    subst (λ (l : List Part). placed_files (files_at more.first more.entries) ++ [] ≡ files_found (judged volume [] l)) (append-nil xs) (g.files []) in
     sym all ∙ append-nil (placed_files (files_at more.first more.entries)) ∙ ap (λ (e : Listed). placed_files (files_at e.first e.entries)) same
 files_told volume words xs (Err fault) d f is = absurd (cc)
 
-pub sound_files : (blocks : List (List ℕ)) (d : Listed) → directory_of blocks ≡ Ok d → told_files (findings blocks) ≡ placed_files (files_at d.first d.entries)
+pub sound_files : (blocks : List (List ℕ)) (d : Listed) → directory_of blocks ≡ Ok d → files_found (findings blocks) ≡ placed_files (files_at d.first d.entries)
 unfolding findings
 sound_files blocks d is = files_told (length blocks) (block blocks 1) (parts blocks) (directory_of blocks) d (whole_follows blocks) is

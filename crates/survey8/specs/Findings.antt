@@ -7,6 +7,7 @@ use Rattle.os8_dir.specs.declared.faults.DirFault.{DirFault}
 use Rattle.os8_dir.specs.declared.faults.DirFault.TheVariants.{BadLink, BadCount, EntryPastSegment, PastVolume, SameName, WrongFirstBlock, MixedInfo}
 use Rattle.os8_dir.specs.Entries.{minus, is_zero, contains}
 use Rattle.os8_dir.specs.Reading.{word, block, entry_at, is_unread, is_first}
+use Rattle.survey8.specs.declared.answers.FoundFile.{FoundFile}
 use Rattle.survey8.specs.declared.parts.Part.{Part}
 use Rattle.survey8.specs.declared.parts.Part.TheVariants.{Segment, Fault, File, Empty}
 
@@ -14,7 +15,7 @@ use Rattle.survey8.specs.declared.parts.Part.TheVariants.{Segment, Fault, File, 
 
 -- an entry from a block on
 abbrev pub part_of : ℕ → DirEntry → Part
-part_of place (entry.File name info size) = File name place size
+part_of place (entry.File name info size) = File name info place size
 part_of place (entry.Empty size) = Empty place size
 
 -- an entry from a block on, and the words behind it; none where it goes past its segment
@@ -26,7 +27,7 @@ seen place (Err fault) = None
 abbrev pub blocks_of : Part → ℕ
 blocks_of (Segment number count) = 0
 blocks_of (Fault fault) = 0
-blocks_of (File name place size) = size
+blocks_of (File name info place size) = size
 blocks_of (Empty place size) = size
 
 -- an entry that begins at a block, and those behind it; one that goes past its segment ends that
@@ -64,8 +65,7 @@ segment_end words = first_of words + blocks_in (segment_entries words)
 
 -- a fault where a test fails
 abbrev pub unless : Bool → DirFault → List Part
-unless true fault = []
-unless false fault = Fault fault ∷ []
+unless holds fault = if holds then [] else Fault fault ∷ []
 
 -- the faults of the first segment's head
 abbrev pub first_faults : ℕ → List ℕ → List Part
@@ -120,7 +120,7 @@ with_verdict None part = Told part ∷ []
 abbrev pub finding_of : ℕ → List ℕ → Part → List Finding
 finding_of volume names (Segment number count) = Told (Segment number count) ∷ []
 finding_of volume names (Fault fault) = Told (Fault fault) ∷ []
-finding_of volume names (File name place size) = if is_zero size then [] else with_verdict (why_unsound volume place size (contains names name)) (File name place size)
+finding_of volume names (File name info place size) = if is_zero size then [] else with_verdict (why_unsound volume place size (contains names name)) (File name info place size)
 finding_of volume names (Empty place size) = if is_zero size then [] else with_verdict (why_unsound volume place size false) (Empty place size)
 
 -- a sound file's name is known behind it
@@ -131,7 +131,7 @@ with_name None names name = names ++ name ∷ []
 abbrev pub names_behind : ℕ → List ℕ → Part → List ℕ
 names_behind volume names (Segment number count) = names
 names_behind volume names (Fault fault) = names
-names_behind volume names (File name place size) = if is_zero size then names else with_name (why_unsound volume place size (contains names name)) names name
+names_behind volume names (File name info place size) = if is_zero size then names else with_name (why_unsound volume place size (contains names name)) names name
 names_behind volume names (Empty place size) = names
 
 -- what is told of parts, where sound entries before them have these names
@@ -142,3 +142,18 @@ judged volume names (part ∷ rest) = finding_of volume names part ++ judged vol
 -- what is found in a volume
 unfoldable pub findings : List (List ℕ) → List Finding
 findings blocks = judged (length blocks) [] (parts blocks)
+
+-- ## The files that are sound
+
+-- the file of a part
+abbrev pub file_of : Part → List FoundFile
+file_of (Segment number count) = []
+file_of (Fault fault) = []
+file_of (File name info place size) = record { name = name; info = info; place = place; size = size } ∷ []
+file_of (Empty place size) = []
+
+-- the files that are told as sound, in order
+abbrev pub files_found : List Finding → List FoundFile
+files_found [] = []
+files_found (Told part ∷ rest) = file_of part ++ files_found rest
+files_found (Unsound fault part ∷ rest) = files_found rest

@@ -18,7 +18,7 @@ extent_text place size = decimal place ++ 0o40 ∷ decimal size ++ 0o12 ∷ []
 abbrev pub part_line : Part → List ℕ
 part_line (Segment number count) = codes "SEGMENT " ++ extent_text number count
 part_line (Fault fault) = fault_line fault
-part_line (File name place size) = codes "FILE " ++ shown name ++ 0o40 ∷ extent_text place size
+part_line (File name info place size) = codes "FILE " ++ shown name ++ 0o40 ∷ extent_text place size
 part_line (Empty place size) = codes "EMPTY " ++ extent_text place size
 
 -- the lines of what is found; an unsound entry's fault has a line of its own
@@ -27,11 +27,24 @@ finding_lines [] = []
 finding_lines (Told part ∷ rest) = part_line part ++ finding_lines rest
 finding_lines (Unsound fault part ∷ rest) = fault_line fault ++ codes "UNSOUND " ++ part_line part ++ finding_lines rest
 
+-- the line of a part that is a fault
+abbrev pub loss_line : Part → List ℕ
+loss_line (Segment number count) = []
+loss_line (Fault fault) = fault_line fault
+loss_line (File name info place size) = []
+loss_line (Empty place size) = []
+
+-- those of what is found that tell a fault
+abbrev pub loss_lines : List Finding → List ℕ
+loss_lines [] = []
+loss_lines (Told part ∷ rest) = loss_line part ++ loss_lines rest
+loss_lines (Unsound fault part ∷ rest) = fault_line fault ++ codes "UNSOUND " ++ part_line part ++ loss_lines rest
+
 -- how many faults are told
 abbrev pub fault_count : Part → ℕ
 fault_count (Segment number count) = 0
 fault_count (Fault fault) = 1
-fault_count (File name place size) = 0
+fault_count (File name info place size) = 0
 fault_count (Empty place size) = 0
 
 abbrev pub count_faults : List Finding → ℕ
@@ -45,7 +58,7 @@ count_faults (Unsound fault part ∷ rest) = suc (count_faults rest)
 abbrev pub has_block : Part → ℕ → Bool
 has_block (Segment number count) block = false
 has_block (Fault fault) block = false
-has_block (File name place size) block = nat_le place block && nat_lt block (place + size)
+has_block (File name info place size) block = nat_le place block && nat_lt block (place + size)
 has_block (Empty place size) block = nat_le place block && nat_lt block (place + size)
 
 -- how many sound entries have a block
@@ -79,6 +92,10 @@ count_runs test before (suc more) block = (if test block && not before then 1 el
 -- the text of a volume, and how many faults it tells
 unfoldable pub survey_text : List (List ℕ) → List ℕ
 survey_text blocks = finding_lines (findings blocks) ++ run_lines (is_twice (findings blocks)) false (length blocks) 0
+
+-- those of its lines that tell a fault
+unfoldable pub survey_losses : List (List ℕ) → List ℕ
+survey_losses blocks = loss_lines (findings blocks) ++ run_lines (is_twice (findings blocks)) false (length blocks) 0
 
 unfoldable pub survey_faults : List (List ℕ) → ℕ
 survey_faults blocks = count_faults (findings blocks) + count_runs (is_twice (findings blocks)) false (length blocks) 0

@@ -34,7 +34,7 @@ verdict_by None = verdict.Sound
 abbrev pub verdict_of : ℕ → List ℕ → Part → Verdict
 verdict_of volume names (Segment number count) = verdict.Sound
 verdict_of volume names (Fault fault) = verdict.Sound
-verdict_of volume names (File name place size) = if is_zero size then verdict.Nothing else verdict_by (why_unsound volume place size (contains names name))
+verdict_of volume names (File name info place size) = if is_zero size then verdict.Nothing else verdict_by (why_unsound volume place size (contains names name))
 verdict_of volume names (Empty place size) = if is_zero size then verdict.Nothing else verdict_by (why_unsound volume place size false)
 
 -- what is told by a verdict

@@ -3,16 +3,23 @@ use Rattle.std.specs.Prelude.{◌≡◌, ℕ, List, Result, Ok, Err}
 use Rattle.volume_image.specs.Image.{IsImageOf, ReadsImage}
 use Rattle.volume_image.specs.declared.faults.ImageFault.{ImageFault}
 use Rattle.survey8.specs.declared.answers.Survey.{Survey}
-use Rattle.survey8.specs.Lines.{survey_text, survey_faults}
+use Rattle.survey8.specs.Findings.{findings, files_found}
+use Rattle.survey8.specs.Lines.{survey_text, survey_losses, survey_faults}
 
--- the text of an image's directory, and how many faults it tells
-pub record IsSurveyed (image text : List ℕ) (faults : ℕ) : Type 0 where
+-- the lines of a volume's directory, those of them that tell faults, its sound files, and how many faults it tells
+pub record IsSurveyOf (blocks : List (List ℕ)) (survey : Survey) : Type 0 where
+  pub text : survey.text.items ≡ survey_text blocks
+  pub losses : survey.losses.items ≡ survey_losses blocks
+  pub files : survey.files.items ≡ files_found (findings blocks)
+  pub faults : survey.faults ≡ survey_faults blocks
+
+-- the same of an image
+pub record IsSurveyed (image : List ℕ) (survey : Survey) : Type 0 where
   pub blocks : List (List ℕ)
   pub is_image : IsImageOf image blocks
-  pub text_is : text ≡ survey_text blocks
-  pub faults_is : faults ≡ survey_faults blocks
+  pub told : IsSurveyOf blocks survey
 
 -- what is answered where an image is to be surveyed: bytes that are none are refused as a mount refuses them
 abbrev pub Surveys : List ℕ → Result Survey ImageFault → Type 0
-Surveys image (Ok s) = IsSurveyed image s.text.items s.faults
+Surveys image (Ok survey) = IsSurveyed image survey
 Surveys image (Err fault) = ReadsImage image (Err fault)

@@ -1,11 +1,12 @@
 //! Which entries are sound.
 ghost use Rattle.std.specs.Prelude.{◌≡◌, ℕ, ◌++◌, ◌∷◌, [], ◌≤◌, ◌<◌, List, IfOk, OnOk, length, nat_eq, nat_lt, not, false, ◌||◌, ◌+◌, slice_index};
-ghost use Rattle.survey8.specs.Findings.{names_behind, why_unsound, with_name};
-ghost use Rattle.survey8.specs.Lines.{count_faults, finding_lines, has_block};
+ghost use Rattle.survey8.specs.Findings.{files_found, names_behind, why_unsound, with_name};
+ghost use Rattle.survey8.specs.Lines.{count_faults, finding_lines, loss_lines};
 ghost use Rattle.survey8.specs.Steps.{KnowsNames, has_key, told_by, verdict_of};
 
-use crate::Part;
+use crate::items::push_item;
 use crate::lines::{put_fault, put_part, put_unsound};
+use crate::{FoundFile, Part};
 use os8_dir::{DirFault, Name};
 use std::alloc::AllocError;
 use std::collections::BTreeSet;
@@ -87,7 +88,12 @@ pub(crate) fn judge(
 {
     match part {
         Part::Segment { .. } | Part::Fault(_) => Ok(Verdict::Sound),
-        Part::File { name, place, size } => {
+        Part::File {
+            name,
+            place,
+            size,
+            ..
+        } => {
             if *size == 0 {
                 return Ok(Verdict::Nothing);
             }
@@ -120,6 +126,54 @@ pub(crate) fn put_told(verdict: Verdict, part: &Part, out: &mut Vec<u8>) -> Resu
             put_unsound(out)?;
             put_part(part, out)
         }
+    }
+}
+
+/// Appends the lines of what is told of a part, where that is a fault.
+pub(crate) fn put_loss(verdict: Verdict, part: &Part, out: &mut Vec<u8>) -> Result<(), AllocError>
+    ensures { OnOk result (out.new.items ≡ out.old.items ++ loss_lines (told_by verdict part.now)) }
+{
+    match verdict {
+        Verdict::Nothing => Ok(()),
+        Verdict::Sound => match part {
+            Part::Fault(fault) => put_fault(*fault, out),
+            Part::Segment { .. } | Part::File { .. } | Part::Empty { .. } => Ok(()),
+        },
+        Verdict::Unsound(fault) => {
+            put_fault(fault, out)?;
+            put_unsound(out)?;
+            put_part(part, out)
+        }
+    }
+}
+
+/// Adds the file of a part that is sound.
+pub(crate) fn put_found(
+    verdict: Verdict,
+    part: &Part,
+    files: &mut Vec<FoundFile>,
+) -> Result<(), AllocError>
+    ensures { OnOk result (files.new.items ≡ files.old.items ++ files_found (told_by verdict part.now)) }
+{
+    match verdict {
+        Verdict::Nothing | Verdict::Unsound(_) => Ok(()),
+        Verdict::Sound => match part {
+            Part::Segment { .. } | Part::Fault(_) | Part::Empty { .. } => Ok(()),
+            Part::File {
+                name,
+                info,
+                place,
+                size,
+            } => {
+                let file = FoundFile {
+                    name: *name,
+                    info: *info,
+                    place: *place as usize,
+                    size: *size as usize,
+                };
+                push_item(files, file)
+            }
+        },
     }
 }
 

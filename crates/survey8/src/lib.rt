@@ -13,6 +13,6 @@ mod parts;
 mod reading;
 mod surveys;
 
-pub use answers::Survey;
+pub use answers::{FoundFile, Survey};
 pub use parts::Part;
-pub use surveys::survey;
+pub use surveys::{survey, survey_volume};

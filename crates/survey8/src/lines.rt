@@ -41,7 +41,12 @@ pub(crate) fn put_part(part: &Part, out: &mut Vec<u8>) -> Result<(), AllocError>
             put_extent(&mut line, *number as u64, *count as u64);
         }
         Part::Fault(fault) => return put_fault(*fault, out),
-        Part::File { name, place, size } => {
+        Part::File {
+            name,
+            place,
+            size,
+            ..
+        } => {
             put(&mut line, b"FILE ");
             put_name(&mut line, *name);
             put(&mut line, b" ");

@@ -1,17 +1,29 @@
 use os8_dir::{DirFault, Name};
+use word12::Word;
 
 /// A part of a directory as it stands (OS/8 Software Support Manual), or a fault (this project's profile).
 #[derive(Clone, Copy)]
 pub enum Part {
     /// A segment in a block, and how many entries it tells.
-    Segment { number: usize, count: usize },
+    Segment {
+        number: usize,
+        count: usize,
+    },
 
     /// A fault.
     Fault(DirFault),
 
-    /// The entry of a file: its name, its first block, and how many blocks it has.
-    File { name: Name, place: u32, size: u32 },
+    /// The entry of a file: its name, its information words with zeros behind them, its first block, and how many blocks it has.
+    File {
+        name: Name,
+        info: [Word; 10],
+        place: u32,
+        size: u32,
+    },
 
     /// The entry of blocks of no file: the first, and how many.
-    Empty { place: u32, size: u32 },
+    Empty {
+        place: u32,
+        size: u32,
+    },
 }

@@ -1,10 +1,11 @@
 //! The parts of a directory as they stand in the blocks of a volume.
-ghost use Rattle.std.specs.Prelude.{◌≡◌, ℕ, ◌+◌, ◌*◌, ◌<◌, ◌≤◌, ◌++◌, ◌∷◌, [], length, OnOk, IfOk, IfSome};
+ghost use Rattle.std.specs.Prelude.{◌≡◌, ℕ, ◌+◌, ◌*◌, ◌<◌, ◌≤◌, ◌++◌, ◌∷◌, [], length, take, if◌then◌else◌, OnOk, IfOk, IfSome};
 ghost use Rattle.word12.specs.declared.sizes.TheConstants.{BLOCK};
 ghost use Rattle.volume_image.specs.Volume.{IsVolume};
+ghost use Rattle.os8_dir.specs.Names.{padded};
 ghost use Rattle.os8_dir.specs.Entries.{minus as minus_of};
 ghost use Rattle.os8_dir.specs.Reading.{entry_at as entry_of, empty_at as empty_of, file_at as file_of};
-ghost use Rattle.survey8.specs.Findings.{blocks_in, blocks_of, count_of, entries_at, first_segment, later_segment, later_segments, parts, seen, segment_end, segment_entries, unless};
+ghost use Rattle.survey8.specs.Findings.{blocks_in, blocks_of, count_of, entries_at, first_segment, later_segment, later_segments, parts, seen, segment_end, segment_entries};
 ghost use Rattle.survey8.specs.declared.parts.Part.TheVariants.{Segment};
 ghost use Rattle.survey8.specs.Steps.{shown_entry};
 
@@ -21,6 +22,19 @@ fn minus(word: Word) -> usize
     ensures range { result < 0o10000 }
 {
     usize::from(Word::ZERO.minus(word).get())
+}
+
+/// So many words, with zeros behind them.
+fn information(words: &[Word], info: usize) -> [Word; 10]
+    requires few { info ≤ 10 }
+    requires there { info ≤ length words.now }
+    ensures { result ≡ padded 10 (take info words.now) }
+{
+    let mut kept = [Word::ZERO; 10];
+    for k in 0..info {
+        kept[k] = words[k];
+    }
+    kept
 }
 
 /// The empty entry from a block on whose words these are behind its first, and the words behind it.
@@ -49,9 +63,16 @@ fn file_at(words: &[Word], info: usize, place: u32) -> Option<(Part, &[Word])>
     }
     let name = Name::of([words[0], words[1], words[2], words[3]]);
     let (_, rest) = words.split_at(4);
+    let kept = information(rest, info);
     let size = minus(rest[info]) as u32;
     let (_, behind) = rest.split_at(info + 1);
-    Some((Part::File { name, place, size }, behind))
+    let entry = Part::File {
+        name,
+        info: kept,
+        place,
+        size,
+    };
+    Some((entry, behind))
 }
 
 /// The entry from a block on that the words begin with, and the words behind it.
@@ -135,14 +156,14 @@ fn put_segment_entries(words: &[Word], out: &mut Vec<Part>) -> Result<u32, Alloc
     put_entries(minus(words[0]), info, first, entries, out)
 }
 
-/// Appends a fault where a test fails.
-fn put_unless(holds: bool, fault: DirFault, out: &mut Vec<Part>) -> Result<(), AllocError>
-    ensures { OnOk result (out.new.items ≡ out.old.items ++ unless holds fault) }
+/// Appends an item where a test fails.
+fn put_unless<T: Drop>(holds: bool, item: T, out: &mut Vec<T>) -> Result<(), AllocError>
+    ensures { OnOk result (out.new.items ≡ out.old.items ++ (if holds then [] else item ∷ [])) }
 {
     if holds {
         return Ok(());
     }
-    push_item(out, Part::Fault(fault))
+    push_item(out, item)
 }
 
 /// Appends a segment in a block.
@@ -162,10 +183,14 @@ fn put_first(volume: usize, words: &[Word], out: &mut Vec<Part>) -> Result<u32, 
 {
     put_segment(1, words, out)?;
     let first = usize::from(words[1].get());
-    put_unless(minus(words[4]) <= 10, DirFault::BadCount(1), out)?;
+    put_unless(
+        minus(words[4]) <= 10,
+        Part::Fault(DirFault::BadCount(1)),
+        out,
+    )?;
     put_unless(
         first >= FIRST_FILE_BLOCK && first <= volume,
-        DirFault::WrongFirstBlock,
+        Part::Fault(DirFault::WrongFirstBlock),
         out,
     )?;
     put_segment_entries(words, out)
@@ -185,11 +210,11 @@ fn put_later(
 {
     put_segment(number, words, out)?;
     let own = minus(words[4]);
-    put_unless(own <= 10, DirFault::BadCount(number), out)?;
-    put_unless(own == info, DirFault::MixedInfo, out)?;
+    put_unless(own <= 10, Part::Fault(DirFault::BadCount(number)), out)?;
+    put_unless(own == info, Part::Fault(DirFault::MixedInfo), out)?;
     put_unless(
         u32::from(words[1].get()) == end,
-        DirFault::WrongFirstBlock,
+        Part::Fault(DirFault::WrongFirstBlock),
         out,
     )?;
     put_segment_entries(words, out)

@@ -1,12 +1,12 @@
 ghost use Rattle.std.specs.Prelude.{◌≡◌, ℕ, ◌+◌, ◌<◌, ◌≤◌, ◌++◌, [], List, false, min, length, slice_index, IfOk, OnOk};
 ghost use Rattle.volume_image.specs.Volume.{IsVolume};
-ghost use Rattle.survey8.specs.Findings.{judged};
-ghost use Rattle.survey8.specs.Lines.{claims, count_faults, count_runs, finding_lines, is_twice, run_lines, survey_faults, survey_text};
-ghost use Rattle.survey8.specs.Surveying.{Surveys};
+ghost use Rattle.survey8.specs.Findings.{files_found, judged};
+ghost use Rattle.survey8.specs.Lines.{claims, count_faults, count_runs, finding_lines, is_twice, loss_lines, run_lines};
+ghost use Rattle.survey8.specs.Surveying.{IsSurveyOf, Surveys};
 
-use crate::answers::Survey;
+use crate::answers::{FoundFile, Survey};
 use crate::claims::{claim, put_runs};
-use crate::judging::{faults_told, judge, put_told};
+use crate::judging::{faults_told, judge, put_found, put_loss, put_told};
 use crate::parts::Part;
 use crate::reading::parts;
 use std::alloc::{AllocError, Global};
@@ -26,39 +26,61 @@ pub fn survey(alloc: Global, image: &[u8]) -> Result<Survey, ImageFault>
     }
 }
 
-/// Tells what the directory of a volume still holds.
-#[tactic(auto, unfolding(crate::specs::Findings::findings, crate::specs::Lines::survey_text, crate::specs::Lines::survey_faults))]
-fn survey_volume(alloc: Global, volume: &MemoryVolume) -> Result<Survey, AllocError>
+/// Tells what the directory of a volume still holds, as [`survey`] does, and which files are sound, each with its whole information words
+/// (OS/8 Software Support Manual).
+#[tactic(auto, unfolding(crate::specs::Findings::findings, crate::specs::Lines::survey_text, crate::specs::Lines::survey_losses, crate::specs::Lines::survey_faults))]
+pub fn survey_volume(alloc: Global, volume: &MemoryVolume) -> Result<Survey, AllocError>
     requires { IsVolume volume.now.blocks }
-    ensures text { IfOk result (λ told. told.text.items ≡ survey_text volume.now.blocks) }
-    ensures faults { IfOk result (λ told. told.faults ≡ survey_faults volume.now.blocks) }
+    ensures { IfOk result (λ survey. IsSurveyOf volume.now.blocks survey) }
 {
     let found = parts(alloc, volume)?;
     let blocks = volume.blocks();
     let mut counts = zeros(alloc, blocks)?;
     let mut text = Vec::new(alloc);
-    let faults = put_all(alloc, blocks, &found, &mut counts, &mut text)?;
-    Ok(Survey { text, faults })
+    let mut losses = Vec::new(alloc);
+    let mut files = Vec::new(alloc);
+    let faults = put_all(
+        alloc,
+        blocks,
+        &found,
+        &mut counts,
+        &mut text,
+        &mut losses,
+        &mut files,
+    )?;
+    Ok(Survey {
+        text,
+        losses,
+        files,
+        faults,
+    })
 }
 
-/// Appends the lines of what is told of parts, and of the blocks that two sound entries claim, and gives how many faults that are;
-/// each block of the volume has a count, which is 0.
+/// Appends the lines of what is told of parts, and of the blocks that two sound entries claim, those of them that tell faults, and the
+/// sound files, and gives how many faults that are; each block of the volume has a count, which is 0.
 fn put_all(
     alloc: Global,
     volume: usize,
     parts: &[Part],
     counts: &mut [u8],
-    out: &mut Vec<u8>,
+    text: &mut Vec<u8>,
+    losses: &mut Vec<u8>,
+    files: &mut Vec<FoundFile>,
 ) -> Result<usize, AllocError>
     requires size { length counts.old ≡ volume }
     requires zeros { (k : ℕ) → slice_index counts.old k ≡ 0 }
-    ensures lines { OnOk result (out.new.items ≡ out.old.items ++ (finding_lines (judged volume [] parts.now)
+    ensures lines { OnOk result (text.new.items ≡ text.old.items ++ (finding_lines (judged volume [] parts.now)
         ++ run_lines (is_twice (judged volume [] parts.now)) false volume 0)) }
+    ensures losses { OnOk result (losses.new.items ≡ losses.old.items ++ (loss_lines (judged volume [] parts.now)
+        ++ run_lines (is_twice (judged volume [] parts.now)) false volume 0)) }
+    ensures files { OnOk result (files.new.items ≡ files.old.items
+        ++ files_found (judged volume [] parts.now)) }
     ensures faults { IfOk result (λ faults. faults ≡ count_faults (judged volume [] parts.now)
         + count_runs (is_twice (judged volume [] parts.now)) false volume 0) }
 {
-    let faults = put_findings(alloc, volume, parts, counts, out)?;
-    let runs = put_runs(counts, out)?;
+    let faults = put_findings(alloc, volume, parts, counts, text, losses, files)?;
+    let runs = put_runs(counts, text)?;
+    put_runs(counts, losses)?;
     Ok(faults + runs)
 }
 
@@ -72,16 +94,23 @@ fn zeros(alloc: Global, count: usize) -> Result<Vec<u8>, AllocError>
     Ok(counts)
 }
 
-/// Appends the lines of what is told of parts, counts the claims of each block up to two, and gives how many faults are told.
+/// Appends the lines of what is told of parts, those of them that tell faults, and the sound files; counts the claims of each block up to
+/// two, and gives how many faults are told.
 fn put_findings(
     alloc: Global,
     volume: usize,
     parts: &[Part],
     counts: &mut [u8],
-    out: &mut Vec<u8>,
+    text: &mut Vec<u8>,
+    losses: &mut Vec<u8>,
+    files: &mut Vec<FoundFile>,
 ) -> Result<usize, AllocError>
-    ensures lines { OnOk result (out.new.items ≡ out.old.items
+    ensures text { OnOk result (text.new.items ≡ text.old.items
         ++ finding_lines (judged volume [] parts.now)) }
+    ensures losses { OnOk result (losses.new.items ≡ losses.old.items
+        ++ loss_lines (judged volume [] parts.now)) }
+    ensures files { OnOk result (files.new.items ≡ files.old.items
+        ++ files_found (judged volume [] parts.now)) }
     ensures faults { IfOk result (λ faults. faults ≡ count_faults (judged volume [] parts.now)) }
     ensures few { IfOk result (λ faults. faults ≤ length parts.now) }
     ensures counts { OnOk result ((k : ℕ) → k < length counts.old → min 2 (slice_index counts.new k)
@@ -92,7 +121,9 @@ fn put_findings(
     let mut rest = parts;
     while let [part, others @ ..] = rest {
         let verdict = judge(volume, part, &mut names)?;
-        put_told(verdict, part, out)?;
+        put_told(verdict, part, text)?;
+        put_loss(verdict, part, losses)?;
+        put_found(verdict, part, files)?;
         claim(verdict, part, counts);
         faults += faults_told(verdict, part);
         rest = others;

@@ -3,10 +3,10 @@ use Rattle.survey8.proofs.SoundLemmas.{first_told, sound_unfaulted, unfaulted_so
 use Rattle.survey8.proofs.laws.told_faults.Goals as goal
 
 pub returns-clause-first : goal.returns-clause-first
-returns-clause-first c = λ image text faults s. first_told s.blocks
+returns-clause-first c = λ image survey s. first_told s.blocks
 
 pub returns-clause-none : goal.returns-clause-none
-returns-clause-none c = λ image text faults s. ((λ none. unfaulted_sound s.blocks (sym s.faults_is ∙ none)), (λ sound. s.faults_is ∙ sound_unfaulted s.blocks sound))
+returns-clause-none c = λ image survey s. ((λ none. unfaulted_sound s.blocks (sym s.told.faults ∙ none)), (λ sound. s.told.faults ∙ sound_unfaulted s.blocks sound))
 
 pub returns-clause-files : goal.returns-clause-files
-returns-clause-files c = λ image text faults s d is. sound_files s.blocks d is
+returns-clause-files c = λ image survey s d is. sound_files s.blocks d is

@@ -1,8 +1,8 @@
-use Rattle.std.proofs.Common.{◌≡◌, ◌∙◌, ℕ, ◌++◌, [], false, List, length, ap, arith, append_assoc}
+use Rattle.std.proofs.Common.{◌≡◌, ◌∙◌, ◌+◌, ℕ, ◌++◌, [], false, List, length, ap, arith}
 use Rattle.survey8.specs.Findings.{judged}
-use Rattle.survey8.specs.Lines.{finding_lines, run_lines, count_runs, is_twice}
+use Rattle.survey8.specs.Lines.{finding_lines, loss_lines, count_runs, is_twice}
 use Rattle.survey8.specs.Steps.{is_two}
-use Rattle.survey8.proofs.ClaimLemmas.{run_lines-same, count_runs-same, tests_same}
+use Rattle.survey8.proofs.ClaimLemmas.{runs-behind, count_runs-same, tests_same}
 use Rattle.survey8.proofs.surveys.put_all.Goals as goal
 
 pub returns-clause-lines : goal.returns-clause-lines
@@ -12,11 +12,16 @@ returns-clause-lines c =
     let found = judged volume [] c.args.parts.now in
     let size : length counts ≡ volume = omega (arith, c.put_findings.auto.counts, c.requires.size) in
     let same = tests_same c.args.counts.now counts found volume c.requires.size c.requires.zeros c.in_ok-faults.ensures.counts in
-    c.in_ok-runs.ensures.lines
-    ∙ ap (λ (l : List ℕ). l ++ run_lines (is_two counts) false (length counts) 0) c.in_ok-faults.ensures.lines
-    ∙ append_assoc c.args.out.now.items (finding_lines found) (run_lines (is_two counts) false (length counts) 0)
-    ∙ ap (λ (n : ℕ). c.args.out.now.items ++ (finding_lines found ++ run_lines (is_two counts) false n 0)) size
-    ∙ ap (λ (l : List ℕ). c.args.out.now.items ++ (finding_lines found ++ l)) (run_lines-same (is_two counts) (is_twice found) false volume 0 same)
+    runs-behind (is_two counts) (is_twice found) volume (length counts) c.args.text.now.items (finding_lines found) _ _ size same c.in_ok-faults.ensures.text c.in_ok-runs.ensures.lines
+
+pub returns-clause-losses : goal.returns-clause-losses
+returns-clause-losses c =
+    let volume = c.args.volume in
+    let counts = c.put_findings.new.counts in
+    let found = judged volume [] c.args.parts.now in
+    let size : length counts ≡ volume = omega (arith, c.put_findings.auto.counts, c.requires.size) in
+    let same = tests_same c.args.counts.now counts found volume c.requires.size c.requires.zeros c.in_ok-faults.ensures.counts in
+    runs-behind (is_two counts) (is_twice found) volume (length counts) c.args.losses.now.items (loss_lines found) _ _ size same c.in_ok-faults.ensures.losses c.in_ok-put_runs.ensures.lines
 
 pub returns-clause-faults : goal.returns-clause-faults
 returns-clause-faults c =

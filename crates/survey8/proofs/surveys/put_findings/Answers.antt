@@ -1,6 +1,7 @@
 use Rattle.std.proofs.Common.{◌-◌, length, take, drop, ap, arith}
-use Rattle.survey8.specs.Findings.{names_behind}
-use Rattle.survey8.proofs.JudgingLemmas.{first_item, lines_told, faults_more, claims_more}
+use Rattle.survey8.specs.Findings.{files_found, names_behind}
+use Rattle.survey8.specs.Lines.{finding_lines, loss_lines}
+use Rattle.survey8.proofs.JudgingLemmas.{first_item, told_more, lines-append, losses-append, files-append, faults_more, claims_more}
 use Rattle.survey8.proofs.surveys.put_findings.Goals as goal
 
 pub loop-rest-preserved : goal.loop-rest-preserved
@@ -19,8 +20,10 @@ loop-rest-preserved c =
       told = (
         names_behind volume i.0 part,
         c.in_ok-verdict.ensures.names i.0 i.1,
-        lines_told volume i.0 v part rest parts l.out.items c.put_told.new.out.items _ whole is c.in_ok-put_told.ensures i.2,
-        faults_more volume i.0 v part rest parts l.faults c.faults_told-faults.result _ whole is c.faults_told-faults.ensures.count i.3,
-        (λ k low. claims_more volume i.0 v part rest parts k _ _ _ whole is (c.claim.ensures k (omega (arith, l.auto.counts))) (i.4 k low)),
+        told_more finding_lines lines-append volume i.0 v part rest parts l.text.items c.put_told.new.out.items _ whole is c.in_ok-put_told.ensures i.2,
+        told_more loss_lines losses-append volume i.0 v part rest parts l.losses.items c.put_loss.new.out.items _ whole is c.in_ok-put_loss.ensures i.3,
+        told_more files_found files-append volume i.0 v part rest parts l.files.items c.put_found.new.files.items _ whole is c.in_ok-put_found.ensures i.4,
+        faults_more volume i.0 v part rest parts l.faults c.faults_told-faults.result _ whole is c.faults_told-faults.ensures.count i.5,
+        (λ k low. claims_more volume i.0 v part rest parts k _ _ _ whole is (c.claim.ensures k (omega (arith, l.auto.counts))) (i.6 k low)),
       );
     }

@@ -1,6 +1,6 @@
 use Rattle.std.proofs.Common.{◌≡◌, ℕ, ◌+◌, ◌<◌, ◌≤◌, ◌++◌, min, List, [], length, slice_index}
-use Rattle.survey8.specs.Findings.{judged}
-use Rattle.survey8.specs.Lines.{finding_lines, count_faults, claims}
+use Rattle.survey8.specs.Findings.{files_found, judged}
+use Rattle.survey8.specs.Lines.{finding_lines, loss_lines, count_faults, claims}
 use Rattle.survey8.specs.Steps.{KnowsNames}
 use Rattle.survey8.proofs.surveys.put_findings.Given as goal
 
@@ -9,7 +9,9 @@ invariant-loop-rest l = record {
   few : l.faults + length l.rest ≤ length l.parts;
   told : (known : List ℕ)
       × KnowsNames l.names known
-      × (l.out.items ++ finding_lines (judged l.volume known l.rest) ≡ l.fn.out.items ++ finding_lines (judged l.volume [] l.parts))
+      × (l.text.items ++ finding_lines (judged l.volume known l.rest) ≡ l.fn.text.items ++ finding_lines (judged l.volume [] l.parts))
+      × (l.losses.items ++ loss_lines (judged l.volume known l.rest) ≡ l.fn.losses.items ++ loss_lines (judged l.volume [] l.parts))
+      × (l.files.items ++ files_found (judged l.volume known l.rest) ≡ l.fn.files.items ++ files_found (judged l.volume [] l.parts))
       × (l.faults + count_faults (judged l.volume known l.rest) ≡ count_faults (judged l.volume [] l.parts))
       × ((k : ℕ) → k < length l.fn.counts → min 2 (slice_index l.counts k + claims (judged l.volume known l.rest) k) ≡ min 2 (slice_index l.fn.counts k + claims (judged l.volume [] l.parts) k));
 }

@@ -1,0 +1,3 @@
+mod PassageLemmas
+mod PieceLemmas
+mod FoundLemmas

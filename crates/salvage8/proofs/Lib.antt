@@ -1,0 +1,4 @@
+mod WordLemmas
+mod LineLemmas
+mod LawLemmas
+mod SalvageLemmas

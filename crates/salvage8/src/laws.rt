@@ -1,0 +1,15 @@
+//! What holds of each salvage.
+ghost use Rattle.salvage8.specs.Laws.{EachFileIsThere, OtherFilesAreNot};
+
+use rescue::laws::just_these_files;
+use survey8::laws::sound_files;
+
+/// A law: each file that a survey of the volume tells as sound is one of the new volume, with the same words, unless its refusal is told;
+/// and there is no other file.
+pub fn salvaged_files()
+    ensures there { EachFileIsThere }
+    ensures others { OtherFilesAreNot }
+{
+    just_these_files();
+    sound_files();
+}

@@ -1,0 +1,11 @@
+//! The commands on damaged volumes, over any host: a new volume with the files that an old one still tells, and the list of what blocks hold
+//! where no directory tells.
+//!
+//! In each contract an image is the list of its bytes.
+#![tactic(auto)]
+
+mod rescues;
+mod scans;
+
+pub use rescues::rescue_image;
+pub use scans::scan_blocks;
