@@ -1,0 +1,5 @@
+pub mod Holding
+pub mod IndexSteps
+pub mod Indexing
+pub mod Json
+pub mod Years
