@@ -7,6 +7,7 @@ use Rattle.char_pack.specs.declared.forms.GetForm.TheVariants as get_as
 use Rattle.char_pack.specs.declared.forms.PutForm.{PutForm}
 use Rattle.disk8.specs.declared.layouts.Layout.{Layout}
 use Rattle.disk8.specs.declared.layouts.Layout.TheVariants.{First, Second, Dectape}
+use Rattle.task8.specs.declared.archives.LineForm.{LineForm}
 use Rattle.task8.specs.declared.forms.FileForm.{FileForm}
 use Rattle.task8.specs.declared.forms.FileForm.TheVariants.{Name, At}
 use Rattle.task8.specs.declared.forms.ImageForm.{ImageForm}
@@ -21,8 +22,8 @@ use Rattle.word12.specs.declared.sizes.TheConstants.{MOST_BLOCKS}
 use Rattle.command8.specs.declared.table.Verb.TheVariants as verb
 use Rattle.command8.specs.Found.{capitals, cell_of, digits_from, is_set, layout_of, name_in, names_in, number_in, number_of, octal_to, place_of, values_of, volume_of, wait_of, within, word_of, year_of}
 use Rattle.command8.specs.Refusals.{blocks_word, puts_many}
-use Rattle.command8.specs.Tasks.{AsksFor, IsAssembleOf, IsAt, IsCheckOf, IsCopyOf, IsCreateOf, IsCreateTapeOf, IsDeleteOf, IsFile, IsGetBinOf, IsGetBlocksOf, IsGetManyOf, IsGetOf, IsChanged, IsImageOf, IsSeen, IsListLongOf, IsListOf, IsNamed, IsPlain, IsProfileOf, IsPutManyOf, IsPutOf, IsRenameOf, IsRimOf, IsRunOf, IsSourceOf, IsSqueezeOf, IsTape, IsTapeAt, IsTapeIn, IsTapeOf, IsTapeOrInput, IsTeletypeOf, IsTraceForm, IsTraceFormOf, IsTraceOf, IsVolume, after, get_form, given_info, info_or, put_form, rim_form, saving_of}
-use Rattle.command8.proofs.EnteredLemmas.{Seen, a_assemble, a_check, a_copy, a_create, a_create_tape, a_delete, a_get, a_get_bin, a_get_blocks, a_get_many, a_list, a_list_long, a_profile, a_put, a_put_many, a_rename, a_rim, a_run, a_source, a_squeeze, a_tape, a_teletype, a_trace}
+use Rattle.command8.specs.Tasks.{AsksFor, IsAssembleOf, IsAt, IsCheckOf, IsCopyOf, IsCreateOf, IsCreateTapeOf, IsDeleteOf, IsFile, IsGetBinOf, IsGetBlocksOf, IsGetManyOf, IsGetOf, IsChanged, IsImageOf, IsIndexOf, IsSeen, IsListLongOf, IsListOf, IsNamed, IsPlain, IsProfileOf, IsPutManyOf, IsPutOf, IsRenameOf, IsRescueOf, IsRimOf, IsRunOf, IsScanOf, IsSourceOf, IsSqueezeOf, IsTape, IsTapeAt, IsTapeIn, IsTapeOf, IsTapeOrInput, IsTeletypeOf, IsTraceForm, IsTraceFormOf, IsTraceOf, IsVolume, after, get_form, given_info, info_or, line_form, put_form, rim_form, saving_of}
+use Rattle.command8.proofs.EnteredLemmas.{Seen, a_assemble, a_check, a_copy, a_create, a_create_tape, a_delete, a_get, a_get_bin, a_get_blocks, a_get_many, a_list, a_list_long, a_profile, a_put, a_put_many, a_rename, a_rescue, a_rim, a_run, a_scan, a_source, a_squeeze, a_tape, a_teletype, a_trace, an_index}
 use Rattle.command8.proofs.NumberLemmas.{none_some}
 use Rattle.command8.proofs.UseLemmas.{IsNoOption}
 use Rattle.command8.proofs.WalkLemmas.{some_eq}
@@ -216,6 +217,49 @@ pub asks_check : (images : List Text) (layout : Option Layout) (is_all : Bool) (
     → Seen verb.Check task → AsksFor verb.Check rows task → IsCheckOf images layout is_all task
 asks_check images layout is_all rows is task (a_check form) asks =
     (sym asks.1.0 ∙ ap (λ p. p.0) is, sym asks.1.1 ∙ ap (λ p. p.1) is, asks.1.2 ∙ ap (λ p. p.2) is)
+
+-- the images, where their volumes lie, the last year, how lines are written, the pattern, the text, and whether equal files are meant
+abbrev told_index : List Row → List Text × Option Layout × Option ℕ × LineForm × Option Text × Option Text × Bool
+told_index rows = (
+  values_of (codes "IMAGE") rows,
+  layout_of (codes "volume") (codes "dectape") rows,
+  year_of rows,
+  line_form rows,
+  name_in (codes "find") rows,
+  first_of (codes "grep") rows,
+  is_set (codes "same") rows,
+)
+
+pub asks_index : (images : List Text) (layout : Option Layout) (how : LineForm) (find grep : Option Text) (is_same : Bool) (rows : List Row)
+    → told_index rows ≡ (images, layout, None, how, find, grep, is_same) → (task : Task) → Seen verb.Index task → AsksFor verb.Index rows task
+    → IsIndexOf images layout how find grep is_same task
+asks_index images layout how find grep is_same rows is task (an_index form) asks = (
+  sym asks.1.0 ∙ ap (λ p. p.0) is,
+  sym asks.1.1 ∙ ap (λ p. p.1) is,
+  asks.1.2 ∙ ap (λ p. p.2) is,
+  asks.1.3 ∙ ap (λ p. p.3) is,
+  sym asks.1.4 ∙ ap (λ p. p.4) is,
+  sym asks.1.5 ∙ ap (λ p. p.5) is,
+  asks.1.6 ∙ ap (λ p. p.6) is,
+)
+
+abbrev told_new : List Row → Option Text × Option Layout × Option Text
+told_new rows = (first_of (codes "IMAGE") rows, layout_of (codes "volume") (codes "dectape") rows, first_of (codes "NEW") rows)
+
+pub asks_rescue : (image new : Text) (layout : Option Layout) (rows : List Row) → told_new rows ≡ (Some image, layout, Some new) → (task : Task)
+    → Seen verb.Rescue task → AsksFor verb.Rescue rows task → IsRescueOf image new layout task
+asks_rescue image new layout rows is task (a_rescue form) asks = (
+  image_is image layout rows form.image (ap (λ p. p.0) is) (ap (λ p. p.1) is) asks.1.0,
+  some_eq form.new.bytes.items new (sym asks.1.1 ∙ ap (λ p. p.2) is),
+)
+
+abbrev told_scan : List Row → Option Text × Option Layout × Option Text
+told_scan rows = (first_of (codes "IMAGE") rows, layout_of (codes "volume") (codes "dectape") rows, first_of (codes "into") rows)
+
+pub asks_scan : (image : Text) (layout : Option Layout) (folder : Option Text) (rows : List Row) → told_scan rows ≡ (Some image, layout, folder)
+    → (task : Task) → Seen verb.Scan task → AsksFor verb.Scan rows task → IsScanOf image layout folder task
+asks_scan image layout folder rows is task (a_scan form) asks =
+    (image_is image layout rows form.image (ap (λ p. p.0) is) (ap (λ p. p.1) is) asks.1.0, sym asks.1.1 ∙ ap (λ p. p.2) is)
 
 -- the image, where it lies, when it is written, and whether refusals are faults
 abbrev told_run : List Row → Option Text × Option Layout × Saving × Bool × ℕ

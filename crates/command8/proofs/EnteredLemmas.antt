@@ -45,6 +45,9 @@ pub data Seen : Verb → Task → Type 0 where
   a_check : (form : _) → Seen verb.Check (task.Check form)
   a_dump : (form : _) → Seen verb.Dump (task.Dump form)
   a_patch : (form : _) → Seen verb.Patch (task.Patch form)
+  an_index : (form : _) → Seen verb.Index (task.Index form)
+  a_rescue : (form : _) → Seen verb.Rescue (task.Rescue form)
+  a_scan : (form : _) → Seen verb.Scan (task.Scan form)
 
 seen_as : (which : Verb) (rows : List Row) (task : Task) → AsksFor which rows task → Seen which task
 seen_as which rows (task.Tape tape) asks = subst (λ w. Seen w (task.Tape tape)) (sym asks.0) (a_tape tape)
@@ -72,6 +75,9 @@ seen_as which rows (task.Squeeze image) asks = subst (λ w. Seen w (task.Squeeze
 seen_as which rows (task.Check form) asks = subst (λ w. Seen w (task.Check form)) (sym asks.0) (a_check form)
 seen_as which rows (task.Dump form) asks = subst (λ w. Seen w (task.Dump form)) (sym asks.0) (a_dump form)
 seen_as which rows (task.Patch form) asks = subst (λ w. Seen w (task.Patch form)) (sym asks.0) (a_patch form)
+seen_as which rows (task.Index form) asks = subst (λ w. Seen w (task.Index form)) (sym asks.0) (an_index form)
+seen_as which rows (task.Rescue form) asks = subst (λ w. Seen w (task.Rescue form)) (sym asks.0) (a_rescue form)
+seen_as which rows (task.Scan form) asks = subst (λ w. Seen w (task.Scan form)) (sym asks.0) (a_scan form)
 
 abbrev no_entry : Entry
 no_entry = record { verb = verb.Tape; word = []; usage = [] }

@@ -16,7 +16,7 @@ use Rattle.command8.specs.declared.table.Kind.{Kind}
 use Rattle.command8.specs.declared.table.Kind.TheVariants.{Word, Value, Words, Size, Flag, Many, Count}
 use Rattle.command8.specs.declared.table.ArgumentOf.{ArgumentOf}
 use Rattle.command8.specs.declared.table.EntryOf.{EntryOf}
-use Rattle.command8.specs.declared.table.TheConstants.{COMMANDS, PAIRS, TAPE, RIM, SOURCE, ASSEMBLE, TELETYPE, TRACE, RUN, CREATE, LIST, GET, PUT, DELETE, RENAME, COPY, SQUEEZE, CHECK, DUMP, PATCH}
+use Rattle.command8.specs.declared.table.TheConstants.{COMMANDS, PAIRS, TAPE, RIM, SOURCE, ASSEMBLE, TELETYPE, TRACE, RUN, CREATE, LIST, GET, PUT, DELETE, RENAME, COPY, SQUEEZE, CHECK, DUMP, PATCH, INDEX, RESCUE, SCAN}
 use Rattle.command8.specs.declared.table.Verb.{Verb}
 use Rattle.command8.specs.declared.table.Verb.TheVariants as verb
 
@@ -77,6 +77,9 @@ rows_for verb.Squeeze = map declared_row SQUEEZE.now
 rows_for verb.Check = map declared_row CHECK.now
 rows_for verb.Dump = map declared_row DUMP.now
 rows_for verb.Patch = map declared_row PATCH.now
+rows_for verb.Index = map declared_row INDEX.now
+rows_for verb.Rescue = map declared_row RESCUE.now
+rows_for verb.Scan = map declared_row SCAN.now
 
 -- the subcommands
 abbrev pub table : List Entry

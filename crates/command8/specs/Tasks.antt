@@ -13,6 +13,11 @@ use Rattle.disk8.specs.declared.layouts.Layout.{Layout}
 use Rattle.disk8.specs.declared.layouts.Layout.TheVariants.{First, Second, Dectape}
 use Rattle.task8.specs.declared.archives.BlockSpan.{BlockSpan}
 use Rattle.task8.specs.declared.archives.PatchForm.{PatchForm}
+use Rattle.task8.specs.declared.archives.IndexForm.{IndexForm}
+use Rattle.task8.specs.declared.archives.LineForm.{LineForm}
+use Rattle.task8.specs.declared.archives.LineForm.TheVariants.{Columns, Json}
+use Rattle.task8.specs.declared.archives.RescueForm.{RescueForm}
+use Rattle.task8.specs.declared.archives.ScanForm.{ScanForm}
 use Rattle.task8.specs.declared.forms.BlocksForm.{BlocksForm}
 use Rattle.task8.specs.declared.forms.CheckForm.{CheckForm}
 use Rattle.task8.specs.declared.forms.CopyForm.{CopyForm}
@@ -37,11 +42,12 @@ use Rattle.task8.specs.declared.tasks.SourceForm.{SourceForm}
 use Rattle.task8.specs.declared.tasks.Saving.{Saving}
 use Rattle.task8.specs.declared.tasks.Saving.TheVariants.{AtEnd, Never, Always}
 use Rattle.task8.specs.declared.tasks.Task.{Task}
-use Rattle.task8.specs.declared.tasks.Task.TheVariants.{Tape, Rim, Source, Run, Create, CreateTape, ListLong, Get, GetBin, GetMany, GetBlocks, Put, PutMany, Delete, Rename, Copy, Squeeze, Check, Dump, Patch, Assemble, Teletype, Trace, Profile}
+use Rattle.task8.specs.declared.tasks.Task.TheVariants.{Tape, Rim, Source, Run, Create, CreateTape, ListLong, Get, GetBin, GetMany, GetBlocks, Put, PutMany, Delete, Rename, Copy, Squeeze, Check, Dump, Patch, Index, Rescue, Scan, Assemble, Teletype, Trace, Profile}
 use Rattle.task8.specs.declared.tasks.Task.TheVariants as task
 use Rattle.command8.specs.declared.faults.TaskFault.{TaskFault}
 use Rattle.command8.specs.declared.faults.TaskFault.TheVariants.{Words, Memory, Refused}
 use Rattle.command8.specs.declared.refusals.Refusal.{Refusal}
+use Rattle.command8.specs.declared.table.TheConstants.{MOST_IMAGES}
 use Rattle.command8.specs.declared.table.Verb.{Verb}
 use Rattle.command8.specs.declared.table.Verb.TheVariants as verb
 use Rattle.command8.specs.Found.{IsReadAs, bits_of, cell_of, date_word, has, is_limit, is_set, layout_of, name_in, names_in, number_in, number_of, place_of, span_of, values_of, wait_of, word_of, year_of}
@@ -225,6 +231,29 @@ IsPatchForm values form = IsChanged values form.image
     × (option_and_then bits_of (first_of (codes "OLD") values) ≡ Some form.old)
     × (option_and_then word_of (first_of (codes "NEW") values) ≡ Some form.new)
 
+-- ## Whole archives, and what damaged volumes hold
+
+-- the lines of an index: JSON objects, else columns
+abbrev pub line_form : List Row → LineForm
+line_form values = if is_set (codes "json") values then Json else Columns
+
+-- an index is made so
+abbrev pub IsIndexForm : List Row → IndexForm → Type 0
+IsIndexForm values form = (values_of (codes "IMAGE") values ≡ map (λ image. image.bytes.items) form.images.items)
+    × (layout_of (codes "volume") (codes "dectape") values ≡ form.layout) × (form.year ≡ year_of values)
+    × (form.form ≡ line_form values) × (name_in (codes "find") values ≡ option_map (λ pattern. pattern.bytes.items) form.find)
+    × (first_of (codes "grep") values ≡ option_map (λ text. text.bytes.items) form.grep)
+    × (form.is_same ≡ is_set (codes "same") values)
+
+-- files are rescued so
+abbrev pub IsRescueForm : List Row → RescueForm → Type 0
+IsRescueForm values form = IsSeen values form.image × (first_of (codes "NEW") values ≡ Some form.new.bytes.items)
+
+-- blocks are scanned so
+abbrev pub IsScanForm : List Row → ScanForm → Type 0
+IsScanForm values form = IsSeen values form.image
+    × (first_of (codes "into") values ≡ option_map (λ folder. folder.bytes.items) form.folder)
+
 -- ## The task
 
 -- one file is to be got
@@ -262,6 +291,9 @@ AsksFor which values (Squeeze image) = (which ≡ verb.Squeeze) × IsChanged val
 AsksFor which values (Check form) = (which ≡ verb.Check) × IsCheckForm values form
 AsksFor which values (Dump form) = (which ≡ verb.Dump) × IsBlockSpan values form
 AsksFor which values (Patch form) = (which ≡ verb.Patch) × IsPatchForm values form
+AsksFor which values (Index form) = (which ≡ verb.Index) × IsIndexForm values form
+AsksFor which values (Rescue form) = (which ≡ verb.Rescue) × IsRescueForm values form
+AsksFor which values (Scan form) = (which ≡ verb.Scan) × IsScanForm values form
 AsksFor which values (Assemble form) = (which ≡ verb.Assemble) × IsAssembleForm values form
 AsksFor which values (Teletype form) = (which ≡ verb.Teletype) × IsTeletypeForm values form
 AsksFor which values (Trace form) = (which ≡ verb.Trace) × IsTraceForm values form
@@ -286,7 +318,7 @@ Refuses None line refusal = ⊥
 Refuses (Some met) line refusal = RefusesOf (entry_named met.0) met.1 line refusal
 
 -- a new volume has 8 to 4095 blocks; blocks 0 to 4094 and their number are 1 to 4095; at least one file is put or taken out; 1
--- to 4095 volumes are checked; a word of a block has a number below 256; there are 1 to 8 sources, one of them at most standard input, and a listing where there are cross
+-- to 4095 volumes are checked, and an index is made of 1 to 1000000 images; a word of a block has a number below 256; there are 1 to 8 sources, one of them at most standard input, and a listing where there are cross
 -- references; a limit of instructions is 1 up
 abbrev pub HasFitBlocks : Task → Type 0
 HasFitBlocks (Create form blocks) = (8 ≤ blocks) × (blocks ≤ MOST_BLOCKS)
@@ -295,6 +327,7 @@ HasFitBlocks (PutMany form) = 1 ≤ length form.files.items
 HasFitBlocks (Delete form) = 1 ≤ length form.names.items + length form.places.items
 HasFitBlocks (Patch form) = form.number < 0o400
 HasFitBlocks (Check form) = (1 ≤ length form.images.items) × (length form.images.items ≤ MOST_BLOCKS)
+HasFitBlocks (Index form) = (1 ≤ length form.images.items) × (length form.images.items ≤ MOST_IMAGES)
 HasFitBlocks (Assemble form) = (1 ≤ length form.sources.items) × (length form.sources.items ≤ 8)
     × (input_count (map (λ file. file.bytes.items) form.sources.items) ≤ 1)
     × (form.is_cross ≡ true → is_some form.list ≡ true)
@@ -470,6 +503,23 @@ abbrev pub IsCheckOf : List Text → Option Layout → Bool → Task → Type 0
 IsCheckOf names layout is_all (Check form) = (map (λ image. image.bytes.items) form.images.items ≡ names)
     × (form.layout ≡ layout) × (form.is_all ≡ is_all)
 IsCheckOf names layout is_all task = ⊥
+
+-- an index of these images, of the files with such names and such texts
+abbrev pub IsIndexOf : List Text → Option Layout → LineForm → Option Text → Option Text → Bool → Task → Type 0
+IsIndexOf names layout form find grep is_same (Index own) = (map (λ image. image.bytes.items) own.images.items ≡ names)
+    × (own.layout ≡ layout) × (own.year ≡ None) × (own.form ≡ form)
+    × (option_map (λ pattern. pattern.bytes.items) own.find ≡ find) × (option_map (λ text. text.bytes.items) own.grep ≡ grep)
+    × (own.is_same ≡ is_same)
+IsIndexOf names layout form find grep is_same task = ⊥
+
+abbrev pub IsRescueOf : Text → Text → Option Layout → Task → Type 0
+IsRescueOf name new layout (Rescue form) = IsImageOf name layout form.image × (form.new.bytes.items ≡ new)
+IsRescueOf name new layout task = ⊥
+
+abbrev pub IsScanOf : Text → Option Layout → Option Text → Task → Type 0
+IsScanOf name layout folder (Scan form) = IsImageOf name layout form.image
+    × (option_map (λ folder. folder.bytes.items) form.folder ≡ folder)
+IsScanOf name layout folder task = ⊥
 
 -- these sources of PAL III alone, to this file
 abbrev pub IsAssembleOf : List Text → Option Text → Task → Type 0

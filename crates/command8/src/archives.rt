@@ -1,19 +1,23 @@
-//! What is asked of the blocks of a volume.
+//! What is asked of whole archives, and of volumes whose directories may be damaged.
 ghost use Rattle.std.specs.Prelude.{◌≡◌, ◌≤◌, codes, option_and_then, IfOk, Some};
 ghost use Rattle.clap.specs.Words.{first_of, found_of, rows_of};
 ghost use Rattle.command8.specs.Found as spec;
 ghost use Rattle.command8.specs.FoundSteps.{Has, IsWell};
+ghost use Rattle.command8.specs.Tasks as tasks;
 ghost use Rattle.command8.specs.TaskSteps.{IsAskedBy, Needs};
 ghost use Rattle.command8.specs.declared.table.Form.TheVariants as form;
 ghost use Rattle.command8.specs.declared.table.Verb.TheVariants as verb;
 
-use crate::found::{flag, span_of, text_given};
+use crate::found::{
+    flag, layout_of, name_if_given, span_of, text_given, value_if_given, value_of, values_of,
+    year_of,
+};
 use crate::numbers::{bits_in, number_of, word_in};
 use crate::table::Verb;
 use crate::volumes::{changed_image, image_of};
 use clap::ArgMatches;
 use std::alloc::{AllocError, Global};
-use task8::{BlockSpan, PatchForm, Task};
+use task8::{BlockSpan, IndexForm, LineForm, PatchForm, RescueForm, ScanForm, Task};
 use word12::{MOST_BLOCKS, Word};
 
 /// The blocks that are to be shown.
@@ -43,6 +47,55 @@ pub fn patch(alloc: Global, found: &ArgMatches<'_>) -> Result<Task, AllocError>
         new: new_given(found),
     };
     Ok(Task::Patch(form))
+}
+
+/// The images of which an index is to be made.
+pub fn index(alloc: Global, found: &ArgMatches<'_>) -> Result<Task, AllocError>
+    requires { Needs verb.Index (rows_of (found_of found.now)) }
+    ensures { IfOk result (IsAskedBy verb.Index (rows_of (found_of found.now))) }
+{
+    let images = values_of(alloc, found, Verb::Index, "IMAGE")?;
+    let find = name_if_given(alloc, found, Verb::Index, "find")?;
+    let grep = value_if_given(alloc, found, Verb::Index, "grep")?;
+    Ok(Task::Index(IndexForm {
+        images,
+        layout: layout_of(found, Verb::Index, "volume", "dectape"),
+        year: year_of(found, Verb::Index),
+        form: line_form(found),
+        find,
+        grep,
+        is_same: flag(found, Verb::Index, "same"),
+    }))
+}
+
+/// How the lines of an index are to be written.
+fn line_form(found: &ArgMatches<'_>) -> LineForm
+    ensures { result ≡ tasks.line_form (rows_of (found_of found.now)) }
+{
+    if flag(found, Verb::Index, "json") {
+        return LineForm::Json;
+    }
+    LineForm::Columns
+}
+
+/// The volume whose files are to be rescued.
+pub fn rescue(alloc: Global, found: &ArgMatches<'_>) -> Result<Task, AllocError>
+    requires { Needs verb.Rescue (rows_of (found_of found.now)) }
+    ensures { IfOk result (IsAskedBy verb.Rescue (rows_of (found_of found.now))) }
+{
+    let image = image_of(alloc, found, Verb::Rescue)?;
+    let new = value_of(alloc, found, Verb::Rescue, "NEW")?;
+    Ok(Task::Rescue(RescueForm { image, new }))
+}
+
+/// The volume whose blocks are to be scanned.
+pub fn scan(alloc: Global, found: &ArgMatches<'_>) -> Result<Task, AllocError>
+    requires { Needs verb.Scan (rows_of (found_of found.now)) }
+    ensures { IfOk result (IsAskedBy verb.Scan (rows_of (found_of found.now))) }
+{
+    let image = image_of(alloc, found, Verb::Scan)?;
+    let folder = value_if_given(alloc, found, Verb::Scan, "into")?;
+    Ok(Task::Scan(ScanForm { image, folder }))
 }
 
 /// The block of the word.

@@ -2,6 +2,7 @@
 ghost use Rattle.std.specs.Prelude.{◌≡◌, ◌∷◌, [], ℕ, List, codes, false, map, option_map, true, None, Some};
 ghost use Rattle.std.specs.List.{list_all};
 ghost use Rattle.clap.specs.Words.{IsUnsignedIn};
+ghost use Rattle.task8.specs.declared.archives.LineForm.TheVariants.{Columns, Json};
 ghost use Rattle.task8.specs.declared.tasks.RimForm.TheVariants.{Lines, Bin};
 ghost use Rattle.task8.specs.declared.tasks.Saving.TheVariants.{AtEnd, Never, Always};
 ghost use Rattle.char_pack.specs.declared.forms.GetForm.TheVariants as get_as;
@@ -12,6 +13,7 @@ ghost use Rattle.word12.specs.declared.sizes.TheConstants.{MOST_BLOCKS};
 ghost use Rattle.command8.specs.Found.{capitals, cell_of, number_in, number_of, place_of, word_of};
 ghost use Rattle.command8.specs.Tables.{are_apart, are_distinct, entry_named, is_usual, letters_of, pairs, table};
 ghost use Rattle.command8.specs.Tasks.{IsAssembleOf, IsAt, IsCheckOf, IsCopyOf, IsCreateOf, IsCreateTapeOf, IsDeleteOf, IsGetBinOf};
+ghost use Rattle.command8.specs.Tasks.{IsIndexOf, IsRescueOf, IsScanOf};
 ghost use Rattle.command8.specs.Tasks.{IsGetBlocksOf, IsGetManyOf, IsGetOf, IsListLongOf, IsListOf, IsNamed, IsPlain, IsProfileOf};
 ghost use Rattle.command8.specs.Tasks.{IsPutManyOf, IsPutOf, IsRenameOf, IsRimOf, IsRunOf, IsSourceOf, IsSqueezeOf, IsTakenAs, IsTapeOf};
 ghost use Rattle.command8.specs.Tasks.{IsTeletypeOf, IsTraceOf, IsVolume};
@@ -206,6 +208,42 @@ pub fn plain_words()
     ensures check_dectape { (name image : List ℕ) → IsPlain image
         → IsTakenAs (name ∷ codes "check" ∷ image ∷ codes "--dectape" ∷ [])
         (IsCheckOf (image ∷ []) (Some Dectape) false) }
+    ensures index { (name image : List ℕ) → IsPlain image
+        → IsTakenAs (name ∷ codes "index" ∷ image ∷ [])
+        (IsIndexOf (image ∷ []) None Columns None None false) }
+    ensures index_two { (name image other : List ℕ) → IsPlain image → IsPlain other
+        → IsTakenAs (name ∷ codes "index" ∷ image ∷ other ∷ [])
+        (IsIndexOf (image ∷ other ∷ []) None Columns None None false) }
+    ensures index_json { (name image : List ℕ) → IsPlain image
+        → IsTakenAs (name ∷ codes "index" ∷ image ∷ codes "--json" ∷ [])
+        (IsIndexOf (image ∷ []) None Json None None false) }
+    ensures index_find { (name image pattern : List ℕ) → IsPlain image → IsPlain pattern
+        → IsTakenAs (name ∷ codes "index" ∷ image ∷ codes "--find" ∷ pattern ∷ [])
+        (IsIndexOf (image ∷ []) None Columns (Some (capitals pattern)) None false) }
+    ensures index_grep { (name image text : List ℕ) → IsPlain image → IsPlain text
+        → IsTakenAs (name ∷ codes "index" ∷ image ∷ codes "--grep" ∷ text ∷ [])
+        (IsIndexOf (image ∷ []) None Columns None (Some text) false) }
+    ensures index_same { (name image : List ℕ) → IsPlain image
+        → IsTakenAs (name ∷ codes "index" ∷ image ∷ codes "--same" ∷ [])
+        (IsIndexOf (image ∷ []) None Columns None None true) }
+    ensures index_dectape { (name image : List ℕ) → IsPlain image
+        → IsTakenAs (name ∷ codes "index" ∷ image ∷ codes "--dectape" ∷ [])
+        (IsIndexOf (image ∷ []) (Some Dectape) Columns None None false) }
+    ensures rescue { (name image new : List ℕ) → IsPlain image → IsPlain new
+        → IsTakenAs (name ∷ codes "rescue" ∷ image ∷ new ∷ [])
+        (IsRescueOf image new None) }
+    ensures rescue_volume { (name image new text : List ℕ) (layout : Layout) → IsPlain image → IsPlain new → IsVolume text layout
+        → IsTakenAs (name ∷ codes "rescue" ∷ image ∷ new ∷ codes "--volume" ∷ text ∷ [])
+        (IsRescueOf image new (Some layout)) }
+    ensures scan { (name image : List ℕ) → IsPlain image
+        → IsTakenAs (name ∷ codes "scan" ∷ image ∷ [])
+        (IsScanOf image None None) }
+    ensures scan_into { (name image folder : List ℕ) → IsPlain image → IsPlain folder
+        → IsTakenAs (name ∷ codes "scan" ∷ image ∷ codes "--into" ∷ folder ∷ [])
+        (IsScanOf image None (Some folder)) }
+    ensures scan_dectape { (name image : List ℕ) → IsPlain image
+        → IsTakenAs (name ∷ codes "scan" ∷ image ∷ codes "--dectape" ∷ [])
+        (IsScanOf image (Some Dectape) None) }
 {}
 
 /// A law: the letters of options are the usual ones, no subcommand has one twice, and these subcommands have these.

@@ -28,7 +28,8 @@ pub fn missing_of(found: &ArgMatches<'_>, which: Verb) -> Option<What>
         Verb::Teletype => tape_missing(found),
         Verb::Trace => tape_missing(found),
         Verb::Profile => tape_missing(found),
-        Verb::Run | Verb::List | Verb::Squeeze | Verb::Check | Verb::Dump | Verb::Patch => None,
+        Verb::Run | Verb::List | Verb::Squeeze | Verb::Check => None,
+        Verb::Dump | Verb::Patch | Verb::Index | Verb::Rescue | Verb::Scan => None,
     }
 }
 

@@ -93,7 +93,13 @@ pub enum Verb {
     Check,
     Dump,
     Patch,
+    Index,
+    Rescue,
+    Scan,
 }
+
+/// The most images that an index takes.
+pub const MOST_IMAGES: usize = 1_000_000;
 
 /// An argument of a subcommand, with texts of the type `T`.
 pub struct ArgumentOf<T> {
@@ -189,8 +195,11 @@ pub const COMMANDS: &[Entry] = entries! {
     Verb::Copy, "copy", "Usage: pdp8 copy [OPTIONS] <IMAGE> [NAME] [TO] [NEW]";
     Verb::Squeeze, "squeeze", "Usage: pdp8 squeeze [OPTIONS] <IMAGE>";
     Verb::Check, "check", "Usage: pdp8 check [OPTIONS] <IMAGE>...";
+    Verb::Index, "index", "Usage: pdp8 index [OPTIONS] <IMAGE>...";
     Verb::Dump, "dump", "Usage: pdp8 dump [OPTIONS] <IMAGE> [BLOCK]";
     Verb::Patch, "patch", "Usage: pdp8 patch [OPTIONS] <IMAGE> <BLOCK> <WORD> <OLD> <NEW>";
+    Verb::Rescue, "rescue", "Usage: pdp8 rescue [OPTIONS] <IMAGE> <NEW>";
+    Verb::Scan, "scan", "Usage: pdp8 scan [OPTIONS] <IMAGE>";
 };
 
 /// The arguments that exclude each other, in whatever subcommand they are.
@@ -394,6 +403,31 @@ pub const PATCH: &[Argument] = rows! {
     "wait" option Kind::One(Form::Seconds), "SECONDS", "Wait so long while another program holds the image, 0 to 3600 seconds; else not at all";
 };
 
+pub const INDEX: &[Argument] = rows! {
+    "IMAGE" must Kind::Words(MOST_IMAGES), "", "The files that hold the volumes";
+    "find" option Kind::One(Form::Text), "PATTERN", "Only files whose names fit the pattern, as '*.PA'";
+    "grep" option Kind::One(Form::Text), "TEXT", "Only texts that hold TEXT";
+    "same" flag Kind::Flag, "", "Only files that are equal to others, by groups";
+    "json" flag Kind::Flag, "", "Write each line as a JSON object";
+    "year" option Kind::One(Form::Year), "N", "The last of the eight years that dates mean, 1977 to 9999; else the one that block 0 gives";
+    "volume" 'v' option Kind::One(Form::Volume), "N", "The volume of an RK05 disk, 1 or 2, where IMAGE is the file of one";
+    "dectape" flag Kind::Flag, "", "IMAGE is the file of a DECtape, of 129 words a block";
+};
+
+pub const RESCUE: &[Argument] = rows! {
+    "IMAGE" must Kind::Word, "", "The file that holds the damaged volume";
+    "NEW" must Kind::Word, "", "The file that gets the new volume";
+    "volume" 'v' option Kind::One(Form::Volume), "N", "The volume of an RK05 disk, 1 or 2, where IMAGE is the file of one";
+    "dectape" flag Kind::Flag, "", "IMAGE is the file of a DECtape, of 129 words a block";
+};
+
+pub const SCAN: &[Argument] = rows! {
+    "IMAGE" must Kind::Word, "", "The file that holds the volume";
+    "into" option Kind::One(Form::Text), "FOLDER", "The folder that gets what is found";
+    "volume" 'v' option Kind::One(Form::Volume), "N", "The volume of an RK05 disk, 1 or 2, where IMAGE is the file of one";
+    "dectape" flag Kind::Flag, "", "IMAGE is the file of a DECtape, of 129 words a block";
+};
+
 /// The arguments of a subcommand.
 pub fn arguments_of(verb: Verb) -> &'static [Argument]
     ensures { map row_of result.now ≡ rows_for verb }
@@ -418,6 +452,9 @@ pub fn arguments_of(verb: Verb) -> &'static [Argument]
         Verb::Check => CHECK,
         Verb::Dump => DUMP,
         Verb::Patch => PATCH,
+        Verb::Index => INDEX,
+        Verb::Rescue => RESCUE,
+        Verb::Scan => SCAN,
     }
 }
 

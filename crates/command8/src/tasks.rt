@@ -7,7 +7,7 @@ ghost use Rattle.command8.specs.Tasks.{Answers, IsPastClap};
 ghost use Rattle.command8.specs.TaskSteps.{Gives, GivesMet, HasMet, IsAskedBy, IsWhole, Needs};
 
 use crate::TaskFault;
-use crate::archives::{dump, patch};
+use crate::archives::{dump, index, patch, rescue, scan};
 use crate::build::command_line;
 use crate::files::{copy, delete, get, put, rename};
 use crate::judging::judged;
@@ -95,5 +95,8 @@ fn asked_by(alloc: Global, verb: Verb, found: &ArgMatches<'_>) -> Result<Task, A
         Verb::Check => check(alloc, found),
         Verb::Dump => dump(alloc, found),
         Verb::Patch => patch(alloc, found),
+        Verb::Index => index(alloc, found),
+        Verb::Rescue => rescue(alloc, found),
+        Verb::Scan => scan(alloc, found),
     }
 }

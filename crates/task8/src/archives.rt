@@ -1,5 +1,6 @@
-//! What is asked of the blocks of a volume, whatever its directory says.
+//! What is asked of whole archives, and of volumes whose directories may be damaged.
 use crate::forms::ImageForm;
+use disk8::Layout;
 use word12::Word;
 
 /// Which blocks are shown, whatever the directory says.
@@ -29,4 +30,56 @@ pub struct PatchForm {
     pub old: u16,
 
     pub new: Word,
+}
+
+/// How the lines of an index are written.
+#[derive(Clone, Copy, PartialEq, Eq, Debug)]
+pub enum LineForm {
+    /// As columns.
+    Columns,
+
+    /// Each as a JSON object (RFC 8259).
+    Json,
+}
+
+/// Of which images an index is made, which of their files it has, and how it is written.
+#[derive(Drop)]
+pub struct IndexForm {
+    /// The files of the host that hold the images, 1 to 1000000.
+    pub images: Vec<String>,
+
+    /// Where in each a volume lies, if they hold more than images.
+    pub layout: Option<Layout>,
+
+    /// The last of the eight years that dates mean, 1977 to 9999, if it is given.
+    pub year: Option<usize>,
+
+    pub form: LineForm,
+
+    /// The pattern that the names of its files fit, in capital letters, if one is given.
+    pub find: Option<String>,
+
+    /// The text that its files hold, as it was typed, if one is given.
+    pub grep: Option<String>,
+
+    /// Whether it has only files that are equal to others, by groups.
+    pub is_same: bool,
+}
+
+/// From which volume files are rescued, and where to.
+#[derive(Drop)]
+pub struct RescueForm {
+    pub image: ImageForm,
+
+    /// The file of the host that gets the new volume.
+    pub new: String,
+}
+
+/// Of which volume the blocks are scanned, and where to what they hold is written.
+#[derive(Drop)]
+pub struct ScanForm {
+    pub image: ImageForm,
+
+    /// The folder of the host that gets what is found, if one is named.
+    pub folder: Option<String>,
 }

@@ -1,5 +1,5 @@
 //! The tasks, and the forms of those that run scripts, sources and tapes.
-use crate::archives::{BlockSpan, PatchForm};
+use crate::archives::{BlockSpan, IndexForm, PatchForm, RescueForm, ScanForm};
 use crate::forms::{
     BlocksForm, CheckForm, CopyForm, CreateForm, DeleteForm, FileForm, GetManyForm, ImageForm,
     PutManyForm, PutOneForm, TapeForm,
@@ -175,6 +175,15 @@ pub enum Task {
 
     /// Put a word of an image in place of another.
     Patch(PatchForm),
+
+    /// List the files of the volumes of several images, with what each holds.
+    Index(IndexForm),
+
+    /// Write a new volume with the files that a damaged one still has.
+    Rescue(RescueForm),
+
+    /// List what the blocks of a volume hold, by content alone.
+    Scan(ScanForm),
 
     /// Assemble sources to a BIN tape.
     Assemble(AssembleForm),

@@ -5,13 +5,14 @@ use Rattle.clap.specs.declared.builder.value_parser.ValueParser.TheVariants.{Uns
 use Rattle.char_pack.specs.declared.forms.GetForm.TheVariants as get_as
 use Rattle.char_pack.specs.declared.forms.PutForm.TheVariants as put_as
 use Rattle.disk8.specs.declared.layouts.Layout.TheVariants.{Dectape}
+use Rattle.task8.specs.declared.archives.LineForm.TheVariants.{Columns, Json}
 use Rattle.task8.specs.declared.tasks.RimForm.TheVariants.{Lines, Bin}
 use Rattle.task8.specs.declared.tasks.Saving.TheVariants.{AtEnd, Never, Always}
 use Rattle.word12.specs.declared.sizes.TheConstants.{MOST_BLOCKS}
 use Rattle.command8.specs.Found.{capitals, number_of}
 use Rattle.command8.specs.Refusals.{together}
-use Rattle.command8.specs.Tasks.{IsAssembleOf, IsAt, IsCheckOf, IsCopyOf, IsCreateOf, IsCreateTapeOf, IsDeleteOf, IsGetBinOf, IsGetBlocksOf, IsGetManyOf, IsGetOf, IsListLongOf, IsListOf, IsNamed, IsProfileOf, IsPutManyOf, IsPutOf, IsRenameOf, IsRimOf, IsRunOf, IsSourceOf, IsSqueezeOf, IsTapeOf, IsTeletypeOf, IsTraceOf}
-use Rattle.command8.proofs.AskLemmas.{asks_assemble, asks_check, asks_copy, asks_create, asks_create_tape, asks_delete, asks_get, asks_get_bin, asks_get_blocks, asks_get_many, asks_list, asks_list_long, asks_put, asks_put_many, asks_rename, asks_rim, asks_run, asks_squeeze, asks_tape, cell_plain, named_file, no_info, no_numbers, number_plain, one_info, one_number, placed_file, profile_asked, source_asked, teletype_asked, trace_asked, traced, volume_told, word_plain}
+use Rattle.command8.specs.Tasks.{IsAssembleOf, IsAt, IsCheckOf, IsCopyOf, IsCreateOf, IsCreateTapeOf, IsDeleteOf, IsGetBinOf, IsGetBlocksOf, IsGetManyOf, IsGetOf, IsIndexOf, IsListLongOf, IsListOf, IsNamed, IsProfileOf, IsPutManyOf, IsPutOf, IsRenameOf, IsRescueOf, IsRimOf, IsRunOf, IsScanOf, IsSourceOf, IsSqueezeOf, IsTapeOf, IsTeletypeOf, IsTraceOf}
+use Rattle.command8.proofs.AskLemmas.{asks_assemble, asks_check, asks_copy, asks_create, asks_create_tape, asks_delete, asks_get, asks_get_bin, asks_get_blocks, asks_get_many, asks_index, asks_list, asks_list_long, asks_put, asks_put_many, asks_rename, asks_rescue, asks_rim, asks_run, asks_scan, asks_squeeze, asks_tape, cell_plain, named_file, no_info, no_numbers, number_plain, one_info, one_number, placed_file, profile_asked, source_asked, teletype_asked, trace_asked, traced, volume_told, word_plain}
 use Rattle.command8.proofs.EnteredLemmas.{a_flag, a_value, a_word, entered_as, found_by}
 use Rattle.command8.proofs.NumberLemmas.{some_none}
 use Rattle.command8.proofs.UseLemmas.{no_option}
@@ -477,3 +478,87 @@ returns-clause-check_dectape c = λ name image image_is.
     let rows = found_by (codes "check") uses in
     entered_as (codes "check") uses (IsCheckOf (image ∷ []) (Some Dectape) false) refl refl (record { pass = (no_option image image_is, record { found = refl; passes = refl; no_end = refl }, (record { read = refl; found = refl; takes_value = refl }, refl, tt)); settles = refl; defaults = refl; valid = refl }) name
     (λ task seen asks. asks_check (image ∷ []) (Some Dectape) false rows refl task seen asks.1)
+
+pub returns-clause-index : goal.returns-clause-index
+returns-clause-index c = λ name image image_is.
+    let uses = a_word (codes "index") (codes "IMAGE") image ∷ [] in
+    let rows = found_by (codes "index") uses in
+    entered_as (codes "index") uses (IsIndexOf (image ∷ []) None Columns None None false) refl refl (record { pass = (no_option image image_is, record { found = refl; passes = refl; no_end = refl }, tt); settles = refl; defaults = refl; valid = refl }) name
+    (λ task seen asks. asks_index (image ∷ []) None Columns None None false rows refl task seen asks.1)
+
+pub returns-clause-index_two : goal.returns-clause-index_two
+returns-clause-index_two c = λ name image other image_is other_is.
+    let uses = a_word (codes "index") (codes "IMAGE") image ∷ a_word (codes "index") (codes "IMAGE") other ∷ [] in
+    let rows = found_by (codes "index") uses in
+    entered_as (codes "index") uses (IsIndexOf (image ∷ other ∷ []) None Columns None None false) refl refl (record { pass = (no_option image image_is, record { found = refl; passes = refl; no_end = refl }, (no_option other other_is, record { found = refl; passes = refl; no_end = refl }, tt)); settles = refl; defaults = refl; valid = refl }) name
+    (λ task seen asks. asks_index (image ∷ other ∷ []) None Columns None None false rows refl task seen asks.1)
+
+pub returns-clause-index_json : goal.returns-clause-index_json
+returns-clause-index_json c = λ name image image_is.
+    let uses = a_word (codes "index") (codes "IMAGE") image ∷ a_flag (codes "index") (codes "json") ∷ [] in
+    let rows = found_by (codes "index") uses in
+    entered_as (codes "index") uses (IsIndexOf (image ∷ []) None Json None None false) refl refl (record { pass = (no_option image image_is, record { found = refl; passes = refl; no_end = refl }, (record { read = refl; found = refl; takes_value = refl }, refl, tt)); settles = refl; defaults = refl; valid = refl }) name
+    (λ task seen asks. asks_index (image ∷ []) None Json None None false rows refl task seen asks.1)
+
+pub returns-clause-index_find : goal.returns-clause-index_find
+returns-clause-index_find c = λ name image pattern image_is pattern_is.
+    let uses = a_word (codes "index") (codes "IMAGE") image ∷ a_value (codes "index") (codes "find") pattern ∷ [] in
+    let rows = found_by (codes "index") uses in
+    entered_as (codes "index") uses (IsIndexOf (image ∷ []) None Columns (Some (capitals pattern)) None false) refl refl (record { pass = (no_option image image_is, record { found = refl; passes = refl; no_end = refl }, (no_option pattern pattern_is, record { read = refl; found = refl; takes_value = refl }, record { own = refl; one = refl; passes = refl }, tt)); settles = refl; defaults = refl; valid = refl }) name
+    (λ task seen asks. asks_index (image ∷ []) None Columns (Some (capitals pattern)) None false rows refl task seen asks.1)
+
+pub returns-clause-index_grep : goal.returns-clause-index_grep
+returns-clause-index_grep c = λ name image text image_is text_is.
+    let uses = a_word (codes "index") (codes "IMAGE") image ∷ a_value (codes "index") (codes "grep") text ∷ [] in
+    let rows = found_by (codes "index") uses in
+    entered_as (codes "index") uses (IsIndexOf (image ∷ []) None Columns None (Some text) false) refl refl (record { pass = (no_option image image_is, record { found = refl; passes = refl; no_end = refl }, (no_option text text_is, record { read = refl; found = refl; takes_value = refl }, record { own = refl; one = refl; passes = refl }, tt)); settles = refl; defaults = refl; valid = refl }) name
+    (λ task seen asks. asks_index (image ∷ []) None Columns None (Some text) false rows refl task seen asks.1)
+
+pub returns-clause-index_same : goal.returns-clause-index_same
+returns-clause-index_same c = λ name image image_is.
+    let uses = a_word (codes "index") (codes "IMAGE") image ∷ a_flag (codes "index") (codes "same") ∷ [] in
+    let rows = found_by (codes "index") uses in
+    entered_as (codes "index") uses (IsIndexOf (image ∷ []) None Columns None None true) refl refl (record { pass = (no_option image image_is, record { found = refl; passes = refl; no_end = refl }, (record { read = refl; found = refl; takes_value = refl }, refl, tt)); settles = refl; defaults = refl; valid = refl }) name
+    (λ task seen asks. asks_index (image ∷ []) None Columns None None true rows refl task seen asks.1)
+
+pub returns-clause-index_dectape : goal.returns-clause-index_dectape
+returns-clause-index_dectape c = λ name image image_is.
+    let uses = a_word (codes "index") (codes "IMAGE") image ∷ a_flag (codes "index") (codes "dectape") ∷ [] in
+    let rows = found_by (codes "index") uses in
+    entered_as (codes "index") uses (IsIndexOf (image ∷ []) (Some Dectape) Columns None None false) refl refl (record { pass = (no_option image image_is, record { found = refl; passes = refl; no_end = refl }, (record { read = refl; found = refl; takes_value = refl }, refl, tt)); settles = refl; defaults = refl; valid = refl }) name
+    (λ task seen asks. asks_index (image ∷ []) (Some Dectape) Columns None None false rows refl task seen asks.1)
+
+pub returns-clause-rescue : goal.returns-clause-rescue
+returns-clause-rescue c = λ name image new image_is new_is.
+    let uses = a_word (codes "rescue") (codes "IMAGE") image ∷ a_word (codes "rescue") (codes "NEW") new ∷ [] in
+    let rows = found_by (codes "rescue") uses in
+    entered_as (codes "rescue") uses (IsRescueOf image new None) refl refl (record { pass = (no_option image image_is, record { found = refl; passes = refl; no_end = refl }, (no_option new new_is, record { found = refl; passes = refl; no_end = refl }, tt)); settles = refl; defaults = refl; valid = refl }) name
+    (λ task seen asks. asks_rescue image new None rows refl task seen asks.1)
+
+pub returns-clause-rescue_volume : goal.returns-clause-rescue_volume
+returns-clause-rescue_volume c = λ name image new text layout image_is new_is is.
+    let uses = a_word (codes "rescue") (codes "IMAGE") image ∷ a_word (codes "rescue") (codes "NEW") new ∷ a_value (codes "rescue") (codes "volume") text ∷ [] in
+    let rows = found_by (codes "rescue") uses in
+    entered_as (codes "rescue") uses (IsRescueOf image new (Some layout)) refl refl (record { pass = (no_option image image_is, record { found = refl; passes = refl; no_end = refl }, (no_option new new_is, record { found = refl; passes = refl; no_end = refl }, ((volume_told text layout is).0, record { read = refl; found = refl; takes_value = refl }, record { own = refl; one = refl; passes = refl }, tt))); settles = refl; defaults = refl; valid = refl }) name
+    (λ task seen asks. asks_rescue image new (Some layout) rows (ap (λ l. (Some image, Some l, Some new)) (volume_told text layout is).1) task seen asks.1)
+
+pub returns-clause-scan : goal.returns-clause-scan
+returns-clause-scan c = λ name image image_is.
+    let uses = a_word (codes "scan") (codes "IMAGE") image ∷ [] in
+    let rows = found_by (codes "scan") uses in
+    entered_as (codes "scan") uses (IsScanOf image None None) refl refl (record { pass = (no_option image image_is, record { found = refl; passes = refl; no_end = refl }, tt); settles = refl; defaults = refl; valid = refl }) name
+    (λ task seen asks. asks_scan image None None rows refl task seen asks.1)
+
+pub returns-clause-scan_into : goal.returns-clause-scan_into
+returns-clause-scan_into c = λ name image folder image_is folder_is.
+    let uses = a_word (codes "scan") (codes "IMAGE") image ∷ a_value (codes "scan") (codes "into") folder ∷ [] in
+    let rows = found_by (codes "scan") uses in
+    entered_as (codes "scan") uses (IsScanOf image None (Some folder)) refl refl (record { pass = (no_option image image_is, record { found = refl; passes = refl; no_end = refl }, (no_option folder folder_is, record { read = refl; found = refl; takes_value = refl }, record { own = refl; one = refl; passes = refl }, tt)); settles = refl; defaults = refl; valid = refl }) name
+    (λ task seen asks. asks_scan image None (Some folder) rows refl task seen asks.1)
+
+pub returns-clause-scan_dectape : goal.returns-clause-scan_dectape
+returns-clause-scan_dectape c = λ name image image_is.
+    let uses = a_word (codes "scan") (codes "IMAGE") image ∷ a_flag (codes "scan") (codes "dectape") ∷ [] in
+    let rows = found_by (codes "scan") uses in
+    entered_as (codes "scan") uses (IsScanOf image (Some Dectape) None) refl refl (record { pass = (no_option image image_is, record { found = refl; passes = refl; no_end = refl }, (record { read = refl; found = refl; takes_value = refl }, refl, tt)); settles = refl; defaults = refl; valid = refl }) name
+    (λ task seen asks. asks_scan image (Some Dectape) None rows refl task seen asks.1)
