@@ -22,7 +22,7 @@ use Rattle.word12.specs.declared.sizes.TheConstants.{MOST_BLOCKS}
 use Rattle.command8.specs.declared.table.Verb.TheVariants as verb
 use Rattle.command8.specs.Found.{capitals, cell_of, digits_from, is_set, layout_of, name_in, names_in, number_in, number_of, octal_to, place_of, values_of, volume_of, wait_of, within, word_of, year_of}
 use Rattle.command8.specs.Refusals.{blocks_word, puts_many}
-use Rattle.command8.specs.Tasks.{AsksFor, IsAssembleOf, IsAt, IsCheckOf, IsCopyOf, IsCreateOf, IsCreateTapeOf, IsDeleteOf, IsFile, IsGetBinOf, IsGetBlocksOf, IsGetManyOf, IsGetOf, IsChanged, IsImageOf, IsIndexOf, IsSeen, IsListLongOf, IsListOf, IsNamed, IsPlain, IsProfileOf, IsPutManyOf, IsPutOf, IsRenameOf, IsRescueOf, IsRimOf, IsRunOf, IsScanOf, IsSourceOf, IsSqueezeOf, IsTape, IsTapeAt, IsTapeIn, IsTapeOf, IsTapeOrInput, IsTeletypeOf, IsTraceForm, IsTraceFormOf, IsTraceOf, IsVolume, after, get_form, given_info, info_or, line_form, put_form, rim_form, saving_of}
+use Rattle.command8.specs.Tasks.{AsksFor, IsAssembleFromOf, IsAssembleOf, IsAt, IsCheckOf, IsCopyOf, IsCreateOf, IsCreateTapeOf, IsDeleteOf, IsFile, IsFrom, IsGetBinOf, IsGetBlocksOf, IsGetManyOf, IsGetOf, IsChanged, IsImageOf, IsIndexOf, IsSeen, IsListLongOf, IsListOf, IsNamed, IsPlain, IsProfileOf, IsPutManyOf, IsPutOf, IsRenameOf, IsRescueOf, IsRimOf, IsRunOf, IsScanOf, IsSourceOf, IsSqueezeOf, IsTape, IsTapeAt, IsTapeIn, IsTapeOf, IsTapeOrInput, IsTeletypeOf, IsTraceForm, IsTraceFormOf, IsTraceOf, IsVolume, IsVolumeOf, after, get_form, given_info, info_or, line_form, put_form, rim_form, saving_of, source_names}
 use Rattle.command8.proofs.EnteredLemmas.{Seen, a_assemble, a_check, a_copy, a_create, a_create_tape, a_delete, a_get, a_get_bin, a_get_blocks, a_get_many, a_list, a_list_long, a_profile, a_put, a_put_many, a_rename, a_rescue, a_rim, a_run, a_scan, a_source, a_squeeze, a_tape, a_teletype, a_trace, an_index}
 use Rattle.command8.proofs.NumberLemmas.{none_some}
 use Rattle.command8.proofs.UseLemmas.{IsNoOption}
@@ -116,18 +116,52 @@ pub asks_rim : (file member : Option Text) (form : RimForm) (rows : List Row) �
     → Seen verb.Rim task → AsksFor verb.Rim rows task → IsRimOf file member form task
 asks_rim file member form rows is how task (a_rim tape own) asks = (tape_in file member rows tape is asks.1, asks.2 ∙ how)
 
-abbrev told_assemble : List Row → List Text × Option Text × Option Text × Bool × Bool
-told_assemble rows =
-    (values_of (codes "FILE") rows, first_of (codes "output") rows, first_of (codes "list") rows, is_set (codes "cross") rows, is_set (codes "pal8") rows)
+-- the sources, the volume that has them, the file of it that gets the tape, the output, the listing, and the flags
+abbrev told_assemble : List Row → List Text × Option Text × Option Text × Option Text × Option Text × Bool × Bool
+told_assemble rows = (
+  source_names rows,
+  first_of (codes "from") rows,
+  name_in (codes "onto") rows,
+  first_of (codes "output") rows,
+  first_of (codes "list") rows,
+  is_set (codes "cross") rows,
+  is_set (codes "pal8") rows,
+)
 
-pub asks_assemble : (files : List Text) (output : Option Text) (rows : List Row) → told_assemble rows ≡ (files, output, None, false, false)
-    → (task : Task) → Seen verb.Assemble task → AsksFor verb.Assemble rows task → IsAssembleOf files output task
+no_volume : (rows : List Row) (from : Option ImageForm) → first_of (codes "from") rows ≡ None → IsFrom rows from → from ≡ None
+no_volume rows None none asks = refl
+no_volume rows (Some image) none asks = absurd (none_some image.file.bytes.items (sym none ∙ asks.0))
+
+pub asks_assemble : (files : List Text) (output : Option Text) (rows : List Row)
+    → told_assemble rows ≡ (files, None, None, output, None, false, false) → (task : Task) → Seen verb.Assemble task → AsksFor verb.Assemble rows task
+    → IsAssembleOf files output task
 asks_assemble files output rows is task (a_assemble form) asks = (
   sym asks.1.0 ∙ ap (λ p. p.0) is,
-  sym asks.1.1 ∙ ap (λ p. p.1) is,
-  no_value (λ file. file.bytes.items) form.list (sym (ap (λ p. p.2) is) ∙ asks.1.2),
-  asks.1.3 ∙ ap (λ p. p.3) is,
-  asks.1.4 ∙ ap (λ p. p.4) is,
+  sym asks.1.3 ∙ ap (λ p. p.3) is,
+  no_value (λ file. file.bytes.items) form.list (sym (ap (λ p. p.4) is) ∙ asks.1.4),
+  asks.1.5 ∙ ap (λ p. p.5) is,
+  asks.1.6 ∙ ap (λ p. p.6) is,
+  no_volume rows form.from (ap (λ p. p.1) is) asks.1.1,
+  no_value (λ name. name.bytes.items) form.onto (sym (ap (λ p. p.2) is) ∙ asks.1.2),
+)
+
+volume_is : (image : Text) (rows : List Row) (from : Option ImageForm) → first_of (codes "from") rows ≡ Some image
+    → layout_of (codes "volume") (codes "dectape") rows ≡ None → wait_of rows ≡ 0 → IsFrom rows from → IsVolumeOf image from
+volume_is image rows None named placed waits asks = true≢false (sym (ap is_some named) ∙ asks)
+volume_is image rows (Some own) named placed waits asks =
+    (some_eq own.file.bytes.items image (sym asks.0 ∙ named), sym asks.1 ∙ placed, asks.2 ∙ waits)
+
+pub asks_assemble_from : (image : Text) (files : List Text) (onto : Option Text) (rows : List Row)
+    → told_assemble rows ≡ (files, Some image, onto, None, None, false, false) → layout_of (codes "volume") (codes "dectape") rows ≡ None
+    → wait_of rows ≡ 0 → (task : Task) → Seen verb.Assemble task → AsksFor verb.Assemble rows task → IsAssembleFromOf image files onto task
+asks_assemble_from image files onto rows is placed waits task (a_assemble form) asks = (
+  sym asks.1.0 ∙ ap (λ p. p.0) is,
+  volume_is image rows form.from (ap (λ p. p.1) is) placed waits asks.1.1,
+  sym asks.1.2 ∙ ap (λ p. p.2) is,
+  no_value (λ file. file.bytes.items) form.output (sym (ap (λ p. p.3) is) ∙ asks.1.3),
+  no_value (λ file. file.bytes.items) form.list (sym (ap (λ p. p.4) is) ∙ asks.1.4),
+  asks.1.5 ∙ ap (λ p. p.5) is,
+  asks.1.6 ∙ ap (λ p. p.6) is,
 )
 
 -- what is asked for, but for the tape and the start

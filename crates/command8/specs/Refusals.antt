@@ -107,6 +107,18 @@ tape_missing values =
     if has (codes "NAME") values || not (has (codes "volume") values || is_set (codes "dectape") values) then None
     else if has (codes "TAPE") values then Some what.Name else Some what.TapeAndName
 
+-- something is said of the volume that has the sources
+abbrev pub says_of_volume : List Row → Bool
+says_of_volume values = has (codes "onto") values || has (codes "volume") values || is_set (codes "dectape") values
+
+-- of sources that are assembled
+abbrev pub assemble_missing : List Row → Option What
+assemble_missing values =
+    if is_set (codes "cross") values && not (has (codes "list") values) then Some what.List
+    else if says_of_volume values && not (has (codes "from") values) then Some what.From
+    else if has (codes "wait") values && not (has (codes "onto") values) then Some what.Onto
+    else None
+
 abbrev pub missing_of : Verb → List Row → Option What
 missing_of verb.Tape values = tape_missing values
 missing_of verb.Rim values = tape_missing values
@@ -114,7 +126,7 @@ missing_of verb.Source values = tape_missing values
 missing_of verb.Teletype values = tape_missing values
 missing_of verb.Trace values = tape_missing values
 missing_of verb.Profile values = tape_missing values
-missing_of verb.Assemble values = if is_set (codes "cross") values && not (has (codes "list") values) then Some what.List else None
+missing_of verb.Assemble values = assemble_missing values
 missing_of verb.Create values = if has (codes "BLOCKS") values || is_set (codes "dectape") values then None else Some what.Blocks
 missing_of verb.Get values =
     if is_set (codes "blocks") values then blocks_missing values

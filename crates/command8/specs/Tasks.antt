@@ -78,10 +78,21 @@ IsRunForm values form = (form.saving ≡ saving_of values) × (form.is_strict �
 
 -- ## The sources and the Teletype
 
+-- the volume that has the sources, if one is named, and how long it is waited for
+abbrev pub IsFrom : List Row → Option ImageForm → Type 0
+IsFrom values None = has (codes "from") values ≡ false
+IsFrom values (Some image) = (first_of (codes "from") values ≡ Some image.file.bytes.items)
+    × (layout_of (codes "volume") (codes "dectape") values ≡ image.layout) × (image.wait ≡ wait_of values)
+
+-- the sources: files of that volume, else of the host
+abbrev pub source_names : List Row → List Text
+source_names values = if has (codes "from") values then names_in (codes "FILE") values else values_of (codes "FILE") values
+
 -- sources are assembled so
 abbrev pub IsAssembleForm : List Row → AssembleForm → Type 0
 IsAssembleForm values form =
-    (values_of (codes "FILE") values ≡ map (λ file. file.bytes.items) form.sources.items)
+    (source_names values ≡ map (λ file. file.bytes.items) form.sources.items)
+    × IsFrom values form.from × (name_in (codes "onto") values ≡ option_map (λ name. name.bytes.items) form.onto)
     × (first_of (codes "output") values ≡ option_map (λ file. file.bytes.items) form.output)
     × (first_of (codes "list") values ≡ option_map (λ file. file.bytes.items) form.list)
     × (form.is_cross ≡ is_set (codes "cross") values)
@@ -318,8 +329,8 @@ Refuses None line refusal = ⊥
 Refuses (Some met) line refusal = RefusesOf (entry_named met.0) met.1 line refusal
 
 -- a new volume has 8 to 4095 blocks; blocks 0 to 4094 and their number are 1 to 4095; at least one file is put or taken out; 1
--- to 4095 volumes are checked, and an index is made of 1 to 1000000 images; a word of a block has a number below 256; there are 1 to 8 sources, one of them at most standard input, and a listing where there are cross
--- references; a limit of instructions is 1 up
+-- to 4095 volumes are checked, and an index is made of 1 to 1000000 images; a word of a block has a number below 256; there are 1 to 8 sources, of those of the host one at most standard input, a listing where there are
+-- cross references, and a volume where one gets the tape; a limit of instructions is 1 up
 abbrev pub HasFitBlocks : Task → Type 0
 HasFitBlocks (Create form blocks) = (8 ≤ blocks) × (blocks ≤ MOST_BLOCKS)
 HasFitBlocks (GetBlocks form) = (form.first ≤ 4094) × (1 ≤ form.count) × (form.count ≤ MOST_BLOCKS)
@@ -329,8 +340,8 @@ HasFitBlocks (Patch form) = form.number < 0o400
 HasFitBlocks (Check form) = (1 ≤ length form.images.items) × (length form.images.items ≤ MOST_BLOCKS)
 HasFitBlocks (Index form) = (1 ≤ length form.images.items) × (length form.images.items ≤ MOST_IMAGES)
 HasFitBlocks (Assemble form) = (1 ≤ length form.sources.items) × (length form.sources.items ≤ 8)
-    × (input_count (map (λ file. file.bytes.items) form.sources.items) ≤ 1)
-    × (form.is_cross ≡ true → is_some form.list ≡ true)
+    × (form.from ≡ None → input_count (map (λ file. file.bytes.items) form.sources.items) ≤ 1)
+    × (form.is_cross ≡ true → is_some form.list ≡ true) × (is_some form.onto ≡ true → is_some form.from ≡ true)
 HasFitBlocks (Teletype form) = is_limit form.steps ≡ true
 HasFitBlocks (Trace form) = is_limit form.steps ≡ true
 HasFitBlocks (Profile form) = is_limit form.steps ≡ true
@@ -525,8 +536,20 @@ IsScanOf name layout folder task = ⊥
 abbrev pub IsAssembleOf : List Text → Option Text → Task → Type 0
 IsAssembleOf names output (Assemble form) = (map (λ file. file.bytes.items) form.sources.items ≡ names)
     × (option_map (λ file. file.bytes.items) form.output ≡ output) × (form.list ≡ None) × (form.is_cross ≡ false)
-    × (form.is_pal8 ≡ false)
+    × (form.is_pal8 ≡ false) × (form.from ≡ None) × (form.onto ≡ None)
 IsAssembleOf names output task = ⊥
+
+-- a volume in this file is named
+abbrev pub IsVolumeOf : Text → Option ImageForm → Type 0
+IsVolumeOf name None = ⊥
+IsVolumeOf name (Some image) = IsImageOf name None image
+
+-- these sources of PAL III on this volume, onto this file of it
+abbrev pub IsAssembleFromOf : Text → List Text → Option Text → Task → Type 0
+IsAssembleFromOf image names onto (Assemble form) = (map (λ file. file.bytes.items) form.sources.items ≡ names)
+    × IsVolumeOf image form.from × (option_map (λ name. name.bytes.items) form.onto ≡ onto)
+    × (form.output ≡ None) × (form.list ≡ None) × (form.is_cross ≡ false) × (form.is_pal8 ≡ false)
+IsAssembleFromOf image names onto task = ⊥
 
 -- this file, and what it holds of a volume, from this cell, and nothing else
 abbrev pub IsTeletypeOf : Text → Option Text → Option ℕ → Task → Type 0

@@ -12,7 +12,7 @@ ghost use Rattle.disk8.specs.declared.layouts.Layout.TheVariants.{Dectape};
 ghost use Rattle.word12.specs.declared.sizes.TheConstants.{MOST_BLOCKS};
 ghost use Rattle.command8.specs.Found.{capitals, cell_of, number_in, number_of, place_of, word_of};
 ghost use Rattle.command8.specs.Tables.{are_apart, are_distinct, entry_named, is_usual, letters_of, pairs, table};
-ghost use Rattle.command8.specs.Tasks.{IsAssembleOf, IsAt, IsCheckOf, IsCopyOf, IsCreateOf, IsCreateTapeOf, IsDeleteOf, IsGetBinOf};
+ghost use Rattle.command8.specs.Tasks.{IsAssembleFromOf, IsAssembleOf, IsAt, IsCheckOf, IsCopyOf, IsCreateOf, IsCreateTapeOf, IsDeleteOf, IsGetBinOf};
 ghost use Rattle.command8.specs.Tasks.{IsIndexOf, IsRescueOf, IsScanOf};
 ghost use Rattle.command8.specs.Tasks.{IsGetBlocksOf, IsGetManyOf, IsGetOf, IsListLongOf, IsListOf, IsNamed, IsPlain, IsProfileOf};
 ghost use Rattle.command8.specs.Tasks.{IsPutManyOf, IsPutOf, IsRenameOf, IsRimOf, IsRunOf, IsSourceOf, IsSqueezeOf, IsTakenAs, IsTapeOf};
@@ -171,6 +171,12 @@ pub fn plain_words()
     ensures assemble_output { (name file output : List ℕ) → IsPlain file → IsPlain output
         → IsTakenAs (name ∷ codes "assemble" ∷ file ∷ codes "--output" ∷ output ∷ [])
         (IsAssembleOf (file ∷ []) (Some output)) }
+    ensures assemble_from { (name image file : List ℕ) → IsPlain image → IsPlain file
+        → IsTakenAs (name ∷ codes "assemble" ∷ codes "--from" ∷ image ∷ file ∷ [])
+        (IsAssembleFromOf image (capitals file ∷ []) None) }
+    ensures assemble_onto { (name image file tape : List ℕ) → IsPlain image → IsPlain file → IsPlain tape
+        → IsTakenAs (name ∷ codes "assemble" ∷ codes "--from" ∷ image ∷ file ∷ codes "--onto" ∷ tape ∷ [])
+        (IsAssembleFromOf image (capitals file ∷ []) (Some (capitals tape))) }
     ensures teletype { (name tape : List ℕ) → IsPlain tape
         → IsTakenAs (name ∷ codes "teletype" ∷ tape ∷ []) (IsTeletypeOf tape None None) }
     ensures teletype_file { (name image file : List ℕ) → IsPlain image → IsPlain file
@@ -251,7 +257,7 @@ pub fn letters()
     ensures distinct { list_all (λ entry. are_apart (letters_of entry)) table ≡ true }
     ensures usual { list_all (λ entry. list_all is_usual (letters_of entry)) table ≡ true }
     ensures assemble { option_map letters_of (entry_named (codes "assemble"))
-        ≡ Some ((codes "o", codes "output") ∷ (codes "l", codes "list") ∷ []) }
+        ≡ Some ((codes "o", codes "output") ∷ (codes "l", codes "list") ∷ (codes "v", codes "volume") ∷ []) }
     ensures list { option_map letters_of (entry_named (codes "list"))
         ≡ Some ((codes "l", codes "long") ∷ (codes "v", codes "volume") ∷ []) }
     ensures get { option_map letters_of (entry_named (codes "get"))
@@ -266,6 +272,6 @@ pub fn excluded_arguments()
         ∷ (codes "blocks", codes "all") ∷ (codes "blocks", codes "force") ∷ (codes "blocks", codes "text-of")
         ∷ (codes "blocks", codes "tape") ∷ (codes "blocks", codes "bin") ∷ (codes "tape", codes "into")
         ∷ (codes "bin", codes "into") ∷ (codes "as", codes "text-of") ∷ (codes "list", codes "pal8")
-        ∷ (codes "cross", codes "pal8") ∷ (codes "look", codes "keep") ∷ (codes "look", codes "wait")
-        ∷ (codes "new", codes "wait") ∷ (codes "info", codes "date") ∷ [] }
+        ∷ (codes "cross", codes "pal8") ∷ (codes "output", codes "onto") ∷ (codes "look", codes "keep")
+        ∷ (codes "look", codes "wait") ∷ (codes "new", codes "wait") ∷ (codes "info", codes "date") ∷ [] }
 {}

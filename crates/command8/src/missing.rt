@@ -46,14 +46,28 @@ fn tape_missing(found: &ArgMatches<'_>) -> Option<What>
     Some(What::TapeAndName)
 }
 
-/// What is missing where sources are assembled: a listing for its cross references.
+/// What is missing where sources are assembled: a listing for its cross references, the volume of which something is said, or the file that
+/// is waited for.
 fn assemble_missing(found: &ArgMatches<'_>) -> Option<What>
     ensures { result ≡ spec.missing_of verb.Assemble (rows_of (found_of found.now)) }
 {
     if is_set(found, "cross") && !has(found, "list") {
         return Some(What::List);
     }
+    if says_of_volume(found) && !has(found, "from") {
+        return Some(What::From);
+    }
+    if has(found, "wait") && !has(found, "onto") {
+        return Some(What::Onto);
+    }
     None
+}
+
+/// Whether something is said of the volume that has the sources.
+fn says_of_volume(found: &ArgMatches<'_>) -> bool
+    ensures { result ≡ spec.says_of_volume (rows_of (found_of found.now)) }
+{
+    has(found, "onto") || has(found, "volume") || is_set(found, "dectape")
 }
 
 /// What is missing of a new volume: its size.

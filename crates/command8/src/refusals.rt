@@ -28,6 +28,10 @@ pub enum What {
     As,
     #[error("--list <LISTING>")]
     List,
+    #[error("--from <IMAGE>")]
+    From,
+    #[error("--onto <NAME>")]
+    Onto,
 }
 
 /// What is refused.

@@ -219,6 +219,7 @@ pub const PAIRS: &[Pair] = &[
     ("as", "text-of"),
     ("list", "pal8"),
     ("cross", "pal8"),
+    ("output", "onto"),
     ("look", "keep"),
     ("look", "wait"),
     ("new", "wait"),
@@ -250,11 +251,16 @@ pub const SOURCE: &[Argument] = rows! {
 };
 
 pub const ASSEMBLE: &[Argument] = rows! {
-    "FILE" must Kind::Words(8), "", "The 1 to 8 sources, which stand together; - is standard input, once at most";
+    "FILE" must Kind::Words(8), "", "The 1 to 8 sources, which stand together; - is standard input, once at most; with --from names of files on the volume";
     "output" 'o' option Kind::One(Form::Text), "TAPE", "The file that gets the tape, in place of standard output";
     "list" 'l' option Kind::One(Form::Text), "LISTING", "Write a listing to the file LISTING too";
     "cross" flag Kind::Flag, "", "Put a table of cross references after the listing; it needs --list";
     "pal8" flag Kind::Flag, "", "Take the one source FILE as PAL8, the language of OS/8's assembler";
+    "from" option Kind::One(Form::Text), "IMAGE", "Take the sources from the volume that the file IMAGE holds";
+    "onto" option Kind::One(Form::Text), "NAME", "Put the tape on that volume as the file NAME, in place of standard output";
+    "volume" 'v' option Kind::One(Form::Volume), "N", "The volume of an RK05 disk, 1 or 2, where IMAGE is the file of one";
+    "dectape" flag Kind::Flag, "", "IMAGE is the file of a DECtape, of 129 words a block";
+    "wait" option Kind::One(Form::Seconds), "SECONDS", "With --onto wait so long while another program holds the image, 0 to 3600 seconds; else not at all";
 };
 
 pub const TELETYPE: &[Argument] = rows! {

@@ -1,5 +1,5 @@
 //! What is asked of tapes and of sources.
-ghost use Rattle.std.specs.Prelude.{◌≡◌, codes, true, IfOk, Some};
+ghost use Rattle.std.specs.Prelude.{◌≡◌, codes, map, true, IfOk, Some};
 ghost use Rattle.clap.specs.Words.{found_of, rows_of};
 ghost use Rattle.command8.specs.Tasks.{IsTape, IsTapeOrInput, IsTraceForm};
 ghost use Rattle.command8.specs.Found.{is_limit};
@@ -13,7 +13,8 @@ ghost use Rattle.command8.specs.TaskSteps.{IsAskedBy, Needs};
 ghost use Rattle.command8.specs.declared.table.Verb.TheVariants as verb;
 
 use crate::found::{
-    cell_of, count_of, flag, has, layout_of, name_of, octal_of, value_if_given, value_of, values_of,
+    cell_of, count_of, flag, has, layout_of, name_if_given, name_of, names_of, octal_of,
+    value_if_given, value_of, values_of, wait_of,
 };
 use crate::lists::cells_of;
 use crate::table::Verb;
@@ -108,15 +109,45 @@ pub fn assemble(alloc: Global, found: &ArgMatches<'_>) -> Result<Task, AllocErro
     requires { Needs verb.Assemble (rows_of (found_of found.now)) }
     ensures { IfOk result (IsAskedBy verb.Assemble (rows_of (found_of found.now))) }
 {
-    let sources = values_of(alloc, found, Verb::Assemble, "FILE")?;
+    let sources = sources_of(alloc, found)?;
+    let from = volume_of_sources(alloc, found)?;
+    let onto = name_if_given(alloc, found, Verb::Assemble, "onto")?;
     let output = value_if_given(alloc, found, Verb::Assemble, "output")?;
     let list = value_if_given(alloc, found, Verb::Assemble, "list")?;
     Ok(Task::Assemble(AssembleForm {
         sources,
+        from,
+        onto,
         output,
         list,
         is_cross: flag(found, Verb::Assemble, "cross"),
         is_pal8: flag(found, Verb::Assemble, "pal8"),
+    }))
+}
+
+/// The sources: files of the volume that is named, or else of the host.
+fn sources_of(alloc: Global, found: &ArgMatches<'_>) -> Result<Vec<String>, AllocError>
+    ensures { IfOk result (λ texts. spec.source_names (rows_of (found_of found.now))
+        ≡ map (λ text. text.bytes.items) texts.items) }
+{
+    if has(found, "from") {
+        return names_of(alloc, found, Verb::Assemble, "FILE");
+    }
+    values_of(alloc, found, Verb::Assemble, "FILE")
+}
+
+/// The volume that has the sources, if one is named.
+fn volume_of_sources(alloc: Global, found: &ArgMatches<'_>) -> Result<Option<ImageForm>, AllocError>
+    ensures { IfOk result (spec.IsFrom (rows_of (found_of found.now))) }
+{
+    if !has(found, "from") {
+        return Ok(None);
+    }
+    let file = value_of(alloc, found, Verb::Assemble, "from")?;
+    Ok(Some(ImageForm {
+        file,
+        layout: layout_of(found, Verb::Assemble, "volume", "dectape"),
+        wait: wait_of(found, Verb::Assemble),
     }))
 }
 

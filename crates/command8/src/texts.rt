@@ -115,7 +115,7 @@ pub fn long_about_of(verb: Verb) -> &'static str {
             "Reads a BIN paper tape from standard input, from the file TAPE, or from what the file NAME of the OS/8{n}volume in the image TAPE holds, and prints a PAL III source that assembles to the words that it{n}loads, one line a word, with the cell and the word in octal after it. With --start the words that{n}a program reaches from there are shown as instructions, and all others as numbers. The line of a{n}fault goes to standard error."
         }
         Verb::Assemble => {
-            "Assembles the PAL III sources in the files FILE, one after the other as one program, to a BIN paper{n}tape, which goes to standard output, or to the file TAPE. With --pal8 the one source FILE is PAL8, the{n}language of OS/8's assembler. The line of a fault goes to standard error. The exit status is 1 after a{n}fault of a source or of a file."
+            "Assembles the PAL III sources in the files FILE, one after the other as one program, to a BIN paper{n}tape, which goes to standard output, or to the file TAPE. With --from the sources are files of the{n}OS/8 volume in the file IMAGE, and with --onto the tape is put there. With --pal8 the one source FILE{n}is PAL8, the language of OS/8's assembler. The line of a fault goes to standard error. The exit{n}status is 1 after a fault of a source or of a file."
         }
         Verb::Teletype => {
             "Loads the BIN paper tape in the file TAPE into core, or the tape that the file NAME of the OS/8{n}volume in the image TAPE begins with, and starts the processor. What it prints goes to standard{n}output with its top bit dropped; standard input is the keyboard. It ends where the processor{n}halts, where the program waits for a key and there are no more, and at a limit. The exit status is{n}0 after HALT or where the keys ended, 1 after a word that is no instruction, the limit or a fault{n}of the tape, and 2 for a command line that is refused."
@@ -187,7 +187,7 @@ pub fn examples_of(verb: Verb) -> &'static str {
             "Examples:\n  pdp8 source examples/add-one.bin\n  pdp8 source disk.rk05 add.bn -v 2 --start 200"
         }
         Verb::Assemble => {
-            "Examples:\n  pdp8 assemble add.pa -o add.bin\n  pdp8 assemble main.pa tables.pa -l main.ls --cross > main.bin"
+            "Examples:\n  pdp8 assemble main.pa tables.pa -o main.bin -l main.ls --cross\n  pdp8 assemble --from disk.img add.pa --onto add.bn"
         }
         Verb::Teletype => {
             "Examples:\n  pdp8 teletype hello.bin\n  pdp8 teletype disk.rk05 hello.bn --start 200 --switches 17"

@@ -2,6 +2,7 @@
 //! written where the host can help it.
 #![tactic(auto)]
 
+mod arguments;
 mod files;
 mod images;
 mod inputs;
@@ -10,6 +11,7 @@ mod progress;
 mod streams;
 mod words;
 
+pub use arguments::tell_bad_argument;
 pub use files::{answer_of, bytes_of_file, core_of_file, refusal};
 pub use images::{Image, bytes_of, image_bytes, make_file, save_and_print};
 pub use inputs::{CountedInput, input_bytes};

@@ -5,10 +5,10 @@ use crate::runs::run_image;
 use archive_commands::{WordPatch, dump_blocks, list_dates, patch_word};
 use command8::{TaskFault, task};
 use hosts::Host;
-use image_file8::{tell, texts_of};
+use image_file8::{tell_bad_argument, texts_of};
 use image_host8::check_images;
 use many_host8::{get_files, put_files};
-use outcome::{Content, Ending, Note, PlainNote, ending_of_output, gives_data, no_memory_line};
+use outcome::{Content, Ending, ending_of_output, gives_data, no_memory_line};
 use script8::SessionFault;
 use std::alloc::AllocError;
 use std::env::{self, Env};
@@ -133,17 +133,17 @@ where
 }
 
 /// Prints why the words ask for nothing, and gives the exit status. Help that is asked for is output as that of a command is.
-fn refuse_words<H: Host, R: Print + Eprint>(
+fn refuse_words<H: Host, R: Env + Print + Eprint + AllocGlobal>(
     rt: &R,
     host: &mut H,
     rooms: Rooms,
     fault: WordsFault,
 ) -> ExitCode {
     let ending = match fault {
-        WordsFault::NoText => {
-            tell(rt, Note::Plain(PlainNote::NoText));
-            Ending::Misuse
-        }
+        WordsFault::NoText => match tell_bad_argument(rt) {
+            Ok(()) => Ending::Misuse,
+            Err(error) => Ending::from(error),
+        },
         WordsFault::Task(TaskFault::Memory) => Ending::Fault(SessionFault::Memory),
         WordsFault::Task(TaskFault::Words(error)) => {
             let status = error.exit_code() as u8;

@@ -11,13 +11,14 @@ pub fn gives_data(task: &Task) -> bool
     match task {
         Task::Rim(_, RimForm::Bin)
         | Task::Source(_)
-        | Task::Assemble(_)
         | Task::Teletype(_)
         | Task::Trace(_)
         | Task::Profile(_)
         | Task::Get(..)
         | Task::GetBin(..)
-        | Task::GetBlocks(_) => true,
+        | Task::GetBlocks(_)
+        | Task::Index(_) => true,
+        Task::Assemble(form) => form.onto.is_none(),
         Task::Tape(_)
         | Task::Rim(_, RimForm::Lines)
         | Task::Run(..)
@@ -34,6 +35,8 @@ pub fn gives_data(task: &Task) -> bool
         | Task::Squeeze(_)
         | Task::Check(_)
         | Task::Dump(_)
-        | Task::Patch(_) => false,
+        | Task::Patch(_)
+        | Task::Rescue(_)
+        | Task::Scan(_) => false,
     }
 }

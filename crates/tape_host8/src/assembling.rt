@@ -1,9 +1,12 @@
-//! Sources in files of the host to a BIN tape and a listing, each written whole or not at all.
+//! Sources in files of the host, or on a volume, to a BIN tape and a listing, each written whole or not at all.
 
 use crate::pal8_assembling::assemble_pal8;
+use crate::volume_sources::{put_tape, text_on, volume_of};
 use assemble8::{Fault, SourceFault, assemble_sources, fault_text, further_faults};
 use file_kind::{are_marked, is_text};
-use image_file8::{bytes_of, input_bytes, make_file, print_bytes, tell, tell_text, texts_of};
+use image_file8::{
+    Image, bytes_of, input_bytes, make_file, print_bytes, tell, tell_text, texts_of,
+};
 use outcome::{Content, Ending, NameNote, Note, PlainNote};
 use pal8_tape::sign_text;
 use report8::with_line_feeds;
@@ -12,6 +15,7 @@ use source_listing::{ListingForm, list_sources};
 use std::alloc::{AllocError, Global};
 use std::fs::{File, Files};
 use std::io::Input;
+use std::time::Clock;
 use task8::AssembleForm;
 
 /// The name of a standard stream where a file's may stand.
@@ -20,23 +24,33 @@ const STANDARD: &str = "-";
 /// How many further faults are told at most.
 const MOST_FURTHER: usize = 20;
 
-/// Assembles the sources in files to a tape, and lists them if that is asked for. Nothing is written where they have a fault; the listing
-/// is written before the tape.
-pub fn assemble_files<R: Files<File = File> + Input + Print + Eprint + AllocGlobal>(
+/// Assembles the sources in files, of the host or of a volume, to a tape, and lists them if that is asked for. Nothing is written where they
+/// have a fault; the listing is written before the tape.
+pub fn assemble_files<R: Files<File = File> + Input + Print + Eprint + Clock + AllocGlobal>(
     rt: &R,
     form: &AssembleForm,
 ) -> Result<(), Ending> {
     refuse_clashes(rt, form)?;
+    let mut volume = volume_of(rt, form)?;
     if form.is_pal8 {
-        return assemble_pal8(rt, form);
+        return assemble_pal8(rt, form, &mut volume);
     }
-    let texts = read_sources(rt, &form.sources)?;
+    assemble_pal3(rt, form, &mut volume)
+}
+
+/// Assembles PAL III sources to a tape, and lists them if that is asked for.
+fn assemble_pal3<R: Files<File = File> + Input + Print + Eprint + AllocGlobal>(
+    rt: &R,
+    form: &AssembleForm,
+    volume: &mut Option<Image>,
+) -> Result<(), Ending> {
+    let texts = read_sources(rt, form, volume)?;
     let sources = slices_of(rt.alloc(), &texts)?;
     let Some(list) = &form.list else {
         let tape = assemble_sources(rt.alloc(), &sources).map_err(|fault| refusal(
             rt, form, &sources, fault,
         ))?;
-        return write_tape(rt, form, &tape);
+        return write_tape(rt, form, volume, &tape);
     };
     let behind = if form.is_cross {
         ListingForm::Cross
@@ -47,11 +61,27 @@ pub fn assemble_files<R: Files<File = File> + Input + Print + Eprint + AllocGlob
         rt, form, &sources, fault,
     ))?;
     write_to(rt, list, &listing.text, Content::Listing)?;
-    write_tape(rt, form, &listing.tape)
+    write_tape(rt, form, volume, &listing.tape)
 }
 
-/// Writes the tape to the file that gets it, or to standard output.
+/// Writes the tape to the volume, where a file of it is named, or else to the file of the host that gets it, or to standard output.
 pub(crate) fn write_tape<R: Files<File = File> + Print + Eprint + AllocGlobal>(
+    rt: &R,
+    form: &AssembleForm,
+    volume: &mut Option<Image>,
+    tape: &[u8],
+) -> Result<(), Ending> {
+    match volume {
+        None => write_output(rt, form, tape),
+        Some(image) => match &form.onto {
+            None => write_output(rt, form, tape),
+            Some(name) => put_tape(rt, image, name, tape),
+        },
+    }
+}
+
+/// Writes the tape to the file of the host that gets it, or to standard output.
+fn write_output<R: Files<File = File> + Print + Eprint + AllocGlobal>(
     rt: &R,
     form: &AssembleForm,
     tape: &[u8],
@@ -62,11 +92,26 @@ pub(crate) fn write_tape<R: Files<File = File> + Print + Eprint + AllocGlobal>(
     }
 }
 
-/// Refuses words by which two things would be written to one place, or one over a source.
+/// Refuses words by which two things would be written to one place, or one over a source. A volume's files are no files of the host.
 fn refuse_clashes<R: Eprint>(rt: &R, form: &AssembleForm) -> Result<(), Ending> {
+    refuse_one_place(rt, form)?;
+    match &form.from {
+        Some(_) => refuse_source(rt, form, &form.onto),
+        None => {
+            refuse_source(rt, form, &form.output)?;
+            refuse_source(rt, form, &form.list)
+        }
+    }
+}
+
+/// Refuses to write the tape and the listing to one place.
+fn refuse_one_place<R: Eprint>(rt: &R, form: &AssembleForm) -> Result<(), Ending> {
     let Some(list) = &form.list else {
-        return refuse_source(rt, form, &form.output);
+        return Ok(());
     };
+    if form.onto.is_some() {
+        return Ok(());
+    }
     let output = match &form.output {
         Some(output) => output.as_str(),
         None => STANDARD,
@@ -75,8 +120,7 @@ fn refuse_clashes<R: Eprint>(rt: &R, form: &AssembleForm) -> Result<(), Ending> 
         tell(rt, Note::OnName(NameNote::OnePlace, output));
         return Err(Ending::Misuse);
     }
-    refuse_source(rt, form, &form.output)?;
-    refuse_source(rt, form, &form.list)
+    Ok(())
 }
 
 /// Refuses to write over a source.
@@ -202,11 +246,12 @@ fn tell_without_number<R: Eprint>(rt: &R, text: &[u8]) {
 /// The bytes of the sources.
 fn read_sources<R: Files + Input + Eprint + AllocGlobal>(
     rt: &R,
-    names: &[String],
+    form: &AssembleForm,
+    volume: &Option<Image>,
 ) -> Result<Vec<Vec<u8>>, Ending> {
     let mut texts = Vec::new(rt.alloc());
-    for name in names {
-        add_text(&mut texts, read_source(rt, name)?)?;
+    for name in &form.sources {
+        add_text(&mut texts, read_source(rt, volume, name)?)?;
     }
     Ok(texts)
 }
@@ -216,11 +261,20 @@ fn add_text(texts: &mut Vec<Vec<u8>>, text: Vec<u8>) -> Result<(), AllocError> {
     Ok(())
 }
 
-/// The bytes of a source, with LF at the end of each line.
+/// The bytes of a source, of the volume if there is one, with LF at the end of each line.
 pub(crate) fn read_source<R: Files + Input + Eprint + AllocGlobal>(
     rt: &R,
+    volume: &Option<Image>,
     name: &str,
 ) -> Result<Vec<u8>, Ending> {
+    match volume {
+        Some(image) => text_on(rt, image, name),
+        None => text_of(rt, name),
+    }
+}
+
+/// The bytes of a source of the host, with LF at the end of each line.
+fn text_of<R: Files + Input + Eprint + AllocGlobal>(rt: &R, name: &str) -> Result<Vec<u8>, Ending> {
     let bytes = bytes_named(rt, name)?;
     let text = with_line_feeds(rt.alloc(), &bytes)?;
     Ok(text)

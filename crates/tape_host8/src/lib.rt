@@ -9,6 +9,7 @@ mod sources;
 mod tapes;
 mod teletypes;
 mod traces;
+mod volume_sources;
 
 pub use assembling::assemble_files;
 pub use listings::{list_tape, write_rim};

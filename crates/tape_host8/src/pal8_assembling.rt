@@ -1,7 +1,7 @@
-//! A PAL8 source in a file of the host to a BIN tape, which is written whole or not at all.
+//! A PAL8 source in a file of the host, or on a volume, to a BIN tape, which is written whole or not at all.
 
 use crate::assembling::{read_source, tell_top_bits, write_tape};
-use image_file8::tell_text;
+use image_file8::{Image, tell_text};
 use outcome::Ending;
 use pal8_tape::{SourceFault, fault_text, tape_of};
 use script8::SessionFault;
@@ -13,13 +13,14 @@ use task8::AssembleForm;
 pub(crate) fn assemble_pal8<R: Files<File = File> + Input + Print + Eprint + AllocGlobal>(
     rt: &R,
     form: &AssembleForm,
+    volume: &mut Option<Image>,
 ) -> Result<(), Ending> {
     let Some(name) = form.sources.first() else {
         return Err(Ending::Misuse);
     };
-    let source = read_source(rt, name)?;
+    let source = read_source(rt, volume, name)?;
     match tape_of(rt.alloc(), &source) {
-        Ok(tape) => write_tape(rt, form, &tape),
+        Ok(tape) => write_tape(rt, form, volume, &tape),
         Err(fault) => Err(refusal(rt, name, &source, fault)),
     }
 }

@@ -39,11 +39,18 @@ pub struct RunForm {
     pub is_strict: bool,
 }
 
-/// How files of the host are assembled (PAL III manual; PAL8 in this project's profile).
+/// How sources are assembled (PAL III manual; PAL8 in this project's profile).
 #[derive(Drop)]
 pub struct AssembleForm {
-    /// The names of the 1 to 8 sources, in their order; `-` is standard input, and stands once at most.
+    /// The names of the 1 to 8 sources, in their order: files of the host, where `-` is standard input and stands once at most, or files
+    /// of the volume, in capital letters.
     pub sources: Vec<String>,
+
+    /// The volume that has the sources, if one is named.
+    pub from: Option<ImageForm>,
+
+    /// The file of that volume that gets the BIN tape, if one is named, in capital letters.
+    pub onto: Option<String>,
 
     /// The file that gets the BIN tape, if one is named.
     pub output: Option<String>,

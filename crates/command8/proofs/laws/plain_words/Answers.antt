@@ -11,8 +11,8 @@ use Rattle.task8.specs.declared.tasks.Saving.TheVariants.{AtEnd, Never, Always}
 use Rattle.word12.specs.declared.sizes.TheConstants.{MOST_BLOCKS}
 use Rattle.command8.specs.Found.{capitals, number_of}
 use Rattle.command8.specs.Refusals.{together}
-use Rattle.command8.specs.Tasks.{IsAssembleOf, IsAt, IsCheckOf, IsCopyOf, IsCreateOf, IsCreateTapeOf, IsDeleteOf, IsGetBinOf, IsGetBlocksOf, IsGetManyOf, IsGetOf, IsIndexOf, IsListLongOf, IsListOf, IsNamed, IsProfileOf, IsPutManyOf, IsPutOf, IsRenameOf, IsRescueOf, IsRimOf, IsRunOf, IsScanOf, IsSourceOf, IsSqueezeOf, IsTapeOf, IsTeletypeOf, IsTraceOf}
-use Rattle.command8.proofs.AskLemmas.{asks_assemble, asks_check, asks_copy, asks_create, asks_create_tape, asks_delete, asks_get, asks_get_bin, asks_get_blocks, asks_get_many, asks_index, asks_list, asks_list_long, asks_put, asks_put_many, asks_rename, asks_rescue, asks_rim, asks_run, asks_scan, asks_squeeze, asks_tape, cell_plain, named_file, no_info, no_numbers, number_plain, one_info, one_number, placed_file, profile_asked, source_asked, teletype_asked, trace_asked, traced, volume_told, word_plain}
+use Rattle.command8.specs.Tasks.{IsAssembleFromOf, IsAssembleOf, IsAt, IsCheckOf, IsCopyOf, IsCreateOf, IsCreateTapeOf, IsDeleteOf, IsGetBinOf, IsGetBlocksOf, IsGetManyOf, IsGetOf, IsIndexOf, IsListLongOf, IsListOf, IsNamed, IsProfileOf, IsPutManyOf, IsPutOf, IsRenameOf, IsRescueOf, IsRimOf, IsRunOf, IsScanOf, IsSourceOf, IsSqueezeOf, IsTapeOf, IsTeletypeOf, IsTraceOf}
+use Rattle.command8.proofs.AskLemmas.{asks_assemble, asks_assemble_from, asks_check, asks_copy, asks_create, asks_create_tape, asks_delete, asks_get, asks_get_bin, asks_get_blocks, asks_get_many, asks_index, asks_list, asks_list_long, asks_put, asks_put_many, asks_rename, asks_rescue, asks_rim, asks_run, asks_scan, asks_squeeze, asks_tape, cell_plain, named_file, no_info, no_numbers, number_plain, one_info, one_number, placed_file, profile_asked, source_asked, teletype_asked, trace_asked, traced, volume_told, word_plain}
 use Rattle.command8.proofs.EnteredLemmas.{a_flag, a_value, a_word, entered_as, found_by}
 use Rattle.command8.proofs.NumberLemmas.{some_none}
 use Rattle.command8.proofs.UseLemmas.{no_option}
@@ -562,3 +562,17 @@ returns-clause-scan_dectape c = λ name image image_is.
     let rows = found_by (codes "scan") uses in
     entered_as (codes "scan") uses (IsScanOf image (Some Dectape) None) refl refl (record { pass = (no_option image image_is, record { found = refl; passes = refl; no_end = refl }, (record { read = refl; found = refl; takes_value = refl }, refl, tt)); settles = refl; defaults = refl; valid = refl }) name
     (λ task seen asks. asks_scan image (Some Dectape) None rows refl task seen asks.1)
+
+pub returns-clause-assemble_from : goal.returns-clause-assemble_from
+returns-clause-assemble_from c = λ name image file image_is file_is.
+    let uses = a_value (codes "assemble") (codes "from") image ∷ a_word (codes "assemble") (codes "FILE") file ∷ [] in
+    let rows = found_by (codes "assemble") uses in
+    entered_as (codes "assemble") uses (IsAssembleFromOf image (capitals file ∷ []) None) refl refl (record { pass = (no_option image image_is, record { read = refl; found = refl; takes_value = refl }, record { own = refl; one = refl; passes = refl }, (no_option file file_is, record { found = refl; passes = refl; no_end = refl }, tt)); settles = refl; defaults = refl; valid = refl }) name
+    (λ task seen asks. asks_assemble_from image (capitals file ∷ []) None rows refl refl refl task seen asks.1)
+
+pub returns-clause-assemble_onto : goal.returns-clause-assemble_onto
+returns-clause-assemble_onto c = λ name image file tape image_is file_is tape_is.
+    let uses = a_value (codes "assemble") (codes "from") image ∷ a_word (codes "assemble") (codes "FILE") file ∷ a_value (codes "assemble") (codes "onto") tape ∷ [] in
+    let rows = found_by (codes "assemble") uses in
+    entered_as (codes "assemble") uses (IsAssembleFromOf image (capitals file ∷ []) (Some (capitals tape))) refl refl (record { pass = (no_option image image_is, record { read = refl; found = refl; takes_value = refl }, record { own = refl; one = refl; passes = refl }, (no_option file file_is, record { found = refl; passes = refl; no_end = refl }, (no_option tape tape_is, record { read = refl; found = refl; takes_value = refl }, record { own = refl; one = refl; passes = refl }, tt))); settles = refl; defaults = refl; valid = refl }) name
+    (λ task seen asks. asks_assemble_from image (capitals file ∷ []) (Some (capitals tape)) rows refl refl refl task seen asks.1)
