@@ -139,7 +139,9 @@ where
 /// Prints the index of several images.
 fn list_index<H: Host>(host: &mut H, alloc: Global, form: IndexForm) -> Result<(), Ending> {
     if form.is_same {
-        let _ = host.tell("error: --same is not there yet: sort and uniq find equal files by the last column\n");
+        let _ = host.tell(
+            "error: --same is not there yet: sort and uniq find equal files by the last column\n",
+        );
         return Err(Ending::Misuse);
     }
     let find = match form.find {
