@@ -27,8 +27,11 @@ echo "$(wc -l <ours.txt) words, as palbart has them"
 head -c 576000 /dev/urandom >bytes
 put_bytes() { "$program" put V BYTES <bytes >/dev/null; }
 get_bytes() { "$program" get V BYTES >got; }
-for command in put_bytes get_bytes "$program list V" "$program check V" "$program create W 4095"; do
-    printf '%s: %.3f seconds\n' "${command##*/}" "$(seconds "$command")"
+list_files() { "$program" list V; }
+check_volume() { "$program" check V; }
+create_volume() { "$program" create W 4095; }
+for command in put_bytes get_bytes list_files check_volume create_volume; do
+    printf '%s: %.3f seconds\n' "$command" "$(seconds "$command")"
 done
 cmp bytes got
 
