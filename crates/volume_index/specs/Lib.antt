@@ -2,4 +2,5 @@ pub mod Holding
 pub mod IndexSteps
 pub mod Indexing
 pub mod Json
+pub mod Laws
 pub mod Years

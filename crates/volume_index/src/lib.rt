@@ -8,6 +8,7 @@ mod holding;
 mod indexing;
 mod json;
 mod kinds;
+pub mod laws;
 mod styles;
 mod words;
 mod years;
