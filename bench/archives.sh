@@ -2,7 +2,8 @@
 # Puts a source on a volume, assembles it there, gets its tape, and compares its words with those of Debian's palbart on the same
 # source; puts and gets a file of 1,500 blocks, and prints the seconds that each command takes on a volume of 4095 blocks. Then puts and
 # gets 240 files at once, and checks 1,000 images of 3248 blocks, one program after the other, one program for all and four side by side,
-# each beside cp or cat of the same bytes. Takes palbart from Debian's packages where it is missing.
+# each beside cp or cat of the same bytes; and writes the index of 2,000 and of 10,000 images of 400 blocks, by one program and by four side
+# by side, beside cat, with the most memory that one took. Takes palbart from Debian's packages where it is missing.
 set -eu
 top=$(cd "$(dirname "${BASH_SOURCE[0]}")/.." && pwd)
 . "$top/bench/seconds.sh"
@@ -26,8 +27,11 @@ echo "$(wc -l <ours.txt) words, as palbart has them"
 head -c 576000 /dev/urandom >bytes
 put_bytes() { "$program" put V BYTES <bytes >/dev/null; }
 get_bytes() { "$program" get V BYTES >got; }
-for command in put_bytes get_bytes "$program list V" "$program check V" "$program create W 4095"; do
-    printf '%s: %.3f seconds\n' "${command##*/}" "$(seconds "$command")"
+list_files() { "$program" list V; }
+check_volume() { "$program" check V; }
+create_volume() { "$program" create W 4095; }
+for command in put_bytes get_bytes list_files check_volume create_volume; do
+    printf '%s: %.3f seconds\n' "$command" "$(seconds "$command")"
 done
 cmp bytes got
 
@@ -53,4 +57,22 @@ check_beside() { printf '%s\0' images/* | xargs -0 -P 4 -n 50 "$program" check >
 copy_images() { cat images/* >/dev/null; }
 for command in check_each check_all check_beside copy_images; do
     printf '%s of 1000 images: %.3f seconds\n' "$command" "$(seconds "$command")"
+done
+rm -r images
+
+"$program" create S 400 >/dev/null
+"$program" put S files/F1?.BN >/dev/null
+"$program" put S - --as ADD.PA --text <add.pal >/dev/null
+mkdir images
+for k in $(seq 10000); do cp S "images/$k"; done
+names=(images/*)
+index_images() { "$program" index "${names[@]:0:$1}" >lines; }
+index_beside() { printf '%s\0' "${names[@]:0:$1}" | xargs -0 -P 4 -n 100 "$program" index >lines-beside; }
+cat_images() { cat "${names[@]:0:$1}" >/dev/null; }
+for count in 2000 10000; do
+    for command in index_images index_beside cat_images; do
+        printf '%s of %s images: %.3f seconds\n' "$command" "$count" "$(seconds "$command" "$count")"
+    done
+    cmp <(sort lines) <(sort lines-beside)
+    /usr/bin/time -f "%M kilobytes of memory for the index of $count images" "$program" index "${names[@]:0:$count}" >/dev/null
 done

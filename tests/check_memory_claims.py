@@ -23,6 +23,13 @@ PLACES: dict[str, dict[str, tuple[int, str]]] = {
     "archive8/src/deleting.rt": {
         "delete": (1, "the file service's own, on a line behind its pattern"),
     },
+    "volume_index/src/choosing.rt": {
+        "is_chosen": (1, "`chosen`'s own, in the arm of its pattern"),
+        "text_holds": (1, "the text of a file can fail for nothing else"),
+    },
+    "volume_index/src/kinds.rt": {
+        "kind_of_words": (1, "`kind_of`'s own, in the arm of its pattern"),
+    },
     "many8/src/putting.rt": {
         "put_all": (1, "a session's own, on a line behind its pattern"),
     },

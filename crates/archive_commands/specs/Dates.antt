@@ -1,11 +1,10 @@
 -- The list of a volume's files with their dates (this project's profile; the dates are those of OS/8).
-use Rattle.std.specs.Prelude.{◌≡◌, ℕ, decimal, nat_eq, nat_le, ◌&&◌, if◌then◌else◌, Option, Some, None, Result, Ok, Err, List, [], ◌∷◌, ◌++◌, take}
+use Rattle.std.specs.Prelude.{◌≡◌, ℕ, decimal, Option, Some, None, Result, Ok, Err, List, [], ◌∷◌, ◌++◌, take}
 use Rattle.std.specs.Global.{Vec}
-use Rattle.os8_dates.specs.Dates.{date_in, last_year}
+use Rattle.os8_dates.specs.Dates.{date_in}
 use Rattle.os8_dates.specs.Spelling.{spelled_date}
 use Rattle.os8_dates.specs.declared.dates.Date.{Date}
-use Rattle.os8_dates.specs.declared.years.TheConstants.{LAST_YEAR, LEAST_LAST}
-use Rattle.volume_image.specs.Image.{IsImageOf, block_word}
+use Rattle.volume_image.specs.Image.{IsImageOf}
 use Rattle.os8_dir.specs.Entries.{Listed}
 use Rattle.os8_dir.specs.Found.{Placed, files_at, free_blocks}
 use Rattle.os8_dir.specs.Reading.{directory_of}
@@ -14,16 +13,7 @@ use Rattle.script8.specs.Shown.{shown}
 use Rattle.archive8.specs.declared.faults.ArchiveFault.{ArchiveFault}
 use Rattle.archive8.specs.LongListing.{information_text}
 use Rattle.archive8.specs.Opening.{IsUnopened}
-
--- ## The eight years
-
--- the last of them: the year that is given, or else that of the word at 07777, which a system disk has as the last word of its block 0
-abbrev pub last_of : Option ℕ → ℕ → ℕ
-last_of None word = last_year word
-last_of (Some year) word = if nat_le LEAST_LAST year && nat_le year LAST_YEAR then year else last_year word
-
-abbrev pub last_in : Option ℕ → List (List ℕ) → ℕ
-last_in year blocks = last_of year (block_word blocks 0 0o377)
+use Rattle.volume_index.specs.Years.{last_in}
 
 -- ## The lines
 

@@ -12,7 +12,6 @@ ghost use Rattle.archive_commands.specs.Dates.{ListsDates, date_of_word, date_te
 ghost use Rattle.archive_commands.specs.DateSteps.{line_of_entry, lines_of_entries};
 
 use crate::lines::{put_number, put_shown};
-use crate::years::last_in;
 use archive8::ArchiveFault;
 use archive8::parts::volume_of;
 use hosts::Host;
@@ -23,6 +22,7 @@ use script8::SessionFault;
 use std::alloc::{AllocError, Global};
 use task8::ImageForm;
 use volume_commands::{look_at, print, refuse_image};
+use volume_index::last_in;
 use word12::Word;
 
 /// Lists the files of the volume in an image file, in order of their blocks, with where they lie, their information words, and the date that

@@ -10,7 +10,6 @@ mod lines;
 mod owners;
 mod patches;
 mod refusals;
-mod years;
 
 pub use dated_lists::list_dates;
 pub use dumps::dump_blocks;

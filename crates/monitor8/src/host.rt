@@ -6,12 +6,13 @@ use archive_commands::{WordPatch, dump_blocks, list_dates, patch_word};
 use command8::{TaskFault, task};
 use hosts::Host;
 use image_file8::{tell_bad_argument, texts_of};
+use index_commands::index_images;
 use many_commands::{check_images, put_files};
 use many_host8::get_files;
 use outcome::{Content, Ending, ending_of_output, gives_data, no_memory_line};
 use salvage_commands::{rescue_image, scan_blocks};
 use script8::SessionFault;
-use std::alloc::AllocError;
+use std::alloc::{AllocError, Global};
 use std::env::{self, Env};
 use std::fs::{File, Files};
 use std::io::{self, ErrorKind, Input, IsTerminal};
@@ -22,11 +23,12 @@ use system::System;
 use tape_host8::{
     assemble_files, list_tape, profile_tape, run_teletype, trace_tape, write_rim, write_source,
 };
-use task8::Task;
+use task8::{IndexForm, LineForm, Task};
 use volume_commands::{
     Rooms, asked_of, copy_file, create_image, create_tape, delete_files, end, get_bin, get_blocks,
     get_file, list_files, put_file, rename_file, squeeze_files,
 };
+use volume_index::IndexStyle;
 
 /// How many times a second a command is tried again whose image another program holds.
 const TRIES: usize = 20;
@@ -124,8 +126,8 @@ where
             }
             scan_blocks(host, alloc, &form.image)
         }
-        Task::Index(_) => Err(Ending::Misuse),
         Task::Dump(form) => dump_blocks(host, alloc, &form.image, form.span, form.is_sixbit),
+        Task::Index(form) => list_index(host, alloc, form),
         Task::Patch(form) => {
             let wanted = WordPatch {
                 block: form.block,
@@ -140,6 +142,27 @@ where
             )
         }
     }
+}
+
+/// Prints the index of several images.
+fn list_index<H: Host>(host: &mut H, alloc: Global, form: IndexForm) -> Result<(), Ending> {
+    if form.is_same {
+        let _ = host.tell(
+            "error: --same is not there yet: sort and uniq find equal files by the last column\n",
+        );
+        return Err(Ending::Misuse);
+    }
+    let find = match form.find {
+        Some(word) => word,
+        None => String::from_str(alloc, "*.*")?,
+    };
+    let style = IndexStyle {
+        find,
+        grep: form.grep,
+        is_json: form.form == LineForm::Json,
+        year: form.year,
+    };
+    index_images(host, alloc, &style, &form.images, form.layout)
 }
 
 /// Prints why the words ask for nothing, and gives the exit status. Help that is asked for is output as that of a command is.

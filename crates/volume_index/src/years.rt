@@ -2,7 +2,7 @@
 ghost use Rattle.std.specs.Prelude.{◌≡◌, ◌≤◌};
 ghost use Rattle.os8_dates.specs.declared.years.TheConstants.{LAST_YEAR, LEAST_LAST};
 ghost use Rattle.volume_image.specs.Volume.{IsVolume};
-ghost use Rattle.archive_commands.specs.Dates as spec;
+ghost use Rattle.volume_index.specs.Years as spec;
 
 use os8_dates::{LAST_YEAR, LEAST_LAST, last_year};
 use volume_image::{BlockStore, MemoryVolume};

@@ -1,0 +1,14 @@
+use Rattle.std.proofs.Common.{Result, List, length, map, false}
+use Rattle.hosts.specs.Event.{Event}
+use Rattle.outcome.specs.declared.endings.Ending.{Ending}
+use Rattle.index_commands.specs.Indexing.{IndexesImages}
+use Rattle.index_commands.proofs.indexing.index_each.Given as goal
+
+-- what comes of the images that are left is what comes of all
+abbrev pub invariant-loop-rest : goal.invariant-loop-rest
+invariant-loop-rest g l = (result : Result (Unit {0}) Ending) (new : List Event)
+    → IndexesImages l.fn.style l.fn.layout (map (λ image. image.bytes.items) l.rest) l.is_refused (g.H.Host.history l.host) result new
+    → IndexesImages l.fn.style l.fn.layout (map (λ image. image.bytes.items) l.fn.images) false (g.H.Host.history l.fn.host) result new
+
+abbrev pub decreases-loop-rest : goal.decreases-loop-rest
+decreases-loop-rest g l = length l.rest

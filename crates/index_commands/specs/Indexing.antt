@@ -1,0 +1,90 @@
+-- The command that writes the index of many images (this project's profile).
+use Rattle.std.specs.Prelude.{◌≡◌, ◌⊎◌, ℕ, Bool, true, false, ◌||◌, codes, Option, None, Result, Ok, Err, List, [], ◌∷◌}
+use Rattle.std.specs.Global.{Vec}
+use Rattle.hosts.specs.Event.{Event, tell_call}
+use Rattle.disk8.specs.declared.layouts.Layout.{Layout}
+use Rattle.script8.specs.declared.faults.SessionFault.TheVariants.{Memory}
+use Rattle.task8.specs.declared.forms.ImageForm.{ImageForm}
+use Rattle.archive8.specs.declared.faults.ArchiveFault.{ArchiveFault}
+use Rattle.many8.specs.Patterns.{is_choice}
+use Rattle.volume_index.specs.Indexing.{Indexes as GivesLines}
+use Rattle.volume_index.specs.declared.styles.IndexStyle.{IndexStyle}
+use Rattle.outcome.specs.Endings.{ending_of_archive}
+use Rattle.outcome.specs.declared.endings.Ending.{Ending}
+use Rattle.outcome.specs.declared.endings.Ending.TheVariants.{Failure, Fault, Misuse}
+use Rattle.volume_commands.specs.Work.{Then, Purely}
+use Rattle.volume_commands.specs.Reading.{LooksAt}
+use Rattle.volume_commands.specs.Saving.{Prints}
+use Rattle.index_commands.specs.Refusing.{PassesOver}
+use Rattle.index_commands.specs.Volumes.{IsImageAt, IsNoImage, body_of, layouts_in, number_of}
+
+-- ## A volume
+
+-- the lines of the files that are wanted of the volume that lies so in these bytes, or why there are none: it doesn't lie there, or is refused as a plain list of it is
+abbrev pub GivesIndex : IndexStyle → List ℕ → List ℕ → Option Layout → Result (Vec ℕ) Ending → Type 0
+GivesIndex style name bytes layout (Ok lines) = (image : List ℕ) × IsImageAt layout bytes image × GivesLines style name (number_of layout) image (Ok lines)
+GivesIndex style name bytes layout (Err ending) = IsNoImage layout bytes ending
+    ⊎ ((image : List ℕ) × IsImageAt layout bytes image × (fault : ArchiveFault) × GivesLines style name (number_of layout) image (Err fault) × (ending ≡ ending_of_archive fault))
+
+-- lines are printed, and nothing is refused; where standard output doesn't take them, the command ends
+abbrev pub PrintsLines : List ℕ → List Event → Result Bool Ending → List Event → Type 0
+PrintsLines lines old (Ok is_refused) new = (is_refused ≡ false) × Prints lines old (Ok tt) new
+PrintsLines lines old (Err ending) new = Prints lines old (Err ending) new
+
+-- lines are printed, or the volume is passed over
+abbrev pub ShowsIndex : List ℕ → Option ℕ → Result (Vec ℕ) Ending → List Event → Result Bool Ending → List Event → Type 0
+ShowsIndex name number (Ok lines) = PrintsLines lines.items
+ShowsIndex name number (Err ending) = PassesOver name number ending
+
+-- The index of a volume is made whole before a line of it is printed. The answer is whether the volume is refused.
+abbrev pub IndexesVolume : IndexStyle → List ℕ → List ℕ → Option Layout → List Event → Result Bool Ending → List Event → Type 0
+IndexesVolume style name bytes layout old result new = (lines : Result (Vec ℕ) Ending) × GivesIndex style name bytes layout lines × ShowsIndex name (number_of layout) lines old result new
+
+-- ## A file
+
+-- its volumes, one after the other, and whether any is refused
+abbrev pub IndexesVolumes : IndexStyle → List ℕ → List ℕ → List (Option Layout) → Bool → List Event → Result Bool Ending → List Event → Type 0
+IndexesVolumes style name bytes [] is_refused old result new = (result ≡ Ok is_refused) × (new ≡ old)
+IndexesVolumes style name bytes (layout ∷ layouts) is_refused old result new =
+    Then (IndexesVolume style name bytes layout) (λ more. IndexesVolumes style name bytes layouts (is_refused || more)) old result new
+
+-- those of a file that was read; one that can't be read is passed over
+abbrev pub IndexesRead : IndexStyle → Option Layout → List ℕ → Result (Vec ℕ) Ending → List Event → Result Bool Ending → List Event → Type 0
+IndexesRead style layout name (Ok file) = IndexesVolumes style name (body_of layout file.items) (layouts_in layout file.items) false
+IndexesRead style layout name (Err ending) = PassesOver name None ending
+
+-- the whole file of a name, unless memory is wanted for that
+abbrev pub IsWholeFile : List ℕ → Result ImageForm Ending → Type 0
+IsWholeFile name (Ok form) = (form.file.bytes.items ≡ name) × (form.layout ≡ None)
+IsWholeFile name (Err ending) = ending ≡ Fault Memory
+
+-- an image file is read whole, and then its volumes
+abbrev pub ReadsImage : IndexStyle → Option Layout → List ℕ → ImageForm → List Event → Result Bool Ending → List Event → Type 0
+ReadsImage style layout name form old result new = (file : Result (Vec ℕ) Ending) × (between : List Event) × LooksAt form old file between × IndexesRead style layout name file between result new
+
+abbrev pub IndexesImage : IndexStyle → Option Layout → List ℕ → List Event → Result Bool Ending → List Event → Type 0
+IndexesImage style layout name = Then (Purely (IsWholeFile name)) (λ form. ReadsImage style layout name form)
+
+-- ## The command
+
+-- what a command comes to that refused an image, or none
+abbrev pub ended : Bool → Result (Unit {0}) Ending
+ended true = Err Failure
+ended false = Ok tt
+
+-- Images are read in order, one at a time; of each the index is printed, or why it is passed over.
+abbrev pub IndexesImages : IndexStyle → Option Layout → List (List ℕ) → Bool → List Event → Result (Unit {0}) Ending → List Event → Type 0
+IndexesImages style layout [] is_refused old result new = (result ≡ ended is_refused) × (new ≡ old)
+IndexesImages style layout (name ∷ names) is_refused old result new =
+    Then (IndexesImage style layout name) (λ more. IndexesImages style layout names (is_refused || more)) old result new
+
+-- a word that is no name and no pattern is refused
+abbrev pub ChecksWord : List ℕ → List Event → Result (Unit {0}) Ending → List Event → Type 0
+ChecksWord word old (Ok it) new = (is_choice word ≡ true) × (new ≡ old)
+ChecksWord word old (Err Misuse) new =
+    (is_choice word ≡ false) × (ok : Bool) × (new ≡ tell_call ok (codes "error: --find takes a name, or a pattern of letters, digits, * and ?\n") ∷ old)
+ChecksWord word old (Err _) new = ⊥
+
+-- The word that chooses files is looked at, and then the index of all images is printed.
+abbrev pub Indexes : IndexStyle → Option Layout → List (List ℕ) → List Event → Result (Unit {0}) Ending → List Event → Type 0
+Indexes style layout names = Then (ChecksWord style.find.bytes.items) (λ it. IndexesImages style layout names false)

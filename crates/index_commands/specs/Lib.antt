@@ -1,0 +1,4 @@
+pub mod Indexing
+pub mod IndexSteps
+pub mod Refusing
+pub mod Volumes

@@ -1,0 +1,26 @@
+-- Images that are passed over (this project's profile).
+use Rattle.std.specs.Prelude.{◌≡◌, ℕ, Bool, true, codes, decimal, Option, Some, None, Result, Ok, Err, List, [], ◌∷◌, ◌++◌}
+use Rattle.hosts.specs.Event.{Event}
+use Rattle.script8.specs.declared.faults.SessionFault.TheVariants.{Memory}
+use Rattle.report8.specs.Program.{program_line}
+use Rattle.report8.specs.Prefixes.{prefixed}
+use Rattle.outcome.specs.declared.endings.Ending.{Ending}
+use Rattle.outcome.specs.declared.endings.Ending.TheVariants as ending
+use Rattle.volume_commands.specs.Ending.{TellsLine}
+
+-- the number of a volume of a disk after the name of its image
+abbrev pub number_text : Option ℕ → List ℕ
+number_text None = []
+number_text (Some number) = 0o72 ∷ decimal number
+
+-- what stands before the line of a refusal
+abbrev pub prefix_of : List ℕ → Option ℕ → List ℕ
+prefix_of name number = name ++ number_text number ++ codes ": "
+
+-- A volume is refused with a line, which standard error gets with the volume's name before it; the work goes on. Want of memory, and what else
+-- is no refusal, ends it.
+abbrev pub PassesOver : List ℕ → Option ℕ → Ending → List Event → Result Bool Ending → List Event → Type 0
+PassesOver name number (ending.Line line) old (Ok is_refused) new = (is_refused ≡ true) × TellsLine (prefixed (prefix_of name number) (program_line line)) old new
+PassesOver name number (ending.Line line) old (Err ended) new = (ended ≡ ending.Fault Memory) × (new ≡ old)
+PassesOver name number other old (Ok is_refused) new = ⊥
+PassesOver name number other old (Err ended) new = (ended ≡ other) × (new ≡ old)

@@ -1,0 +1,251 @@
+ghost use Rattle.std.specs.Prelude.{◌≡◌, Some, false, ◌||◌, ◌∷◌, [], map};
+ghost use Rattle.image_kind.specs.declared.kinds.Form.TheVariants.{Disk};
+ghost use Rattle.index_commands.specs.Indexing.{ChecksWord, GivesIndex, Indexes, IndexesImage, IndexesImages, IndexesVolume, IndexesVolumes, IsWholeFile, PrintsLines, ReadsImage};
+ghost use Rattle.index_commands.specs.Volumes.{body_of, layouts_in, layouts_of};
+
+use crate::refusals::pass_over;
+use crate::volumes::{body_in, number_of, volume_at};
+use disk8::Layout;
+use hosts::Host;
+use image_kind::{Form, kind_of};
+use many8::{ChoiceFault, chosen};
+use outcome::Ending;
+use std::alloc::Global;
+use task8::ImageForm;
+use volume_commands::{look_at, print};
+use volume_index::{IndexStyle, index_volume};
+
+/// Prints the index of the volumes in image files: a line for each file of each that is wanted, images as they are given and files as they
+/// lie. Images are read one at a time, and no file changes. Where no layout is given, each file's length and directory tell which volumes it
+/// has. What is refused is said on standard error, the rest goes on, and the command ends with a refusal. Where the word that chooses files is
+/// no name and no pattern, nothing is read (this project's profile).
+pub fn index_images<H: Host>(
+    host: &mut H,
+    alloc: Global,
+    style: &IndexStyle,
+    images: &[String],
+    layout: Option<Layout>,
+) -> Result<(), Ending>
+    ensures { Indexes style.now layout (map (λ image. image.bytes.items) images.now) (H.history host.old) result (H.history host.new) }
+{
+    check_word(host, alloc, style.find.as_bytes())?;
+    index_each(host, alloc, style, images, layout)
+}
+
+/// Refuses a word that is no name and no pattern.
+fn check_word<H: Host>(host: &mut H, alloc: Global, word: &[u8]) -> Result<(), Ending>
+    ensures { ChecksWord word.now (H.history host.old) result (H.history host.new) }
+{
+    match chosen(alloc, &[], word) {
+        Err(ChoiceFault::BadName) => {
+            let _ = host.tell(
+                "error: --find takes a name, or a pattern of letters, digits, * and ?\n",
+            );
+            Err(Ending::Misuse)
+        }
+        _ => Ok(()),
+    }
+}
+
+/// Prints the index of each image file.
+fn index_each<H: Host>(
+    host: &mut H,
+    alloc: Global,
+    style: &IndexStyle,
+    images: &[String],
+    layout: Option<Layout>,
+) -> Result<(), Ending>
+    ensures { IndexesImages style.now layout (map (λ image. image.bytes.items) images.now) false (H.history host.old) result (H.history host.new) }
+{
+    let mut is_refused = false;
+    let mut rest = images;
+    while let [image, others @ ..] = rest {
+        let more = index_image(host, alloc, style, image.as_str(), layout)?;
+        is_refused = is_either(is_refused, more);
+        rest = others;
+    }
+    if is_refused {
+        return Err(Ending::Failure);
+    }
+    Ok(())
+}
+
+/// Whether one of two is so.
+fn is_either(one: bool, other: bool) -> bool
+    ensures { result ≡ (one || other) }
+{
+    one || other
+}
+
+/// Prints the index of the volumes in an image file, and answers whether one is refused.
+fn index_image<H: Host>(
+    host: &mut H,
+    alloc: Global,
+    style: &IndexStyle,
+    name: &str,
+    layout: Option<Layout>,
+) -> Result<bool, Ending>
+    ensures { IndexesImage style.now layout name.now (H.history host.old) result (H.history host.new) }
+{
+    let form = whole_file(alloc, name)?;
+    read_image(host, alloc, style, name, &form, layout)
+}
+
+/// The whole file of a name.
+fn whole_file(alloc: Global, name: &str) -> Result<ImageForm, Ending>
+    ensures { IsWholeFile name.now result }
+{
+    let file = String::from_str(alloc, name)?;
+    Ok(ImageForm {
+        file,
+        layout: None,
+        wait: 0,
+    })
+}
+
+/// Reads an image file, and prints the index of its volumes.
+fn read_image<H: Host>(
+    host: &mut H,
+    alloc: Global,
+    style: &IndexStyle,
+    name: &str,
+    form: &ImageForm,
+    layout: Option<Layout>,
+) -> Result<bool, Ending>
+    ensures { ReadsImage style.now layout name.now form.now (H.history host.old) result (H.history host.new) }
+{
+    match look_at(host, alloc, form) {
+        Ok(file) => index_file(host, alloc, style, name.as_bytes(), &file, layout),
+        Err(ending) => pass_over(host, alloc, name.as_bytes(), None, ending),
+    }
+}
+
+/// Prints the index of the volumes in a file of these bytes.
+fn index_file<H: Host>(
+    host: &mut H,
+    alloc: Global,
+    style: &IndexStyle,
+    name: &[u8],
+    file: &[u8],
+    layout: Option<Layout>,
+) -> Result<bool, Ending>
+    ensures { IndexesVolumes style.now name.now (body_of layout file.now) (layouts_in layout file.now) false (H.history host.old) result (H.history host.new) }
+{
+    if let Some(given) = layout {
+        return index_alone(host, alloc, style, name, file, Some(given));
+    }
+    let kind = kind_of(file);
+    let bytes = body_in(kind, file);
+    match kind {
+        None => index_alone(host, alloc, style, name, bytes, None),
+        Some(kind) => index_form(host, alloc, style, name, bytes, kind.form),
+    }
+}
+
+/// Prints the index of the volumes in bytes of this form.
+fn index_form<H: Host>(
+    host: &mut H,
+    alloc: Global,
+    style: &IndexStyle,
+    name: &[u8],
+    bytes: &[u8],
+    form: Form,
+) -> Result<bool, Ending>
+    ensures { IndexesVolumes style.now name.now bytes.now (layouts_of form) false (H.history host.old) result (H.history host.new) }
+{
+    match form {
+        Form::Volume => index_alone(host, alloc, style, name, bytes, None),
+        Form::Dectape => index_alone(host, alloc, style, name, bytes, Some(Layout::Dectape)),
+        Form::Disk => index_disk(host, alloc, style, name, bytes),
+    }
+}
+
+/// Prints the index of the one volume that lies so in bytes, and answers whether it is refused.
+fn index_alone<H: Host>(
+    host: &mut H,
+    alloc: Global,
+    style: &IndexStyle,
+    name: &[u8],
+    bytes: &[u8],
+    layout: Option<Layout>,
+) -> Result<bool, Ending>
+    ensures { IndexesVolumes style.now name.now bytes.now (layout ∷ []) false (H.history host.old) result (H.history host.new) }
+{
+    let is_refused = index_one(host, alloc, style, name, bytes, layout)?;
+    Ok(is_refused)
+}
+
+/// Prints the index of both volumes of a disk, and answers whether one of them is refused.
+fn index_disk<H: Host>(
+    host: &mut H,
+    alloc: Global,
+    style: &IndexStyle,
+    name: &[u8],
+    bytes: &[u8],
+) -> Result<bool, Ending>
+    ensures { IndexesVolumes style.now name.now bytes.now (layouts_of Disk) false (H.history host.old) result (H.history host.new) }
+{
+    let first = index_one(host, alloc, style, name, bytes, Some(Layout::First))?;
+    let second = index_one(host, alloc, style, name, bytes, Some(Layout::Second))?;
+    Ok(first || second)
+}
+
+/// Prints the index of a volume that lies so in bytes, and answers whether it is refused.
+fn index_one<H: Host>(
+    host: &mut H,
+    alloc: Global,
+    style: &IndexStyle,
+    name: &[u8],
+    bytes: &[u8],
+    layout: Option<Layout>,
+) -> Result<bool, Ending>
+    ensures { IndexesVolume style.now name.now bytes.now layout (H.history host.old) result (H.history host.new) }
+{
+    let number = number_of(layout);
+    match lines_of(alloc, style, name, bytes, layout) {
+        Ok(lines) => print_lines(host, &lines),
+        Err(ending) => pass_over(host, alloc, name, number, ending),
+    }
+}
+
+/// Prints lines, of which nothing is refused.
+fn print_lines<H: Host>(host: &mut H, lines: &[u8]) -> Result<bool, Ending>
+    ensures { PrintsLines lines.now (H.history host.old) result (H.history host.new) }
+{
+    print(host, lines)?;
+    Ok(false)
+}
+
+/// The lines of the volume that lies so in bytes.
+fn lines_of(
+    alloc: Global,
+    style: &IndexStyle,
+    name: &[u8],
+    bytes: &[u8],
+    layout: Option<Layout>,
+) -> Result<Vec<u8>, Ending>
+    ensures { GivesIndex style.now name.now bytes.now layout result }
+{
+    match layout {
+        None => {
+            let lines = index_volume(alloc, style, name, None, bytes)?;
+            Ok(lines)
+        }
+        Some(layout) => lines_at(alloc, style, name, bytes, layout),
+    }
+}
+
+/// The lines of the volume that lies in bytes as in a disk or a DECtape.
+fn lines_at(
+    alloc: Global,
+    style: &IndexStyle,
+    name: &[u8],
+    bytes: &[u8],
+    layout: Layout,
+) -> Result<Vec<u8>, Ending>
+    ensures { GivesIndex style.now name.now bytes.now (Some layout) result }
+{
+    let image = volume_at(alloc, bytes, layout)?;
+    let lines = index_volume(alloc, style, name, number_of(Some(layout)), &image)?;
+    Ok(lines)
+}

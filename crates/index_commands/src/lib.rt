@@ -1,0 +1,10 @@
+//! The index of many images, over any host: which files are read, what each stream gets, and how the command ends.
+//!
+//! In each contract a file and an image are the lists of their bytes.
+#![tactic(auto)]
+
+mod indexing;
+mod refusals;
+mod volumes;
+
+pub use indexing::index_images;

@@ -1,0 +1,73 @@
+//! Images that are passed over.
+ghost use Rattle.std.specs.Prelude.{◌≡◌, ◌++◌, OnOk};
+ghost use Rattle.report8.specs.Prefixes.{prefixed};
+ghost use Rattle.report8.specs.Program.{program_line};
+ghost use Rattle.volume_commands.specs.Answers.{AreLines};
+ghost use Rattle.volume_commands.specs.Ending.{TellsLine};
+ghost use Rattle.index_commands.specs.Refusing.{PassesOver, number_text, prefix_of};
+
+use hosts::Host;
+use outcome::Ending;
+use report8::{ProgramLine, put_program, with_prefix};
+use std::alloc::{AllocError, Global};
+
+/// Says on standard error why a volume is refused, and that one is; what is no refusal ends the command.
+pub(crate) fn pass_over<H: Host>(
+    host: &mut H,
+    alloc: Global,
+    name: &[u8],
+    number: Option<u64>,
+    ending: Ending,
+) -> Result<bool, Ending>
+    ensures { PassesOver name.now number ending (H.history host.old) result (H.history host.new) }
+{
+    match ending {
+        Ending::Line(line) => {
+            let text = refusal(alloc, name, number, &line)?;
+            tell_line(host, &text);
+            Ok(true)
+        }
+        _ => Err(ending),
+    }
+}
+
+/// The line of a refusal with the name of the volume before it.
+fn refusal(
+    alloc: Global,
+    name: &[u8],
+    number: Option<u64>,
+    line: &ProgramLine,
+) -> Result<Vec<u8>, Ending>
+    ensures { AreLines (prefixed (prefix_of name.now number) (program_line line.now)) result }
+{
+    let mut text = Vec::new(alloc);
+    put_program(line, &mut text)?;
+    let mut prefix = name.to_vec(alloc)?;
+    put_number(&mut prefix, number)?;
+    prefix.extend_from_slice(b": ")?;
+    let lines = with_prefix(alloc, &prefix, &text)?;
+    Ok(lines)
+}
+
+/// Appends the number of a volume of a disk.
+fn put_number(text: &mut Vec<u8>, number: Option<u64>) -> Result<(), AllocError>
+    ensures { OnOk result (text.new.items ≡ text.old.items ++ number_text number) }
+{
+    match number {
+        None => Ok(()),
+        Some(number) => {
+            let mut digits = itoa::Buffer::new();
+            text.push(b':')?;
+            text.extend_from_slice(digits.format(number).as_bytes())
+        }
+    }
+}
+
+/// Prints a line on standard error, where it is a text. Where that takes no more, the work goes on.
+fn tell_line<H: Host>(host: &mut H, line: &[u8])
+    ensures { TellsLine line.now (H.history host.old) (H.history host.new) }
+{
+    if let Ok(text) = str::from_utf8(line) {
+        let _ = host.tell(text);
+    }
+}

@@ -1,0 +1,187 @@
+"""The index of image files by its definitions: what a file is, the volumes in it, and a line for each file of each."""
+import hashlib
+from dataclasses import dataclass
+from typing import Optional
+from tests.model.disks import VOLUME, image_in
+from tests.model.keeper import day_of
+from tests.model.tape import meaning_of
+from tests.model.volume import Unsound, Volume, read_volume, words_of_image
+from tests.model.words import BLOCK_WORDS, Name, frames_of, octal
+
+DISK, TAPE, LARGEST, BLOCK = 2 * VOLUME, 1474 * 258, 4095 * 512, 512
+TEXT = {7, *range(0o11, 0o16), *range(0o40, 0o200)}
+
+
+@dataclass
+class Part:
+    """A volume of a file: its number in a disk, and its image."""
+
+    number: str
+    image: bytes
+
+
+# ## What a file is
+
+
+def has_head(data: bytes, at: int, blocks: int) -> bool:
+    """The words with which a directory's first segment begins may stand at a byte."""
+    if at + 10 > len(data):
+        return False
+    count, first, link, _, info = (int.from_bytes(data[at + 2 * k : at + 2 * k + 2], "little") % 4096 for k in range(5))
+    return -count % 4096 <= 125 and 7 <= first <= blocks and link <= 6 and -info % 4096 <= 10
+
+
+def fits(form: str, data: bytes, before: int) -> bool:
+    """Directories begin where they should after so many bytes."""
+    if form == "tape":
+        return has_head(data, before + 516, 737)
+    if form == "disk":
+        second = has_head(data, before + VOLUME + BLOCK, 3248)
+        return second or (len(data) > LARGEST and has_head(data, before + BLOCK, 3248))
+    return has_head(data, before + BLOCK, min(len(data) // BLOCK, 4095))
+
+
+def excess(form: str, size: int) -> Optional[int]:
+    """How many bytes a file of so many has beyond its form's, if it may be of the form."""
+    if form == "tape":
+        return size - TAPE if TAPE <= size < TAPE + BLOCK else None
+    if form == "disk":
+        return max(size - DISK, 0) if VOLUME < size < DISK + BLOCK else None
+    return size % BLOCK if 8 * BLOCK <= size < LARGEST + BLOCK else None
+
+
+def parts_of(data: bytes) -> list[Part]:
+    """The volumes of a file of unknown origin; one of no known kind is taken as an image."""
+    for form in ("tape", "disk", "volume"):
+        more = excess(form, len(data))
+        if more is None:
+            continue
+        for before in (0, more):
+            if fits(form, data, before):
+                body = data[before : len(data) - (more - before)]
+                layouts = {"tape": ["tape"], "disk": ["1", "2"], "volume": [""]}[form]
+                return [Part(it if form == "disk" else "", image_in(it, body)) for it in layouts]
+    return [Part("", data)]
+
+
+# ## What a file of a volume is
+
+
+def core_start(words: list[int]) -> Optional[int]:
+    """Where the program of a core image starts, if words are one."""
+    if len(words) < BLOCK_WORDS or words[0] < 0o7602 or words[1] // 64 != 0o62 or words[1] % 8 != 3:
+        return None
+    blocks = 1
+    for k in range(4096 - words[0]):
+        first, control = words[4 + 2 * k], words[5 + 2 * k]
+        pages = control // 64 % 32 or 32
+        blocks += (pages + 1) // 2
+        if first % BLOCK_WORDS or control >= 0o4000 or control % 8 or first + 128 * pages > 4096 or BLOCK_WORDS * blocks > len(words):
+            return None
+    return 4096 * (words[1] // 8 % 8) + words[2]
+
+
+def is_rim(frames: list[int]) -> bool:
+    """Leader frames, addresses with words, one at least, and a trailer frame."""
+    at = next((place for place, frame in enumerate(frames) if frame != 0o200), len(frames))
+    first = at
+    while at < len(frames) and frames[at] != 0o200:
+        four = frames[at : at + 4]
+        if len(four) < 4 or not 0o100 <= four[0] < 0o200 or any(frame >= 0o100 for frame in four[1:]):
+            return False
+        at += 4
+    return at < len(frames) and at > first
+
+
+def is_text(frames: list[int]) -> bool:
+    """Up to the first control Z, or zeros to the end, each frame is a character's, and one of them is seen."""
+    kept = []
+    for place, frame in enumerate(frames):
+        if frame % 128 == 0o32:
+            break
+        if frame == 0:
+            if any(frames[place:]):
+                return False
+            break
+        if frame % 128 not in TEXT:
+            return False
+        kept.append(frame % 128)
+    return any(0o41 <= it <= 0o176 for it in kept)
+
+
+def kind_of(words: list[int]) -> str:
+    frames = frames_of(words)
+    start = core_start(words)
+    if not any(frames):
+        return "zeros"
+    if start is not None:
+        return f"core-{octal(start, 5)}"
+    if isinstance(meaning_of(frames), dict):
+        return "BIN"
+    if is_rim(frames):
+        return "RIM"
+    return "text" if is_text(frames) else "unknown"
+
+
+# ## Lines
+
+
+def spelled_codes(codes: list[int]) -> str:
+    while codes and not codes[-1]:
+        codes = codes[:-1]
+    return "".join(chr(it + 64) if 1 <= it <= 26 else chr(it) if 48 <= it <= 57 else f"_{octal(it, 2)}" for it in codes)
+
+
+def spelled_name(name: Name) -> str:
+    """A name with each code that is no letter and no digit as `_` and two octal digits."""
+    codes = [code for word in name for code in (word // 64, word % 64)]
+    extension = spelled_codes(codes[6:])
+    return spelled_codes(codes[:6]) + (f".{extension}" if extension else "")
+
+
+def spelled_date(info: tuple[int, ...], last: int) -> str:
+    if not info or not info[0]:
+        return "-"
+    return (day_of(info, last) or [octal(info[0], 4)])[0]
+
+
+def quoted(name: str) -> str:
+    return "".join(chr(it) if 0o40 < it < 0o177 and it != 0o134 else f"\\{octal(it, 3)}" for it in name.encode())
+
+
+def last_year(image: bytes, year: Optional[int]) -> int:
+    return year or 1977 + 8 * (words_of_image(image[510:512])[0] // 128 % 4)
+
+
+def lines_of(name: str, part: Part, volume: Volume, year: Optional[int]) -> list[str]:
+    """The lines of the files of a volume, in the order of their blocks."""
+    lines = []
+    for it, place in sorted(volume.places.items(), key=lambda found: found[1]):
+        file = volume.files[it]
+        held = part.image[BLOCK * place : BLOCK * (place + file.blocks)]
+        columns = [quoted(name), part.number or "-", str(place), str(file.blocks), spelled_name(it)]
+        columns += [spelled_date(file.info, last_year(part.image, year)), kind_of(file.words), hashlib.md5(held).hexdigest()]
+        lines.append("\t".join(columns))
+    return lines
+
+
+def volume_of(image: bytes) -> Optional[Volume]:
+    """The volume of an image, if it is sound."""
+    if len(image) % BLOCK or not 8 <= len(image) // BLOCK <= 4095 or any(word > 0o7777 for word in words_of_image(image)):
+        return None
+    try:
+        return read_volume(image)
+    except (Unsound, IndexError):
+        return None
+
+
+def indexed(name: str, data: bytes, year: Optional[int] = None) -> tuple[list[str], list[str]]:
+    """The lines of a file's volumes, and the names of those that are refused."""
+    lines, refused = list[str](), list[str]()
+    for part in parts_of(data):
+        volume = volume_of(part.image)
+        if volume is None:
+            refused.append(name + (f":{part.number}" if part.number else ""))
+        else:
+            lines += lines_of(name, part, volume, year)
+    return lines, refused
