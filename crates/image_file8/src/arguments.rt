@@ -13,12 +13,12 @@ pub fn tell_bad_argument<R: Env + Eprint + AllocGlobal>(rt: &R) -> Result<(), Al
     tell(rt, Note::Plain(PlainNote::NoText));
     let mut room = room_of(rt.alloc(), MOST_BYTES)?;
     for place in 1..usize::MAX {
-        let count = match rt.arg(place, &mut room) {
+        let count = match rt.arg(place, room.as_mut_slice()) {
             Ok(count) => count,
             Err(FillError::NotPresent) => return Ok(()),
             Err(FillError::TooLong) => return Ok(()),
         };
-        let argument = &room[..count];
+        let (argument, _rest) = room.as_slice().split_at(count.min(room.len()));
         if str::from_utf8(argument).is_err() {
             return tell_argument(rt, place, argument);
         }
@@ -28,7 +28,8 @@ pub fn tell_bad_argument<R: Env + Eprint + AllocGlobal>(rt: &R) -> Result<(), Al
 
 /// So many zeros.
 fn room_of(alloc: Global, count: usize) -> Result<Vec<u8>, AllocError> {
-    vec![in alloc; 0; count]
+    let room = vec![in alloc; 0; count]?;
+    Ok(room)
 }
 
 /// Prints the number of an argument and its bytes.
