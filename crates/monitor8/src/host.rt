@@ -22,7 +22,7 @@ use system::System;
 use tape_host8::{
     assemble_files, list_tape, profile_tape, run_teletype, trace_tape, write_rim, write_source,
 };
-use task8::Task;
+use task8::{ScanForm, Task};
 use volume_commands::{
     Rooms, asked_of, copy_file, create_image, create_tape, delete_files, end, get_bin, get_blocks,
     get_file, list_files, put_file, rename_file, squeeze_files,
@@ -117,13 +117,7 @@ where
         Task::Squeeze(image) => wait_for_image!(rt, image.wait, squeeze_files(host, alloc, &image)),
         Task::Check(form) => check_images(rt, form),
         Task::Rescue(form) => rescue_image(host, alloc, &form.image, form.new.as_str()),
-        Task::Scan(form) => {
-            if form.folder.is_some() {
-                tell_no_folder(rt);
-                return Err(Ending::Misuse);
-            }
-            scan_blocks(host, alloc, &form.image)
-        }
+        Task::Scan(form) => scan_volume(rt, host, &form),
         Task::Index(_) => Err(Ending::Misuse),
         Task::Dump(form) => dump_blocks(host, alloc, &form.image, form.span, form.is_sixbit),
         Task::Patch(form) => {
@@ -170,9 +164,17 @@ fn refuse_words<H: Host, R: Env + Print + Eprint + AllocGlobal>(
     ExitCode::from(end(host, rooms, false, Err(ending)))
 }
 
-/// Says that what is scanned goes to no folder.
-fn tell_no_folder<R: Eprint>(rt: &R) {
-    let _ = eprintln!(rt; "error: '--into' is not there yet for 'scan': it writes no files");
+/// Lists what the blocks of a volume hold. Nothing of it goes to a folder yet, which is said.
+fn scan_volume<H: Host, R: Eprint + AllocGlobal>(
+    rt: &R,
+    host: &mut H,
+    form: &ScanForm,
+) -> Result<(), Ending> {
+    if form.folder.is_some() {
+        let _ = eprintln!(rt; "error: '--into' is not there yet for 'scan': it writes no files");
+        return Err(Ending::Misuse);
+    }
+    scan_blocks(host, rt.alloc(), &form.image)
 }
 
 /// Says why words are refused, as `clap` says it of those that it refuses itself.
