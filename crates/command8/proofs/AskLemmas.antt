@@ -252,8 +252,8 @@ pub asks_check : (images : List Text) (layout : Option Layout) (is_all : Bool) (
 asks_check images layout is_all rows is task (a_check form) asks =
     (sym asks.1.0 ∙ ap (λ p. p.0) is, sym asks.1.1 ∙ ap (λ p. p.1) is, asks.1.2 ∙ ap (λ p. p.2) is)
 
--- the images, where their volumes lie, the last year, how lines are written, the pattern, the text, and whether equal files are meant
-abbrev told_index : List Row → List Text × Option Layout × Option ℕ × LineForm × Option Text × Option Text × Bool
+-- the images, where their volumes lie, the last year, how lines are written, the pattern, and the text
+abbrev told_index : List Row → List Text × Option Layout × Option ℕ × LineForm × Option Text × Option Text
 told_index rows = (
   values_of (codes "IMAGE") rows,
   layout_of (codes "volume") (codes "dectape") rows,
@@ -261,20 +261,18 @@ told_index rows = (
   line_form rows,
   name_in (codes "find") rows,
   first_of (codes "grep") rows,
-  is_set (codes "same") rows,
 )
 
-pub asks_index : (images : List Text) (layout : Option Layout) (how : LineForm) (find grep : Option Text) (is_same : Bool) (rows : List Row)
-    → told_index rows ≡ (images, layout, None, how, find, grep, is_same) → (task : Task) → Seen verb.Index task → AsksFor verb.Index rows task
-    → IsIndexOf images layout how find grep is_same task
-asks_index images layout how find grep is_same rows is task (an_index form) asks = (
+pub asks_index : (images : List Text) (layout : Option Layout) (how : LineForm) (find grep : Option Text) (rows : List Row)
+    → told_index rows ≡ (images, layout, None, how, find, grep) → (task : Task) → Seen verb.Index task → AsksFor verb.Index rows task
+    → IsIndexOf images layout how find grep task
+asks_index images layout how find grep rows is task (an_index form) asks = (
   sym asks.1.0 ∙ ap (λ p. p.0) is,
   sym asks.1.1 ∙ ap (λ p. p.1) is,
   asks.1.2 ∙ ap (λ p. p.2) is,
   asks.1.3 ∙ ap (λ p. p.3) is,
   sym asks.1.4 ∙ ap (λ p. p.4) is,
   sym asks.1.5 ∙ ap (λ p. p.5) is,
-  asks.1.6 ∙ ap (λ p. p.6) is,
 )
 
 abbrev told_new : List Row → Option Text × Option Layout × Option Text
@@ -287,13 +285,12 @@ asks_rescue image new layout rows is task (a_rescue form) asks = (
   some_eq form.new.bytes.items new (sym asks.1.1 ∙ ap (λ p. p.2) is),
 )
 
-abbrev told_scan : List Row → Option Text × Option Layout × Option Text
-told_scan rows = (first_of (codes "IMAGE") rows, layout_of (codes "volume") (codes "dectape") rows, first_of (codes "into") rows)
+abbrev told_scan : List Row → Option Text × Option Layout
+told_scan rows = (first_of (codes "IMAGE") rows, layout_of (codes "volume") (codes "dectape") rows)
 
-pub asks_scan : (image : Text) (layout : Option Layout) (folder : Option Text) (rows : List Row) → told_scan rows ≡ (Some image, layout, folder)
-    → (task : Task) → Seen verb.Scan task → AsksFor verb.Scan rows task → IsScanOf image layout folder task
-asks_scan image layout folder rows is task (a_scan form) asks =
-    (image_is image layout rows form.image (ap (λ p. p.0) is) (ap (λ p. p.1) is) asks.1.0, sym asks.1.1 ∙ ap (λ p. p.2) is)
+pub asks_scan : (image : Text) (layout : Option Layout) (rows : List Row) → told_scan rows ≡ (Some image, layout) → (task : Task)
+    → Seen verb.Scan task → AsksFor verb.Scan rows task → IsScanOf image layout task
+asks_scan image layout rows is task (a_scan own) asks = image_is image layout rows own (ap (λ p. p.0) is) (ap (λ p. p.1) is) asks.1
 
 -- the image, where it lies, when it is written, and whether refusals are faults
 abbrev told_run : List Row → Option Text × Option Layout × Saving × Bool × ℕ

@@ -17,7 +17,6 @@ use Rattle.task8.specs.declared.archives.IndexForm.{IndexForm}
 use Rattle.task8.specs.declared.archives.LineForm.{LineForm}
 use Rattle.task8.specs.declared.archives.LineForm.TheVariants.{Columns, Json}
 use Rattle.task8.specs.declared.archives.RescueForm.{RescueForm}
-use Rattle.task8.specs.declared.archives.ScanForm.{ScanForm}
 use Rattle.task8.specs.declared.forms.BlocksForm.{BlocksForm}
 use Rattle.task8.specs.declared.forms.CheckForm.{CheckForm}
 use Rattle.task8.specs.declared.forms.CopyForm.{CopyForm}
@@ -254,16 +253,10 @@ IsIndexForm values form = (values_of (codes "IMAGE") values ≡ map (λ image. i
     × (layout_of (codes "volume") (codes "dectape") values ≡ form.layout) × (form.year ≡ year_of values)
     × (form.form ≡ line_form values) × (name_in (codes "find") values ≡ option_map (λ pattern. pattern.bytes.items) form.find)
     × (first_of (codes "grep") values ≡ option_map (λ text. text.bytes.items) form.grep)
-    × (form.is_same ≡ is_set (codes "same") values)
 
 -- files are rescued so
 abbrev pub IsRescueForm : List Row → RescueForm → Type 0
 IsRescueForm values form = IsSeen values form.image × (first_of (codes "NEW") values ≡ Some form.new.bytes.items)
-
--- blocks are scanned so
-abbrev pub IsScanForm : List Row → ScanForm → Type 0
-IsScanForm values form = IsSeen values form.image
-    × (first_of (codes "into") values ≡ option_map (λ folder. folder.bytes.items) form.folder)
 
 -- ## The task
 
@@ -304,7 +297,7 @@ AsksFor which values (Dump form) = (which ≡ verb.Dump) × IsBlockSpan values f
 AsksFor which values (Patch form) = (which ≡ verb.Patch) × IsPatchForm values form
 AsksFor which values (Index form) = (which ≡ verb.Index) × IsIndexForm values form
 AsksFor which values (Rescue form) = (which ≡ verb.Rescue) × IsRescueForm values form
-AsksFor which values (Scan form) = (which ≡ verb.Scan) × IsScanForm values form
+AsksFor which values (Scan image) = (which ≡ verb.Scan) × IsSeen values image
 AsksFor which values (Assemble form) = (which ≡ verb.Assemble) × IsAssembleForm values form
 AsksFor which values (Teletype form) = (which ≡ verb.Teletype) × IsTeletypeForm values form
 AsksFor which values (Trace form) = (which ≡ verb.Trace) × IsTraceForm values form
@@ -516,21 +509,19 @@ IsCheckOf names layout is_all (Check form) = (map (λ image. image.bytes.items) 
 IsCheckOf names layout is_all task = ⊥
 
 -- an index of these images, of the files with such names and such texts
-abbrev pub IsIndexOf : List Text → Option Layout → LineForm → Option Text → Option Text → Bool → Task → Type 0
-IsIndexOf names layout form find grep is_same (Index own) = (map (λ image. image.bytes.items) own.images.items ≡ names)
+abbrev pub IsIndexOf : List Text → Option Layout → LineForm → Option Text → Option Text → Task → Type 0
+IsIndexOf names layout form find grep (Index own) = (map (λ image. image.bytes.items) own.images.items ≡ names)
     × (own.layout ≡ layout) × (own.year ≡ None) × (own.form ≡ form)
     × (option_map (λ pattern. pattern.bytes.items) own.find ≡ find) × (option_map (λ text. text.bytes.items) own.grep ≡ grep)
-    × (own.is_same ≡ is_same)
-IsIndexOf names layout form find grep is_same task = ⊥
+IsIndexOf names layout form find grep task = ⊥
 
 abbrev pub IsRescueOf : Text → Text → Option Layout → Task → Type 0
 IsRescueOf name new layout (Rescue form) = IsImageOf name layout form.image × (form.new.bytes.items ≡ new)
 IsRescueOf name new layout task = ⊥
 
-abbrev pub IsScanOf : Text → Option Layout → Option Text → Task → Type 0
-IsScanOf name layout folder (Scan form) = IsImageOf name layout form.image
-    × (option_map (λ folder. folder.bytes.items) form.folder ≡ folder)
-IsScanOf name layout folder task = ⊥
+abbrev pub IsScanOf : Text → Option Layout → Task → Type 0
+IsScanOf name layout (Scan image) = IsImageOf name layout image
+IsScanOf name layout task = ⊥
 
 -- these sources of PAL III alone, to this file
 abbrev pub IsAssembleOf : List Text → Option Text → Task → Type 0

@@ -216,25 +216,22 @@ pub fn plain_words()
         (IsCheckOf (image ∷ []) (Some Dectape) false) }
     ensures index { (name image : List ℕ) → IsPlain image
         → IsTakenAs (name ∷ codes "index" ∷ image ∷ [])
-        (IsIndexOf (image ∷ []) None Columns None None false) }
+        (IsIndexOf (image ∷ []) None Columns None None) }
     ensures index_two { (name image other : List ℕ) → IsPlain image → IsPlain other
         → IsTakenAs (name ∷ codes "index" ∷ image ∷ other ∷ [])
-        (IsIndexOf (image ∷ other ∷ []) None Columns None None false) }
+        (IsIndexOf (image ∷ other ∷ []) None Columns None None) }
     ensures index_json { (name image : List ℕ) → IsPlain image
         → IsTakenAs (name ∷ codes "index" ∷ image ∷ codes "--json" ∷ [])
-        (IsIndexOf (image ∷ []) None Json None None false) }
+        (IsIndexOf (image ∷ []) None Json None None) }
     ensures index_find { (name image pattern : List ℕ) → IsPlain image → IsPlain pattern
         → IsTakenAs (name ∷ codes "index" ∷ image ∷ codes "--find" ∷ pattern ∷ [])
-        (IsIndexOf (image ∷ []) None Columns (Some (capitals pattern)) None false) }
+        (IsIndexOf (image ∷ []) None Columns (Some (capitals pattern)) None) }
     ensures index_grep { (name image text : List ℕ) → IsPlain image → IsPlain text
         → IsTakenAs (name ∷ codes "index" ∷ image ∷ codes "--grep" ∷ text ∷ [])
-        (IsIndexOf (image ∷ []) None Columns None (Some text) false) }
-    ensures index_same { (name image : List ℕ) → IsPlain image
-        → IsTakenAs (name ∷ codes "index" ∷ image ∷ codes "--same" ∷ [])
-        (IsIndexOf (image ∷ []) None Columns None None true) }
+        (IsIndexOf (image ∷ []) None Columns None (Some text)) }
     ensures index_dectape { (name image : List ℕ) → IsPlain image
         → IsTakenAs (name ∷ codes "index" ∷ image ∷ codes "--dectape" ∷ [])
-        (IsIndexOf (image ∷ []) (Some Dectape) Columns None None false) }
+        (IsIndexOf (image ∷ []) (Some Dectape) Columns None None) }
     ensures rescue { (name image new : List ℕ) → IsPlain image → IsPlain new
         → IsTakenAs (name ∷ codes "rescue" ∷ image ∷ new ∷ [])
         (IsRescueOf image new None) }
@@ -243,13 +240,10 @@ pub fn plain_words()
         (IsRescueOf image new (Some layout)) }
     ensures scan { (name image : List ℕ) → IsPlain image
         → IsTakenAs (name ∷ codes "scan" ∷ image ∷ [])
-        (IsScanOf image None None) }
-    ensures scan_into { (name image folder : List ℕ) → IsPlain image → IsPlain folder
-        → IsTakenAs (name ∷ codes "scan" ∷ image ∷ codes "--into" ∷ folder ∷ [])
-        (IsScanOf image None (Some folder)) }
+        (IsScanOf image None) }
     ensures scan_dectape { (name image : List ℕ) → IsPlain image
         → IsTakenAs (name ∷ codes "scan" ∷ image ∷ codes "--dectape" ∷ [])
-        (IsScanOf image (Some Dectape) None) }
+        (IsScanOf image (Some Dectape)) }
 {}
 
 /// A law: the letters of options are the usual ones, no subcommand has one twice, and these subcommands have these.

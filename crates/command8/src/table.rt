@@ -413,7 +413,6 @@ pub const INDEX: &[Argument] = rows! {
     "IMAGE" must Kind::Words(MOST_IMAGES), "", "The files that hold the volumes";
     "find" option Kind::One(Form::Text), "PATTERN", "Only files whose names fit the pattern, as '*.PA'";
     "grep" option Kind::One(Form::Text), "TEXT", "Only texts that hold TEXT";
-    "same" flag Kind::Flag, "", "Only files that are equal to others, by groups";
     "json" flag Kind::Flag, "", "Write each line as a JSON object";
     "year" option Kind::One(Form::Year), "N", "The last of the eight years that dates mean, 1977 to 9999; else the one that block 0 gives";
     "volume" 'v' option Kind::One(Form::Volume), "N", "The volume of an RK05 disk, 1 or 2, where IMAGE is the file of one";
@@ -429,7 +428,6 @@ pub const RESCUE: &[Argument] = rows! {
 
 pub const SCAN: &[Argument] = rows! {
     "IMAGE" must Kind::Word, "", "The file that holds the volume";
-    "into" option Kind::One(Form::Text), "FOLDER", "The folder that gets what is found";
     "volume" 'v' option Kind::One(Form::Volume), "N", "The volume of an RK05 disk, 1 or 2, where IMAGE is the file of one";
     "dectape" flag Kind::Flag, "", "IMAGE is the file of a DECtape, of 129 words a block";
 };

@@ -37,7 +37,7 @@ Damaged volumes:
   dump      Show the words of a volume's blocks
   patch     Put a word of an image in place of another
   rescue    Write a new volume with the files that a damaged one still has
-  scan      List what the blocks of a volume hold, whatever its directory says
+  scan      List the texts that the blocks of a volume hold, whatever its directory says
 
 Help:
   help      Print this message, or the help of a command
@@ -98,7 +98,7 @@ pub fn about_of(verb: Verb) -> &'static str {
         Verb::Patch => "Put a word of an image in place of another",
         Verb::Index => "List the files of many volumes, with what each holds",
         Verb::Rescue => "Write a new volume with the files that a damaged one still has",
-        Verb::Scan => "List what the blocks of a volume hold, whatever its directory says",
+        Verb::Scan => "List the texts that the blocks of a volume hold, whatever its directory says",
     }
 }
 
@@ -163,13 +163,13 @@ pub fn long_about_of(verb: Verb) -> &'static str {
             "Puts the word NEW in place of the word OLD in a block of the OS/8 volume in the file IMAGE, by its{n}number from 0, and prints PATCHED and what it did. Where another word than OLD stands there nothing is{n}written. The volume may be damaged, and each other byte of the file stays as it is."
         }
         Verb::Index => {
-            "Prints a line for each file of the OS/8 volumes in the files IMAGE, image after image and by place: the{n}image, the volume, the first block, the length, the name, the date, what the file holds, and a digest{n}of its words, which equal files share. With --find, --grep and --same only those files are listed that{n}these let through. Names of files are quoted, so that none can tear a line. No image is written."
+            "Prints a line for each file of the OS/8 volumes in the files IMAGE, image after image and by place: the{n}image, the volume, the first block, the length, the name, the date, what the file holds, and a digest{n}of its words, which equal files share. With --find and --grep only those files are listed that these let{n}through. Names of files are quoted, so that none can tear a line. No image is written."
         }
         Verb::Rescue => {
             "Writes a new OS/8 volume to the file NEW, with each file that is still found on the damaged volume in{n}the file IMAGE, in their order, with their words, information words, dates and names, and prints what{n}is lost, and why. IMAGE is not written."
         }
         Verb::Scan => {
-            "Prints what the blocks of the OS/8 volume in the file IMAGE hold, by content alone, whatever its{n}directory says: segments of a directory, texts, BIN and RIM tapes, and core images. With --into each{n}is written to a file in FOLDER. The image is not written."
+            "Prints the whole texts that the blocks of the OS/8 volume in the file IMAGE hold, by their content{n}alone, whatever its directory says: the first block, how many there are, and the text's first line.{n}The image is not written."
         }
     }
 }
@@ -223,10 +223,10 @@ pub fn examples_of(verb: Verb) -> &'static str {
         Verb::Patch => {
             "Examples:\n  pdp8 patch disk.img 1 2 7 0\n  pdp8 patch disk.rk05 70 12 103421 3421 -v 2"
         }
-        Verb::Index => { "Examples:\n  pdp8 index *.img\n  pdp8 index *.img --find '*.pa' --same" }
+        Verb::Index => { "Examples:\n  pdp8 index *.img\n  pdp8 index *.img --find '*.pa'" }
         Verb::Rescue => {
             "Examples:\n  pdp8 rescue damaged.img new.img\n  pdp8 rescue damaged.rk05 new.img -v 2"
         }
-        Verb::Scan => "Examples:\n  pdp8 scan damaged.img\n  pdp8 scan damaged.img --into found",
+        Verb::Scan => "Examples:\n  pdp8 scan damaged.img\n  pdp8 scan disk.rk05 --volume 2",
     }
 }

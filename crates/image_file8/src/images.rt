@@ -1,7 +1,7 @@
 //! Images in files of the host. An image that a command may change is held from before it is read until the program ends.
 
 use crate::inputs::tell_of_limit;
-use crate::printing::tell;
+use crate::printing::{print_bytes, tell};
 use disk8::{DiskFile, Layout};
 use host8::{Durability, HeldFile, HoldFault, Unwritten, hold, hold_within, look, make};
 use outcome::{Content, Ending, FileNote, Note, ending_of_read, ending_of_write};
@@ -102,6 +102,18 @@ impl Image {
         mem::swap(&mut self.bytes, bytes);
         Ok(())
     }
+}
+
+/// Has an image file hold these bytes, and then prints the lines that tell of the change.
+pub fn save_and_print<R: Files<File = File> + Print + Eprint>(
+    rt: &R,
+    held: &mut Image,
+    bytes: Vec<u8>,
+    lines: &[u8],
+) -> Result<(), Ending> {
+    let mut bytes = bytes;
+    held.save(rt, &mut bytes)?;
+    print_bytes(rt, lines)
 }
 
 /// Makes a file that holds these bytes, in place of any of its name.

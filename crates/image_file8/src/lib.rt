@@ -13,7 +13,7 @@ mod words;
 
 pub use arguments::tell_bad_argument;
 pub use files::{answer_of, bytes_of_file, core_of_file, refusal};
-pub use images::{Image, bytes_of, image_bytes, make_file};
+pub use images::{Image, bytes_of, image_bytes, make_file, save_and_print};
 pub use inputs::{CountedInput, input_bytes};
 pub use printing::{print_bytes, print_of, tell, tell_line, tell_text};
 pub use progress::Progress;

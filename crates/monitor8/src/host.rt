@@ -119,13 +119,7 @@ where
         Task::Squeeze(image) => wait_for_image!(rt, image.wait, squeeze_files(host, alloc, &image)),
         Task::Check(form) => check_images(host, alloc, &form),
         Task::Rescue(form) => rescue_image(host, alloc, &form.image, form.new.as_str()),
-        Task::Scan(form) => {
-            if form.folder.is_some() {
-                tell_no_folder(rt);
-                return Err(Ending::Misuse);
-            }
-            scan_blocks(host, alloc, &form.image)
-        }
+        Task::Scan(image) => scan_blocks(host, alloc, &image),
         Task::Dump(form) => dump_blocks(host, alloc, &form.image, form.span, form.is_sixbit),
         Task::Index(form) => list_index(host, alloc, form),
         Task::Patch(form) => {
@@ -146,12 +140,6 @@ where
 
 /// Prints the index of several images.
 fn list_index<H: Host>(host: &mut H, alloc: Global, form: IndexForm) -> Result<(), Ending> {
-    if form.is_same {
-        let _ = host.tell(
-            "error: --same is not there yet: sort and uniq find equal files by the last column\n",
-        );
-        return Err(Ending::Misuse);
-    }
     let find = match form.find {
         Some(word) => word,
         None => String::from_str(alloc, "*.*")?,
@@ -191,11 +179,6 @@ fn refuse_words<H: Host, R: Env + Print + Eprint + AllocGlobal>(
         }
     };
     ExitCode::from(end(host, rooms, false, Err(ending)))
-}
-
-/// Says that what is scanned goes to no folder.
-fn tell_no_folder<R: Eprint>(rt: &R) {
-    let _ = eprintln!(rt; "error: '--into' is not there yet for 'scan': it writes no files");
 }
 
 /// Says why words are refused, as `clap` says it of those that it refuses itself.

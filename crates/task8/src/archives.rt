@@ -61,9 +61,6 @@ pub struct IndexForm {
 
     /// The text that its files hold, as it was typed, if one is given.
     pub grep: Option<String>,
-
-    /// Whether it has only files that are equal to others, by groups.
-    pub is_same: bool,
 }
 
 /// From which volume files are rescued, and where to.
@@ -73,13 +70,4 @@ pub struct RescueForm {
 
     /// The file of the host that gets the new volume.
     pub new: String,
-}
-
-/// Of which volume the blocks are scanned, and where to what they hold is written.
-#[derive(Drop)]
-pub struct ScanForm {
-    pub image: ImageForm,
-
-    /// The folder of the host that gets what is found, if one is named.
-    pub folder: Option<String>,
 }

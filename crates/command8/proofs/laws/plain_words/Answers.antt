@@ -483,50 +483,43 @@ pub returns-clause-index : goal.returns-clause-index
 returns-clause-index c = λ name image image_is.
     let uses = a_word (codes "index") (codes "IMAGE") image ∷ [] in
     let rows = found_by (codes "index") uses in
-    entered_as (codes "index") uses (IsIndexOf (image ∷ []) None Columns None None false) refl refl (record { pass = (no_option image image_is, record { found = refl; passes = refl; no_end = refl }, tt); settles = refl; defaults = refl; valid = refl }) name
-    (λ task seen asks. asks_index (image ∷ []) None Columns None None false rows refl task seen asks.1)
+    entered_as (codes "index") uses (IsIndexOf (image ∷ []) None Columns None None) refl refl (record { pass = (no_option image image_is, record { found = refl; passes = refl; no_end = refl }, tt); settles = refl; defaults = refl; valid = refl }) name
+    (λ task seen asks. asks_index (image ∷ []) None Columns None None rows refl task seen asks.1)
 
 pub returns-clause-index_two : goal.returns-clause-index_two
 returns-clause-index_two c = λ name image other image_is other_is.
     let uses = a_word (codes "index") (codes "IMAGE") image ∷ a_word (codes "index") (codes "IMAGE") other ∷ [] in
     let rows = found_by (codes "index") uses in
-    entered_as (codes "index") uses (IsIndexOf (image ∷ other ∷ []) None Columns None None false) refl refl (record { pass = (no_option image image_is, record { found = refl; passes = refl; no_end = refl }, (no_option other other_is, record { found = refl; passes = refl; no_end = refl }, tt)); settles = refl; defaults = refl; valid = refl }) name
-    (λ task seen asks. asks_index (image ∷ other ∷ []) None Columns None None false rows refl task seen asks.1)
+    entered_as (codes "index") uses (IsIndexOf (image ∷ other ∷ []) None Columns None None) refl refl (record { pass = (no_option image image_is, record { found = refl; passes = refl; no_end = refl }, (no_option other other_is, record { found = refl; passes = refl; no_end = refl }, tt)); settles = refl; defaults = refl; valid = refl }) name
+    (λ task seen asks. asks_index (image ∷ other ∷ []) None Columns None None rows refl task seen asks.1)
 
 pub returns-clause-index_json : goal.returns-clause-index_json
 returns-clause-index_json c = λ name image image_is.
     let uses = a_word (codes "index") (codes "IMAGE") image ∷ a_flag (codes "index") (codes "json") ∷ [] in
     let rows = found_by (codes "index") uses in
-    entered_as (codes "index") uses (IsIndexOf (image ∷ []) None Json None None false) refl refl (record { pass = (no_option image image_is, record { found = refl; passes = refl; no_end = refl }, (record { read = refl; found = refl; takes_value = refl }, refl, tt)); settles = refl; defaults = refl; valid = refl }) name
-    (λ task seen asks. asks_index (image ∷ []) None Json None None false rows refl task seen asks.1)
+    entered_as (codes "index") uses (IsIndexOf (image ∷ []) None Json None None) refl refl (record { pass = (no_option image image_is, record { found = refl; passes = refl; no_end = refl }, (record { read = refl; found = refl; takes_value = refl }, refl, tt)); settles = refl; defaults = refl; valid = refl }) name
+    (λ task seen asks. asks_index (image ∷ []) None Json None None rows refl task seen asks.1)
 
 pub returns-clause-index_find : goal.returns-clause-index_find
 returns-clause-index_find c = λ name image pattern image_is pattern_is.
     let uses = a_word (codes "index") (codes "IMAGE") image ∷ a_value (codes "index") (codes "find") pattern ∷ [] in
     let rows = found_by (codes "index") uses in
-    entered_as (codes "index") uses (IsIndexOf (image ∷ []) None Columns (Some (capitals pattern)) None false) refl refl (record { pass = (no_option image image_is, record { found = refl; passes = refl; no_end = refl }, (no_option pattern pattern_is, record { read = refl; found = refl; takes_value = refl }, record { own = refl; one = refl; passes = refl }, tt)); settles = refl; defaults = refl; valid = refl }) name
-    (λ task seen asks. asks_index (image ∷ []) None Columns (Some (capitals pattern)) None false rows refl task seen asks.1)
+    entered_as (codes "index") uses (IsIndexOf (image ∷ []) None Columns (Some (capitals pattern)) None) refl refl (record { pass = (no_option image image_is, record { found = refl; passes = refl; no_end = refl }, (no_option pattern pattern_is, record { read = refl; found = refl; takes_value = refl }, record { own = refl; one = refl; passes = refl }, tt)); settles = refl; defaults = refl; valid = refl }) name
+    (λ task seen asks. asks_index (image ∷ []) None Columns (Some (capitals pattern)) None rows refl task seen asks.1)
 
 pub returns-clause-index_grep : goal.returns-clause-index_grep
 returns-clause-index_grep c = λ name image text image_is text_is.
     let uses = a_word (codes "index") (codes "IMAGE") image ∷ a_value (codes "index") (codes "grep") text ∷ [] in
     let rows = found_by (codes "index") uses in
-    entered_as (codes "index") uses (IsIndexOf (image ∷ []) None Columns None (Some text) false) refl refl (record { pass = (no_option image image_is, record { found = refl; passes = refl; no_end = refl }, (no_option text text_is, record { read = refl; found = refl; takes_value = refl }, record { own = refl; one = refl; passes = refl }, tt)); settles = refl; defaults = refl; valid = refl }) name
-    (λ task seen asks. asks_index (image ∷ []) None Columns None (Some text) false rows refl task seen asks.1)
-
-pub returns-clause-index_same : goal.returns-clause-index_same
-returns-clause-index_same c = λ name image image_is.
-    let uses = a_word (codes "index") (codes "IMAGE") image ∷ a_flag (codes "index") (codes "same") ∷ [] in
-    let rows = found_by (codes "index") uses in
-    entered_as (codes "index") uses (IsIndexOf (image ∷ []) None Columns None None true) refl refl (record { pass = (no_option image image_is, record { found = refl; passes = refl; no_end = refl }, (record { read = refl; found = refl; takes_value = refl }, refl, tt)); settles = refl; defaults = refl; valid = refl }) name
-    (λ task seen asks. asks_index (image ∷ []) None Columns None None true rows refl task seen asks.1)
+    entered_as (codes "index") uses (IsIndexOf (image ∷ []) None Columns None (Some text)) refl refl (record { pass = (no_option image image_is, record { found = refl; passes = refl; no_end = refl }, (no_option text text_is, record { read = refl; found = refl; takes_value = refl }, record { own = refl; one = refl; passes = refl }, tt)); settles = refl; defaults = refl; valid = refl }) name
+    (λ task seen asks. asks_index (image ∷ []) None Columns None (Some text) rows refl task seen asks.1)
 
 pub returns-clause-index_dectape : goal.returns-clause-index_dectape
 returns-clause-index_dectape c = λ name image image_is.
     let uses = a_word (codes "index") (codes "IMAGE") image ∷ a_flag (codes "index") (codes "dectape") ∷ [] in
     let rows = found_by (codes "index") uses in
-    entered_as (codes "index") uses (IsIndexOf (image ∷ []) (Some Dectape) Columns None None false) refl refl (record { pass = (no_option image image_is, record { found = refl; passes = refl; no_end = refl }, (record { read = refl; found = refl; takes_value = refl }, refl, tt)); settles = refl; defaults = refl; valid = refl }) name
-    (λ task seen asks. asks_index (image ∷ []) (Some Dectape) Columns None None false rows refl task seen asks.1)
+    entered_as (codes "index") uses (IsIndexOf (image ∷ []) (Some Dectape) Columns None None) refl refl (record { pass = (no_option image image_is, record { found = refl; passes = refl; no_end = refl }, (record { read = refl; found = refl; takes_value = refl }, refl, tt)); settles = refl; defaults = refl; valid = refl }) name
+    (λ task seen asks. asks_index (image ∷ []) (Some Dectape) Columns None None rows refl task seen asks.1)
 
 pub returns-clause-rescue : goal.returns-clause-rescue
 returns-clause-rescue c = λ name image new image_is new_is.
@@ -546,22 +539,15 @@ pub returns-clause-scan : goal.returns-clause-scan
 returns-clause-scan c = λ name image image_is.
     let uses = a_word (codes "scan") (codes "IMAGE") image ∷ [] in
     let rows = found_by (codes "scan") uses in
-    entered_as (codes "scan") uses (IsScanOf image None None) refl refl (record { pass = (no_option image image_is, record { found = refl; passes = refl; no_end = refl }, tt); settles = refl; defaults = refl; valid = refl }) name
-    (λ task seen asks. asks_scan image None None rows refl task seen asks.1)
-
-pub returns-clause-scan_into : goal.returns-clause-scan_into
-returns-clause-scan_into c = λ name image folder image_is folder_is.
-    let uses = a_word (codes "scan") (codes "IMAGE") image ∷ a_value (codes "scan") (codes "into") folder ∷ [] in
-    let rows = found_by (codes "scan") uses in
-    entered_as (codes "scan") uses (IsScanOf image None (Some folder)) refl refl (record { pass = (no_option image image_is, record { found = refl; passes = refl; no_end = refl }, (no_option folder folder_is, record { read = refl; found = refl; takes_value = refl }, record { own = refl; one = refl; passes = refl }, tt)); settles = refl; defaults = refl; valid = refl }) name
-    (λ task seen asks. asks_scan image None (Some folder) rows refl task seen asks.1)
+    entered_as (codes "scan") uses (IsScanOf image None) refl refl (record { pass = (no_option image image_is, record { found = refl; passes = refl; no_end = refl }, tt); settles = refl; defaults = refl; valid = refl }) name
+    (λ task seen asks. asks_scan image None rows refl task seen asks.1)
 
 pub returns-clause-scan_dectape : goal.returns-clause-scan_dectape
 returns-clause-scan_dectape c = λ name image image_is.
     let uses = a_word (codes "scan") (codes "IMAGE") image ∷ a_flag (codes "scan") (codes "dectape") ∷ [] in
     let rows = found_by (codes "scan") uses in
-    entered_as (codes "scan") uses (IsScanOf image (Some Dectape) None) refl refl (record { pass = (no_option image image_is, record { found = refl; passes = refl; no_end = refl }, (record { read = refl; found = refl; takes_value = refl }, refl, tt)); settles = refl; defaults = refl; valid = refl }) name
-    (λ task seen asks. asks_scan image (Some Dectape) None rows refl task seen asks.1)
+    entered_as (codes "scan") uses (IsScanOf image (Some Dectape)) refl refl (record { pass = (no_option image image_is, record { found = refl; passes = refl; no_end = refl }, (record { read = refl; found = refl; takes_value = refl }, refl, tt)); settles = refl; defaults = refl; valid = refl }) name
+    (λ task seen asks. asks_scan image (Some Dectape) rows refl task seen asks.1)
 
 pub returns-clause-assemble_from : goal.returns-clause-assemble_from
 returns-clause-assemble_from c = λ name image file image_is file_is.
