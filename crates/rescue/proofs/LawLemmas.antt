@@ -1,5 +1,5 @@
 -- The files of a rescued volume are just those that were kept.
-use Rattle.std.proofs.Common.{◌≡◌, ◌≢◌, ℕ, cond, eqb, Some, None, List, [], ◌∷◌, refl, ap, sym, ◌∙◌, arith, inl, inr}
+use Rattle.std.proofs.Common.{◌≡◌, ◌≢◌, ℕ, cond, eqb, Some, None, List, [], ◌∷◌, refl, ap, ◌∙◌, arith, inl, inr}
 use Rattle.std.specs.Ordering.{nat_cmp, eq_by_cmp}
 use Rattle.std.specs.FinMap.{from_entries, get, insert, get-insert, get-from_entries}
 use Rattle.std.proofs.lemmas.Cmp.{nat_cmp_total}

@@ -1,9 +1,9 @@
 -- The files that a new volume has of those that a survey tells.
-use Rattle.std.proofs.Common.{◌≡◌, ◌≢◌, ◌∙◌, ℕ, Bool, true, false, true≢false, cond, eqb, Option, Some, None, List, [], ◌∷◌, refl, sym, ap, subst, inl, inr}
+use Rattle.std.proofs.Common.{◌≡◌, ◌≢◌, ◌∙◌, ℕ, false, true≢false, Option, Some, None, List, [], ◌∷◌, sym, ap, subst, inl, inr}
 use Rattle.std.specs.FinMap.{get}
 use Rattle.std.proofs.lemmas.Bool.Decides.{eqb_tells}
 use Rattle.os8_dir.specs.Entries.{AreDistinct, contains}
-use Rattle.os8_dir.specs.Files.{Files, files_of, run}
+use Rattle.os8_dir.specs.Files.{Files, files_of}
 use Rattle.os8_files.specs.Calls.{info_of}
 use Rattle.os8_dir.specs.Names.{padded}
 use Rattle.rescue.specs.Laws.{AreThere, Differ, HasNone, KeptAreThere, OthersAreNot}

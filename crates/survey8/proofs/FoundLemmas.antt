@@ -1,7 +1,7 @@
 -- The files that a survey tells differ, and lie inside the volume.
-use Rattle.std.proofs.Common.{◌≡◌, ◌∙◌, ℕ, zero, suc, ◌+◌, ◌<◌, ◌≤◌, Bool, true, false, true≢false, ◌||◌, cond, eqb, nat_lt, if◌then◌else◌, Option, Some, None, List, [], ◌∷◌, ◌++◌, length, refl, sym, ap, arith, inl, inr}
+use Rattle.std.proofs.Common.{◌≡◌, ◌∙◌, ℕ, zero, suc, ◌+◌, ◌<◌, ◌≤◌, Bool, true, false, true≢false, ◌||◌, cond, eqb, nat_lt, if◌then◌else◌, Some, None, List, [], ◌∷◌, ◌++◌, length, refl, sym, ap, arith, inl, inr}
 use Rattle.std.proofs.lemmas.Bool.{lt-ltb, cases_lt, eq-eqb, eqb-true}
-use Rattle.os8_dir.specs.Entries.{AreDistinct, contains, is_zero}
+use Rattle.os8_dir.specs.Entries.{AreDistinct, contains}
 use Rattle.os8_dir.specs.declared.names.Name.{Name}
 use Rattle.word12.specs.declared.words.Word.{Word}
 use Rattle.os8_dir.specs.declared.faults.DirFault.TheVariants.{PastVolume, SameName}

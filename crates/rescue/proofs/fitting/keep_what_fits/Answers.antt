@@ -1,4 +1,4 @@
-use Rattle.std.proofs.Common.{◌-◌, length, take, drop, sym, arith}
+use Rattle.std.proofs.Common.{◌-◌, length, take, drop, arith}
 use Rattle.rescue.proofs.RescueLemmas.{first-and-others, nothing}
 use Rattle.rescue.proofs.FitLemmas.{none-so-far, one-fitted, all-fitted}
 use Rattle.rescue.proofs.fitting.keep_what_fits.Goals as goal

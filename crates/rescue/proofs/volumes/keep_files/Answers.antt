@@ -1,8 +1,6 @@
-use Rattle.std.proofs.Common.{List, [], ◌∷◌, ◌++◌, ◌+◌, ◌-◌, length, take, drop, refl, sym, ◌∙◌}
+use Rattle.std.proofs.Common.{[], ◌∷◌, ◌++◌, ◌-◌, length, take, drop, ◌∙◌}
 use Rattle.std.proofs.lemmas.Result.{err_from_is_err_and}
-use Rattle.os8_dir.specs.Files.{files_of}
 use Rattle.os8_files.specs.Calls.{info_of}
-use Rattle.rescue.specs.Rescued.{with_files}
 use Rattle.rescue.proofs.RescueLemmas.{files-left, first-and-others, one-at, one-longer, one-more, ready-again}
 use Rattle.rescue.proofs.volumes.keep_files.Goals as goal
 

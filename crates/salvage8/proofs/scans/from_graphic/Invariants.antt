@@ -1,4 +1,4 @@
-use Rattle.std.proofs.Common.{◌≡◌, ◌/◌, ◌++◌, length}
+use Rattle.std.proofs.Common.{◌≡◌, length}
 use Rattle.salvage8.specs.Scanning.{from_graphic}
 use Rattle.salvage8.proofs.scans.from_graphic.Given as goal
 

@@ -1,5 +1,5 @@
 use Rattle.std.proofs.Common.{◌-◌, length, take, drop, refl, arith}
-use Rattle.salvage8.proofs.WordLemmas.{first-and-others, nothing, first-inside, others-inside, one-kept, all-kept}
+use Rattle.salvage8.proofs.WordLemmas.{first-and-others, nothing, others-inside, one-kept, all-kept}
 use Rattle.salvage8.proofs.words.files_with_words.Goals as goal
 
 pub loop-rest-init : goal.loop-rest-init

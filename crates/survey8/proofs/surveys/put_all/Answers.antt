@@ -1,4 +1,4 @@
-use Rattle.std.proofs.Common.{◌≡◌, ◌∙◌, ◌+◌, ℕ, ◌++◌, [], false, List, length, ap, arith}
+use Rattle.std.proofs.Common.{◌≡◌, ◌∙◌, ℕ, [], false, length, ap, arith}
 use Rattle.survey8.specs.Findings.{judged}
 use Rattle.survey8.specs.Lines.{finding_lines, loss_lines, count_runs, is_twice}
 use Rattle.survey8.specs.Steps.{is_two}
