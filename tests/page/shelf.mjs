@@ -31,6 +31,13 @@ await run('shelf', {
         await page.call('Page.navigate', { url: `${url}?b#run=hello` });
         await page.until(`location.search === '?b' && document.getElementById('tty-status')?.textContent.includes('HALT')`);
     },
+    'a link plays the game that is written in PAL8, and its text has that dialect': async (page, url) => {
+        await page.go(url);
+        await page.call('Page.navigate', { url: `${url}?b#run=guess8` });
+        await page.until(`location.search === '?b' && document.getElementById('paper')?.textContent.includes('WHAT IS YOUR NAME?')`);
+        same('GUESS8 PAL8', await page.look(`document.getElementById('source-name').value + ' ' + document.getElementById('dialect').value`), 'the text');
+        await page.click('#tty-stop');
+    },
     'the sort is in core, and SING STEP goes from its start': async (page, url) => {
         await page.go(url);
         await press(page, 'sort');
