@@ -98,7 +98,8 @@ pub fn about_of(verb: Verb) -> &'static str {
         Verb::Patch => "Put a word of an image in place of another",
         Verb::Index => "List the files of many volumes, with what each holds",
         Verb::Rescue => "Write a new volume with the files that a damaged one still has",
-        Verb::Scan => "List the texts that the blocks of a volume hold, whatever its directory says",
+        Verb::Scan =>
+            "List the texts that the blocks of a volume hold, whatever its directory says",
     }
 }
 
