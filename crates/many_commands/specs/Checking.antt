@@ -11,6 +11,7 @@ use Rattle.archive8.specs.Checking.{Checks}
 use Rattle.archive8.specs.declared.faults.ArchiveFault.{ArchiveFault}
 use Rattle.archive8.specs.declared.faults.ArchiveFault.TheVariants as archive
 use Rattle.survey8.specs.Surveying.{IsSurveyed}
+use Rattle.survey8.specs.declared.answers.Survey.{Survey}
 use Rattle.report8.specs.Prefixes.{prefixed}
 use Rattle.report8.specs.Program.{program_line}
 use Rattle.report8.specs.declared.programs.ProgramLine.{ProgramLine}
@@ -39,7 +40,7 @@ fault_of_image image.Memory = archive.Refused Memory
 
 -- all that the directory of an image still tells; the image is sound where this has no fault
 abbrev pub SurveysAll : List ℕ → Result Report ArchiveFault → Type 0
-SurveysAll bytes (Ok report) = (faults : ℕ) × IsSurveyed bytes report.text.items faults × (report.is_sound ≡ nat_eq faults 0)
+SurveysAll bytes (Ok report) = (survey : Survey) × IsSurveyed bytes survey × (report.text.items ≡ survey.text.items) × (report.is_sound ≡ nat_eq survey.faults 0)
 SurveysAll bytes (Err fault) = (why : ImageFault) × ReadsImage bytes (Err why) × (fault ≡ fault_of_image why)
 
 -- what the directory of a sound image tells
