@@ -16,7 +16,7 @@ use std::alloc::{AllocError, Global};
 use std::fs::{File, Files};
 use std::io::Input;
 use std::time::Clock;
-use task8::AssembleForm;
+use task8::{AssembleForm, ImageForm};
 
 /// The name of a standard stream where a file's may stand.
 const STANDARD: &str = "-";
@@ -96,7 +96,11 @@ fn write_output<R: Files<File = File> + Print + Eprint + AllocGlobal>(
 fn refuse_clashes<R: Eprint>(rt: &R, form: &AssembleForm) -> Result<(), Ending> {
     refuse_one_place(rt, form)?;
     match &form.from {
-        Some(_) => refuse_source(rt, form, &form.onto),
+        Some(image) => {
+            refuse_source(rt, form, &form.onto)?;
+            refuse_image(rt, image, &form.output)?;
+            refuse_image(rt, image, &form.list)
+        }
         None => {
             refuse_source(rt, form, &form.output)?;
             refuse_source(rt, form, &form.list)
@@ -137,6 +141,22 @@ fn refuse_source<R: Eprint>(
             tell(rt, Note::OnName(NameNote::OverSource, output.as_str()));
             return Err(Ending::Misuse);
         }
+    }
+    Ok(())
+}
+
+/// Refuses to write a file in place of the image that has the sources.
+fn refuse_image<R: Eprint>(
+    rt: &R,
+    image: &ImageForm,
+    output: &Option<String>,
+) -> Result<(), Ending> {
+    let Some(output) = output else {
+        return Ok(());
+    };
+    if image.file.as_str() == output.as_str() {
+        tell(rt, Note::OnName(NameNote::OverSource, output.as_str()));
+        return Err(Ending::Misuse);
     }
     Ok(())
 }
