@@ -140,17 +140,29 @@ where
 
 /// Prints the index of several images.
 fn list_index<H: Host>(host: &mut H, alloc: Global, form: IndexForm) -> Result<(), Ending> {
-    let find = match form.find {
-        Some(word) => word,
-        None => String::from_str(alloc, "*.*")?,
-    };
-    let style = IndexStyle {
+    let IndexForm {
+        images,
+        layout,
+        year,
+        form,
         find,
-        grep: form.grep,
-        is_json: form.form == LineForm::Json,
-        year: form.year,
+        grep,
+    } = form;
+    let style = IndexStyle {
+        find: pattern_or_all(alloc, find)?,
+        grep,
+        is_json: form == LineForm::Json,
+        year,
     };
-    index_images(host, alloc, &style, &form.images, form.layout)
+    index_images(host, alloc, &style, &images, layout)
+}
+
+/// The pattern that is given, or else the one that fits each name.
+fn pattern_or_all(alloc: Global, find: Option<String>) -> Result<String, AllocError> {
+    match find {
+        Some(pattern) => Ok(pattern),
+        None => String::from_str(alloc, "*.*"),
+    }
 }
 
 /// Prints why the words ask for nothing, and gives the exit status. Help that is asked for is output as that of a command is.
