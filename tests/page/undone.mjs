@@ -287,7 +287,7 @@ await run('undone', {
         await page.fill('#source-name', 'ONE');
         await page.fill('#further', 'two');
         await page.click('#assemble');
-        await isTold(page, 'faults', 'TWO, line 1, column 2: UA');
+        await isTold(page, 'faults', 'TWO, line 1, column 6: UA');
         await page.click('#faults button');
         same(bad, await page.look(`document.getElementById('text').value`), 'the text with the fault');
         same('', await page.look(`document.getElementById('further').value`), 'the second goes on in none');
