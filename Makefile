@@ -1,4 +1,4 @@
-# The five verbs that people try. Each is a command of this folder, which docs/GATE.md and README.md describe.
+# The five verbs that people try. Each is a command of this folder, which docs/CONTRIBUTING.md and README.md describe.
 
 # Builds the program with checks and no proof, a minute or two, and says which program ./pdp8 runs.
 build:

@@ -1,7 +1,7 @@
 #!/usr/bin/env python3
 """check_gate.py: the gate runs every check of tests/, and fails where a part of it does. Each executable file of tests/ and of its folders is a
 part of `./check` and of `./check quick`, but for those that are listed here with their reasons; the parts that run the program do so with
-every build of it; docs/GATE.md names each part. A part fails the gate where it can't start, ends with no count, counts nothing, or ends
+every build of it; docs/CONTRIBUTING.md names each part. A part fails the gate where it can't start, ends with no count, counts nothing, or ends
 with another status than its last line says. The last line is 'N passed, M failed'.
 """
 import contextlib
@@ -61,14 +61,14 @@ def checks() -> list[str]:
 def listed() -> Iterator[tuple[str, bool]]:
     """What is to be so of the lists of parts, each with whether it is."""
     whole, quick = ([words for group in gate.parts(is_quick) for words in group] for is_quick in (False, True))
-    with open(f"{TOP}/docs/GATE.md", encoding="utf-8") as text:
+    with open(f"{TOP}/docs/CONTRIBUTING.md", encoding="utf-8") as text:
         page = text.read()
     for check in checks():
         if check in APART:
             continue
         yield f"./check runs {check}", check in QUICK_ALONE or any(words[0] == check for words in whole)
         yield f"./check quick runs {check}", check in NOT_QUICK or any(words[0] == check for words in quick)
-        yield f"docs/GATE.md names {check}", check in page
+        yield f"docs/CONTRIBUTING.md names {check}", check in page
     for words in {tuple(words) for words in (*whole, *quick)} - {("rt", "ci")}:
         yield f"there is a check {words[0]}", words[0] in checks()
     yield "./check runs rt ci", ("rt", "ci") in whole

@@ -2,7 +2,7 @@
 """check_headline.py: writes target/headline.md, which lists every definition that the public clauses of `Session` and of its laws unfold to, by
 the file where it stands, and the Rust types and constants that they name; then what those of `Jobs` and of its laws unfold to besides.
 
-It fails where that page lacks one of them, where a type doesn't stand where it is imported from, and where docs/HEADLINE.md names a file or a
+It fails where that page lacks one of them, where a type doesn't stand where it is imported from, and where docs/PROVED.md names a file or a
 wrong body that isn't there. The last line is 'N passed, M failed'.
 """
 import os
@@ -18,7 +18,7 @@ from build.crates import Crates
 from tests.definitions import Found, closure, types, types_in
 from tests.rattle_sources import files_of, source
 
-PAGE = f"{TOP}/docs/HEADLINE.md"
+PAGE = f"{TOP}/docs/PROVED.md"
 LIST = f"{TOP}/target/headline.md"
 HEADING = "# Every definition of the headline\n"
 FIRST = """

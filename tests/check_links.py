@@ -1,11 +1,11 @@
 #!/usr/bin/env python3
-"""check_links.py: each relative link of README.md and docs/*.md leads to a file that is there, and to a heading where it names one; and what
-docs/TOUR.md and docs/GLOSSARY.md name of the sources is there: each `crate/specs/File.antt` and `crate/src/file.rt`, each
-`crate::function`, each name that is a link in the file that it leads to, and in the tour each line of a quoted clause in one of the
-files to which it links. The last line is 'N passed, M failed'.
+"""check_links.py: each relative link of README.md and of the pages below docs/ leads to a file that is there, and to a heading where it names
+one; and what docs/ARCHITECTURE.md and docs/GLOSSARY.md name of the sources is there: each `crate/specs/File.antt` and `crate/src/file.rt`, each
+`crate::function`, each name that is a link in the file that it leads to, and each line of a quoted clause in one of the
+files to which the page links. The last line is 'N passed, M failed'.
 
     tests/check_links.py              those pages
-    tests/check_links.py FILE..       other pages, as if they were the tour
+    tests/check_links.py FILE..       other pages, as if they were docs/ARCHITECTURE.md
 """
 import functools
 import glob
@@ -21,7 +21,7 @@ from tests.rattle_sources import crates, definitions, files_of, source
 
 Line = tuple[int, str]
 Link = tuple[int, str, str]
-NAMING = [f"{TOP}/docs/{name}.md" for name in ("GLOSSARY", "TOUR")]
+NAMING = [f"{TOP}/docs/{name}.md" for name in ("ARCHITECTURE", "GLOSSARY")]
 LINK = re.compile(r"\[([^\]\n]*)\]\(([^)\s]+)\)")
 CRATES = set(crates())
 
@@ -52,7 +52,7 @@ def prose(text: str) -> tuple[list[Line], list[Line]]:
     """A page's numbered lines outside sessions and quoted clauses, and those of the clauses."""
     lines, quoted, inside = list[Line](), list[Line](), False
     for number, line in enumerate(text.splitlines(), 1):
-        if line.startswith("```"):
+        if line.lstrip().startswith("```"):
             inside = not inside
         elif inside:
             quoted.append((number, line.strip()))
@@ -102,7 +102,7 @@ def unquoted(quoted: list[Line], links: list[Link]) -> list[Line]:
 
 
 def main(words: list[str]) -> int:
-    pages = [os.path.abspath(it) for it in words] or [f"{TOP}/README.md", *sorted(glob.glob(f"{TOP}/docs/*.md"))]
+    pages = [os.path.abspath(it) for it in words] or [f"{TOP}/README.md", *sorted(glob.glob(f"{TOP}/docs/**/*.md", recursive=True))]
     passed = failed = 0
     for path in pages:
         lines, quoted = prose(text_of(path))

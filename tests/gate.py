@@ -36,7 +36,7 @@ HOSTS = ("tests/hosts/check_saves.py", "--program", "crates/host_trial/out/host_
 UNPROVED = ("target/unproved/pdp8/pdp8", "target/unproved/short_memory/short_memory")
 RT_CI = ("rt", "ci")
 TEXTS: list[Words] = [("tests/check_definitions.py",), ("tests/check_headline.py",), ("tests/check_memory_claims.py",), ("tests/check_fault_texts.py",)]
-TEXTS += [("tests/check_links.py",), ("tests/check_octal_numbers.py",)]
+TEXTS += [("tests/check_links.py",), ("tests/check_documents.py",), ("tests/check_octal_numbers.py",)]
 TEXTS += [("tests/page/check_types.py",), ("tests/check_tools.py",), ("tests/check_gate.py",)]
 TEXTS += [("tests/check_try_edits.py",), ("tests/try_defects.py",)]
 RUNS: list[Words] = [("tests/run_sessions.py",), ("tests/model/compare_scripts.py",), ("tests/model/compare_host_commands.py",), ("tests/model/compare_archives.py",)]
@@ -68,7 +68,7 @@ def clock(seconds: float) -> str:
 
 
 def announce(count: int, is_quick: bool) -> None:
-    """Prints what will be run, and how long that took last time: here, or else where docs/GATE.md was written."""
+    """Prints what will be run, and how long that took last time: here, or else where docs/CONTRIBUTING.md was written."""
     if is_quick:
         print(f"gate: {count} parts with the program that is built with checks; nothing is proved", flush=True)
         return
@@ -78,8 +78,8 @@ def announce(count: int, is_quick: bool) -> None:
         last = json.load(open(KEPT, encoding="utf-8"))
         print(f"gate: the last run here took {clock(last['seconds'])} on {last['processors']} processors", flush=True)
     except (OSError, ValueError, KeyError):
-        told = re.search(r"(\d+) seconds on (\w+) processors", open(f"{TOP}/docs/GATE.md", encoding="utf-8").read())
-        print(f"gate: none ran here; docs/GATE.md tells of {clock(int(told[1]))} on {told[2]} processors" if told else "gate: none ran here", flush=True)
+        told = re.search(r"(\d+)\s+seconds\s+on\s+(\w+)\s+processors", open(f"{TOP}/docs/CONTRIBUTING.md", encoding="utf-8").read())
+        print(f"gate: none ran here; docs/CONTRIBUTING.md tells of {clock(int(told[1]))} on {told[2]} processors" if told else "gate: none ran here", flush=True)
 
 
 class Part:

@@ -1,6 +1,6 @@
 #!/usr/bin/env python3
-"""run_sessions.py [--unproved | --program FILE] [FILE..]: runs the sessions of tests/sessions/*.md, README.md and docs/*.md, or those of these files, with
-the proved program, with the one that is built with checks, or with another.
+"""run_sessions.py [--unproved | --program FILE] [FILE..]: runs the sessions of tests/sessions/*.md, README.md and the pages below docs/, or those of these
+files, with the proved program, with the one that is built with checks, or with another.
 
 A session is what stands indented by four blanks below one heading, where a line begins with `$ `: such a line is a command, those
 with `> ` go on with it, and the others are what it prints, on either stream; `[N]` ends that where its status is N, not 0. Each
@@ -28,7 +28,8 @@ OWN = f"{TOP}/crates/pdp8/out/pdp8"
 Session = list[tuple[int, str, str]]
 MARK = "=== a command has ended ==="
 # the texts that have no session
-BARE = {f"{TOP}/docs/{name}.md" for name in ("ARCHITECTURE", "DECISIONS", "GATE", "GLOSSARY", "MACHINE", "PAGE", "PAGE_TESTS", "VOLUME")}
+BARE = {f"{TOP}/docs/{name}.md" for name in ("CHANGELOG", "DECISIONS", "GLOSSARY", "PROVED", "using/page")}
+BARE |= {f"{TOP}/docs/reference/{name}.md" for name in ("machine", "page", "pal3", "refusals", "volume")}
 
 
 def sessions(path: str) -> list[Session]:
@@ -54,7 +55,7 @@ def sessions(path: str) -> list[Session]:
 
 def every_file() -> list[str]:
     """The texts that have sessions, or may have."""
-    return [*sorted(glob.glob(f"{TOP}/tests/sessions/*.md") + glob.glob(f"{TOP}/docs/*.md")), f"{TOP}/README.md"]
+    return [*sorted(glob.glob(f"{TOP}/tests/sessions/*.md") + glob.glob(f"{TOP}/docs/**/*.md", recursive=True)), f"{TOP}/README.md"]
 
 
 def silent(path: str) -> list[str]:

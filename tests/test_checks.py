@@ -2,7 +2,7 @@
 session with the program that is built with checks, or with the one that PROGRAM names. They are the functions that the gate calls.
 
     pytest -k links                          what has `links` in its name
-    pytest -k 'session and TAPE'             the sessions of docs/TAPE.md
+    pytest -k 'session and tapes'            the sessions of docs/using/tapes.md and tests/sessions/tapes.md
     pytest --junitxml=report.xml             all of them, with a report
 """
 import atexit

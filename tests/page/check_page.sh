@@ -18,7 +18,7 @@ pictures=
 [[ " $* " == *" --pictures "* ]] && pictures=--pictures
 which=--proved program=crates/pdp8/out/pdp8 texts=() scripts=1000 browsed='losses undone shelf whole panel disks figures'
 if [[ " $* " == *" --quick "* ]]; then
-    which=--unproved program=target/unproved/pdp8/pdp8 texts=(README.md docs/*.md) scripts=100 browsed=losses
+    which=--unproved program=target/unproved/pdp8/pdp8 texts=(README.md docs/*.md docs/*/*.md) scripts=100 browsed=losses
 fi
 folder=target/page
 client=target/wasm/client

@@ -1,5 +1,5 @@
 #!/usr/bin/env python3
-"""run_sessions.py [--program FILE] [FILE..]: runs the sessions of tests/sessions/*.md, docs/*.md and README.md, or those of these files, with the
+"""run_sessions.py [--program FILE] [FILE..]: runs the sessions of tests/sessions/*.md, README.md and the pages below docs/, or those of these files, with the
 program's WebAssembly module, as tests/run runs them with the native programs, but for those that beyond.txt lists: they need more of the host
 than the page has.
 
