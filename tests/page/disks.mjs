@@ -142,6 +142,10 @@ await run('disks', {
         await page.click('button[aria-label="A.SV in its best form"]');
         await isShown(page, 'A.SV, source');
         same(plain(native(['source', 'V', 'A.SV'])), await shown(page), 'the source of the core image');
+        for (const word of ['trace', 'profile']) {
+            await page.click(`#shown-${word}`);
+            await page.until(`document.getElementById('shown').textContent === ${JSON.stringify(native([word, 'V', 'A.SV']).toString())}`);
+        }
         await page.click('button[aria-label="B.RM in its best form"]');
         await isShown(page, 'B.RM, source');
         writeFileSync(file('b.rim'), rim);
