@@ -394,7 +394,7 @@ export class Files {
         const row = made('tr', { 'data-name': name, 'data-first': first }, made('td', {}, button(name, () => shown.best(it), 'in its best form')), made('td', { class: 'n' }, String(length)), made('td', { class: 'n' }, String(first)),
             made('td', { class: 'date' }, it.date ?? ''), made('td', { class: 'kind' }, it.kind ?? ''),
             made('td', {}, button('text', () => shown.show(it, 'text'), 'as a text'), ' ', button('listing', () => shown.show(it, 'tape'), 'as the listing of a tape'),
-                ' ', button('source', () => shown.show(it, 'source'), 'as the source of a tape'), ' ', button('words', () => shown.show(it, 'words'), 'as words')),
+                ' ', button('source', () => shown.show(it, 'source'), 'as the source of a tape')),
             made('td', {}, button('text', () => shown.home(it, 'text'), 'home as a text'), ' ', button('tape', () => shown.home(it, 'tape'), 'home as a tape'),
                 ' ', button('frames', () => shown.home(it, 'frames'), 'home as frames')),
             made('td', {}, ...changes));

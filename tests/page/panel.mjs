@@ -66,7 +66,7 @@ const FAINT = `(() => { ${RATIO}
 const PALE = `(() => { ${RATIO}
     const colourOf = name => { const it = document.createElement('span'); it.style.color = 'var(--' + name + ')'; document.body.append(it);
         const colour = getComputedStyle(it).color; it.remove(); return colour; };
-    return ['directory', 'file', 'file-2', 'outside', 'fault', 'edge', 'bad', 'accent', 'quiet'].filter(it => ratio(colourOf(it), colourOf('paper')) < 3).join('; ');
+    return ['directory', 'file', 'file-2', 'found', 'outside', 'fault', 'edge', 'bad', 'accent', 'quiet'].filter(it => ratio(colourOf(it), colourOf('paper')) < 3).join('; ');
 })()`;
 
 await run('panel', {
