@@ -95,7 +95,7 @@ export class Files {
         };
         const go = () => undo.go(isAgain, mayChange), step = next.slot === 'files' ? await this.#use(next.key, go) : await go();
         if (!step) return busy && tell('files-status', busy, true);
-        if (step.slot === 'files') await this.#openAnyOf(step.key);
+        if (step.slot === 'files') await this.#openAnyOf(step);
         const words = `${isAgain ? 'Done again' : 'Undone'}: ${step.words}.`;
         tell('files-status', step.isDone ? words : `${step.words} can't be undone: something else was changed since.`, !step.isDone);
     }
@@ -149,11 +149,11 @@ export class Files {
 
     get volumes() { return this.images.flatMap(it => volumesOf(it, this.page.store.notes.get(`kind ${it}`))); }
 
-    // Opens a volume of a file, or another one where that isn't there.
-    /** @param {string} file */
-    async #openAnyOf(file) {
+    // Opens a volume of the file of a step that was undone, or another one where that isn't there. A file of another length is of another kind maybe.
+    /** @param {Step} step */
+    async #openAnyOf({ key: file, lengths }) {
         const image = this.page.store.files.get(file);
-        if (image) this.page.store.note(`kind ${file}`, (await kindOf(this.page, image)).kind);
+        if (image && lengths?.[0] !== lengths?.[1]) this.page.store.note(`kind ${file}`, (await kindOf(this.page, image)).kind);
         const all = this.volumes, own = all.filter(it => fileOf(it) === file);
         await this.open(own.includes(this.name) ? this.name : own[0] ?? all[0] ?? '');
     }

@@ -2,7 +2,8 @@
 // of its file has the file's name. Others have a word after it: `1` or `2` of a disk, `DECtape`.
 import { textOf } from './program.js';
 
-/** @typedef {'' | 'disk' | 'DECtape'} Kind */
+// `begun` is a disk whose end was never written, so that it has its first volume alone.
+/** @typedef {'' | 'disk' | 'begun' | 'DECtape'} Kind */
 
 const DISK_BLOCKS = 3248, TAPE_BLOCKS = 737, BLOCK = 512, TAPE = 380292;
 
@@ -47,7 +48,7 @@ export function blocksOf(volume, bytes) {
 // The volumes of a file of this kind.
 /** @param {string} file @param {Kind | undefined} kind */
 export function volumesOf(file, kind) {
-    return kind === 'disk' ? [`${file} 1`, `${file} 2`] : kind === 'DECtape' ? [`${file} DECtape`] : [file];
+    return kind === 'disk' ? [`${file} 1`, `${file} 2`] : kind === 'begun' ? [`${file} 1`] : kind === 'DECtape' ? [`${file} DECtape`] : [file];
 }
 
 // Whether the program takes an image as a volume, if only as one with a damaged directory.
@@ -70,7 +71,8 @@ export async function kindOf({ programs, store }, bytes) {
     store.put(name, bytes);
     try {
         const plain = await asked();
-        if (kind === '') return { kind, ...plain };
+        const begun = kind === '' && plain.refusal?.startsWith('? DIRECTORY 4') ? await asked('--volume', '1') : plain;
+        if (kind === '') return begun !== plain && begun.refusal === null ? { kind: 'begun', ...begun } : { kind, ...plain };
         const isTold = kind === 'disk' && /^\.kind-\d+(?: |\t)[12](?:: |\t)/m.test(await indexOf(programs, name));
         const parts = kind === 'disk' ? [await asked('--volume', '1'), await asked('--volume', '2')] : [await asked('--dectape')];
         const part = parts.find(it => it.refusal === null) ?? parts.find(isVolume);

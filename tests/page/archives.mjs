@@ -113,6 +113,7 @@ await run('archives', {
         await page.until(`!!document.querySelector('tr[data-name="ADD.BN"]')`);
         same(readFileSync(file('TAPE.DT8')), await image(page), 'the tape');
         await page.click('#undo');
+        await isTold(page, 'files-status', 'Undone: the copy of ADD.BN');
         await page.until(`!document.querySelector('tr[data-name="ADD.BN"]')`);
         same('TAPE.DT8 DECtape', await volume(page), 'the volume after Undo');
         await pane(page, 'teletype');
@@ -121,6 +122,19 @@ await run('archives', {
         await page.choose('#tape', 'file ADD.BN');
         await page.click('#tty-run');
         await isTold(page, 'tty-status', 'HALT 00203');
+    },
+    'a disk whose end was never written opens as its first volume': async (page, url) => {
+        await page.go(url);
+        disk();
+        writeFileSync(file('SHORT.RK05'), readFileSync(file('DISK.RK05')).subarray(0, 51200));
+        await opens(page, 'SHORT.RK05', 'SHORT.RK05 1');
+        same('ONE.TX 1 7 1974-03-12 text', await known(page), 'the directory');
+        holds((await page.look(`document.getElementById('blocks').getAttribute('aria-label')`)).includes('3248 blocks: 1 files'), 'the picture');
+        writeFileSync(file('new.tx'), 'A NEW ONE\n');
+        await put(page, 'text', 'new.tx');
+        await isTold(page, 'files-status', 'STORED NEW.TX 1');
+        native(['put', 'SHORT.RK05', '-', '--as', 'NEW.TX', '--text', '--volume', '1'], 'A NEW ONE\n');
+        same(readFileSync(file('SHORT.RK05')), await image(page), 'the disk');
     },
     'the directory has dates and kinds by content, and is sorted by them': async (page, url) => {
         await page.go(url);
