@@ -12,7 +12,7 @@ import { Watch } from './watch.js';
 
 // What a PDP-8/I does in a millisecond, about; and how long its printer takes for a character, in milliseconds.
 const STEPS = 300, CHARACTER = 100;
-const LEAST = 20000, MOST = 1000000, LOOKS = 8, PICTURE = 11, CORE = 0o100000, LISTED = 6000;
+const LEAST = 20000, MOST = 1000000, LOOKS = 8, PICTURE = 10, CORE = 0o100000, LISTED = 6000;
 
 export class Machine {
     /** @type {Promise<Lines> | null} */
@@ -27,6 +27,7 @@ export class Machine {
     isPrinting = false;
     printed = 0;
     listedAt = 0;
+    total = 0;
     accesses = new Accesses();
     reply = '';
     keeping = 0;
@@ -295,16 +296,18 @@ export class Machine {
     async #step() {
         this.isGoing = false;
         await this.#startLoaded();
-        await this.#lookedAt();
+        await this.#lookedAt('STEP');
         tell('machine-status', this.reply);
         await this.#stopped();
     }
 
     // One step, of which MA and MB show what it used.
-    async #lookedAt() {
+    /** @param {string} word */
+    async #lookedAt(word) {
         /** @param {...string} lines */
-        const ask = (...lines) => this.#ask(...lines), state = await before(ask), why = await this.#slice('STEP', 1);
+        const ask = (...lines) => this.#ask(...lines), state = await before(ask), why = await this.#slice(word, 1);
         if (!this.reply.startsWith('STEPS 0')) this.accesses.set(await after(ask, state));
+        this.panel.use(this.accesses.last);
         return why;
     }
 
@@ -360,7 +363,7 @@ export class Machine {
             }
         }
         const isStopped = !this.isGoing;
-        if (why === 'LIMIT') why = await this.#lookedAt();
+        if (why === 'LIMIT') why = await this.#lookedAt('GO');
         this.isGoing = false;
         this.panel.runs(false);
         tell('machine-status', isStopped ? `stopped by the key: ${this.reply}` : this.reply, why === 'UNASSIGNED');
@@ -370,8 +373,6 @@ export class Machine {
         await this.accesses.find(this.page.programs, await this.image(), (...lines) => this.#ask(...lines), this.reply);
         this.#show();
     }
-
-    total = 0;
 
     // Steps until so many are made, or the time for a picture is over.
     /** @param {number} due @param {number} until @returns {Promise<string>} */
@@ -387,6 +388,7 @@ export class Machine {
             if (took > 4) this.many = Math.max(LEAST, this.many / 2 | 0);
             else if (took < 2 && about === this.many) this.many = Math.min(MOST, this.many * 2);
         } while (this.isGoing && why === 'LIMIT' && left > 0 && performance.now() < until);
+        if (this.isGoing && why === 'LIMIT') why = await this.#lookedAt('GO');
         this.#show();
         if (this.isPrinting) await this.#print();
         return why;

@@ -83,6 +83,19 @@ await run('panel', {
         await isTold(page, 'machine-status', 'stopped by the key');
         await page.until(`[...document.querySelectorAll('.lamp')].every(it => ['0', '1'].includes(getComputedStyle(it).getPropertyValue('--glow').trim()))`);
     },
+    'MA and MB glow by the share of the steps that use a cell': async (page, url) => {
+        await page.go(url);
+        await toCore(page, '*200\nA,\tISZ 300\n\tJMP A\n\tJMP A\n$\n');
+        await page.click('#key-start');
+        /** @param {string} row @param {number} bit */
+        const glow = (row, bit) => `Number(document.querySelectorAll('#panel [data-row=${row}] .lamp')[${bit}].style.getPropertyValue('--glow'))`;
+        await page.until(`${glow('ma', 5)} > 0.1 && ${glow('ma', 5)} < 0.9`);
+        await page.until(`${glow('ma', 4)} === 1 && ${glow('ma', 0)} === 0`);
+        await page.until(`${glow('mb', 0)} > 0.1`);
+        await page.click('#key-stop');
+        await isTold(page, 'machine-status', 'stopped by the key');
+        same('', await page.look(`document.querySelectorAll('#panel [data-row=ma] .lamp')[5].style.getPropertyValue('--glow')`), 'the glow of a lamp after a stop');
+    },
     'a return alone prints over': async (page, url) => {
         await page.go(url);
         await atTeletype(page, PRINTS);
@@ -228,7 +241,7 @@ await run('panel', {
         await page.click('#key-load');
         await page.click('#key-start');
         await page.until(`document.getElementById('rate').textContent.includes('steps a second')`);
-        await shows(' ');
+        await shows('0214 5214');
         await page.click('#key-stop');
         await isTold(page, 'machine-status', 'stopped by the key: STEPS 1 LIMIT 00214');
         await shows('0214 5214');
