@@ -1,7 +1,7 @@
 // The picture of a volume: a square for each block, by the lines of `check`.
 import { $, made } from './dom.js';
 
-const COLOURS = ['directory', 'file', 'file-2', 'empty', 'outside', 'fault', 'paper'];
+const COLOURS = ['directory', 'file', 'file-2', 'found', 'empty', 'outside', 'fault', 'paper'];
 
 /** @typedef {import('./files.js').Entry} Entry */
 
@@ -14,19 +14,22 @@ export class Blocks {
     across = 0;
     side = 0;
 
-    constructor() {
+    // `chosen` takes the block that is clicked at.
+    /** @param {(block: number) => void} chosen */
+    constructor(chosen) {
+        $('blocks').addEventListener('click', event => { const block = this.#at(event); if (this.all[block]) chosen(block); });
         $('blocks').addEventListener('mousemove', event => this.#point(event));
         $('blocks').addEventListener('mouseleave', () => { $('block-told').textContent = ''; });
-        new ResizeObserver(() => this.#draw()).observe($('blocks'));
-        matchMedia('(prefers-color-scheme: dark)').addEventListener('change', () => this.#draw());
+        new ResizeObserver(() => this.draw()).observe($('blocks'));
+        matchMedia('(prefers-color-scheme: dark)').addEventListener('change', () => this.draw());
     }
 
     // Shows what each block is, and gives the files. Blocks 0 to 6 are the boot block and those of the directory. Where that is refused the lines
     // are of `check --all`, and its files are found by their blocks.
-    /** @param {string[][]} lines @param {number} bytes @param {string | null} refusal @returns {Entry[]} */
-    lay(lines, bytes, refusal) {
+    /** @param {string[][]} lines @param {number} blocks @param {string | null} refusal @returns {Entry[]} */
+    lay(lines, blocks, refusal) {
         const isByBlocks = refusal !== null, others = isByBlocks ? 'of no file that was found' : 'directory';
-        const count = isByBlocks ? Math.max(7, Math.floor(bytes / 512)) : Number(lines.find(it => it[0] === 'BLOCKS')?.[1] ?? 0);
+        const count = isByBlocks ? blocks : Number(lines.find(it => it[0] === 'BLOCKS')?.[1] ?? 0);
         /** @type {Entry[]} */
         const entries = [];
         this.all = Array.from({ length: count }, (_, block) => ({ kind: block && block < 7 ? 'directory' : 'outside', of: block ? block < 7 ? 'directory' : others : 'boot block' }));
@@ -38,7 +41,7 @@ export class Blocks {
         const told = refusal?.match(/^\? DIRECTORY [12] .* (\d+)$/);
         if (refusal !== null) for (let block = 1; block < 7; block++) if (!told || Number(told[1]) === block) this.all[block] = { kind: 'fault', of: refusal };
         this.files = entries.length;
-        this.#draw();
+        this.draw();
         return entries;
     }
 
@@ -57,7 +60,8 @@ export class Blocks {
         return { name, first, length };
     }
 
-    #draw() {
+    // Draws the picture.
+    draw() {
         if (!this.all.length) return;
         const canvas = $('blocks'), style = getComputedStyle(canvas), width = Math.max(200, canvas.clientWidth);
         const count = this.all.length, across = Math.max(32, Math.min(Math.floor(width / 6), Math.ceil(Math.sqrt(count * 6))));
@@ -82,18 +86,32 @@ export class Blocks {
             : `Volume of ${count} blocks: ${this.files} files, ${free} blocks empty`);
     }
 
+    // Marks blocks of no file that was found, as what is found there.
+    /** @param {number} first @param {number} length @param {string} kind @param {string} of */
+    mark(first, length, kind, of) {
+        for (let k = first; k < Math.min(first + length, this.all.length); k++)
+            if (kind === 'fault' || ['outside', 'empty'].includes(this.all[k].kind)) this.all[k] = { kind, of };
+    }
+
+    // The block that the pointer is at.
+    /** @param {MouseEvent} event */
+    #at({ offsetX, offsetY }) {
+        const column = Math.floor(offsetX / this.across), row = Math.floor(offsetY / this.side);
+        return row * Math.round($('blocks').clientWidth / this.across) + column;
+    }
+
     /** @param {MouseEvent} event */
     #point(event) {
-        const column = Math.floor(event.offsetX / this.across), row = Math.floor(event.offsetY / this.side);
-        const block = row * Math.round($('blocks').clientWidth / this.across) + column, it = this.all[block];
+        const block = this.#at(event), it = this.all[block];
         $('block-told').textContent = it ? `block ${block}: ${it.of}` : '';
     }
 }
 
-// A mark in a square, so that no kind is told by its colour alone: a bar, a hole, or a cross.
+// A mark in a square, so that no kind is told by its colour alone: a bar, a bar that stands, a hole, or a cross.
 /** @param {CanvasRenderingContext2D} brush @param {string} kind @param {number} x @param {number} y @param {number} width @param {number} height */
 function mark(brush, kind, x, y, width, height) {
     if (kind === 'directory') brush.fillRect(x, y + height * 0.4, width, height * 0.2);
+    if (kind === 'found') brush.fillRect(x + width * 0.4, y, width * 0.2, height);
     if (kind === 'outside') brush.fillRect(x + width * 0.3, y + height * 0.3, width * 0.4, height * 0.4);
     if (kind !== 'fault') return;
     brush.lineWidth = Math.max(1, width / 6);

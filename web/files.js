@@ -4,10 +4,17 @@ import { ask } from './ask.js';
 import { Blocks } from './blocks.js';
 import { textOf } from './program.js';
 import { Shown } from './shown.js';
+import { Dump } from './dump.js';
+import { Salvage } from './salvage.js';
+import { Search, indexed } from './search.js';
 import { placeOf, tapeOf } from './tapes.js';
+import { blocksOf, fileOf, isVolume, kindOf, targetOf, titleOf, volumesOf, wordsOf } from './volumes.js';
 
-// A file of a volume: where the directory is refused it is found by its blocks.
-/** @typedef {{ name: string, first: number, length: number, isByBlocks: boolean }} Entry */
+// A file of a volume: where the directory is refused it is found by its blocks. Date and kind are as `index` tells them.
+/** @typedef {{ name: string, first: number, length: number, isByBlocks: boolean, date?: string, kind?: string }} Entry */
+
+// How long a volume is left alone before its files' dates and kinds are asked for, in milliseconds.
+const QUIET = 60;
 
 export class Files {
     /** @param {Page} page */
@@ -18,26 +25,29 @@ export class Files {
         this.used = new Set();
         /** @type {Entry[]} */
         this.entries = [];
-        this.blocks = new Blocks();
+        this.blocks = new Blocks(block => this.dump.show(block));
+        this.dump = new Dump(page);
+        this.salvage = new Salvage(page);
         /** @type {string | null} */
         this.refusal = null;
         /** @type {string | null} */
         this.follows = null;
         this.created = '';
-        /** @type {{ by: 'name' | 'first' | 'length', way: number }} */
+        /** @type {{ by: 'name' | 'first' | 'length' | 'date' | 'kind', way: number }} */
         this.order = { by: 'name', way: 1 };
-        this.turn = 0;
+        this.turn = this.telling = 0;
         keepInput(page.store, 'new-name');
         keepInput(page.store, 'new-blocks');
         $('image').addEventListener('change', () => this.#opened($('image')));
         $('create').addEventListener('click', () => this.create());
         $('volume').addEventListener('change', () => this.open($('volume').value));
-        $('take-image').addEventListener('click', () => takeHome(this.name, page.store.files.get(this.name)));
+        $('take-image').addEventListener('click', () => takeHome(this.file, page.store.files.get(this.file)));
         $('drop-image').addEventListener('click', () => this.#remove());
         $('squeeze').addEventListener('click', () => this.#change('the squeeze', 'SQUEEZE', 'FINISH'));
         $('undo').addEventListener('click', () => this.#undo(false));
         $('redo').addEventListener('click', () => this.#undo(true));
         page.undo.addEventListener('change', () => this.#undoable());
+        new Search(page);
         for (const id of ids('changes', 'volume-keys', 'begin')) rove($(id));
         rove($('directory'));
         $('find').addEventListener('input', () => this.#rows());
@@ -46,7 +56,7 @@ export class Files {
         $('files').addEventListener('keydown', event => this.#key(event));
         $('put').addEventListener('change', () => this.#put($('put')));
         this.#drops();
-        page.store.addEventListener('file', ({ detail }) => detail === this.name ? this.#again() : detail.startsWith('.') || this.#list());
+        page.store.addEventListener('file', ({ detail }) => detail === this.file ? this.#again() : detail.startsWith('.') || this.#list());
         page.store.addEventListener('kept', () => this.#list());
         page.programs.addEventListener('idle', () => this.#leave());
         page.claims.addEventListener('claim', ({ detail }) => this.#claimed(detail));
@@ -85,7 +95,7 @@ export class Files {
         };
         const go = () => undo.go(isAgain, mayChange), step = next.slot === 'files' ? await this.#use(next.key, go) : await go();
         if (!step) return busy && tell('files-status', busy, true);
-        if (step.slot === 'files') await this.open(this.page.store.files.has(step.key) ? step.key : this.volumes[0] ?? '');
+        if (step.slot === 'files') await this.#openAnyOf(step);
         const words = `${isAgain ? 'Done again' : 'Undone'}: ${step.words}.`;
         tell('files-status', step.isDone ? words : `${step.words} can't be undone: something else was changed since.`, !step.isDone);
     }
@@ -94,7 +104,7 @@ export class Files {
     #leave() {
         const { claims, programs } = this.page;
         /** @param {string} it */
-        const isUsed = it => it === this.name || this.used.has(it) || programs.isBusy(it);
+        const isUsed = it => it === this.file || this.used.has(it) || programs.isBusy(it);
         for (const it of claims.names.filter(it => it.startsWith('volume '))) if (!isUsed(it.slice(7))) claims.leave(it);
     }
 
@@ -122,17 +132,31 @@ export class Files {
 
     // Says whether another tab has the volume that is open.
     #tellClaim() {
-        const { name } = this;
-        this.follows = name !== '' && !this.page.claims.has(`volume ${name}`) ? name : null;
-        $('follows').textContent = this.follows ? `Another tab has ${name}. Here it is only looked at, and follows that tab. It can be changed here `
+        const { file } = this;
+        this.follows = file !== '' && !this.page.claims.has(`volume ${file}`) ? file : null;
+        $('follows').textContent = this.follows ? `Another tab has ${file}. Here it is only looked at, and follows that tab. It can be changed here `
             + 'once that tab is closed, or opens another.' : '';
         $('follows').hidden = !this.follows;
     }
 
-    // The name of the volume that is open.
+    // The volume that is open, and the file that it is on.
     get name() { return $('volume').value; }
 
-    get volumes() { return [...this.page.store.files.keys()].filter(it => !it.startsWith('.') && !it.includes('/')).sort(); }
+    get file() { return fileOf(this.name); }
+
+    // The image files of the page, and their volumes.
+    get images() { return [...this.page.store.files.keys()].filter(it => !it.startsWith('.') && !it.includes('/')).sort(); }
+
+    get volumes() { return this.images.flatMap(it => volumesOf(it, this.page.store.notes.get(`kind ${it}`))); }
+
+    // Opens a volume of the file of a step that was undone, or another one where that isn't there. A file of another length is of another kind maybe.
+    /** @param {Step} step */
+    async #openAnyOf({ key: file, lengths }) {
+        const image = this.page.store.files.get(file);
+        if (image && lengths?.[0] !== lengths?.[1]) this.page.store.note(`kind ${file}`, (await kindOf(this.page, image)).kind);
+        const all = this.volumes, own = all.filter(it => fileOf(it) === file);
+        await this.open(own.includes(this.name) ? this.name : own[0] ?? all[0] ?? '');
+    }
 
     async begin() {
         this.#list();
@@ -149,7 +173,7 @@ export class Files {
 
     // A volume's name, with a mark where the browser's store didn't take it.
     /** @param {string} name */
-    #mark(name) { return this.page.store.isUnkept(name) ? `${name}, not kept` : name; }
+    #mark(name) { return this.page.store.isUnkept(fileOf(name)) ? `${titleOf(name)}, not kept` : titleOf(name); }
 
     #drops() {
         const zone = $('drop');
@@ -178,11 +202,7 @@ export class Files {
     // What bytes are, as the program says: an image of a volume, the tape of a program, or neither.
     /** @param {Uint8Array} bytes */
     async #kind(bytes) {
-        const { programs, store } = this.page;
-        store.put('.asked', bytes);
-        const { status, out } = await programs.ask(['check', '.asked']);
-        store.remove('.asked');
-        if (status === 0 || textOf(out).startsWith('? DIRECTORY') || bytes.length > 16777216) return 'image';
+        if (bytes.length > 16777216 || isVolume(await kindOf(this.page, bytes))) return 'image';
         return bytes.length && (await tapeOf(this.page, bytes)).status === 0 ? 'tape' : 'text';
     }
 
@@ -193,20 +213,13 @@ export class Files {
         if (file) await this.take(file);
     }
 
-    // Takes a file of the host as an image into the page. One that `check` refuses and that can't be an image of a volume is not kept.
+    // Takes a file of the host as an image into the page, of whatever kind. One that can't be an image of a volume is not kept.
     /** @param {File} file */
     async take(file) {
-        const { programs, store } = this.page, bytes = await bytesOfFile(file);
-        store.put('.asked', bytes);
-        const { status, out, said } = await programs.ask(['check', '.asked']);
-        store.remove('.asked');
-        const line = textOf(out).trim();
-        if (status !== 0 && !line.startsWith('? DIRECTORY')) {
-            tell('files-status', `${file.name}: ${line}\n${said}`, true);
-            return;
-        }
+        const bytes = await bytesOfFile(file), asked = await kindOf(this.page, bytes);
+        if (!isVolume(asked)) return tell('files-status', `${file.name}: ${asked.refusal}\n${asked.said}`, true);
         const name = await this.#name(file.name);
-        if (name !== null && await this.#keep(name, bytes)) await this.open(name);
+        if (name !== null && await this.#keep(name, bytes, asked.kind)) await this.open(volumesOf(name, asked.kind)[0]);
     }
 
     // The name for a new volume: where there is one of that name the user is asked. Null where none is to be made.
@@ -222,21 +235,22 @@ export class Files {
     }
 
     // Keeps an image as a volume, if no run and no other tab has one of that name.
-    /** @param {string} name @param {Uint8Array} bytes */
-    async #keep(name, bytes) {
+    /** @param {string} name @param {Uint8Array} bytes @param {import('./volumes.js').Kind} [kind] */
+    async #keep(name, bytes, kind = '') {
         if (this.page.store.files.has(name)) {
             await this.page.claims.claim(`volume ${name}`);
             const busy = await this.#busy(name);
             if (busy) return tell('files-status', `${name}: ${busy}`, true);
         }
         this.shown.forget(name);
+        if (kind !== '' || this.page.store.notes.has(`kind ${name}`)) this.page.store.note(`kind ${name}`, kind);
         this.page.undo.begin(name, `the new volume ${name}`);
         this.page.store.put(name, bytes);
         this.page.undo.end(name);
         return true;
     }
 
-    // The program's line where a run or another tab holds a volume, else null.
+    // The program's line where a run or another tab holds a file, else null.
     /** @param {string} name */
     async #busy(name) {
         if (!this.page.store.files.has(name)) return null;
@@ -246,7 +260,7 @@ export class Files {
 
     async create() {
         const image = await this.blank($('new-blocks').value.trim());
-        if (image) await this.add($('new-name').value, image);
+        if (image) await this.add($('new-name').value, image, this.created);
     }
 
     // The image of an empty volume of so many blocks, null where the program refuses.
@@ -262,13 +276,13 @@ export class Files {
         return null;
     }
 
-    // A further volume, which is open from then on.
-    /** @param {string} wanted @param {Uint8Array} image */
-    async add(wanted, image) {
+    // A further volume, which is open from then on, and what the program told of it.
+    /** @param {string} wanted @param {Uint8Array} image @param {string} told */
+    async add(wanted, image, told) {
         const name = await this.#name(wanted);
         if (name === null || !await this.#keep(name, image)) return;
         await this.open(name);
-        tell('files-status', this.created);
+        tell('files-status', told);
     }
 
     /** @param {string} name */
@@ -280,13 +294,13 @@ export class Files {
         this.shown.lay(null);
         $('find').value = '';
         this.#leave();
-        if (name !== '') await this.page.claims.claim(`volume ${name}`);
+        if (name !== '') await this.page.claims.claim(`volume ${fileOf(name)}`);
         this.#tellClaim();
         await this.#again();
     }
 
     async #remove() {
-        const name = this.name, busy = await this.#busy(name);
+        const name = this.file, busy = await this.#busy(name);
         if (busy) return tell('files-status', busy, true);
         if (!confirm(`Remove ${name} from the page? Undo brings it back, until the page is left.`)) return;
         this.page.undo.begin(name, `the removal of ${name}`);
@@ -308,30 +322,50 @@ export class Files {
             this.#tellClaim();
             return this.page.store.dispatchEvent(new Event('volume'));
         }
-        const { status, out, said } = await this.page.programs.ask(['check', name]);
+        const { status, out, said } = await this.page.programs.ask(['check', ...wordsOf(name)]);
         if (turn !== this.turn) return;
         this.entries = [];
         this.refusal = status === 0 ? null : textOf(out).trim();
-        const all = this.refusal ? textOf((await this.page.programs.ask(['check', name, '--all'])).out) : textOf(out);
+        const all = this.refusal ? textOf((await this.page.programs.ask(['check', ...wordsOf(name), '--all'])).out) : textOf(out);
         if (turn !== this.turn) return;
         if (this.refusal) tell('files-status', `${this.refusal}\n${said}${all.split('\n').filter(it => /^([?] |UNSOUND|TWICE)/.test(it) && it !== this.refusal).join('\n')}`, true);
-        this.entries = this.blocks.lay(all.trim().split('\n').map(it => it.split(' ')), this.page.store.files.get(name)?.length ?? 0, this.refusal);
+        this.entries = this.blocks.lay(all.trim().split('\n').map(it => it.split(' ')), blocksOf(name, this.page.store.files.get(this.file)?.length ?? 0), this.refusal);
         this.#rows();
         for (const id of ids('squeeze', 'put')) $(id).disabled = this.refusal !== null;
         $('put-row').hidden = this.refusal !== null;
         this.page.store.dispatchEvent(new Event('volume'));
+        this.dump.again();
+        if (this.refusal) return this.salvage.show();
+        this.salvage.hide();
+        clearTimeout(this.telling);
+        this.telling = window.setTimeout(() => this.#tellKinds(turn), QUIET);
+    }
+
+    // Has the directory tell dates and kinds of the files, as `index` does.
+    /** @param {number} turn */
+    async #tellKinds(turn) {
+        const told = await indexed(this.page, this.name);
+        if (turn !== this.turn) return;
+        for (const it of this.entries) [it.date, it.kind] = told.get(it.first) ?? [];
+        if (this.order.by === 'date' || this.order.by === 'kind') return this.#rows();
+        for (const row of $('directory').tBodies[0].rows) {
+            const entry = this.entries.find(it => it.first === Number(row.dataset.first));
+            [row.cells[3].textContent, row.cells[4].textContent] = [entry?.date ?? '', entry?.kind ?? ''];
+        }
     }
 
     // The files whose names have what is looked for, in the order that was chosen.
     get #found() {
         const { by, way } = this.order, part = $('find').value.trim().toUpperCase();
-        return this.entries.filter(it => it.name.includes(part)).sort((a, b) => way * (a[by] < b[by] ? -1 : a[by] > b[by] ? 1 : a.first - b.first));
+        /** @param {Entry} it */
+        const key = it => by === 'date' || by === 'kind' ? it[by] ?? '' : it[by];
+        return this.entries.filter(it => it.name.includes(part)).sort((a, b) => way * (key(a) < key(b) ? -1 : key(a) > key(b) ? 1 : a.first - b.first));
     }
 
     // Sorts by a column, or by it the other way round. Blocks begin with the most.
     /** @param {string} column */
     #sort(column) {
-        const by = /** @type {'name' | 'first' | 'length'} */ (column), own = this.order;
+        const by = /** @type {typeof this.order.by} */ (column), own = this.order;
         this.order = { by, way: own.by === by ? -own.way : by === 'length' ? -1 : 1 };
         this.#rows();
     }
@@ -357,7 +391,8 @@ export class Files {
         /** @param {string} text @param {() => void} what @param {string} label */
         const button = (text, what, label) => made('button', { onclick: what, 'aria-label': `${name} ${label}` }, text);
         const changes = isByBlocks ? [] : [button('copy', () => this.#copy(it), 'copy'), ' ', button('delete', () => this.#delete(it), 'delete')];
-        const row = made('tr', { 'data-name': name }, made('td', {}, button(name, () => shown.best(it), 'in its best form')), made('td', { class: 'n' }, String(length)), made('td', { class: 'n' }, String(first)),
+        const row = made('tr', { 'data-name': name, 'data-first': first }, made('td', {}, button(name, () => shown.best(it), 'in its best form')), made('td', { class: 'n' }, String(length)), made('td', { class: 'n' }, String(first)),
+            made('td', { class: 'date' }, it.date ?? ''), made('td', { class: 'kind' }, it.kind ?? ''),
             made('td', {}, button('text', () => shown.show(it, 'text'), 'as a text'), ' ', button('listing', () => shown.show(it, 'tape'), 'as the listing of a tape'),
                 ' ', button('source', () => shown.show(it, 'source'), 'as the source of a tape')),
             made('td', {}, button('text', () => shown.home(it, 'text'), 'home as a text'), ' ', button('tape', () => shown.home(it, 'tape'), 'home as a tape'),
@@ -372,7 +407,7 @@ export class Files {
     async #delete(it) {
         const [word, at] = placeOf(it), words = `the deletion of ${it.name}`;
         if (!at) return this.#change(words, `DELETE ${word}`);
-        const { status, out, said } = await this.page.undo.group(this.name, words, () => this.page.programs.ask(['delete', this.name, word, at]));
+        const { status, out, said } = await this.page.undo.group(this.file, words, () => this.page.programs.ask(['delete', ...wordsOf(this.name), word, at]));
         tell('files-status', textOf(out) + said, status !== 0);
     }
 
@@ -388,9 +423,9 @@ export class Files {
     async #putFiles(files) {
         /** @type {string[]} */
         const told = [];
-        const volume = this.name, names = files.map(it => nameOf(it.name));
+        const names = files.map(it => nameOf(it.name));
         let isBad = false;
-        await this.page.undo.group(volume, `putting ${names.join(', ')}`, async () => {
+        await this.page.undo.group(this.file, `putting ${names.join(', ')}`, async () => {
             for (const [k, file] of files.entries()) {
                 const { status, out, said } = await this.put(names[k], await bytesOfFile(file), $('put-as').value);
                 told.push(status === 0 ? textOf(out) + said : `${file.name}: ${textOf(out)}${said}`);
@@ -408,7 +443,8 @@ export class Files {
         if (!await this.#mayWrite(volume, name)) return { status: 0, out: new Uint8Array(0), said: `${name} was left as it was\n` };
         if (form === 'name') store.put(path, bytes);
         const [words, input] = form === 'name' ? [[path, '--text'], ''] : [['-', '--as', name, ...(form === 'text' ? ['--text'] : [])], bytes];
-        const answer = await undo.group(volume, `putting ${name}`, () => programs.ask(['put', volume, ...words], input));
+        const dated = this.entries.some(it => it.name === name) ? [] : await this.shown.datedWords(name, bytes);
+        const answer = await undo.group(fileOf(volume), `putting ${name}`, () => programs.ask(['put', ...wordsOf(volume), ...words, ...dated], input));
         store.remove(path);
         return answer;
     }
@@ -416,8 +452,8 @@ export class Files {
     // Whether a file of a volume may be written: where there is one of the name the user is asked.
     /** @param {string} volume @param {string} name */
     async #mayWrite(volume, name) {
-        const isThere = (await this.page.programs.ask(['get', volume, name])).status === 0 && !await this.#busy(volume);
-        return !isThere || await ask(`${volume} has a file ${name}. Writing over it loses what it has.`, ['', 'Leave it'], ['over', 'Write over it']) === 'over';
+        const isThere = (await this.page.programs.ask(['get', ...wordsOf(volume), name])).status === 0 && !await this.#busy(fileOf(volume));
+        return !isThere || await ask(`${titleOf(volume)} has a file ${name}. Writing over it loses what it has.`, ['', 'Leave it'], ['over', 'Write over it']) === 'over';
     }
 
     // Copies a file to another volume of the page, with its information words, and so its date.
@@ -425,20 +461,21 @@ export class Files {
     async #copy(it) {
         const { name } = it, { programs, undo } = this.page, others = this.volumes.filter(it => it !== this.name);
         if (!others.length) return tell('files-status', 'There is no other volume: open one, or make a new one.', true);
-        const to = await ask(`Copy ${name} to which volume?`, ...others.map(it => [it, it]), ['', 'Leave it']);
+        const to = await ask(`Copy ${name} to which volume?`, ...others.map(it => [it, titleOf(it)]), ['', 'Leave it']);
         if (to === '') return;
-        await this.#use(to, async () => {
-            if (!await this.#mayWrite(to, name)) return tell('files-status', `${name} of ${to} was left as it was`);
-            const { status, out, said } = await undo.group(to, `the copy of ${name} to ${to}`, () => programs.ask(['copy', this.name, ...placeOf(it), to]));
-            tell('files-status', status === 0 ? `${to}: ${textOf(out)}` : textOf(out) + said, status !== 0);
+        await this.#use(fileOf(to), async () => {
+            if (!await this.#mayWrite(to, name)) return tell('files-status', `${name} of ${titleOf(to)} was left as it was`);
+            const [from, ...how] = wordsOf(this.name), [there, ...where] = targetOf(to), words = ['copy', from, ...placeOf(it), there, ...how, ...where];
+            const { status, out, said } = await undo.group(there, `the copy of ${name} to ${titleOf(to)}`, () => programs.ask(words));
+            tell('files-status', status === 0 ? `${titleOf(to)}: ${textOf(out)}` : textOf(out) + said, status !== 0);
         });
     }
 
     // Changes the volume by lines of a script, and tells their replies.
     /** @param {string} words @param {...string} lines */
     async #change(words, ...lines) {
-        const run = () => this.page.programs.ask(['run', this.name, '--strict'], `${lines.join('\n')}\n`);
-        const { status, out, said } = await this.page.undo.group(this.name, words, run);
+        const run = () => this.page.programs.ask(['run', ...wordsOf(this.name), '--strict'], `${lines.join('\n')}\n`);
+        const { status, out, said } = await this.page.undo.group(this.file, words, run);
         tell('files-status', textOf(out) + said, status !== 0);
     }
 }

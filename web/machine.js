@@ -2,14 +2,17 @@
 import { $, ids, made, octal, rove, tell, keepInput } from './dom.js';
 import { Lines, canLive, textOf } from './program.js';
 import { helpAt, helpOf } from './help.js';
+import { Accesses, after, before } from './access.js';
+import { rateOf, uneven } from './pace.js';
 import { Panel } from './panel.js';
 import { Paper, keyOf } from './paper.js';
 import { settingOf } from './replay.js';
 import { tapeIn } from './tapes.js';
+import { Watch } from './watch.js';
 
 // What a PDP-8/I does in a millisecond, about; and how long its printer takes for a character, in milliseconds.
 const STEPS = 300, CHARACTER = 100;
-const LEAST = 20000, MOST = 1000000, LOOKS = 8, PICTURE = 11, CORE = 0o100000, LISTED = 6000;
+const LEAST = 20000, MOST = 1000000, LOOKS = 8, PICTURE = 10, CORE = 0o100000, LISTED = 6000;
 
 export class Machine {
     /** @type {Promise<Lines> | null} */
@@ -24,11 +27,11 @@ export class Machine {
     isPrinting = false;
     printed = 0;
     listedAt = 0;
-    watchedAt = 0;
+    total = 0;
+    accesses = new Accesses();
     reply = '';
-    /** @type {Map<string, string>} */
-    names = new Map();
     keeping = 0;
+    stepped = Promise.resolve();
     /** @type {number | null} */
     steps = null;
     isGoing = false;
@@ -52,14 +55,13 @@ export class Machine {
         for (const id of ids('speed', 'printer', 'core-from', 'watch')) keepInput(page.store, id);
         $('power').addEventListener('click', () => this.renew());
         $('step-over').addEventListener('click', () => this.stepOver());
-        $('watch').addEventListener('change', () => this.#watch());
+        this.watch = new Watch((...lines) => this.#ask(...lines));
         rove($('code'));
         helpAt($('code'), $('code-help'), it => helpOf(it.closest('.l')?.textContent ?? ''));
         $('core-tape').addEventListener('change', () => this.#chosen($('core-tape')));
         $('core-from').addEventListener('change', () => this.#core());
         $('console').addEventListener('keydown', event => this.#key(event));
-        page.store.addEventListener('volume', () => this.#tapes());
-        page.store.addEventListener('tape', () => this.#tapes());
+        for (const it of ['volume', 'tape']) page.store.addEventListener(it, () => this.#tapes());
         $('machine').addEventListener('shown', () => this.#refresh());
         this.panel.address = page.store.notes.get('address') ?? 0o200;
         this.panel.switches = page.store.notes.get('switches') ?? 0;
@@ -69,10 +71,7 @@ export class Machine {
     }
 
     // The living run, begun at its first use with the core that the page keeps.
-    async #living() {
-        this.lines ??= this.#begin();
-        return this.lines;
-    }
+    #living() { return this.lines ??= this.#begin(); }
 
     // The name of a small volume, over which a machine's run looks.
     async image() {
@@ -91,12 +90,17 @@ export class Machine {
         given.push(...settingOf(store.notes.get('registers'), cell => core[cell] ?? 0));
         for (const cell of this.breaks) given.push(`BREAK ${cell} ON`);
         given.push(`SWITCHES ${octal(this.panel.switches, 4)}`);
-        await lines.ask(...given);
+        this.accesses.clear();
+        this.accesses.see(given, await lines.ask(...given));
         return lines;
     }
 
     /** @param {...string} lines */
-    async #ask(...lines) { return (await this.#living()).ask(...lines); }
+    async #ask(...lines) {
+        const replies = await (await this.#living()).ask(...lines);
+        this.accesses.see(lines, replies);
+        return replies;
+    }
 
     /** @param {number | null} status @param {string} said */
     #ended(status, said) {
@@ -110,6 +114,7 @@ export class Machine {
         this.isGoing = false;
         (await this.lines)?.stop();
         this.lines = null;
+        this.accesses.clear();
         this.page.store.note('core', new Uint16Array(0));
         this.page.store.note('registers', null);
         this.#count(null);
@@ -176,7 +181,7 @@ export class Machine {
     // Shows a listing, whose cells are buttons for breaks; `symbols` has its names with their values.
     /** @param {string} text @param {string} [symbols] */
     list(text, symbols = '') {
-        this.names = new Map([...symbols.matchAll(/^([A-Z][A-Z0-9]*) +([0-7]{4,5})\b/gm)].map(it => [it[1], it[2].padStart(5, '0')]));
+        this.watch.name(symbols);
         this.page.store.note('names', symbols);
         this.cells.clear();
         const lines = text.split('\n'), shown = lines.slice(0, LISTED).map(it => this.#line(it));
@@ -184,7 +189,7 @@ export class Machine {
         $('code').replaceChildren(...shown);
         this.page.store.note('listing', text);
         this.#mark();
-        if (this.lines) this.#watch();
+        if (this.lines) this.watch.show();
     }
 
     // A line begins with its cell, or ends with it and its word in a comment, as `assemble --list` and `source` write them.
@@ -216,7 +221,8 @@ export class Machine {
         this.isLoaded = true;
         this.#point(this.panel.fieldSwitches * 0o10000 + this.panel.switches);
         tell('machine-status', `address ${octal(this.panel.address, 5)}`);
-        this.panel.show(this.#lit, this.panel.address, null);
+        this.accesses.set({ address: this.panel.address, word: null });
+        this.#show();
     }
 
     // What the lamps show: the registers, and in PC the address that was loaded, until the machine goes from there.
@@ -242,7 +248,8 @@ export class Machine {
         const [reply] = await this.#ask(line) ?? [''], [cell, word] = reply.split(' ');
         tell('machine-status', reply);
         this.#point(this.#next(this.panel.address));
-        this.panel.show(this.#lit, Number.parseInt(cell, 8), Number.parseInt(word, 8));
+        this.accesses.set({ address: Number.parseInt(cell, 8), word: Number.parseInt(word, 8) });
+        this.#show();
     }
 
     async start() {
@@ -284,12 +291,24 @@ export class Machine {
     stop() { this.isGoing = false; }
 
     // One step: from the address that was loaded, if one was since the machine last went, else from where it is.
-    async step() {
+    step() { return this.stepped = this.stepped.then(() => this.#step()); }
+
+    async #step() {
         this.isGoing = false;
         await this.#startLoaded();
-        await this.#slice('STEP', 1);
+        await this.#lookedAt('STEP');
         tell('machine-status', this.reply);
         await this.#stopped();
+    }
+
+    // One step, of which MA and MB show what it used.
+    /** @param {string} word */
+    async #lookedAt(word) {
+        /** @param {...string} lines */
+        const ask = (...lines) => this.#ask(...lines), state = await before(ask), why = await this.#slice(word, 1);
+        if (!this.reply.startsWith('STEPS 0')) this.accesses.set(await after(ask, state));
+        this.panel.use(this.accesses.last);
+        return why;
     }
 
     // Starts at the address that was loaded, if one was since the machine last went.
@@ -320,22 +339,12 @@ export class Machine {
         await this.#ask(...after.map(it => `BREAK ${it} OFF`), 'REGISTERS');
     }
 
-    // The words of the cells that are watched, each given by its name or its address.
-    async #watch() {
-        const asked = $('watch').value.toUpperCase().match(/[A-Z0-9]+/g) ?? [];
-        this.watchedAt = performance.now();
-        if (!asked.length) return $('watched').replaceChildren();
-        const cells = asked.map(it => ({ it, cell: this.names.get(it) ?? (/^[0-7]{1,5}$/.test(it) ? it.padStart(5, '0') : null) }));
-        const replies = await this.#ask(...cells.map(({ cell }) => cell ? `EXAMINE ${cell}` : 'REGISTERS'), 'REGISTERS');
-        if (!replies) return;
-        $('watched').replaceChildren(...cells.map(({ it, cell }, k) => made('div', {}, made('dt', {}, it), made('dd', {}, cell ? replies[k].slice(6) : 'no such name'))));
-    }
-
     // Goes on until something stops the machine; what it does is shown at each picture.
     async go() {
         if (this.isGoing) return;
         this.isGoing = true;
         this.isLoaded = false;
+        this.accesses.set(null);
         this.panel.runs(true);
         let why = 'LIMIT', last = performance.now(), made = 0, told = last;
         while (this.isGoing && why === 'LIMIT') {
@@ -346,7 +355,7 @@ export class Machine {
             const before = this.total;
             why = await this.#picture(due, now + PICTURE);
             made += this.total - before;
-            if (now - this.watchedAt > 100) await this.#watch();
+            await this.watch.showAt(now);
             if (now - told > 500) {
                 $('rate').textContent = `${rateOf(made / (now - told))} steps a second`;
                 told = now;
@@ -354,14 +363,16 @@ export class Machine {
             }
         }
         const isStopped = !this.isGoing;
+        if (why === 'LIMIT') why = await this.#lookedAt('GO');
         this.isGoing = false;
         this.panel.runs(false);
         tell('machine-status', isStopped ? `stopped by the key: ${this.reply}` : this.reply, why === 'UNASSIGNED');
         $('rate').textContent = '';
         await this.#stopped();
+        if (isStopped || why === 'ENDED') return;
+        await this.accesses.find(this.page.programs, await this.image(), (...lines) => this.#ask(...lines), this.reply);
+        this.#show();
     }
-
-    total = 0;
 
     // Steps until so many are made, or the time for a picture is over.
     /** @param {number} due @param {number} until @returns {Promise<string>} */
@@ -377,6 +388,7 @@ export class Machine {
             if (took > 4) this.many = Math.max(LEAST, this.many / 2 | 0);
             else if (took < 2 && about === this.many) this.many = Math.min(MOST, this.many * 2);
         } while (this.isGoing && why === 'LIMIT' && left > 0 && performance.now() < until);
+        if (this.isGoing && why === 'LIMIT') why = await this.#lookedAt('GO');
         this.#show();
         if (this.isPrinting) await this.#print();
         return why;
@@ -435,7 +447,8 @@ export class Machine {
     }
 
     #show() {
-        this.panel.show(this.#lit, null, null, this.isGoing);
+        const { address = null, word = null } = this.accesses.last ?? {};
+        this.panel.show(this.#lit, address, word, this.isGoing);
         this.#count(this.steps);
         if (this.isGoing && performance.now() - this.listedAt < 100) return;
         this.listedAt = performance.now();
@@ -457,7 +470,7 @@ export class Machine {
         const cells = Array.from({ length: 64 }, (_, k) => (from & 0o70000) + ((from + k) & 0o7777));
         const replies = await this.#ask(...cells.map(it => `EXAMINE ${octal(it, 5)}`));
         if (!replies) return;
-        await this.#watch();
+        await this.watch.show();
         const rows = Array.from({ length: 8 }, (_, k) => replies.slice(8 * k, 8 * k + 8));
         $('core').textContent = rows.map(it => `${it[0].slice(0, 5)}  ${it.map(one => one.slice(6)).join(' ')}`).join('\n');
     }
@@ -484,13 +497,4 @@ export class Machine {
         event.preventDefault();
         this.keys.push((key.toUpperCase().charCodeAt(0) & 0o177) | 0o200);
     }
-}
-
-// About so many steps, never twice the same number, so that what the lamps are seen at is no part of a program's own beat.
-/** @param {number} count */
-function uneven(count) { return Math.round(count * (0.6 + 0.8 * Math.random())); }
-
-/** @param {number} thousands */
-function rateOf(thousands) {
-    return thousands >= 1000 ? `${(thousands / 1000).toFixed(1)} million` : `${Math.round(thousands)} thousand`;
 }

@@ -16,6 +16,9 @@ const KEYS = [
     ['go', 'Cont', 'goes on, or from the address that was loaded'], ['stop', 'Stop', 'stops'], ['step', 'Sing step', 'makes one step, from the address where one was loaded'],
 ];
 
+// How many of the steps that were looked at last MA and MB show while the machine goes.
+const USES = 16;
+
 // Rows of lamps, by their names, each with its word in octal beside it.
 export class Lamps {
     /** @type {Record<string, Element[]>} */
@@ -26,6 +29,8 @@ export class Lamps {
     /** @type {Record<string, number[]>} */
     #lit = {};
     #seen = 0;
+    /** @type {Record<'ma' | 'mb', number>[]} */
+    #uses = [];
     /** @type {Record<string, Element>} */
     #words = {};
 
@@ -58,8 +63,17 @@ export class Lamps {
         }
     }
 
-    // Lets each lamp glow by its share of the time, while the machine goes.
+    // Sees what a step used that was looked at.
+    /** @param {{ address: number, word: number | null } | null} access */
+    use(access) {
+        if (access && access.word !== null) this.#uses = [...this.#uses, { ma: access.address & 0o7777, mb: access.word }].slice(-USES);
+    }
+
+    // Lets each lamp glow by its share of the time, while the machine goes; those of MA and MB by their share of the steps that were looked at.
     #glow() {
+        for (const name of /** @type {const} */ (['ma', 'mb']))
+            this.#lamps[name].forEach((lamp, bit) => { const lit = this.#uses.filter(it => it[name] >> (11 - bit) & 1).length;
+                /** @type {HTMLElement} */ (lamp).style.setProperty('--glow', (lit / Math.max(1, this.#uses.length)).toFixed(2)); });
         for (const [name, lit] of Object.entries(this.#lit)) {
             if (name === 'run' || name === 'ma' || name === 'mb') continue;
             this.#lamps[name].forEach((lamp, bit) => /** @type {HTMLElement} */ (lamp).style.setProperty('--glow', (lit[bit] / this.#seen).toFixed(2)));
@@ -73,9 +87,10 @@ export class Lamps {
         for (const lamps of Object.values(this.#lamps)) for (const lamp of lamps) /** @type {HTMLElement} */ (lamp).style.removeProperty('--glow');
         for (const lit of Object.values(this.#lit)) lit.fill(0);
         this.#seen = 0;
+        this.#uses = [];
     }
 
-    // Shows the registers, and the address and the word that were last examined; where these are not known, their lamps are dark.
+    // Shows the registers, and the address and the word that were used last; where these are not known, their lamps are dark.
     /** @param {Registers | null} registers @param {number | null} address @param {number | null} word @param {boolean} [isGoing] */
     show(registers, address, word, isGoing = false) {
         if (!registers) return;

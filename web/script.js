@@ -1,6 +1,7 @@
 // The Script pane: `run` over the volume that is open, a whole script at once, or a session whose lines are given one by one.
 import { $, follow, ids, keepInput, tell } from './dom.js';
 import { bytesOf, canLive, textOf } from './program.js';
+import { wordsOf } from './volumes.js';
 
 const FIRST = 'STORE HELLO.PA 4\n*200\n\tCLA IAC\n\tHLT\n$\nASSEMBLE HELLO.BN<HELLO.PA\nFINISH\nLOAD HELLO.BN\nFINISH\nRUN 00200 10\nREGISTERS\nDIRECT\n';
 
@@ -23,7 +24,7 @@ export class Script {
     }
 
     #words() {
-        const { files } = this.page, words = ['run', files.name];
+        const { files } = this.page, words = ['run', ...wordsOf(files.name)];
         if ($('script-saving').value) words.push($('script-saving').value);
         if ($('strict').checked) words.push('--strict');
         return files.name === '' ? tell('script-status', 'No volume is open: open one, or make a new one, in the pane Files.', true) : words;

@@ -66,7 +66,7 @@ export class Shelf {
         }
         const made = store.files.get('.shelf');
         for (const it of ['.shelf', '.shelf.pa', '.shelf.bn']) store.remove(it);
-        if (made) await files.add('SHELF', made);
+        if (made) await files.add('SHELF', made, files.created);
     }
 
     // Copies an address that opens the text anywhere.

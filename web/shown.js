@@ -2,12 +2,17 @@
 // names of its cells, which are kept with the volume; and what its program does.
 import { $, made, takeHome, tell } from './dom.js';
 import { bytesOf, textOf } from './program.js';
-import { got, isCore, placeOf, tapeIn } from './tapes.js';
+import { got, isNamedCore, placeOf, tapeIn } from './tapes.js';
+import { wordsOf } from './volumes.js';
 
 /** @typedef {import('./files.js').Entry} Entry */
-/** @typedef {'text' | 'tape' | 'source' | 'trace' | 'profile'} Form */
+/** @typedef {'text' | 'tape' | 'source' | 'words' | 'trace' | 'profile'} Form */
 /** @type {Record<Form, string>} */
-const WORDS = { text: 'text', tape: 'listing of its tape', source: 'source of its tape', trace: 'trace of its first steps', profile: 'count of what runs' };
+const WORDS = { text: 'text', tape: 'listing of its tape', source: 'source of its tape', words: 'words of its blocks', trace: 'trace of its first steps', profile: 'count of what runs' };
+// The kinds of files that are no program.
+const OTHERS = ['text', 'zeros', 'unknown'];
+// How many blocks of a file are shown as words.
+const MOST = 40;
 
 export class Shown {
     /** @type {Entry | null} */
@@ -32,20 +37,20 @@ export class Shown {
     /** @param {Entry} entry @returns {{ starts: string, names: string }} */
     hintsOf(entry) { return this.page.store.notes.get(this.#note(entry)) ?? { starts: '', names: '' }; }
 
-    // Forgets what was given for the files of a volume, in whose place another comes.
-    /** @param {string} volume */
-    forget(volume) {
-        for (const it of [...this.page.store.notes.keys()]) if (it.startsWith(`as ${volume}/`)) this.page.store.forget(it);
+    // Forgets what was given for the files of an image, in whose place another comes.
+    /** @param {string} image */
+    forget(image) {
+        for (const it of [...this.page.store.notes.keys()]) if (it.startsWith(`as ${image}/`) || it.startsWith(`as ${image} `)) this.page.store.forget(it);
     }
 
     #changed() {
         if (!this.entry) return;
         this.page.store.note(this.#note(this.entry), { starts: $('starts').value, names: $('cell-names').value });
-        this.show(this.entry, this.form === 'text' || this.form === 'tape' ? 'source' : this.form);
+        this.show(this.entry, this.form === 'text' || this.form === 'tape' || this.form === 'words' ? 'source' : this.form);
     }
 
     // The source of a file's tape, from its starts and with its names.
-    /** @param {Entry} entry @param {Answer} tape */
+    /** @param {Entry} entry @param {import('./tapes.js').Tape} tape */
     async source(entry, tape) {
         const { programs, store } = this.page, { starts, names } = this.hintsOf(entry);
         const words = ['source', ...(starts.match(/\S+/g) ?? []).flatMap(it => ['--start', it])];
@@ -53,7 +58,8 @@ export class Shown {
             store.put('.names', bytesOf(names.endsWith('\n') ? names : `${names}\n`));
             words.push('--names', '.names');
         }
-        const given = await (isCore(entry) ? programs.ask([...words, this.#volume, entry.name]) : programs.ask(words, tape.out));
+        const start = tape.start !== undefined && !words.includes('--start') ? ['--start', tape.start] : [];
+        const given = await (isNamedCore(entry) ? programs.ask([...words, ...wordsOf(this.#volume), entry.name]) : programs.ask([...words, ...start], tape.out));
         store.remove('.names');
         return given;
     }
@@ -62,11 +68,11 @@ export class Shown {
     /** @param {Entry} entry */
     symbolsOf(entry) { return this.hintsOf(entry).names.replace(/^\s*([0-7]{5})[ \t]+([A-Z][A-Z0-9]*).*$/gm, '$2 $1'); }
 
-    // Shows a file in its best form: a program as source, any other as a text.
+    // Shows a file in its best form, by what it holds: a program as source, a text as that, and any other as words.
     /** @param {Entry} entry */
     async best(entry) {
-        const isProgram = (await tapeIn(this.page, this.#volume, entry)).status === 0;
-        await this.show(entry, isProgram ? 'source' : 'text');
+        const { kind } = entry, isProgram = kind ? !OTHERS.includes(kind) : (await tapeIn(this.page, this.#volume, entry)).status === 0;
+        await this.show(entry, isProgram ? 'source' : kind && kind !== 'text' ? 'words' : 'text');
     }
 
     // What a form of a file is, as the program gives it.
@@ -74,6 +80,8 @@ export class Shown {
     async #given(entry, form) {
         const { programs, store } = this.page, volume = this.#volume;
         if (form === 'text') return got(this.page, volume, entry, '--text');
+        const last = entry.first + Math.min(entry.length, MOST) - 1;
+        if (form === 'words') return programs.ask(['dump', ...wordsOf(volume), `${entry.first}-${last}`]);
         const tape = await tapeIn(this.page, volume, entry);
         if (tape.status !== 0) return tape;
         if (form === 'source') return this.source(entry, tape);
@@ -101,7 +109,7 @@ export class Shown {
         $('shown-name').textContent = entry ? `${entry.name}, ${WORDS[form]}` : 'No file is shown';
         const plain = text.replaceAll('\r', '');
         $('shown').replaceChildren(...(entry && (form === 'trace' || form === 'profile') ? this.#named(entry, plain) : [plain]));
-        $('shown-how').hidden = !entry || form === 'text' || form === 'tape';
+        $('shown-how').hidden = !entry || form === 'text' || form === 'tape' || form === 'words';
         if (entry) [$('starts').value, $('cell-names').value] = [this.hintsOf(entry).starts, this.hintsOf(entry).names];
         for (const row of $('directory').tBodies[0].rows) row.classList.toggle('chosen', row.dataset.name === entry?.name);
     }
@@ -113,14 +121,29 @@ export class Shown {
         return (text.match(/[^\n]*\n|[^\n]+$/g) ?? []).map(it => made('span', { class: 'l', 'data-own': names.get(it.slice(0, 5)) ?? null }, it));
     }
 
+    // The words that give a file of the host its date, where it went home with one, and comes back as it went.
+    /** @param {string} name @param {Uint8Array} bytes */
+    async datedWords(name, bytes) {
+        const kept = this.page.store.notes.get(`home ${name}`);
+        return kept?.sum && kept.sum === await sumOf(bytes) ? ['--date', kept.date] : [];
+    }
+
     // Takes a file home under its own name, so that it comes back under that. One whose name can't be typed is named by its place.
     /** @param {Entry} entry @param {'text' | 'tape' | 'frames'} form */
     async home(entry, form) {
         const { status, out, said } = await (form === 'tape' ? tapeIn(this.page, this.#volume, entry) : got(this.page, this.#volume, entry, ...(form === 'text' ? ['--text'] : [])));
         if (status !== 0) return tell('files-status', `${entry.name}: ${said}`, true);
         const [word, at] = placeOf({ ...entry, isByBlocks: false });
-        takeHome(at ? `at-${at}` : word, out);
+        const name = at ? `at-${at}` : word;
+        takeHome(name, out);
+        if (/^\d/.test(entry.date ?? '') && entry.date?.length === 10) this.page.store.note(`home ${name}`, { date: entry.date, sum: await sumOf(out) });
         tell('files-status', `${entry.name}: ${out.length} bytes`);
     }
 }
 
+// A digest of bytes.
+/** @param {Uint8Array} bytes */
+async function sumOf(bytes) {
+    const sum = await globalThis.crypto?.subtle?.digest('SHA-256', new Uint8Array(bytes));
+    return sum ? [...new Uint8Array(sum)].join() : '';
+}

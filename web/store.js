@@ -2,7 +2,7 @@
 // Files, and the notes that tabs share, are sent to the other tabs of the page, which have them then as well. The text that is open is the
 // note `text`; others are notes `text NAME`.
 const SLOTS = /** @type {const} */ (['files', 'notes']);
-const isShared = (/** @type {string} */ key) => ['text', 'source-name'].includes(key) || /^(text|further|dialect) /.test(key);
+const isShared = (/** @type {string} */ key) => ['text', 'source-name'].includes(key) || /^(text|further|dialect|kind) /.test(key);
 // Whether a note is a user's own work.
 const isWork = (/** @type {string} */ key) => ['text', 'lines'].includes(key) || key.startsWith('text ');
 

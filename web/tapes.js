@@ -1,7 +1,8 @@
 // Tapes as the program takes them wherever one is wanted: a BIN tape, a RIM tape, or the core image of a file of a volume.
-import { textOf } from './program.js';
+import { wordsOf } from './volumes.js';
 
 /** @typedef {import('./files.js').Entry} Entry */
+/** @typedef {Answer & { start?: string }} Tape */
 
 // The BIN tape that frames are, or that `rim` makes of them; else the program's refusal.
 /** @param {Page} page @param {Uint8Array} frames @returns {Promise<Answer>} */
@@ -12,9 +13,13 @@ export async function tapeOf({ programs }, frames) {
     return rim.status === 0 ? rim : asked;
 }
 
-// Whether a file is a core image, by its name.
+// Whether a file is a core image, by its name or by its words.
 /** @param {Entry} it */
-export const isCore = ({ name, isByBlocks }) => name.endsWith('.SV') && !isByBlocks;
+export const isCore = ({ name, isByBlocks, kind }) => !isByBlocks && (name.endsWith('.SV') || !!kind?.startsWith('core'));
+
+// Whether the program takes a file as a core image by its name.
+/** @param {Entry} it */
+export const isNamedCore = it => it.name.endsWith('.SV') && !it.isByBlocks && placeOf(it).length === 1;
 
 // The words by which the program finds a file of a volume: its name, its first block where the name can't be typed, or its blocks where the
 // directory is refused.
@@ -26,16 +31,14 @@ export function placeOf({ name, first, length, isByBlocks }) {
 
 // What `get` gives of a file of a volume.
 /** @param {Page} page @param {string} volume @param {Entry} entry @param {...string} form */
-export function got({ programs }, volume, entry, ...form) { return programs.ask(['get', volume, ...placeOf(entry), ...form]); }
+export function got({ programs }, volume, entry, ...form) { return programs.ask(['get', ...wordsOf(volume), ...placeOf(entry), ...form]); }
 
 // The BIN tape of a file of a volume, as itself, of a RIM tape, or of a core image, and where that starts.
-/** @param {Page} page @param {string} volume @param {Entry} entry @returns {Promise<Answer & { start?: string }>} */
+/** @param {Page} page @param {string} volume @param {Entry} entry @returns {Promise<Tape>} */
 export async function tapeIn(page, volume, entry) {
     if (isCore(entry)) {
         const image = await got(page, volume, entry, '--bin');
-        if (image.status !== 0) return image;
-        const traced = await page.programs.ask(['trace', volume, entry.name, '--steps', '1']);
-        return { ...image, start: textOf(traced.out).slice(0, 5) };
+        return { ...image, start: /^START ([0-7]{5})$/m.exec(image.said)?.[1] };
     }
     const asked = entry.isByBlocks ? null : await got(page, volume, entry, '--tape');
     if (asked?.status === 0) return asked;

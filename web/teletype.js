@@ -2,7 +2,8 @@
 import { $, bytesOfFile, ids, keepInput, made, tell } from './dom.js';
 import { canLive, textOf } from './program.js';
 import { Paper, keyOf } from './paper.js';
-import { isCore, placeOf, tapeIn, tapeOf } from './tapes.js';
+import { got, isNamedCore, placeOf, tapeIn, tapeOf } from './tapes.js';
+import { titleOf, wordsOf } from './volumes.js';
 
 export class Teletype {
     /** @param {Page} page */
@@ -42,7 +43,7 @@ export class Teletype {
         if (source?.tape) rows.push(made('option', { value: 'source' }, source.isOld ? 'the source\'s, old' : 'the source\'s'));
         if (this.own) rows.push(made('option', { value: 'own' }, this.own));
         const own = (files?.entries ?? []).map(it => it.name).sort();
-        if (own.length) rows.push(made('optgroup', { label: files.name }, ...own.map(it => made('option', { value: `file ${it}` }, it))));
+        if (own.length) rows.push(made('optgroup', { label: titleOf(files.name) }, ...own.map(it => made('option', { value: `file ${it}` }, it))));
         $('tape').replaceChildren(...rows);
         $('tape').value = chosen;
         if ($('tape').selectedIndex < 0) $('tape').value = '';
@@ -77,19 +78,22 @@ export class Teletype {
         if (instead) words.push(...instead);
         else if (tape === 'source') words.push('.source.bin');
         else if (tape === 'own') words.push('.tape.bin');
-        else words.push(this.page.files.name, tape.slice(5));
+        else words.push(...wordsOf(this.page.files.name), tape.slice(5));
         if ($('tty-start').value.trim()) words.push('--start', $('tty-start').value.trim());
         if ($('tty-switches').value.trim()) words.push('--switches', $('tty-switches').value.trim());
         return words;
     }
 
-    // Makes a tape of a file of the volume that is a RIM tape, which the Teletype's program doesn't take by itself.
-    async #madeOfRim() {
-        const { files, programs, store } = this.page, entry = files.entries.find(it => `file ${it.name}` === $('tape').value);
-        if (!entry || isCore(entry) || (await programs.ask(['get', files.name, ...placeOf(entry), '--tape'])).status === 0) return false;
-        const { status, out } = await tapeIn(this.page, files.name, entry);
-        if (status === 0) store.put('.rim.bin', out);
-        return status === 0;
+    // The words of a tape that is made of a file of the volume, where the Teletype's program doesn't take that by itself: of a RIM tape, of a
+    // core image with another name, or of a file that is found by its place.
+    async #madeTape() {
+        const { files, store } = this.page, entry = files.entries.find(it => `file ${it.name}` === $('tape').value);
+        if (!entry || isNamedCore(entry)) return null;
+        if (placeOf(entry).length === 1 && (await got(this.page, files.name, entry, '--tape')).status === 0) return null;
+        const { status, out, start } = await tapeIn(this.page, files.name, entry);
+        if (status !== 0) return null;
+        store.put('.rim.bin', out);
+        return ['.rim.bin', ...(start && !$('tty-start').value.trim() ? ['--start', start] : [])];
     }
 
     async begin() {
@@ -99,7 +103,7 @@ export class Teletype {
         this.#buttons();
         if ($('tape').value === 'source' && !await this.page.source.renew())
             return this.#ended(1, `The source has no tape: ${$('source-status').textContent}`);
-        const words = await this.#madeOfRim() ? this.#words(['.rim.bin']) : this.#words();
+        const words = this.#words(await this.#madeTape());
         if (!canLive) words.splice(1, 1);
         let said = '';
         /** @type {How} */

@@ -1,22 +1,20 @@
 #!/usr/bin/env bash
-# check_page.sh [--quick] [--pictures]: makes the page and tests it: each pane in headless Chromium, and in Firefox where there is one, against the native
+# check_page.sh [--quick]: makes the page and tests it: each pane in headless Chromium, and in Firefox where there is one, against the native
 # program, and every session, but for those of beyond.txt, and a thousand random scripts of the plain model with its module in node. Then five
 # faults are planted in the page, and a test must notice each. The last line is 'N passed, M failed'.
 # --quick takes the page and the program that are built with checks, in place of the proved ones, the sessions of the documents alone, a
-# hundred scripts, and of the browser's tests those of panes.mjs, losses.mjs and waits.mjs. Where there is no Chromium or no node the tests of the
-# page are skipped, which fails where CI is set.
+# hundred scripts, and of the browser's tests those of panes.mjs, losses.mjs and waits.mjs. Three browsers work side by side, each with a profile of
+# its own; what is measured comes last. Where there is no Chromium or no node the tests of the page are skipped, which fails where CI is set.
 set -u
 top=$(dirname "$(dirname "$(dirname "$(readlink -f "${BASH_SOURCE[0]}")")")")
 cd "$top" || exit 2
 for word; do
     case $word in
-    --quick | --pictures) ;;
-    *) echo "check_page: usage: tests/page/check_page.sh [--quick] [--pictures]" >&2; exit 2 ;;
+    --quick) ;;
+    *) echo "check_page: usage: tests/page/check_page.sh [--quick]" >&2; exit 2 ;;
     esac
 done
-pictures=
-[[ " $* " == *" --pictures "* ]] && pictures=--pictures
-which=--proved program=crates/pdp8/out/pdp8 texts=() scripts=1000 browsed='losses undone shelf whole panel disks figures'
+which=--proved program=crates/pdp8/out/pdp8 texts=() scripts=1000 browsed='undone losses archives shelf panel disks whole'
 if [[ " $* " == *" --quick "* ]]; then
     which=--unproved program=target/unproved/pdp8/pdp8 texts=(README.md docs/*.md docs/*/*.md) scripts=100 browsed=losses
 fi
@@ -46,10 +44,18 @@ begin() {
     "$@" >"$room/${#parts[@]}" 2>&1 &
 }
 
-# Begins a part that works a browser. Two of these run side by side with --quick alone.
+# Begins a part that works a browser, once fewer than three others do.
+browsers=()
 browse() {
-    begin node "$@"
-    [ "$which" = --unproved ] || wait $!
+    local running=() it
+    while :; do
+        running=()
+        for it in ${browsers+"${browsers[@]}"}; do kill -0 "$it" 2>/dev/null && running+=("$it"); done
+        ((${#running[@]} < 3)) && break
+        wait -n "${running[@]}"
+    done
+    begin "$@"
+    browsers=(${running+"${running[@]}"} $!)
 }
 
 # Shows what a part has printed, and counts what it says in its last line.
@@ -71,12 +77,15 @@ if ((size < 3000)); then passed=$((passed + 1)); else failed=$((failed + 1)); ec
 served() { node --experimental-wasm-memory64 --no-warnings tests/page/server.mjs "$folder/pdp8.wasm" "$@"; }
 begin served tests/page/run_sessions.py ${texts+"${texts[@]}"}
 begin served tests/model/compare_scripts.py --program "$client" --scripts $scripts
-[ "$which" = --unproved ] || begin node tests/page/firefox.mjs "$program" "$folder"
-browse tests/page/panes.mjs "$program" "$folder" $pictures
-for part in $browsed; do browse "tests/page/$part.mjs" "$program" "$folder"; done
-browse tests/page/waits.mjs "$program" "$folder"
-[ "$which" = --unproved ] || begin tests/page/try_faults.py --gate --program "$program"
+browse node tests/page/panes.mjs "$program" "$folder"
+for part in $browsed waits; do browse node "tests/page/$part.mjs" "$program" "$folder"; done
+if [ "$which" = --proved ]; then
+    browse node tests/page/firefox.mjs "$program" "$folder"
+    browse tests/page/try_faults.py --gate --program "$program"
+fi
 wait
+# what is measured has the processors for itself
+[ "$which" = --unproved ] || { begin node tests/page/figures.mjs "$program" "$folder"; wait; }
 for number in "${!parts[@]}"; do count $((number + 1)); done
 echo "$passed passed, $failed failed"
 ((failed == 0))

@@ -142,6 +142,10 @@ await run('disks', {
         await page.click('button[aria-label="A.SV in its best form"]');
         await isShown(page, 'A.SV, source');
         same(plain(native(['source', 'V', 'A.SV'])), await shown(page), 'the source of the core image');
+        for (const word of ['trace', 'profile']) {
+            await page.click(`#shown-${word}`);
+            await page.until(`document.getElementById('shown').textContent === ${JSON.stringify(native([word, 'V', 'A.SV']).toString())}`);
+        }
         await page.click('button[aria-label="B.RM in its best form"]');
         await isShown(page, 'B.RM, source');
         writeFileSync(file('b.rim'), rim);
@@ -184,22 +188,25 @@ await run('disks', {
     },
     'no kind of a block, and no state, is told by colour alone': async (page, url) => {
         await page.go(url);
-        laid('V', { 'H.TX': 'HELLO\n'.repeat(400), 'ADD.BN': ADD });
+        laid('V', { 'H.TX': 'HELLO\n'.repeat(400), 'ADD.BN': ADD, 'GONE.TX': 'GONE\n' });
+        native(['delete', 'V', 'GONE.TX']);
         change('V', 258, 7);
         await opens(page, 'V');
         await isTold(page, 'files-status', '? DIRECTORY 1 BAD LINK 1');
-        // The light of a square at its middle, at a corner, and left of the middle, by halves: a bar, a hole, a cross, or none of these.
+        await page.until(`geivottu.files.blocks.all.some(it => it.kind === 'found')`);
+        // The light of a square at its middle, at a corner, left of the middle, and above it, by halves: a bar, one that stands, a hole, a cross, or none of these.
         const marks = await page.look(`(() => { const canvas = document.getElementById('blocks'), brush = canvas.getContext('2d'), { blocks } = geivottu.files;
             const light = (x, y) => { const [r, g, b] = brush.getImageData(x, y, 1, 1).data; return r + g + b > 600 ? 'light' : 'dark'; };
             const across = blocks.across, columns = Math.round(canvas.clientWidth / across), found = {};
             blocks.all.forEach(({ kind }, k) => { const x = k % columns * across, y = Math.floor(k / columns) * blocks.side, w = across - 1, h = blocks.side - 1;
-                found[kind] ??= [light(x + w / 2, y + h / 2), light(x + 1.5, y + 1.5), light(x + 1.5, y + h / 2)].join(' '); });
+                found[kind] ??= [light(x + w / 2, y + h / 2), light(x + 1.5, y + 1.5), light(x + 1.5, y + h / 2), light(x + w / 2, y + 1.5)].join(' '); });
             return found; })()`);
-        same('dark dark dark', marks.file, 'a file');
-        same('light dark dark', marks.outside, 'what is not covered');
-        same('light dark light', marks.directory, 'the directory');
-        same('light light dark', marks.fault, 'a fault');
-        same('light light light', marks.empty, 'what is empty');
+        same('dark dark dark dark', marks.file, 'a file');
+        same('light dark dark dark', marks.outside, 'what is not covered');
+        same('light dark dark light', marks.found, 'a text that was found');
+        same('light dark light dark', marks.directory, 'the directory');
+        same('light light dark dark', marks.fault, 'a fault');
+        same('light light light light', marks.empty, 'what is empty');
         await assemble(page, 'IT', '*200\n\tCLA IAC\n\tHLT\n$\n');
         await page.click('#to-core');
         await isTold(page, 'machine-status', 'words are in core');

@@ -1,11 +1,12 @@
 // figures.mjs PROGRAM FOLDER [PART..]: how quick the page is, how large, and how much memory it takes. Each time is the best of some tries, since
-// other programs may take the processors meanwhile. As losses.mjs otherwise.
+// other programs may take the processors meanwhile. With IDLE=1 in the environment there are 60 pictures a second, whatever the page's own work for
+// each is. As losses.mjs otherwise.
 import { randomBytes } from 'node:crypto';
-import { readFileSync, readdirSync, statSync } from 'node:fs';
+import { readFileSync, readdirSync, statSync, writeFileSync } from 'node:fs';
 import { join, resolve } from 'node:path';
 import { alone, assemble, file, holds, isTold, native, run } from './tools.mjs';
 
-const TRIES = 8;
+const TRIES = 8, STEPS = 40;
 const LOOP = '*200\nA,\tISZ B\n\tJMP A\n\tISZ C\n\tJMP A\n\tJMP A\nB,\t0\nC,\t0\n$\n';
 const PRINTS = '*200\nA,\tTAD B\n\tTLS\n\tCLA\n\tISZ D\n\tJMP A\n\tTAD E\n\tTLS\n\tCLA\n\tTAD F\n\tTLS\n\tCLA\n\tTAD G\n\tDCA D\n\tJMP A\nB,\t301\nD,\t7740\nE,\t215\nF,\t212\nG,\t7740\n$\n';
 const PICTURES = `new Promise(go => { let count = 0; const end = performance.now() + 1000;
@@ -32,7 +33,7 @@ async function shows(page, what) {
     });
     const own = (await spent() - before) / count;
     console.log(`figures: ${what}: ${all} pictures in a second, of ${own.toFixed(1)} ms of work each`);
-    holds(isMet || own < 1000 / 60, `${what}: ${all} pictures in a second, of ${own.toFixed(1)} ms of work each`);
+    holds(isMet || (!process.env.IDLE && own < 1000 / 60), `${what}: ${all} pictures in a second, of ${own.toFixed(1)} ms of work each`);
 }
 
 // The memory of the page's process that is its own, in MB, after a sweep.
@@ -63,6 +64,20 @@ await run('figures', {
             await new Promise(requestAnimationFrame); return performance.now() - from; })()`));
         holds(isMet, `it took ${all} ms`);
     },
+    'a script makes half of the native steps a second': async (page, url) => {
+        const script = count => `DEPOSIT 00200 2210\nDEPOSIT 00201 5200\nDEPOSIT 00202 2211\nDEPOSIT 00203 5200\nDEPOSIT 00204 5200\nSTART 00200\n${'GO 1000000\n'.repeat(count)}`;
+        native(['create', 'V', '20']);
+        await page.go(url);
+        await page.look(`geivottu.programs.ask(['create', 'V', '20'])`);
+        const natively = count => { const from = Date.now(); native(['run', 'V', '--look'], script(count)); return Date.now() - from; };
+        const there = count => page.look(`(async () => { const from = performance.now(); await geivottu.programs.ask(['run', 'V', '--look'], ${JSON.stringify(script(count))});
+            return performance.now() - from; })()`);
+        // what begins a run is no step
+        const steps = async run => Math.max(1, Math.min(await run(STEPS), await run(STEPS)) - Math.min(await run(1), await run(1)));
+        const { isMet, all } = await best(it => it >= 50, async () => 100 * await steps(natively) / await steps(there));
+        console.log(`figures: ${all} hundredths of the native steps a second`);
+        holds(isMet, `${all} hundredths of the native steps`);
+    },
     'the panel and the Teletype have 60 pictures a second at full speed': async (page, url) => {
         await page.go(url);
         await assemble(page, 'LOOP', LOOP);
@@ -82,16 +97,17 @@ await run('figures', {
         await page.click('#tty-stop');
     },
     'with an RK05 open and fifty changes to be undone it takes less than 200 MB': alone(async (page, url) => {
-        native(['create', 'RK05', '3248']);
-        native(['put', 'RK05', '-', '--as', 'A.DA'], randomBytes(550000));
+        native(['create', 'ONE', '3248']);
+        native(['put', 'ONE', '-', '--as', 'A.DA'], randomBytes(550000));
+        writeFileSync(file('RK05'), Buffer.concat([readFileSync(file('ONE')), readFileSync(file('ONE'))]));
         await page.go(url);
         await page.give('#image', file('RK05'));
-        await page.until(`document.getElementById('volume').value === 'RK05'`);
+        await page.until(`document.getElementById('volume').value === 'RK05 1'`);
         const before = await memory(page);
         for (let k = 0; k < 50; k++)
             await page.look(`(async () => { const { programs, undo } = geivottu, noise = new Uint8Array(550000);
                 for (let at = 0; at < noise.length; at += 50000) crypto.getRandomValues(noise.subarray(at, at + 50000));
-                await undo.group('RK05', 'a change', () => programs.ask(['put', 'RK05', '-', '--as', 'A.DA'], noise)); })()`);
+                await undo.group('RK05', 'a change', () => programs.ask(['put', 'RK05', '--volume', '1', '-', '--as', 'A.DA'], noise)); })()`);
         holds(await page.look(`geivottu.undo.count === 50`), `${await page.look('geivottu.undo.count')} changes can be undone`);
         const took = await memory(page);
         holds(took < 200, `it takes ${Math.round(took)} MB`);

@@ -7,6 +7,11 @@ import { assemble, file, holds, isTold, native, pane, run, same } from './tools.
 const PRINTS = '*200\nA,\tCLA\n\tTAD I P\n\tSNA\n\tHLT\n\tTLS\n\tTSF\n\tJMP .-1\n\tISZ P\n\tJMP A\nP,\t300\n*300\n301;302;215;303;212;304;215;212;207;0\n$\n';
 const BLINKS = '*200\nA,\tCLA CMA\n\tNOP\n\tCLA\n\tJMP A\n$\n';
 const CALLS = '*200\nSTART,\tJMS SUB\n\tIAC\n\tHLT\nSUB,\t0\n\tISZ COUNT\n\tJMP I SUB\nCOUNT,\t0\n$\n';
+// Steps that use their own cell, one of their page, one by a pointer, by a pointer that counts by itself, of page zero, of a subroutine, and a
+// pointer alone; a HLT that skips a HLT, a loop, and a word that is no instruction.
+const USES = '*7\n0\n223\n*200\n\tCLA CLL\n\tTAD FIVE\n\tDCA I PTR\n\tTAD I PTR\n\tDCA I 10\n\tISZ 7\n\tJMS I SUBP\n\tJMP I AFTER\n\tHLT\n\tSZA HLT\n\tHLT\n\tHLT\n'
+    + 'LOOP,\tJMP LOOP\n7002\nFIVE,\t5\nPTR,\tDEST\nSUBP,\tSUB\nAFTER,\t211\nDEST,\t0\n*400\nSUB,\t0\n\t6032\n\tJMP I SUB\n$\n';
+const USED = ['0200 7300', '0216 0005', '0222 0005', '0222 0005', '0224 0005', '0007 0001', '0400 0207', '0401 6032', '0400 0207', '0221 0211', '0211 7442'];
 
 /** @typedef {import('./tools.mjs').Page} Page */
 
@@ -61,7 +66,7 @@ const FAINT = `(() => { ${RATIO}
 const PALE = `(() => { ${RATIO}
     const colourOf = name => { const it = document.createElement('span'); it.style.color = 'var(--' + name + ')'; document.body.append(it);
         const colour = getComputedStyle(it).color; it.remove(); return colour; };
-    return ['directory', 'file', 'file-2', 'outside', 'fault', 'edge', 'bad', 'accent', 'quiet'].filter(it => ratio(colourOf(it), colourOf('paper')) < 3).join('; ');
+    return ['directory', 'file', 'file-2', 'found', 'outside', 'fault', 'edge', 'bad', 'accent', 'quiet'].filter(it => ratio(colourOf(it), colourOf('paper')) < 3).join('; ');
 })()`;
 
 await run('panel', {
@@ -77,6 +82,19 @@ await run('panel', {
         await page.click('#key-stop');
         await isTold(page, 'machine-status', 'stopped by the key');
         await page.until(`[...document.querySelectorAll('.lamp')].every(it => ['0', '1'].includes(getComputedStyle(it).getPropertyValue('--glow').trim()))`);
+    },
+    'MA and MB glow by the share of the steps that use a cell': async (page, url) => {
+        await page.go(url);
+        await toCore(page, '*200\nA,\tISZ 300\n\tJMP A\n\tJMP A\n$\n');
+        await page.click('#key-start');
+        /** @param {string} row @param {number} bit */
+        const glow = (row, bit) => `Number(document.querySelectorAll('#panel [data-row=${row}] .lamp')[${bit}].style.getPropertyValue('--glow'))`;
+        await page.until(`${glow('ma', 5)} > 0.1 && ${glow('ma', 5)} < 0.9`);
+        await page.until(`${glow('ma', 4)} === 1 && ${glow('ma', 0)} === 0`);
+        await page.until(`${glow('mb', 0)} > 0.1`);
+        await page.click('#key-stop');
+        await isTold(page, 'machine-status', 'stopped by the key');
+        same('', await page.look(`document.querySelectorAll('#panel [data-row=ma] .lamp')[5].style.getPropertyValue('--glow')`), 'the glow of a lamp after a stop');
     },
     'a return alone prints over': async (page, url) => {
         await page.go(url);
@@ -195,6 +213,44 @@ await run('panel', {
         await isTold(page, 'machine-status', 'HALT 00402');
         await page.until(`document.querySelector('[data-row=pc] .word').textContent === '0402'`);
         same('0001', await page.look(`document.querySelector('[data-row=ac] .word').textContent`), 'AC');
+    },
+    'MA and MB show what the last step used, after each kind of stop': async (page, url) => {
+        await page.go(url);
+        await toCore(page, USES);
+        /** @param {string} wanted */
+        const shows = wanted => page.until(`['ma', 'mb'].map(it => document.querySelector('#panel [data-row=' + it + '] .word').textContent).join(' ') === '${wanted}'`);
+        for (const wanted of USED) {
+            await page.click('#key-step');
+            await shows(wanted);
+        }
+        await isTold(page, 'machine-status', 'HALT 00213');
+        await page.click('#key-start');
+        await isTold(page, 'machine-status', 'HALT 00213');
+        await shows('0211 7442');
+        await page.click('#code [data-cell="00207"] button');
+        await isTold(page, 'machine-status', 'BREAK 00207 ON');
+        await page.click('#key-start');
+        await isTold(page, 'machine-status', 'BREAK 00207');
+        await shows('0400 0207');
+        await page.fill('#switches-shown', '0214');
+        await page.key('Tab');
+        await page.click('#key-load');
+        await shows('0214 ');
+        await page.click('#key-examine');
+        await shows('0214 5214');
+        await page.click('#key-load');
+        await page.click('#key-start');
+        await page.until(`document.getElementById('rate').textContent.includes('steps a second')`);
+        await shows('0214 5214');
+        await page.click('#key-stop');
+        await isTold(page, 'machine-status', 'stopped by the key: STEPS 1 LIMIT 00214');
+        await shows('0214 5214');
+        await page.fill('#switches-shown', '0215');
+        await page.key('Tab');
+        await page.click('#key-load');
+        await page.click('#key-start');
+        await isTold(page, 'machine-status', 'UNASSIGNED 00215');
+        await shows('0215 7002');
     },
     'the Teletype is beside the panel on a wide window, and below it on a narrow one': async (page, url) => {
         await page.go(url);

@@ -1,7 +1,7 @@
-// panes.mjs PROGRAM FOLDER [--pictures]: works each pane of the page in headless Chromium by its controls, as a user does, and compares
-// what comes out with the native program PROGRAM, byte for byte. --pictures writes docs/pictures/. The last line is 'N passed, M failed'.
+// panes.mjs PROGRAM FOLDER: works each pane of the page in headless Chromium by its controls, as a user does, and compares
+// what comes out with the native program PROGRAM, byte for byte. The last line is 'N passed, M failed'.
 import { spawnSync } from 'node:child_process';
-import { copyFileSync, linkSync, mkdirSync, mkdtempSync, readFileSync, rmSync, truncateSync, writeFileSync } from 'node:fs';
+import { copyFileSync, linkSync, mkdtempSync, readFileSync, rmSync, truncateSync, writeFileSync } from 'node:fs';
 import { tmpdir } from 'node:os';
 import { dirname, join, resolve } from 'node:path';
 import { fileURLToPath } from 'node:url';
@@ -9,7 +9,6 @@ import { Browser, pause, serve } from './browser.mjs';
 
 const top = dirname(dirname(dirname(fileURLToPath(import.meta.url))));
 const [program, folder] = process.argv.slice(2, 4).map(it => resolve(it));
-const takesPictures = process.argv.includes('--pictures');
 const work = mkdtempSync(join(tmpdir(), 'panes-'));
 const file = name => join(work, name);
 const tests = [];
@@ -514,67 +513,6 @@ test('a browser without wide memories is told so in words', async (page, server)
     await page.call('Page.removeScriptToEvaluateOnNewDocument', { identifier });
 });
 
-// The pictures of docs/pictures/, each pane at work.
-async function pictures(page, server) {
-    const to = join(top, 'docs/pictures');
-    mkdirSync(to, { recursive: true });
-    const shot = async name => { await page.look('scrollTo(0, 0)'); await pause(150); await page.picture(join(to, `${name}.png`)); };
-    await page.go(`${server.url}?pictures`);
-    await page.size(1120, 780);
-    await page.scheme('light');
-    await pane(page, 'files');
-    await page.choose('#volume', 'DISK');
-    await page.until(`document.querySelectorAll('#directory tbody tr').length > 2`);
-    await page.click('button[aria-label="GAME.PA as a text"]');
-    await page.until(`document.getElementById('shown').textContent !== ''`);
-    await shot('files');
-    await setSource(page, readFileSync(file('guess.pa'), 'latin1'));
-    await page.click('#assemble');
-    await isTold(page, 'source-status', 'assembled');
-    await shot('source');
-    await page.look(`(() => { const it = document.getElementById('text'); it.value = it.value.replace('TAD', 'TAD LIEN+'); it.dispatchEvent(new Event('input')); })()`);
-    await page.click('#assemble');
-    await isTold(page, 'source-status', '? 5');
-    await page.scheme('dark');
-    await shot('source-dark');
-    await page.scheme('light');
-    await pane(page, 'machine');
-    await page.look(`void geivottu.shelf.run('lights')`);
-    await page.until('geivottu.machine.isGoing');
-    await page.fill('#watch', 'SHOWN TIMES 00245');
-    await page.look(`document.querySelector('#code [data-cell="00226"] button').focus()`);
-    await pause(2500);
-    await shot('machine');
-    await page.scheme('dark');
-    await pause(500);
-    await shot('machine-dark');
-    await page.click('#key-stop');
-    await pane(page, 'teletype');
-    await pick(page, '#tape', 'GAME.BN');
-    await page.click('#tear');
-    await page.click('#tty-run');
-    for (const line of ['ADA\n', '50\n', '90\n']) {
-        await page.until(`/[?] $/.test(document.getElementById('paper').textContent)`);
-        await page.keys(line);
-        await pause(200);
-    }
-    await shot('teletype-dark');
-    await page.scheme('light');
-    await shot('teletype');
-    await page.click('#tty-stop');
-    await pane(page, 'script');
-    await page.fill('#lines', SCRIPT);
-    await page.click('#script-run');
-    await isTold(page, 'script-status', 'status 0');
-    await shot('script');
-    await page.size(390, 844);
-    for (const name of ['files', 'source', 'machine', 'teletype', 'script']) {
-        await pane(page, name);
-        await shot(`${name}-narrow`);
-    }
-    await page.size(1200, 900);
-}
-
 async function main() {
     const server = await serve(folder), page = await Browser.open();
     let passed = 0;
@@ -595,7 +533,6 @@ async function main() {
                 page.errors.splice(0);
             }
         }
-        if (takesPictures) await pictures(page, server);
     } finally {
         await page.end();
         server.end();

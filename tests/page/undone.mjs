@@ -223,6 +223,25 @@ await run('undone', {
         await isTold(page, 'files-status', 'STORED IT.BN');
         same(before, await image(page), 'the image of what came back');
     },
+    'what goes home comes back with its date, if it comes back as it went': async (page, url) => {
+        await page.go(url);
+        native(['create', 'A', '90']);
+        native(['put', 'A', '-', '--as', 'ONE.TX', '--text', '--date', '1974-03-12'], 'the first\n');
+        await page.give('#image', file('A'));
+        await page.until(`document.querySelector('tr[data-name="ONE.TX"] .date')?.textContent === '1974-03-12'`);
+        const { name, bytes } = await page.home('button[aria-label="ONE.TX home as a text"]');
+        writeFileSync(file(name), bytes);
+        await create(page, 'B');
+        await put(page, 'name', 'ONE.TX');
+        await isTold(page, 'files-status', 'STORED ONE.TX');
+        same(readFileSync(file('A')), await image(page), 'the image of what came back');
+        await create(page, 'C');
+        writeFileSync(file('ONE.TX'), 'another\n');
+        native(['put', 'C', 'ONE.TX', '--text']);
+        await put(page, 'name', 'ONE.TX');
+        await isTold(page, 'files-status', 'STORED ONE.TX');
+        same(readFileSync(file('C')), await image(page), 'the image of what was changed');
+    },
     'a file is copied between two volumes of the page, with its date': async (page, url) => {
         await page.go(url);
         await create(page, 'A');

@@ -1,0 +1,90 @@
+// The volumes of the page's image files. A file is one volume, an RK05 disk of two, or a DECtape, as the program says. A volume that is all
+// of its file has the file's name. Others have a word after it: `1` or `2` of a disk, `DECtape`.
+import { textOf } from './program.js';
+
+// `begun` is a disk whose end was never written, so that it has its first volume alone.
+/** @typedef {'' | 'disk' | 'begun' | 'DECtape'} Kind */
+
+const DISK_BLOCKS = 3248, TAPE_BLOCKS = 737, BLOCK = 512, TAPE = 380292;
+
+// How many images were asked for, so that each has a name of its own for the program.
+let last = 0;
+
+/** @param {string} volume */
+const partOf = volume => volume.split(' ')[1];
+
+// The file that a volume is on.
+/** @param {string} volume */
+export const fileOf = volume => volume.split(' ')[0];
+
+// The words by which the program takes a volume.
+/** @param {string} volume */
+export function wordsOf(volume) {
+    const part = partOf(volume);
+    return [fileOf(volume), ...(part === undefined ? [] : part === 'DECtape' ? ['--dectape'] : ['--volume', part])];
+}
+
+// The words by which `copy` takes the volume to which it copies.
+/** @param {string} volume */
+export function targetOf(volume) {
+    const part = partOf(volume);
+    return [fileOf(volume), ...(part === undefined ? [] : part === 'DECtape' ? ['--to-dectape'] : ['--to-volume', part])];
+}
+
+// What a volume is called.
+/** @param {string} volume */
+export function titleOf(volume) {
+    const part = partOf(volume);
+    return part === undefined ? volume : part === 'DECtape' ? `${fileOf(volume)}, a DECtape` : `${fileOf(volume)}, volume ${part}`;
+}
+
+// How many blocks a volume has whose directory is refused, on a file of so many bytes.
+/** @param {string} volume @param {number} bytes */
+export function blocksOf(volume, bytes) {
+    const part = partOf(volume);
+    return part === 'DECtape' ? TAPE_BLOCKS : part === undefined ? Math.max(7, Math.floor(bytes / BLOCK)) : DISK_BLOCKS;
+}
+
+// The volumes of a file of this kind.
+/** @param {string} file @param {Kind | undefined} kind */
+export function volumesOf(file, kind) {
+    return kind === 'disk' ? [`${file} 1`, `${file} 2`] : kind === 'begun' ? [`${file} 1`] : kind === 'DECtape' ? [`${file} DECtape`] : [file];
+}
+
+// Whether the program takes an image as a volume, if only as one with a damaged directory.
+/** @param {Asked} it */
+export const isVolume = ({ refusal }) => refusal === null || refusal.startsWith('? DIRECTORY');
+
+/** @typedef {{ refusal: string | null, said: string }} Asked */
+
+// What an image is, by what the program says of it, and the line by which that refuses it, if it does. `index` tells of a disk by its
+// volumes; an image of which it tells nothing is asked for in each way that its length leaves.
+/** @param {Page} page @param {Uint8Array} bytes @returns {Promise<Asked & { kind: Kind }>} */
+export async function kindOf({ programs, store }, bytes) {
+    const name = `.kind-${++last}`;
+    /** @param {...string} words @returns {Promise<Asked>} */
+    const asked = async (...words) => {
+        const { status, out, said } = await programs.ask(['check', name, ...words]);
+        return { refusal: status === 0 ? null : textOf(out).trim(), said };
+    };
+    const kind = bytes.length === TAPE ? 'DECtape' : bytes.length > DISK_BLOCKS * BLOCK && bytes.length <= 2 * DISK_BLOCKS * BLOCK ? 'disk' : '';
+    store.put(name, bytes);
+    try {
+        const plain = await asked();
+        const begun = kind === '' && plain.refusal?.startsWith('? DIRECTORY 4') ? await asked('--volume', '1') : plain;
+        if (kind === '') return begun !== plain && begun.refusal === null ? { kind: 'begun', ...begun } : { kind, ...plain };
+        const isTold = kind === 'disk' && /^\.kind-\d+(?: |\t)[12](?:: |\t)/m.test(await indexOf(programs, name));
+        const parts = kind === 'disk' ? [await asked('--volume', '1'), await asked('--volume', '2')] : [await asked('--dectape')];
+        const part = parts.find(it => it.refusal === null) ?? parts.find(isVolume);
+        return part && (isTold || !isVolume(plain)) ? { kind, ...part } : { kind: '', ...plain };
+    } finally {
+        store.remove(name);
+    }
+}
+
+// All that `index` says of an image.
+/** @param {Page['programs']} programs @param {string} name */
+async function indexOf(programs, name) {
+    const { out, said } = await programs.ask(['index', name]);
+    return textOf(out) + said;
+}
