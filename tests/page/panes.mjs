@@ -364,7 +364,8 @@ test('a machine that goes for ever is stopped by its key, at 60 pictures a secon
     await isTold(page, 'machine-status', 'words are in core');
     await page.choose('#speed', 'full');
     await page.click('#key-start');
-    await page.until(`document.getElementById('rate').textContent.includes('million')`);
+    // quicker than the machine itself
+    await page.until(`/million|[4-9][0-9]{2} thousand/.test(document.getElementById('rate').textContent)`);
     const pictures = await page.look(`new Promise(go => { let count = 0; const end = performance.now() + 1000;
         const next = now => { count++; now < end ? requestAnimationFrame(next) : go(count); }; requestAnimationFrame(next); })`);
     step = `${pictures} pictures in a second, ${await page.text('rate')}`;
