@@ -10,12 +10,12 @@ use Rattle.pal8_clash.specs.Laws.{NoClashIsApart}
 use Rattle.pal8_values.specs.Sums.{Known}
 use Rattle.pal8_values.specs.Words.{Asked, word_value}
 use Rattle.pal8_lex.specs.declared.tokens.Token.{Token}
-use Rattle.pal8_grammar.specs.Bodies.{Phrase, said_by}
+use Rattle.pal8_grammar.specs.Bodies.{Phrase}
 use Rattle.pal8_grammar.specs.declared.bodies.Body.TheVariants as body
 use Rattle.pal8_grammar.specs.declared.faults.GrammarFault.{GrammarFault}
 use Rattle.pal8_grammar.specs.declared.steps.Step.{Step}
 use Rattle.pal8_asm.specs.Places.{Standing, stands, truth_of, with_body_if, with_statement, with_tags}
-use Rattle.pal8_asm.specs.Sources.{Entry, Left, Passed, Statement, bracketed, is_selected, left_of, number, passed, place_of, with_brackets, with_entries as with_entries_of, with_next, with_phrase, with_said, with_selected, with_skipped, words_in}
+use Rattle.pal8_asm.specs.Sources.{Entry, Left, Passed, Statement, bracketed, is_selected, left_of, number, passed, place_of, said_of, with_brackets, with_entries as with_entries_of, with_next, with_phrase, with_said, with_selected, with_skipped, words_in}
 use Rattle.pal8_asm.specs.Tapes.{Made, cleared, cleared_by, made_of, spot_of, with_entries, with_entry, with_word}
 use Rattle.pal8_asm.specs.Assembled.{dollar_in, has_words, judged, judged_by, made_by}
 use Rattle.pal8_asm.specs.Laws.{Apart, NoPoolNoChange, PlacesStay, ValueIsFound, meaning, passed_zero, read_zero, without_words, zero_phrase, zero_said}
@@ -146,6 +146,9 @@ same_statement tokens n standing (body.Relocate, steps) = refl
 same_statement tokens n standing (body.Unrelocate, steps) = refl
 same_statement tokens n standing (body.FileName, steps) = refl
 same_statement tokens n standing (body.Device, steps) = refl
+same_statement tokens n standing (body.Expunge, steps) = refl
+same_statement tokens n standing (body.FixTable, steps) = refl
+same_statement tokens n standing (body.FixOperation name, steps) = refl
 same_statement tokens n standing (body.Word, steps) = word_steps (number 0) steps n (with_tags tokens (Ok standing))
 
 same_truth : (phrase : Phrase) (standing : Standing) → truth_of (zero_phrase phrase).0 (zero_phrase phrase).1 standing ≡ truth_of phrase.0 phrase.1 standing
@@ -170,6 +173,9 @@ same_truth (body.Relocate, steps) standing = refl
 same_truth (body.Unrelocate, steps) standing = refl
 same_truth (body.FileName, steps) standing = refl
 same_truth (body.Device, steps) standing = refl
+same_truth (body.Expunge, steps) standing = refl
+same_truth (body.FixTable, steps) standing = refl
+same_truth (body.FixOperation name, steps) standing = refl
 same_truth (body.Word, steps) standing = refl
 
 abbrev left_or : Left → Passed → Left
@@ -208,12 +214,12 @@ module _ (s : Statement) where
 
   by_reading : (left : Left) (entries : List Entry) (over selected : Bool)
       → without_words (if over then Ok (with_words entries left)
-      else (if selected then with_said s (with_words entries left) (zero_said (said_by left.standing.position.radix s.tokens s.is_cut s.end))
+      else (if selected then with_said s (with_words entries left) (zero_said (said_of left.standing.position.radix s.tokens s.is_cut s.end))
       else Ok (with_skipped s (with_words entries left))))
       ≡ without_words (if over then Ok left else (if selected then with_selected s left else Ok (with_skipped s left)))
   by_reading left entries true selected = refl
   by_reading left entries false false = refl
-  by_reading left entries false true = by_said left entries (said_by left.standing.position.radix s.tokens s.is_cut s.end)
+  by_reading left entries false true = by_said left entries (said_of left.standing.position.radix s.tokens s.is_cut s.end)
 
   by_both : (other whole : Passed) → without_words other ≡ without_words whole → without_words (read_zero s other) ≡ without_words (with_next s whole)
   by_both (Err f) (Err g) same = same

@@ -6,14 +6,15 @@ use Rattle.pal8_lex.specs.declared.tokens.Token.{Token}
 use Rattle.pal8_lex.specs.declared.rules.End.{End}
 use Rattle.pal8_lex.specs.declared.rules.End.TheVariants as end
 use Rattle.pal8_lex.specs.declared.judging.Radix.{Radix}
-use Rattle.pal8_grammar.specs.Bodies.{Phrase, body_in, body_phrase, free_name, has_free_tags, is_condition, judged_in, names_file, phrase_or_fault, said_by, tags_in}
+use Rattle.pal8_sym.specs.SourceNames.{first_vocabulary}
+use Rattle.pal8_grammar.specs.Bodies.{Phrase, body_in, body_phrase, free_name, has_free_tags, is_condition, judged_in, names_file, phrase_or_fault, tags_in}
 use Rattle.pal8_grammar.specs.declared.bodies.Body.{Body}
 use Rattle.pal8_grammar.specs.declared.bodies.Body.TheVariants as body
 use Rattle.pal8_grammar.specs.declared.steps.Step.{Step}
 use Rattle.pal8_grammar.specs.declared.faults.GrammarFault.{GrammarFault}
 use Rattle.pal8_grammar.specs.declared.faults.GrammarFault.TheVariants.{IC, NU, SY}
 use Rattle.pal8_asm.specs.Places.{Standing, truth_of, with_body, with_body_if, with_statement, with_tag_if, with_tags}
-use Rattle.pal8_asm.specs.Sources.{Entry, Left, Passed, Source, Statement, bracketed, ended, is_selected, passed, place_of, statements, with_brackets, with_end, with_entries, with_next, with_phrase, with_said, with_selected, with_skipped, words_in}
+use Rattle.pal8_asm.specs.Sources.{Entry, Left, Passed, Source, Statement, bracketed, ended, is_selected, passed, place_of, said_of, statements, with_brackets, with_end, with_entries, with_next, with_phrase, with_said, with_selected, with_skipped, words_in}
 use Rattle.pal8_values.specs.Sums.{Known}
 use Rattle.pal8_asm.specs.Laws.{SkippedIsNothing, plain, plain_by, plain_end, plain_statement}
 use Rattle.pal8_asm.specs.declared.faults.Place.{Place}
@@ -133,24 +134,24 @@ is_said false false false (Some it) phrase is = by_test (is_condition it.0) refl
     by_test true one is = record { no_bad = refl; no_number = refl; no_other = refl; is_one = sym (ap (λ r. is_condition (said_or phrase r).0) is) ∙ one }
     by_test false one is = absurd cc
 
-condition_said : (radix : Radix) (tokens : List Token) (is_cut : Bool) (phrase : Phrase) → said_by radix tokens is_cut end.Open ≡ Ok phrase → is_condition phrase.0 ≡ true
+condition_said : (radix : Radix) (tokens : List Token) (is_cut : Bool) (phrase : Phrase) → said_of radix tokens is_cut end.Open ≡ Ok phrase → is_condition phrase.0 ≡ true
 condition_said radix tokens is_cut phrase is =
-    (is_said (has_bad tokens) (has_bad_number radix (judged_in tokens)) (is_cut || not (has_free_tags tokens)) (body_phrase radix (body_in tokens)) phrase is).is_one
+    (is_said (has_bad tokens) (has_bad_number radix (judged_in tokens)) (is_cut || not (has_free_tags tokens)) (body_phrase first_vocabulary radix (body_in tokens)) phrase is).is_one
 
 -- the tags alone say nothing
-tags_say_nothing : (radix : Radix) (tokens : List Token) (is_cut : Bool) (phrase : Phrase) → said_by radix tokens is_cut end.Open ≡ Ok phrase
-    → said_by radix (front tokens) is_cut end.Semicolon ≡ Ok (body.Nothing, [])
+tags_say_nothing : (radix : Radix) (tokens : List Token) (is_cut : Bool) (phrase : Phrase) → said_of radix tokens is_cut end.Open ≡ Ok phrase
+    → said_of radix (front tokens) is_cut end.Semicolon ≡ Ok (body.Nothing, [])
 tags_say_nothing radix tokens is_cut phrase is =
     ap (λ test. if test then Err IC else (if has_bad_number radix (judged_in (front tokens)) then Err NU
-    else (if is_cut || not (has_free_tags (front tokens)) then Err SY else phrase_or_fault end.Semicolon (body_phrase radix (body_in (front tokens))))))
+    else (if is_cut || not (has_free_tags (front tokens)) then Err SY else phrase_or_fault end.Semicolon (body_phrase first_vocabulary radix (body_in (front tokens))))))
     (none_in_front (λ t. is_bad t.kind) has_bad refl (λ t l. refl) tokens said.no_bad)
     ∙ ap (λ test. if test then Err NU
-    else (if is_cut || not (has_free_tags (front tokens)) then Err SY else phrase_or_fault end.Semicolon (body_phrase radix (body_in (front tokens))))) no_number
-    ∙ ap (λ test. if test then Err SY else phrase_or_fault end.Semicolon (body_phrase radix (body_in (front tokens)))) no_other
-    ∙ ap (λ l. phrase_or_fault end.Semicolon (body_phrase radix l)) (none_behind tokens)
+    else (if is_cut || not (has_free_tags (front tokens)) then Err SY else phrase_or_fault end.Semicolon (body_phrase first_vocabulary radix (body_in (front tokens))))) no_number
+    ∙ ap (λ test. if test then Err SY else phrase_or_fault end.Semicolon (body_phrase first_vocabulary radix (body_in (front tokens)))) no_other
+    ∙ ap (λ l. phrase_or_fault end.Semicolon (body_phrase first_vocabulary radix l)) (none_behind tokens)
   where
     said : IsSaid (has_bad tokens) (has_bad_number radix (judged_in tokens)) (is_cut || not (has_free_tags tokens)) phrase
-    said = is_said (has_bad tokens) (has_bad_number radix (judged_in tokens)) (is_cut || not (has_free_tags tokens)) (body_phrase radix (body_in tokens)) phrase is
+    said = is_said (has_bad tokens) (has_bad_number radix (judged_in tokens)) (is_cut || not (has_free_tags tokens)) (body_phrase first_vocabulary radix (body_in tokens)) phrase is
 
     by_names : (test : Bool) → has_bad_number radix (if test then tags_in tokens else tokens) ≡ false → has_bad_number radix (front tokens) ≡ false
     by_names true none = ap (has_bad_number radix) (sym (tags_are tokens)) ∙ none
@@ -199,6 +200,9 @@ is_passive body.Relocate is = absurd cc
 is_passive body.Unrelocate is = absurd cc
 is_passive body.FileName is = absurd cc
 is_passive body.Device is = absurd cc
+is_passive body.Expunge is = absurd cc
+is_passive body.FixTable is = absurd cc
+is_passive (body.FixOperation name) is = absurd cc
 is_passive body.Word is = absurd cc
 
 -- what is left, outside of all brackets
@@ -255,7 +259,7 @@ module _ (line at : ℕ) (string : List ℕ) (is_cut : Bool) where
         by_truth (Err fault) is = absurd cc
         by_truth (Ok holds) is = ap (λ p. Ok (bare (left_or left p))) is
 
-    open_goes : (tokens : List Token) (q : Result Phrase GrammarFault) → said_by before.standing.position.radix tokens is_cut end.Open ≡ q
+    open_goes : (tokens : List Token) (q : Result Phrase GrammarFault) → said_of before.standing.position.radix tokens is_cut end.Open ≡ q
         → with_said (ended_by tokens end.Open) before q ≡ Ok left → with_selected (ended_by (tags_in tokens) end.Semicolon) (bare before) ≡ Ok (bare left)
     open_goes tokens (Err fault) said is = absurd cc
     open_goes tokens (Ok phrase) said is =
@@ -268,11 +272,11 @@ module _ (line at : ℕ) (string : List ℕ) (is_cut : Bool) where
 
     selected_goes : (tokens : List Token) (e : End) → with_selected (ended_by tokens e) before ≡ Ok left
         → with_selected (plain_statement (ended_by tokens e)) (bare before) ≡ Ok (bare left)
-    selected_goes tokens end.Semicolon is = said_goes tokens end.Semicolon (said_by before.standing.position.radix tokens is_cut end.Semicolon) is
-    selected_goes tokens end.Line is = said_goes tokens end.Line (said_by before.standing.position.radix tokens is_cut end.Line) is
-    selected_goes tokens end.Open is = open_goes tokens (said_by before.standing.position.radix tokens is_cut end.Open) refl is
-    selected_goes tokens end.Close is = said_goes tokens end.Close (said_by before.standing.position.radix tokens is_cut end.Close) is
-    selected_goes tokens end.Dollar is = said_goes tokens end.Dollar (said_by before.standing.position.radix tokens is_cut end.Dollar) is
+    selected_goes tokens end.Semicolon is = said_goes tokens end.Semicolon (said_of before.standing.position.radix tokens is_cut end.Semicolon) is
+    selected_goes tokens end.Line is = said_goes tokens end.Line (said_of before.standing.position.radix tokens is_cut end.Line) is
+    selected_goes tokens end.Open is = open_goes tokens (said_of before.standing.position.radix tokens is_cut end.Open) refl is
+    selected_goes tokens end.Close is = said_goes tokens end.Close (said_of before.standing.position.radix tokens is_cut end.Close) is
+    selected_goes tokens end.Dollar is = said_goes tokens end.Dollar (said_of before.standing.position.radix tokens is_cut end.Dollar) is
 
 -- ## Sources
 

@@ -4,9 +4,9 @@ use mathlib.Core.Path.{fun_ext}
 use Rattle.pal_sym.specs.Permanent as old
 use Rattle.pal_sym.specs.SymbolTable.{SymbolTable}
 use Rattle.pal_sym.specs.Values.{is_fixed, symbol_value}
-use Rattle.pal8_grammar.specs.Bodies.{Phrase, said_by}
+use Rattle.pal8_grammar.specs.Bodies.{Phrase}
 use Rattle.pal8_asm.specs.Places.{truth_of, with_statement}
-use Rattle.pal8_asm.specs.Sources.{Entry, Left, Statement, bracketed, end_of, first_left, place_of, with_brackets, with_phrase, with_said, with_selected}
+use Rattle.pal8_asm.specs.Sources.{Entry, Left, Statement, bracketed, end_of, first_left, place_of, said_of, with_brackets, with_phrase, with_said, with_selected}
 use Rattle.pal8_asm.specs.Steps.{IsTaken, PassesEnd, TakesStatement}
 use Rattle.pal8_asm.specs.Assembling.{standing}
 use Rattle.pal8_asm.specs.declared.faults.AsmFault.{AsmFault}
@@ -19,7 +19,7 @@ abbrev pub left_at : SymbolTable → Position → List Entry → List Bool → O
 left_at table position entries brackets end = record { standing = standing table position; entries = entries; brackets = brackets; end = end }
 
 module _ (s : Statement) (table table' : SymbolTable) (position next : Position) (entries entries' : List Entry) (brackets brackets' : List Bool) (phrase : Phrase)
-    (said : said_by position.radix s.tokens s.is_cut s.end ≡ Ok phrase)
+    (said : said_of position.radix s.tokens s.is_cut s.end ≡ Ok phrase)
     (taken : IsTaken (with_statement s.tokens phrase.0 phrase.1 (length s.string) (standing table position)) (place_of s) phrase.0 phrase.1 s.string position next entries table' entries') where
   abbrev left : Left
   left = left_at table position entries brackets None

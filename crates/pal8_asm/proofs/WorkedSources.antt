@@ -4,6 +4,7 @@ use Rattle.std.specs.Prelude.{codes}
 use Rattle.word12.specs.Sixbit.{name_number}
 use Rattle.pal_lex.specs.Text.{text_of}
 use Rattle.pal_sym.specs.Permanent.{permanent}
+use Rattle.pal8_sym.specs.Permanent.{permanent as pal8_permanent}
 use Rattle.pal8_pools.specs.Asks.{Ask, cell_in}
 use Rattle.pal8_asm.specs.declared.faults.Fault.{Fault}
 use Rattle.pal8_asm.specs.Tapes.{Made}
@@ -24,176 +25,176 @@ abbrev read : List ℕ → Result (List (ℕ × ℕ) × List (ℕ × ℕ)) (Code
 read bytes = brief (assembled (text_of bytes))
 
 dt : read (codes "A=1;A, 2" ++ 10 ∷ codes "$" ++ 10 ∷ []) ≡ Err (DT, 1)
-unfolding permanent
+unfolding permanent pal8_permanent
 dt = refl
 
 dz : read (codes "1%(5)" ++ 10 ∷ codes "1%0" ++ 10 ∷ codes "$" ++ 10 ∷ []) ≡ Err (DZ, 2)
-unfolding permanent
+unfolding permanent pal8_permanent
 dz = refl
 
 equals_reference : read (codes "*400" ++ 10 ∷ codes "A, 0" ++ 10 ∷ codes "CALL=JMS A" ++ 10 ∷ codes "CALL" ++ 10 ∷ codes "*600" ++ 10 ∷ codes "CALL" ++ 10 ∷ codes "C2=JMS I 20" ++ 10 ∷ codes "C2" ++ 10 ∷ codes "C2 5" ++ 10 ∷ codes "$" ++ 10 ∷ []) ≡ Ok ((0o400, 0) ∷ (0o401, 0o4200) ∷ (0o600, 0o4200) ∷ (0o601, 0o4420) ∷ (0o602, 0o4425) ∷ [], [])
-unfolding permanent
+unfolding permanent pal8_permanent
 equals_reference = refl
 
 fd : read (codes "FIELD 7;1" ++ 10 ∷ codes "FIELD 10" ++ 10 ∷ codes "$" ++ 10 ∷ []) ≡ Err (FD, 2)
-unfolding permanent
+unfolding permanent pal8_permanent
 fd = refl
 
 ic_character : read (codes "1" ++ 10 ∷ codes "2#3" ++ 10 ∷ codes "$" ++ 10 ∷ []) ≡ Err (IC, 2)
-unfolding permanent
+unfolding permanent pal8_permanent
 ic_character = refl
 
 ii : read (codes "*200" ++ 10 ∷ codes "TAD I A" ++ 10 ∷ codes "*400" ++ 10 ∷ codes "A, 1" ++ 10 ∷ codes "$" ++ 10 ∷ []) ≡ Err (II, 2)
-unfolding permanent
+unfolding permanent pal8_permanent
 ii = refl
 
 ir_equals : read (codes "*400" ++ 10 ∷ codes "C=JMS 1234" ++ 10 ∷ codes "C" ++ 10 ∷ codes "$" ++ 10 ∷ []) ≡ Err (IR, 2)
-unfolding permanent
+unfolding permanent pal8_permanent
 ir_equals = refl
 
 link_in_literal : read (codes "TAD (TAD A" ++ 10 ∷ codes "*400" ++ 10 ∷ codes "A, 0" ++ 10 ∷ codes "$" ++ 10 ∷ []) ≡ Ok ((0o200, 0o1376) ∷ (0o400, 0) ∷ [], (0o377, 0o400) ∷ (0o376, 0o1777) ∷ [])
-unfolding permanent
+unfolding permanent pal8_permanent
 link_in_literal = refl
 
 link_on_zero : read (codes "*20" ++ 10 ∷ codes "TAD A" ++ 10 ∷ codes "*200" ++ 10 ∷ codes "A, 1" ++ 10 ∷ codes "$" ++ 10 ∷ []) ≡ Ok ((0o20, 0o1777) ∷ (0o200, 1) ∷ [], (0o177, 0o200) ∷ [])
-unfolding permanent
+unfolding permanent pal8_permanent
 link_on_zero = refl
 
 -- a link and a literal share a cell
 link_shares : read (codes "*200" ++ 10 ∷ codes "TAD 1234" ++ 10 ∷ codes "TAD (1234" ++ 10 ∷ codes "$" ++ 10 ∷ []) ≡ Ok ((0o200, 0o1777) ∷ (0o201, 0o1377) ∷ [], (0o377, 0o1234) ∷ (0o377, 0o1234) ∷ [])
-unfolding permanent
+unfolding permanent pal8_permanent
 link_shares = refl
 
 -- an address out of reach goes through a link
 link : read (codes "*200" ++ 10 ∷ codes "TAD A" ++ 10 ∷ codes "DCA A" ++ 10 ∷ codes "*400" ++ 10 ∷ codes "A, 1" ++ 10 ∷ codes "$" ++ 10 ∷ []) ≡ Ok ((0o200, 0o1777) ∷ (0o201, 0o3777) ∷ (0o400, 1) ∷ [], (0o377, 0o400) ∷ (0o377, 0o400) ∷ [])
-unfolding permanent
+unfolding permanent pal8_permanent
 link = refl
 
 literal_alone : read (codes "(5" ++ 10 ∷ codes "[5" ++ 10 ∷ codes "(5)+1" ++ 10 ∷ codes "$" ++ 10 ∷ []) ≡ Ok ((0o200, 0o377) ∷ (0o201, 0o177) ∷ (0o202, 0o400) ∷ [], (0o377, 5) ∷ (0o177, 5) ∷ (0o377, 5) ∷ [])
-unfolding permanent
+unfolding permanent pal8_permanent
 literal_alone = refl
 
 -- each field has its own pools, and a page that is come back to keeps its own
 literal_fields : read (codes "*200" ++ 10 ∷ codes "TAD (1" ++ 10 ∷ codes "TAD [1" ++ 10 ∷ codes "FIELD 1" ++ 10 ∷ codes "1" ++ 10 ∷ codes "FIELD 0" ++ 10 ∷ codes "*210" ++ 10 ∷ codes "TAD (2" ++ 10 ∷ codes "TAD [2" ++ 10 ∷ codes "$" ++ 10 ∷ []) ≡ Ok ((0o200, 0o1377) ∷ (0o201, 0o1177) ∷ (0o10200, 1) ∷ (0o210, 0o1376) ∷ (0o211, 0o1176) ∷ [], (0o377, 1) ∷ (0o177, 1) ∷ (0o376, 2) ∷ (0o176, 2) ∷ [])
-unfolding permanent
+unfolding permanent pal8_permanent
 literal_fields = refl
 
 literal_indirect : read (codes "TAD I (5" ++ 10 ∷ codes "JMS I (A" ++ 10 ∷ codes "A, 0" ++ 10 ∷ codes "$" ++ 10 ∷ []) ≡ Ok ((0o200, 0o1777) ∷ (0o201, 0o4776) ∷ (0o202, 0) ∷ [], (0o377, 5) ∷ (0o376, 0o202) ∷ [])
-unfolding permanent
+unfolding permanent pal8_permanent
 literal_indirect = refl
 
 -- the inner literal asks first
 literal_inner : read (codes "*200" ++ 10 ∷ codes "TAD (TAD (5" ++ 10 ∷ codes "TAD (TAD (5))" ++ 10 ∷ codes "$" ++ 10 ∷ []) ≡ Ok ((0o200, 0o1376) ∷ (0o201, 0o1376) ∷ [], (0o377, 5) ∷ (0o376, 0o1377) ∷ (0o377, 5) ∷ (0o376, 0o1377) ∷ [])
-unfolding permanent
+unfolding permanent pal8_permanent
 literal_inner = refl
 
 -- a later name counts in a literal
 literal_later_name : read (codes "*200" ++ 10 ∷ codes "TAD (A" ++ 10 ∷ codes "TAD (201" ++ 10 ∷ codes "A, 7" ++ 10 ∷ codes "TAD (202" ++ 10 ∷ codes "$" ++ 10 ∷ []) ≡ Ok ((0o200, 0o1377) ∷ (0o201, 0o1376) ∷ (0o202, 7) ∷ (0o203, 0o1377) ∷ [], (0o377, 0o202) ∷ (0o376, 0o201) ∷ (0o377, 0o202) ∷ [])
-unfolding permanent
+unfolding permanent pal8_permanent
 literal_later_name = refl
 
 -- on page zero both openings ask one pool
 literal_on_zero : read (codes "*0" ++ 10 ∷ codes "TAD (5" ++ 10 ∷ codes "TAD [5" ++ 10 ∷ codes "TAD (6" ++ 10 ∷ codes "$" ++ 10 ∷ []) ≡ Ok ((0, 0o1177) ∷ (1, 0o1177) ∷ (2, 0o1176) ∷ [], (0o177, 5) ∷ (0o177, 5) ∷ (0o176, 6) ∷ [])
-unfolding permanent
+unfolding permanent pal8_permanent
 literal_on_zero = refl
 
 -- equal values have one cell, and the first one has the page's last
 literal_twice : read (codes "*200" ++ 10 ∷ codes "TAD (5)" ++ 10 ∷ codes "TAD (6)" ++ 10 ∷ codes "TAD (5" ++ 10 ∷ codes "$" ++ 10 ∷ []) ≡ Ok ((0o200, 0o1377) ∷ (0o201, 0o1376) ∷ (0o202, 0o1377) ∷ [], (0o377, 5) ∷ (0o376, 6) ∷ (0o377, 5) ∷ [])
-unfolding permanent
+unfolding permanent pal8_permanent
 literal_twice = refl
 
 ne : read (codes "1" ++ 10 ∷ []) ≡ Err (NE, 2)
-unfolding permanent
+unfolding permanent pal8_permanent
 ne = refl
 
 no_link : read (codes "+TAD 1" ++ 10 ∷ codes "TAD TAD" ++ 10 ∷ codes "CLL TAD" ++ 10 ∷ codes "TAD -1" ++ 10 ∷ codes "$" ++ 10 ∷ []) ≡ Ok ((0o200, 0o1001) ∷ (0o201, 0o1777) ∷ (0o202, 0o7100) ∷ (0o203, 0o777) ∷ [], (0o377, 0o1000) ∷ [])
-unfolding permanent
+unfolding permanent pal8_permanent
 no_link = refl
 
 nu : read (codes "7777;8" ++ 10 ∷ codes "10000" ++ 10 ∷ codes "$" ++ 10 ∷ []) ≡ Err (NU, 1)
-unfolding permanent
+unfolding permanent pal8_permanent
 nu = refl
 
 nw : read (codes "A=1" ++ 10 ∷ codes "$" ++ 10 ∷ []) ≡ Err (NW, 2)
-unfolding permanent
+unfolding permanent pal8_permanent
 nw = refl
 
 -- all operators have one rank
 operators : read (codes "7777^2;17%3;12&6!1;1 2+1;2+3^4;-1!1" ++ 10 ∷ codes "$" ++ 10 ∷ []) ≡ Ok ((0o200, 0o7776) ∷ (0o201, 5) ∷ (0o202, 3) ∷ (0o203, 4) ∷ (0o204, 0o24) ∷ (0o205, 0o7777) ∷ [], [])
-unfolding permanent
+unfolding permanent pal8_permanent
 operators = refl
 
 order_nw : read (codes "A=1" ++ 10 ∷ codes "A" ++ 10 ∷ codes "$" ++ 10 ∷ []) ≡ Ok ((0o200, 1) ∷ [], [])
-unfolding permanent
+unfolding permanent pal8_permanent
 order_nw = refl
 
 -- the fault of a later word comes before that
 order_ua_pe : read (codes "*377" ++ 10 ∷ codes "TAD (1" ++ 10 ∷ codes "TAD XX" ++ 10 ∷ codes "$" ++ 10 ∷ []) ≡ Err (UA (name_number (codes "XX")), 3)
-unfolding permanent
+unfolding permanent pal8_permanent
 order_ua_pe = refl
 
 page : read (codes "1" ++ 10 ∷ codes "PAGE" ++ 10 ∷ codes "2" ++ 10 ∷ codes "PAGE 1+2" ++ 10 ∷ codes "PAGE" ++ 10 ∷ codes "." ++ 10 ∷ codes "$" ++ 10 ∷ []) ≡ Ok ((0o200, 1) ∷ (0o400, 2) ∷ (0o600, 0o600) ∷ [], [])
-unfolding permanent
+unfolding permanent pal8_permanent
 page = refl
 
 -- a word may lie on a cell that was asked for long before
 pe_later_word : read (codes "*200" ++ 10 ∷ codes "TAD (1" ++ 10 ∷ codes "*400" ++ 10 ∷ codes "1" ++ 10 ∷ codes "*377" ++ 10 ∷ codes "2" ++ 10 ∷ codes "$" ++ 10 ∷ []) ≡ Err (PageClash 0o377, 6)
-unfolding permanent
+unfolding permanent pal8_permanent
 pe_later_word = refl
 
 pf_text : read (codes "*7777;TEXT /A/" ++ 10 ∷ codes "*7777;TEXT /AB/" ++ 10 ∷ codes "$" ++ 10 ∷ []) ≡ Err (PF, 2)
-unfolding permanent
+unfolding permanent pal8_permanent
 pf_text = refl
 
 pg : read (codes "PAGE 37;1" ++ 10 ∷ codes "PAGE 40" ++ 10 ∷ codes "$" ++ 10 ∷ []) ≡ Err (PG, 2)
-unfolding permanent
+unfolding permanent pal8_permanent
 pg = refl
 
 ph_close : read (codes "*200" ++ 10 ∷ codes "1" ++ 10 ∷ codes "2>" ++ 10 ∷ codes "3" ++ 10 ∷ codes "$" ++ 10 ∷ []) ≡ Err (PH, 3)
-unfolding permanent
+unfolding permanent pal8_permanent
 ph_close = refl
 
 rd : read (codes "A, 1" ++ 10 ∷ codes "CLA=7200" ++ 10 ∷ codes "A=5" ++ 10 ∷ codes "$" ++ 10 ∷ []) ≡ Err (RD, 3)
-unfolding permanent
+unfolding permanent pal8_permanent
 rd = refl
 
 -- a soft name gives way to a later definition
 soft_names : read (codes "BSW" ++ 10 ∷ codes "CDI 10" ++ 10 ∷ codes "MQL" ++ 10 ∷ codes "A=BSW" ++ 10 ∷ codes "A" ++ 10 ∷ codes "BSW=5" ++ 10 ∷ codes "BSW" ++ 10 ∷ codes "$" ++ 10 ∷ []) ≡ Ok ((0o200, 5) ∷ (0o201, 0o6213) ∷ (0o202, 0o7421) ∷ (0o203, 0o7002) ∷ (0o204, 5) ∷ [], [])
-unfolding permanent
+unfolding permanent pal8_permanent
 soft_names = refl
 
 -- a closing of the other kind closes nothing
 sy_brackets : read (codes "TAD (5]" ++ 10 ∷ codes "$" ++ 10 ∷ []) ≡ Err (SY, 1)
-unfolding permanent
+unfolding permanent pal8_permanent
 sy_brackets = refl
 
 sy_literal_in_equals : read (codes "A=(5" ++ 10 ∷ codes "$" ++ 10 ∷ []) ≡ Err (SY, 1)
-unfolding permanent
+unfolding permanent pal8_permanent
 sy_literal_in_equals = refl
 
 text_empty : read (codes "TEXT //" ++ 10 ∷ codes "1" ++ 10 ∷ codes "$" ++ 10 ∷ []) ≡ Ok ((0o200, 0) ∷ (0o201, 1) ∷ [], [])
-unfolding permanent
+unfolding permanent pal8_permanent
 text_empty = refl
 
 -- an even text has 00 after it
 text : read (codes "*200" ++ 10 ∷ codes "TEXT /AB/" ++ 10 ∷ codes "A, TEXT \"CDE\"" ++ 10 ∷ codes "B, A" ++ 10 ∷ codes "B" ++ 10 ∷ codes "$" ++ 10 ∷ []) ≡ Ok ((0o200, 0o102) ∷ (0o201, 0) ∷ (0o202, 0o304) ∷ (0o203, 0o500) ∷ (0o204, 0o202) ∷ (0o205, 0o204) ∷ [], [])
-unfolding permanent
+unfolding permanent pal8_permanent
 text = refl
 
 ua_zblock : read (codes "*200" ++ 10 ∷ codes "ZBLOCK A" ++ 10 ∷ codes "1" ++ 10 ∷ codes "A=2" ++ 10 ∷ codes "$" ++ 10 ∷ []) ≡ Err (UA (name_number (codes "A")), 2)
-unfolding permanent
+unfolding permanent pal8_permanent
 ua_zblock = refl
 
 ua : read (codes "*200" ++ 10 ∷ codes "TAD (XX" ++ 10 ∷ codes "1" ++ 10 ∷ codes "$" ++ 10 ∷ []) ≡ Err (UA (name_number (codes "XX")), 2)
-unfolding permanent
+unfolding permanent pal8_permanent
 ua = refl
 
 zblock : read (codes "A=2" ++ 10 ∷ codes "ZBLOCK A" ++ 10 ∷ codes "1" ++ 10 ∷ codes "ZBLOCK 0" ++ 10 ∷ codes "2" ++ 10 ∷ codes "$" ++ 10 ∷ []) ≡ Ok ((0o200, 0) ∷ (0o201, 0) ∷ (0o202, 1) ∷ (0o203, 2) ∷ [], [])
-unfolding permanent
+unfolding permanent pal8_permanent
 zblock = refl
 
 ze : read (codes "*177" ++ 10 ∷ codes "2" ++ 10 ∷ codes "*200" ++ 10 ∷ codes "TAD [1" ++ 10 ∷ codes "$" ++ 10 ∷ []) ≡ Err (ZeroClash 0o177, 4)
-unfolding permanent
+unfolding permanent pal8_permanent
 ze = refl
 
 -- ## Places: the line, and the byte in the text as it stands
@@ -204,24 +205,24 @@ place (Ok made) = Ok made.words
 
 -- at the first token, blanks and dropped bytes counted
 place_of_token : place (assembled (text_of (codes "1" ++ 13 ∷ 10 ∷ codes "2;  3#" ++ 10 ∷ codes "$" ++ 10 ∷ []))) ≡ Err (IC, 2, 7)
-unfolding permanent
+unfolding permanent pal8_permanent
 place_of_token = refl
 
 -- an empty statement at the byte that ends it
 place_of_close : place (assembled (text_of (codes "1; >" ++ 10 ∷ codes "$" ++ 10 ∷ []))) ≡ Err (PH, 1, 3)
-unfolding permanent
+unfolding permanent pal8_permanent
 place_of_close = refl
 
 -- no word at the `$`, no end after the last byte
 place_of_dollar : place (assembled (text_of (codes "A=1;A=2 $" ++ 10 ∷ []))) ≡ Err (NW, 1, 8)
-unfolding permanent
+unfolding permanent pal8_permanent
 place_of_dollar = refl
 
 place_of_end : place (assembled (text_of (codes "1" ++ 10 ∷ codes "2" ++ []))) ≡ Err (NE, 2, 3)
-unfolding permanent
+unfolding permanent pal8_permanent
 place_of_end = refl
 
 -- the lowest of two cells that clash at once, at the later of two statements
 place_of_clash : place (assembled (text_of (codes "*177;1;*377;2;*200;(TAD [1)" ++ 10 ∷ codes "$" ++ 10 ∷ []))) ≡ Err (ZeroClash 0o177, 1, 19)
-unfolding permanent
+unfolding permanent pal8_permanent
 place_of_clash = refl

@@ -9,10 +9,10 @@ use Rattle.pal8_asm.specs.Assembling.{IsAssembled}
 use Rattle.pal8_asm.specs.Tapes.{Made}
 use Rattle.pal8_lex.specs.declared.rules.End.{End}
 use Rattle.pal8_lex.specs.declared.rules.End.TheVariants as end
-use Rattle.pal8_grammar.specs.Bodies.{Phrase, opens, said_by, tags_in}
+use Rattle.pal8_grammar.specs.Bodies.{Phrase, opens, tags_in}
 use Rattle.pal8_grammar.specs.declared.bodies.Body.TheVariants as body
 use Rattle.pal8_grammar.specs.declared.faults.GrammarFault.{GrammarFault}
-use Rattle.pal8_asm.specs.Sources.{Left, Passed, Source, Statement, first_left, is_selected, left_of, number, passed, statements, with_said, with_skipped}
+use Rattle.pal8_asm.specs.Sources.{Left, Passed, Source, Statement, first_left, is_selected, left_of, number, passed, said_of, statements, with_said, with_skipped}
 use Rattle.pal8_asm.specs.declared.faults.Fault.{Fault}
 
 -- the first fault of the statements of a text is that of the text, whatever follows
@@ -96,6 +96,9 @@ zero_phrase (body.Relocate, steps) = (body.Relocate, steps)
 zero_phrase (body.Unrelocate, steps) = (body.Unrelocate, steps)
 zero_phrase (body.FileName, steps) = (body.FileName, steps)
 zero_phrase (body.Device, steps) = (body.Device, steps)
+zero_phrase (body.Expunge, steps) = (body.Expunge, steps)
+zero_phrase (body.FixTable, steps) = (body.FixTable, steps)
+zero_phrase (body.FixOperation name, steps) = (body.FixOperation name, steps)
 zero_phrase (body.Word, steps) = (body.Word, number 0)
 
 abbrev pub zero_said : Result Phrase GrammarFault → Result Phrase GrammarFault
@@ -106,7 +109,7 @@ abbrev pub read_zero : Statement → Passed → Passed
 read_zero s (Err fault) = Err fault
 read_zero s (Ok left) =
     if is_some left.end then Ok left
-    else (if is_selected left.brackets then with_said s left (zero_said (said_by left.standing.position.radix s.tokens s.is_cut s.end))
+    else (if is_selected left.brackets then with_said s left (zero_said (said_of left.standing.position.radix s.tokens s.is_cut s.end))
     else Ok (with_skipped s left))
 
 -- what the statements of a source leave, where each word is read as the word 0

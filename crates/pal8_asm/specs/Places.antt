@@ -148,6 +148,9 @@ with_valued body.Relocate s v = Ok s
 with_valued body.Unrelocate s v = Ok s
 with_valued body.FileName s v = Ok s
 with_valued body.Device s v = Ok s
+with_valued body.Expunge s v = Ok s
+with_valued body.FixTable s v = Ok s
+with_valued (body.FixOperation name) s v = Ok s
 with_valued body.Word s v = Ok s
 
 abbrev pub with_value_of : Body → Standing → Result ℕ Code → Result Standing Code
@@ -158,7 +161,7 @@ with_value_of body s (Ok v) = with_valued body s v
 abbrev pub value_at : Standing → List Step → Result ℕ Code
 value_at s steps = coded (early_value (stands s.kept) s.position.location steps)
 
--- what a body does, with the steps of its value and the length of its string; `NOPUNCH`, `RELOC` and the like aren't taken yet
+-- what a body does, with the steps of its value and the length of its string; `NOPUNCH`, `RELOC`, `EXPUNGE` and the like aren't taken yet
 abbrev pub with_body : Body → List Step → ℕ → Standing → Result Standing Code
 with_body body.Nothing steps length s = Ok s
 with_body body.Origin steps length s = with_value_of body.Origin s (value_at s steps)
@@ -182,6 +185,9 @@ with_body body.Relocate steps length s = Err code.SY
 with_body body.Unrelocate steps length s = Err code.SY
 with_body body.FileName steps length s = Err code.SY
 with_body body.Device steps length s = Err code.SY
+with_body body.Expunge steps length s = Err code.SY
+with_body body.FixTable steps length s = Err code.SY
+with_body (body.FixOperation name) steps length s = Err code.SY
 with_body body.Word steps length s = moved s (with_size 1 s.position)
 
 abbrev pub with_body_if : Body → List Step → ℕ → Result Standing Code → Result Standing Code
@@ -222,6 +228,9 @@ truth_of body.Relocate steps s = Ok false
 truth_of body.Unrelocate steps s = Ok false
 truth_of body.FileName steps s = Ok false
 truth_of body.Device steps s = Ok false
+truth_of body.Expunge steps s = Ok false
+truth_of body.FixTable steps s = Ok false
+truth_of (body.FixOperation name) steps s = Ok false
 
 -- what a statement does: its tags from the left, then its body; or its first fault
 abbrev pub with_statement : List Token → Body → List Step → ℕ → Standing → Result Standing Code

@@ -11,7 +11,9 @@ use Rattle.pal8_lex.specs.Statements.{statement_of}
 use Rattle.pal8_lex.specs.declared.tokens.Token.{Token}
 use Rattle.pal8_lex.specs.declared.rules.End.{End}
 use Rattle.pal8_lex.specs.declared.rules.End.TheVariants as end
+use Rattle.pal8_lex.specs.declared.judging.Radix.{Radix}
 use Rattle.pal8_lex.specs.declared.judging.Radix.TheVariants as radix
+use Rattle.pal8_sym.specs.SourceNames.{first_vocabulary}
 use Rattle.pal8_grammar.specs.Bodies.{Phrase, said_by}
 use Rattle.pal8_grammar.specs.declared.bodies.Body.{Body}
 use Rattle.pal8_grammar.specs.declared.bodies.Body.TheVariants as body
@@ -101,6 +103,7 @@ resolved_step kept (step.Operation word) = step.Operation word
 resolved_step kept step.Alone = step.Alone
 resolved_step kept step.Indirect = step.Indirect
 resolved_step kept (step.Name name) = number_or (step.Name name) (kept name)
+resolved_step kept (step.Permanent name value) = number_or (step.Permanent name value) (kept name)
 resolved_step kept (step.Number word) = step.Number word
 resolved_step kept step.Here = step.Here
 resolved_step kept (step.Sign op) = step.Sign op
@@ -143,6 +146,9 @@ words_in body.Relocate kept steps string size = []
 words_in body.Unrelocate kept steps string size = []
 words_in body.FileName kept steps string size = []
 words_in body.Device kept steps string size = []
+words_in body.Expunge kept steps string size = []
+words_in body.FixTable kept steps string size = []
+words_in (body.FixOperation name) kept steps string size = []
 words_in body.Word kept steps string size = resolved kept steps ∷ []
 
 -- words from an address on, after others (no word that has a fault is kept, so none is past 7777)
@@ -226,8 +232,12 @@ abbrev pub with_said : Statement → Left → Result Phrase GrammarFault → Pas
 with_said s left (Err fault) = Err (at_place (place_of s) (code_of fault))
 with_said s left (Ok phrase) = with_phrase s phrase left (with_statement s.tokens phrase.0 phrase.1 (length s.string) left.standing)
 
+-- what a statement says by the radix before it: no EXPUNGE and no FIXMRI is taken yet
+abbrev pub said_of : Radix → List Token → Bool → End → Result Phrase GrammarFault
+said_of radix tokens is_cut end = said_by first_vocabulary radix tokens is_cut end
+
 abbrev pub with_selected : Statement → Left → Passed
-with_selected s left = with_said s left (said_by left.standing.position.radix s.tokens s.is_cut s.end)
+with_selected s left = with_said s left (said_of left.standing.position.radix s.tokens s.is_cut s.end)
 
 -- one that isn't selected says nothing, and a bracket that it opens is false
 abbrev pub with_skipped : Statement → Left → Left

@@ -1,6 +1,8 @@
 ghost use Rattle.std.specs.Prelude.{◌≡◌, ◌<◌, ◌≤◌, IfOk, Ok, None, length};
+ghost use Rattle.pal8_sym.specs.SourceNames.{first_vocabulary, vocabulary_of};
+ghost use Rattle.pal8_grammar.specs.Saying.{Says};
 ghost use Rattle.pal8_asm.specs.Places.{truth_of, with_statement};
-ghost use Rattle.pal8_asm.specs.Sources.{bracketed, dollar_at, first_left, start_of, with_next, with_selected};
+ghost use Rattle.pal8_asm.specs.Sources.{bracketed, dollar_at, first_left, said_of, start_of, with_next, with_selected};
 ghost use Rattle.pal8_asm.specs.Steps.{PassesEnd, TakesBody, TakesStatement};
 ghost use Rattle.pal8_asm.specs.Assembling.{Takes, left_in, standing};
 
@@ -10,8 +12,8 @@ use crate::places::{Position, first_position};
 use crate::tags::{pass_statement, truth_of};
 use crate::{AsmFault, Code, Place, Stop};
 use pal8_grammar::{Body, GrammarFault, Reader, Step};
-use pal8_lex::{End, Token};
-use pal8_sym::Symbols;
+use pal8_lex::{End, Radix, Token};
+use pal8_sym::{SourceNames, Symbols};
 use std::alloc::Global;
 use std::marker::Model;
 use word12::Word;
@@ -26,10 +28,13 @@ pub struct Assembler {
     pub(crate) brackets: Brackets,
     pub(crate) end: Option<Place>,
     reader: Reader,
+    /// What statements read by: the permanent names, of which none is expunged yet.
+    names: SourceNames,
 }
 
 impl Model for Assembler {
-    ghost use Rattle.std.specs.Prelude.{◌<◌, ◌≤◌};
+    ghost use Rattle.std.specs.Prelude.{◌≡◌, ◌<◌, ◌≤◌};
+    ghost use Rattle.pal8_sym.specs.SourceNames.{first_vocabulary, vocabulary_of};
     ghost use Rattle.pal_sym.specs.SymbolTable.{table_code};
     ghost use Rattle.std.specs.Coded.{codes};
     ghost use Rattle.pal8_asm.specs.Assembling.{Progress};
@@ -46,7 +51,7 @@ impl Model for Assembler {
       end = a.end;
     } };
 
-    ghost invariant = { λ a. (a.position.location ≤ 0o10000) × (a.position.field < 8) };
+    ghost invariant = { λ a. (a.position.location ≤ 0o10000) × (a.position.field < 8) × (vocabulary_of a.names ≡ first_vocabulary) };
 }
 
 /// The place of the `$` at this byte that ends a statement, if one does.
@@ -133,12 +138,28 @@ fn pass_end(
     Ok(())
 }
 
+/// Reads what a statement says, where nothing is expunged and no operation was added.
+fn said(
+    reader: &mut Reader,
+    names: &SourceNames,
+    tokens: &[Token],
+    is_cut: bool,
+    end: End,
+    radix: Radix,
+) -> Result<Body, GrammarFault>
+    requires { vocabulary_of names.now ≡ first_vocabulary }
+    ensures { Says (said_of radix tokens.now is_cut end) result reader.new }
+{
+    reader.read_statement(names, tokens, is_cut, end, radix)
+}
+
 /// Takes a statement that is selected, and answers the position of the next one.
 fn take_statement(
     symbols: &mut Symbols,
     entries: &mut Entries,
     brackets: &mut Brackets,
     reader: &mut Reader,
+    names: &SourceNames,
     position: Position,
     line: u64,
     at: u64,
@@ -149,6 +170,7 @@ fn take_statement(
 ) -> Result<Position, AsmFault>
     requires place { position.location ≤ 0o10000 }
     requires field { position.field < 8 }
+    requires names { vocabulary_of names.now ≡ first_vocabulary }
     ensures takes { TakesStatement (with_selected (record { line = line; at = at; tokens = tokens.now; string = string.now; is_cut = is_cut; end = end })
         (record { standing = standing symbols.old position; entries = entries.old; brackets = brackets.old; end = None }))
         result symbols.new entries.new brackets.new (dollar_at end (record { line = line; start = at })) }
@@ -159,7 +181,7 @@ fn take_statement(
         start: start_of(at, tokens),
     };
     let again = end;
-    let body = match reader.read_statement(tokens, is_cut, end, position.radix) {
+    let body = match said(reader, names, tokens, is_cut, end, position.radix) {
         Ok(body) => body,
         Err(GrammarFault::IC) => return Err(AsmFault::At(Code::IC, place)),
         Err(GrammarFault::NU) => return Err(AsmFault::At(Code::NU, place)),
@@ -192,6 +214,7 @@ impl Assembler {
             brackets: Brackets::new(alloc),
             end: None,
             reader: Reader::new(alloc),
+            names: SourceNames::new(alloc),
         }
     }
 
@@ -227,6 +250,7 @@ impl Assembler {
             &mut self.entries,
             &mut self.brackets,
             &mut self.reader,
+            &self.names,
             self.position,
             line,
             at,

@@ -7,7 +7,7 @@ ghost use Rattle.pal8_asm.specs.Steps.{IsMaking, Makes};
 ghost use Rattle.pal8_asm.specs.declared.faults.Fault.{Fault};
 ghost use Rattle.pal8_grammar.specs.declared.steps.Step.{Step};
 ghost use Rattle.pal8_asm.specs.Places.{text_size};
-ghost use Rattle.pal8_asm.specs.Sources.{Entry, number, resolved, resolved_step, text_words, with_entries, words_in};
+ghost use Rattle.pal8_asm.specs.Sources.{Entry, number, number_or, resolved, resolved_step, text_words, with_entries, words_in};
 
 use crate::words::make_all;
 use crate::{AsmFault, Fault, Place};
@@ -47,16 +47,24 @@ impl Model for Entries {
     ghost invariant = { λ e. total e.heads.items ≡ length e.steps.items };
 }
 
+/// A step, or the number in its place.
+fn number_or(step: Step, value: Option<Word>) -> Step
+    ensures { result ≡ number_or step value }
+{
+    match value {
+        Some(word) => Step::Number(word),
+        None => step,
+    }
+}
+
 /// A step, whose name stands for what it keeps by now, if it keeps a value.
 fn resolved_step(symbols: &Symbols, step: Step) -> Step
     ensures { result ≡ resolved_step (symbol_value symbols.now) step }
 {
     let again = step;
     match step {
-        Step::Name(name) => match symbols.kept_value(name) {
-            Some(word) => Step::Number(word),
-            None => again,
-        },
+        Step::Name(name) => number_or(again, symbols.kept_value(name)),
+        Step::Permanent(name, _) => number_or(again, symbols.kept_value(name)),
         Step::Operation(_) | Step::Alone | Step::Indirect | Step::Number(_) => again,
         Step::Here | Step::Sign(_) | Step::Open(_) | Step::Close => again,
     }
@@ -196,7 +204,8 @@ impl Entries {
             Body::Field | Body::NextPage | Body::Page | Body::Listing => Ok(()),
             Body::IfZero | Body::IfNotZero | Body::IfDefined(_) | Body::IfUndefined(_) => Ok(()),
             Body::NoPunch | Body::Punch | Body::Relocate | Body::Unrelocate => Ok(()),
-            Body::FileName | Body::Device => Ok(()),
+            Body::FileName | Body::Device | Body::Expunge | Body::FixTable => Ok(()),
+            Body::FixOperation(_) => Ok(()),
         }
     }
 

@@ -123,7 +123,8 @@ pub(crate) fn truth_of(
         Body::Nothing | Body::Origin | Body::Define(_) | Body::Decimal | Body::Octal => Ok(false),
         Body::Field | Body::NextPage | Body::Page | Body::Zeros | Body::Text => Ok(false),
         Body::Listing | Body::Word | Body::NoPunch | Body::Punch | Body::Relocate => Ok(false),
-        Body::Unrelocate | Body::FileName | Body::Device => Ok(false),
+        Body::Unrelocate | Body::FileName | Body::Device | Body::Expunge => Ok(false),
+        Body::FixTable | Body::FixOperation(_) => Ok(false),
     }
 }
 
@@ -149,7 +150,8 @@ fn pass_valued(
         Body::Text | Body::Listing | Body::Word => Ok(position),
         Body::IfZero | Body::IfNotZero | Body::IfDefined(_) | Body::IfUndefined(_) => Ok(position),
         Body::NoPunch | Body::Punch | Body::Relocate | Body::Unrelocate => Ok(position),
-        Body::FileName | Body::Device => Ok(position),
+        Body::FileName | Body::Device | Body::Expunge | Body::FixTable => Ok(position),
+        Body::FixOperation(_) => Ok(position),
     }
 }
 
@@ -210,7 +212,10 @@ fn pass_body(
         Body::NoPunch | Body::Punch | Body::Relocate | Body::Unrelocate => {
             Err(Stop::At(Code::SY))
         }
-        Body::FileName | Body::Device => Err(Stop::At(Code::SY)),
+        Body::FileName | Body::Device | Body::Expunge | Body::FixTable => {
+            Err(Stop::At(Code::SY))
+        }
+        Body::FixOperation(_) => Err(Stop::At(Code::SY)),
     }
 }
 

@@ -10,9 +10,10 @@ use Rattle.pal8_lex.specs.declared.rules.End.{End}
 use Rattle.pal8_lex.specs.declared.rules.End.TheVariants as end
 use Rattle.pal8_lex.specs.declared.judging.Radix.{Radix}
 use Rattle.pal8_sym.specs.Permanent.{is_reserved}
+use Rattle.pal8_sym.specs.SourceNames.{Vocabulary}
 use Rattle.pal8_grammar.specs.Values.{sign_of, steps_of}
 pub use Rattle.pal8_grammar.specs.Names.{free_name, name_of}
-use Rattle.pal8_grammar.specs.Names.{device_steps, extension_of, file_steps, one_name, spaced_run}
+use Rattle.pal8_grammar.specs.Names.{device_steps, extension_of, file_steps, one_name, spaced_name, spaced_run}
 use Rattle.pal8_grammar.specs.declared.steps.Step.{Step}
 use Rattle.pal8_grammar.specs.declared.stands.Stand.TheVariants as stand
 use Rattle.pal8_grammar.specs.declared.bodies.Body.{Body}
@@ -68,8 +69,8 @@ is_string Bad = false
 
 -- ## Forms
 
--- What a reserved name begins: a form that stands alone, one with an expression, or either; a text; a name, of a file or a device too. The
--- others begin nothing yet.
+-- What a reserved name begins: a form that stands alone, one with an expression, or either; a text; a name, of a file or a device too; an
+-- operation. The others begin nothing.
 abbrev pub form_by : ℕ → Form
 form_by name =
     if nat_eq name (name_number (codes "DECIMA")) then form.Alone body.Decimal
@@ -89,7 +90,10 @@ form_by name =
     else (if nat_eq name (name_number (codes "RELOC")) then form.Reloc
     else (if nat_eq name (name_number (codes "FILENA")) then form.FileName
     else (if nat_eq name (name_number (codes "DEVICE")) then form.Device
-    else form.Later))))))))))))))))
+    else (if nat_eq name (name_number (codes "EXPUNG")) then form.Alone body.Expunge
+    else (if nat_eq name (name_number (codes "FIXTAB")) then form.Alone body.FixTable
+    else (if nat_eq name (name_number (codes "FIXMRI")) then form.FixOperation
+    else form.Later)))))))))))))))))))
 
 -- ## Bodies: what they say, with the steps of their value
 
@@ -100,25 +104,29 @@ abbrev pub phrase : Body → Option (List Step) → Option Phrase
 phrase body None = None
 phrase body (Some steps) = Some (body, steps)
 
-abbrev pub expression_steps : Radix → List Token → Option (List Step)
-expression_steps radix tokens = steps_of record { radix = radix; has_literals = false } stand.Expression tokens
+abbrev pub expression_steps : Vocabulary → Radix → List Token → Option (List Step)
+expression_steps names radix tokens = steps_of record { names = names; radix = radix; has_literals = false } stand.Expression tokens
+
+-- `=` has a value without literals after it
+abbrev pub value_steps : Vocabulary → Radix → List Token → Option (List Step)
+value_steps names radix tokens = steps_of record { names = names; radix = radix; has_literals = false } stand.Value tokens
 
 -- a blank and an expression, or one that begins with `+` or `-`
-abbrev pub argument_steps : Radix → List Token → Option (List Step)
-argument_steps radix [] = None
-argument_steps radix (t ∷ others) = if t.is_spaced || is_some (sign_of t.kind) then expression_steps radix (t ∷ others) else None
+abbrev pub argument_steps : Vocabulary → Radix → List Token → Option (List Step)
+argument_steps names radix [] = None
+argument_steps names radix (t ∷ others) = if t.is_spaced || is_some (sign_of t.kind) then expression_steps names radix (t ∷ others) else None
 
 abbrev pub alone : Body → List Token → Option Phrase
 alone body [] = Some (body, [])
 alone body (t ∷ others) = None
 
-abbrev pub page_phrase : Radix → List Token → Option Phrase
-page_phrase radix [] = Some (body.NextPage, [])
-page_phrase radix (t ∷ others) = phrase body.Page (argument_steps radix (t ∷ others))
+abbrev pub page_phrase : Vocabulary → Radix → List Token → Option Phrase
+page_phrase names radix [] = Some (body.NextPage, [])
+page_phrase names radix (t ∷ others) = phrase body.Page (argument_steps names radix (t ∷ others))
 
-abbrev pub reloc_phrase : Radix → List Token → Option Phrase
-reloc_phrase radix [] = Some (body.Unrelocate, [])
-reloc_phrase radix (t ∷ others) = phrase body.Relocate (argument_steps radix (t ∷ others))
+abbrev pub reloc_phrase : Vocabulary → Radix → List Token → Option Phrase
+reloc_phrase names radix [] = Some (body.Unrelocate, [])
+reloc_phrase names radix (t ∷ others) = phrase body.Relocate (argument_steps names radix (t ∷ others))
 
 abbrev pub text_phrase : List Token → Option Phrase
 text_phrase [] = None
@@ -152,42 +160,53 @@ device_phrase [] = None
 device_phrase (t ∷ []) = phrase body.Device (device_steps (spaced_run t))
 device_phrase (t ∷ u ∷ others) = None
 
+abbrev pub operation_by : Vocabulary → Radix → Bool → Option ℕ → List Token → Option Phrase
+operation_by names radix false name rest = None
+operation_by names radix true None rest = None
+operation_by names radix true (Some name) rest = phrase (body.FixOperation name) (value_steps names radix rest)
+
+-- a name after a blank, `=` and a value
+abbrev pub operation_phrase : Vocabulary → Radix → List Token → Option Phrase
+operation_phrase names radix [] = None
+operation_phrase names radix (t ∷ []) = None
+operation_phrase names radix (t ∷ u ∷ others) = operation_by names radix (is_equals u.kind) (spaced_name t) others
+
 -- what a form says with these tokens after its name
-abbrev pub form_phrase : Radix → Form → List Token → Option Phrase
-form_phrase radix (form.Alone body) rest = alone body rest
-form_phrase radix (form.Valued body) rest = phrase body (argument_steps radix rest)
-form_phrase radix form.Page rest = page_phrase radix rest
-form_phrase radix form.Reloc rest = reloc_phrase radix rest
-form_phrase radix form.Text rest = text_phrase rest
-form_phrase radix form.IfDefined rest = defined_phrase rest
-form_phrase radix form.IfUndefined rest = undefined_phrase rest
-form_phrase radix form.FileName rest = file_phrase rest
-form_phrase radix form.Device rest = device_phrase rest
-form_phrase radix form.Later rest = None
+abbrev pub form_phrase : Vocabulary → Radix → Form → List Token → Option Phrase
+form_phrase names radix (form.Alone body) rest = alone body rest
+form_phrase names radix (form.Valued body) rest = phrase body (argument_steps names radix rest)
+form_phrase names radix form.Page rest = page_phrase names radix rest
+form_phrase names radix form.Reloc rest = reloc_phrase names radix rest
+form_phrase names radix form.Text rest = text_phrase rest
+form_phrase names radix form.IfDefined rest = defined_phrase rest
+form_phrase names radix form.IfUndefined rest = undefined_phrase rest
+form_phrase names radix form.FileName rest = file_phrase rest
+form_phrase names radix form.Device rest = device_phrase rest
+form_phrase names radix form.FixOperation rest = operation_phrase names radix rest
+form_phrase names radix form.Later rest = None
 
 -- a value in a word, with literals
-abbrev pub word_phrase : Radix → List Token → Option Phrase
-word_phrase radix tokens = phrase body.Word (steps_of record { radix = radix; has_literals = true } stand.Value tokens)
+abbrev pub word_phrase : Vocabulary → Radix → List Token → Option Phrase
+word_phrase names radix tokens = phrase body.Word (steps_of record { names = names; radix = radix; has_literals = true } stand.Value tokens)
 
--- `=` has a value without literals after it
-abbrev pub definition_phrase : Radix → ℕ → List Token → Option Phrase
-definition_phrase radix name rest = phrase (body.Define name) (steps_of record { radix = radix; has_literals = false } stand.Value rest)
+abbrev pub definition_phrase : Vocabulary → Radix → ℕ → List Token → Option Phrase
+definition_phrase names radix name rest = phrase (body.Define name) (value_steps names radix rest)
 
 -- a body that begins with a name that isn't reserved
-abbrev pub named_phrase : Radix → ℕ → Token → List Token → Option Phrase
-named_phrase radix name t [] = word_phrase radix (t ∷ [])
-named_phrase radix name t (u ∷ others) =
-    if is_equals u.kind then definition_phrase radix name others else word_phrase radix (t ∷ u ∷ others)
+abbrev pub named_phrase : Vocabulary → Radix → ℕ → Token → List Token → Option Phrase
+named_phrase names radix name t [] = word_phrase names radix (t ∷ [])
+named_phrase names radix name t (u ∷ others) =
+    if is_equals u.kind then definition_phrase names radix name others else word_phrase names radix (t ∷ u ∷ others)
 
-abbrev pub phrase_by : Radix → Option ℕ → Token → List Token → Option Phrase
-phrase_by radix None t rest = word_phrase radix (t ∷ rest)
-phrase_by radix (Some name) t rest = if is_reserved name then form_phrase radix (form_by name) rest else named_phrase radix name t rest
+abbrev pub phrase_by : Vocabulary → Radix → Option ℕ → Token → List Token → Option Phrase
+phrase_by names radix None t rest = word_phrase names radix (t ∷ rest)
+phrase_by names radix (Some name) t rest = if is_reserved name then form_phrase names radix (form_by name) rest else named_phrase names radix name t rest
 
 -- what a body says
-abbrev pub body_phrase : Radix → List Token → Option Phrase
-body_phrase radix [] = Some (body.Nothing, [])
-body_phrase radix (t ∷ rest) =
-    if is_star t.kind then phrase body.Origin (expression_steps radix rest) else phrase_by radix (name_of t.kind) t rest
+abbrev pub body_phrase : Vocabulary → Radix → List Token → Option Phrase
+body_phrase names radix [] = Some (body.Nothing, [])
+body_phrase names radix (t ∷ rest) =
+    if is_star t.kind then phrase body.Origin (expression_steps names radix rest) else phrase_by names radix (name_of t.kind) t rest
 
 -- ## Statements
 
@@ -246,6 +265,9 @@ is_condition body.Relocate = false
 is_condition body.Unrelocate = false
 is_condition body.FileName = false
 is_condition body.Device = false
+is_condition body.Expunge = false
+is_condition body.FixTable = false
+is_condition (body.FixOperation name) = false
 is_condition body.Word = false
 
 -- `<` ends a condition, and nothing else
@@ -256,10 +278,10 @@ abbrev pub phrase_or_fault : End → Option Phrase → Result Phrase GrammarFaul
 phrase_or_fault end None = Err SY
 phrase_or_fault end (Some it) = if ends_condition end it.0 then Ok it else Err SY
 
--- What a statement says by the radix before it, or its fault.
-abbrev pub said_by : Radix → List Token → Bool → End → Result Phrase GrammarFault
-said_by radix tokens is_cut end =
+-- What a statement says by the names and the radix before it, or its fault.
+abbrev pub said_by : Vocabulary → Radix → List Token → Bool → End → Result Phrase GrammarFault
+said_by names radix tokens is_cut end =
     if has_bad tokens then Err IC
     else (if has_bad_number radix (judged_in tokens) then Err NU
     else (if is_cut || not (has_free_tags tokens) then Err SY
-    else phrase_or_fault end (body_phrase radix (body_in tokens))))
+    else phrase_or_fault end (body_phrase names radix (body_in tokens))))

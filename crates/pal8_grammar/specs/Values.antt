@@ -2,8 +2,6 @@
 -- is what stands in a literal. It reads as steps, which have no blank, no radix and no bracket that is left out.
 use Rattle.std.specs.Prelude.{ℕ, nat_eq, nat_lt, Bool, true, false, ◌&&◌, ◌||◌, not, if◌then◌else◌, Option, Some, None, is_some, List, [], ◌∷◌, ◌++◌, codes}
 use Rattle.word12.specs.Sixbit.{name_number}
-use Rattle.pal_lex.specs.Language as pal3
-use Rattle.pal_lex.specs.declared.phrases.Operation.{Operation as OldOperation}
 use Rattle.pal8_lex.specs.declared.tokens.Token.{Token}
 use Rattle.pal8_lex.specs.declared.tokens.Kind.{Kind}
 use Rattle.pal8_lex.specs.declared.tokens.Kind.TheVariants.{Name, Number, Character, Here, Operator, Equals, Comma, Star, Opening, Closing, String, Bad}
@@ -15,12 +13,12 @@ use Rattle.pal8_lex.specs.declared.tokens.Pool.TheVariants.{Own, Zero}
 use Rattle.pal8_lex.specs.declared.judging.Radix.{Radix}
 use Rattle.pal8_lex.specs.declared.judging.Radix.TheVariants.{Octal, Decimal}
 use Rattle.pal8_sym.specs.Permanent.{is_reserved}
+use Rattle.pal8_sym.specs.SourceNames.{Vocabulary}
 use Rattle.pal8_grammar.specs.declared.steps.Step.{Step}
 use Rattle.pal8_grammar.specs.declared.steps.Step.TheVariants as step
 use Rattle.pal8_grammar.specs.declared.stands.Stand.{Stand}
 use Rattle.pal8_grammar.specs.declared.stands.Stand.TheVariants as stand
 use Rattle.pal8_grammar.specs.declared.stands.Outer.{Outer}
-use Rattle.pal8_grammar.specs.declared.stands.Rules.{Rules}
 
 -- What is read of a value so far: where it stands, the literals that are open, the innermost first, and the steps in their order.
 pub record Reading : Type 0 where
@@ -28,26 +26,33 @@ pub record Reading : Type 0 where
   pub literals : List Outer
   pub steps : List Step
 
+-- What a value reads by: the names before it, the radix, and whether literals may stand there.
+pub record Setting : Type 0 where
+  pub names : Vocabulary
+  pub radix : Radix
+  pub has_literals : Bool
+
 -- ## Tokens
 
-abbrev pub word_in : Option OldOperation → Option ℕ
-word_in None = None
-word_in (Some operation) = Some (pal3.word_of operation)
+-- an operation of this name, with its word
+abbrev pub called : ℕ → Option ℕ → Option (ℕ × ℕ)
+called name None = None
+called name (Some word) = Some (name, word)
 
--- the word of an operation that a token names
-abbrev pub operation_of : Kind → Option ℕ
-operation_of (Name name) = word_in (pal3.operation_of name)
-operation_of (Number n) = None
-operation_of (Character c) = None
-operation_of Here = None
-operation_of (Operator op) = None
-operation_of Equals = None
-operation_of Comma = None
-operation_of Star = None
-operation_of (Opening pool) = None
-operation_of (Closing pool) = None
-operation_of String = None
-operation_of Bad = None
+-- the operation that a token names, with its word
+abbrev pub operation_of : Vocabulary → Kind → Option (ℕ × ℕ)
+operation_of names (Name name) = called name (names.operation name)
+operation_of names (Number n) = None
+operation_of names (Character c) = None
+operation_of names Here = None
+operation_of names (Operator op) = None
+operation_of names Equals = None
+operation_of names Comma = None
+operation_of names Star = None
+operation_of names (Opening pool) = None
+operation_of names (Closing pool) = None
+operation_of names String = None
+operation_of names Bad = None
 
 -- `I` is true, `Z` is false
 abbrev pub modifier_by : ℕ → Option Bool
@@ -140,24 +145,32 @@ abbrev pub number_in : Radix → number.Number → ℕ
 number_in Octal n = n.octal
 number_in Decimal n = n.decimal
 
+-- a permanent name has its value with it, which EXPUNGE may take away later
+abbrev pub named : ℕ → Option ℕ → Step
+named name None = step.Name name
+named name (Some value) = step.Permanent name value
+
+abbrev pub named_by : Vocabulary → ℕ → Step
+named_by names name = named name (names.permanent name)
+
 -- a reserved name is no term
-abbrev pub name_step : ℕ → Option Step
-name_step name = if is_reserved name then None else Some (step.Name name)
+abbrev pub name_step : Vocabulary → ℕ → Option Step
+name_step names name = if is_reserved name then None else Some (named_by names name)
 
 -- the step that a term is, if it is no literal
-abbrev pub term_of : Radix → Kind → Option Step
-term_of radix (Name name) = name_step name
-term_of radix (Number n) = number_step (number_in radix n)
-term_of radix (Character c) = Some (step.Number c)
-term_of radix Here = Some step.Here
-term_of radix (Operator op) = None
-term_of radix Equals = None
-term_of radix Comma = None
-term_of radix Star = None
-term_of radix (Opening pool) = None
-term_of radix (Closing pool) = None
-term_of radix String = None
-term_of radix Bad = None
+abbrev pub term_of : Setting → Kind → Option Step
+term_of setting (Name name) = name_step setting.names name
+term_of setting (Number n) = number_step (number_in setting.radix n)
+term_of setting (Character c) = Some (step.Number c)
+term_of setting Here = Some step.Here
+term_of setting (Operator op) = None
+term_of setting Equals = None
+term_of setting Comma = None
+term_of setting Star = None
+term_of setting (Opening pool) = None
+term_of setting (Closing pool) = None
+term_of setting String = None
+term_of setting Bad = None
 
 -- ## Where a term or a value begins
 
@@ -174,72 +187,73 @@ with_literal true pool is_address r = Some record {
   steps = r.steps ++ step.Open pool ∷ [];
 }
 
-abbrev pub with_term_by : Rules → Bool → Option Pool → Option Step → Reading → Option Reading
-with_term_by rules is_address (Some pool) term r = with_literal rules.has_literals pool is_address r
-with_term_by rules is_address None term r = with_step term is_address r
+abbrev pub with_term_by : Setting → Bool → Option Pool → Option Step → Reading → Option Reading
+with_term_by setting is_address (Some pool) term r = with_literal setting.has_literals pool is_address r
+with_term_by setting is_address None term r = with_step term is_address r
 
 -- a term of an address, or of an expression
-abbrev pub with_term : Rules → Bool → Kind → Reading → Option Reading
-with_term rules is_address kind r = with_term_by rules is_address (opening_of kind) (term_of rules.radix kind) r
+abbrev pub with_term : Setting → Bool → Kind → Reading → Option Reading
+with_term setting is_address kind r = with_term_by setting is_address (opening_of kind) (term_of setting kind) r
 
 abbrev pub with_sign : Bool → sign.Operator → Reading → Reading
 with_sign is_address op r = record { stand = stand.Sign is_address; literals = r.literals; steps = r.steps ++ step.Sign op ∷ [] }
 
-abbrev pub with_expression_by : Rules → Option sign.Operator → Kind → Reading → Option Reading
-with_expression_by rules None kind r = with_term rules false kind r
-with_expression_by rules (Some op) kind r = Some (with_sign false op r)
+abbrev pub with_expression_by : Setting → Option sign.Operator → Kind → Reading → Option Reading
+with_expression_by setting None kind r = with_term setting false kind r
+with_expression_by setting (Some op) kind r = Some (with_sign false op r)
 
 -- the first token of an expression
-abbrev pub with_expression : Rules → Kind → Reading → Option Reading
-with_expression rules kind r = with_expression_by rules (sign_of kind) kind r
+abbrev pub with_expression : Setting → Kind → Reading → Option Reading
+with_expression setting kind r = with_expression_by setting (sign_of kind) kind r
 
-abbrev pub with_value_by : Rules → Option ℕ → Kind → Reading → Option Reading
-with_value_by rules None kind r = with_expression rules kind r
-with_value_by rules (Some word) kind r =
-    Some record { stand = stand.Operation; literals = r.literals; steps = r.steps ++ step.Operation word ∷ [] }
+abbrev pub with_value_by : Setting → Option (ℕ × ℕ) → Kind → Reading → Option Reading
+with_value_by setting None kind r = with_expression setting kind r
+with_value_by setting (Some (name, word)) kind r =
+    Some record { stand = stand.Operation name; literals = r.literals; steps = r.steps ++ step.Operation word ∷ [] }
 
 -- the first token of a value
-abbrev pub with_value : Rules → Kind → Reading → Option Reading
-with_value rules kind r = with_value_by rules (operation_of kind) kind r
+abbrev pub with_value : Setting → Kind → Reading → Option Reading
+with_value setting kind r = with_value_by setting (operation_of setting.names kind) kind r
 
 -- ## What goes on with a value
 
-abbrev pub with_address_by : Rules → Option Bool → Kind → Reading → Option Reading
-with_address_by rules None kind r = with_term rules true kind r
-with_address_by rules (Some true) kind r =
+abbrev pub with_address_by : Setting → Option Bool → Kind → Reading → Option Reading
+with_address_by setting None kind r = with_term setting true kind r
+with_address_by setting (Some true) kind r =
     Some record { stand = stand.Address; literals = r.literals; steps = r.steps ++ step.Indirect ∷ [] }
-with_address_by rules (Some false) kind r = Some record { stand = stand.Address; literals = r.literals; steps = r.steps }
+with_address_by setting (Some false) kind r = Some record { stand = stand.Address; literals = r.literals; steps = r.steps }
 
 -- After an operation, `I` and `Z`: a blank and `I` or `Z`, or a blank and the address.
-abbrev pub with_address : Rules → Kind → Reading → Option Reading
-with_address rules kind r = with_address_by rules (modifier_of kind) kind r
+abbrev pub with_address : Setting → Kind → Reading → Option Reading
+with_address setting kind r = with_address_by setting (modifier_of kind) kind r
 
 -- A token goes on with a value. A blank does so in an expression alone, and after an operation.
 abbrev pub goes_on : Stand → Token → Bool
 goes_on stand.Value t = false
 goes_on stand.Expression t = false
-goes_on stand.Operation t = t.is_spaced || is_some (operator_of t.kind)
+goes_on (stand.Operation name) t = t.is_spaced || is_some (operator_of t.kind)
 goes_on stand.Address t = t.is_spaced
 goes_on (stand.Sign is_address) t = false
 goes_on (stand.Term is_address) t = (t.is_spaced && not is_address) || is_some (operator_of t.kind)
 
--- an operation that isn't followed by a blank is a term
-abbrev pub as_term : Reading → Reading
-as_term r = record { stand = stand.Term false; literals = r.literals; steps = r.steps ++ step.Alone ∷ [] }
+-- an operation that isn't followed by a blank is a term: its name
+abbrev pub as_term : Vocabulary → ℕ → Reading → Reading
+as_term names name r =
+    record { stand = stand.Term false; literals = r.literals; steps = r.steps ++ step.Alone ∷ [] ++ named_by names name ∷ [] }
 
 -- a token that goes on with a value: an operator, or what a blank stands before
-abbrev pub with_next_by : Rules → Stand → Option sign.Operator → Kind → Reading → Option Reading
-with_next_by rules stand.Value op kind r = None
-with_next_by rules stand.Expression op kind r = None
-with_next_by rules stand.Operation None kind r = with_address rules kind r
-with_next_by rules stand.Operation (Some op) kind r = Some (with_sign false op (as_term r))
-with_next_by rules stand.Address op kind r = with_address rules kind r
-with_next_by rules (stand.Sign is_address) op kind r = None
-with_next_by rules (stand.Term is_address) None kind r = with_term rules is_address kind (with_sign is_address Or r)
-with_next_by rules (stand.Term is_address) (Some op) kind r = Some (with_sign is_address op r)
+abbrev pub with_next_by : Setting → Stand → Option sign.Operator → Kind → Reading → Option Reading
+with_next_by setting stand.Value op kind r = None
+with_next_by setting stand.Expression op kind r = None
+with_next_by setting (stand.Operation name) None kind r = with_address setting kind r
+with_next_by setting (stand.Operation name) (Some op) kind r = Some (with_sign false op (as_term setting.names name r))
+with_next_by setting stand.Address op kind r = with_address setting kind r
+with_next_by setting (stand.Sign is_address) op kind r = None
+with_next_by setting (stand.Term is_address) None kind r = with_term setting is_address kind (with_sign is_address Or r)
+with_next_by setting (stand.Term is_address) (Some op) kind r = Some (with_sign is_address op r)
 
-abbrev pub with_next : Rules → Kind → Reading → Option Reading
-with_next rules kind r = with_next_by rules r.stand (operator_of kind) kind r
+abbrev pub with_next : Setting → Kind → Reading → Option Reading
+with_next setting kind r = with_next_by setting r.stand (operator_of kind) kind r
 
 -- The innermost literal has ended. A literal is a term of what stands around it.
 abbrev pub behind_literal : Outer → List Outer → List Step → Reading
@@ -247,45 +261,45 @@ behind_literal outer others steps = record { stand = stand.Term outer.is_address
 
 -- A token that doesn't go on with a value ends it: its literal's own closing, or else a token that goes on with what stands around. Where no
 -- literal is open, there is none such.
-abbrev pub with_end : Rules → Token → List Outer → List Step → Option Reading
-with_end rules t [] steps = None
-with_end rules t (outer ∷ others) steps =
+abbrev pub with_end : Setting → Token → List Outer → List Step → Option Reading
+with_end setting t [] steps = None
+with_end setting t (outer ∷ others) steps =
     if is_closing outer.pool t.kind then Some (behind_literal outer others steps)
-    else (if goes_on (stand.Term outer.is_address) t then with_next rules t.kind (behind_literal outer others steps)
-    else with_end rules t others (steps ++ step.Close ∷ []))
+    else (if goes_on (stand.Term outer.is_address) t then with_next setting t.kind (behind_literal outer others steps)
+    else with_end setting t others (steps ++ step.Close ∷ []))
 
-abbrev pub with_more : Bool → Rules → Token → Reading → Option Reading
-with_more true rules t r = with_next rules t.kind r
-with_more false rules t r = with_end rules t r.literals r.steps
+abbrev pub with_more : Bool → Setting → Token → Reading → Option Reading
+with_more true setting t r = with_next setting t.kind r
+with_more false setting t r = with_end setting t r.literals r.steps
 
-abbrev pub with_token_by : Rules → Stand → Token → Reading → Option Reading
-with_token_by rules stand.Value t r = with_value rules t.kind r
-with_token_by rules stand.Expression t r = with_expression rules t.kind r
-with_token_by rules stand.Operation t r = with_more (goes_on stand.Operation t) rules t r
-with_token_by rules stand.Address t r = with_more (goes_on stand.Address t) rules t r
-with_token_by rules (stand.Sign is_address) t r = with_term rules is_address t.kind r
-with_token_by rules (stand.Term is_address) t r = with_more (goes_on (stand.Term is_address) t) rules t r
+abbrev pub with_token_by : Setting → Stand → Token → Reading → Option Reading
+with_token_by setting stand.Value t r = with_value setting t.kind r
+with_token_by setting stand.Expression t r = with_expression setting t.kind r
+with_token_by setting (stand.Operation name) t r = with_more (goes_on (stand.Operation name) t) setting t r
+with_token_by setting stand.Address t r = with_more (goes_on stand.Address t) setting t r
+with_token_by setting (stand.Sign is_address) t r = with_term setting is_address t.kind r
+with_token_by setting (stand.Term is_address) t r = with_more (goes_on (stand.Term is_address) t) setting t r
 
 -- one token more
-abbrev pub with_token : Rules → Token → Reading → Option Reading
-with_token rules t r = with_token_by rules r.stand t r
+abbrev pub with_token : Setting → Token → Reading → Option Reading
+with_token setting t r = with_token_by setting r.stand t r
 
 -- ## Whole values
 
-abbrev pub with_token_if : Rules → Token → Option Reading → Option Reading
-with_token_if rules t None = None
-with_token_if rules t (Some r) = with_token rules t r
+abbrev pub with_token_if : Setting → Token → Option Reading → Option Reading
+with_token_if setting t None = None
+with_token_if setting t (Some r) = with_token setting t r
 
 -- tokens more
-abbrev pub with_tokens : Rules → List Token → Option Reading → Option Reading
-with_tokens rules [] r = r
-with_tokens rules (t ∷ others) r = with_tokens rules others (with_token_if rules t r)
+abbrev pub with_tokens : Setting → List Token → Option Reading → Option Reading
+with_tokens setting [] r = r
+with_tokens setting (t ∷ others) r = with_tokens setting others (with_token_if setting t r)
 
 -- a value may end here
 abbrev pub is_whole : Stand → Bool
 is_whole stand.Value = false
 is_whole stand.Expression = false
-is_whole stand.Operation = true
+is_whole (stand.Operation name) = true
 is_whole stand.Address = true
 is_whole (stand.Sign is_address) = false
 is_whole (stand.Term is_address) = true
@@ -300,5 +314,5 @@ steps_in None = None
 steps_in (Some r) = if is_whole r.stand then Some (closed r.literals r.steps) else None
 
 -- the steps of a value or, where it begins so, of an expression
-abbrev pub steps_of : Rules → Stand → List Token → Option (List Step)
-steps_of rules first tokens = steps_in (with_tokens rules tokens (Some record { stand = first; literals = []; steps = [] }))
+abbrev pub steps_of : Setting → Stand → List Token → Option (List Step)
+steps_of setting first tokens = steps_in (with_tokens setting tokens (Some record { stand = first; literals = []; steps = [] }))

@@ -1,15 +1,17 @@
 ghost use Rattle.std.specs.Prelude.{◌≡◌, [], ◌∷◌, Ok};
 ghost use Rattle.pal8_lex.specs.Judging.{tag_count};
-ghost use Rattle.pal8_grammar.specs.Bodies.{alone, argument_steps, body_in, body_phrase, definition_phrase, expression_steps, form_phrase, has_free_tags, judged_in, named_phrase, page_phrase, phrase, phrase_by, said_by, text_phrase, word_phrase};
+ghost use Rattle.pal8_grammar.specs.Bodies.{alone, argument_steps, body_in, body_phrase, expression_steps, form_phrase, has_free_tags, judged_in, named_phrase, operation_phrase, page_phrase, phrase, phrase_by, said_by, text_phrase, value_steps, word_phrase};
+ghost use Rattle.pal8_sym.specs.SourceNames.{vocabulary_of};
 ghost use Rattle.pal8_grammar.specs.Steps.{Reads, ReadsBody};
 ghost use Rattle.pal8_grammar.specs.Saying.{Says};
 ghost use Rattle.pal8_grammar.specs.declared.bodies.Body.{Body};
 
 use crate::forms::{ends_condition, form_by, names_file};
 use crate::kinds::{free_name, is_equals, is_star, is_string, name_of, sign_of};
+use crate::names::spaced_name;
 use crate::{Form, GrammarFault, Reader, Rules, Stand};
 use pal8_lex::{End, Kind, Name, Radix, Token, has_bad, has_bad_number, tag_count};
-use pal8_sym::is_reserved;
+use pal8_sym::{SourceNames, is_reserved};
 use std::alloc::AllocError;
 
 /// What a body says. Its value reads as steps.
@@ -54,6 +56,12 @@ pub enum Body {
     FileName,
     /// `DEVICE` and a device's name, which reads as two words.
     Device,
+    /// `EXPUNGE`
+    Expunge,
+    /// `FIXTAB`
+    FixTable,
+    /// `FIXMRI`, a name, `=` and a value.
+    FixOperation(Name),
     /// A value.
     Word,
 }
@@ -76,18 +84,19 @@ fn has_free_tags(tokens: &[Token]) -> bool
 }
 
 impl Reader {
-    /// Reads what a statement says by the radix before it: its body, after tags that are names and aren't reserved. Its value's steps are then
-    /// shown. `<` ends each condition, and nothing else.
+    /// Reads what a statement says by the names and the radix before it: its body, after tags that are names and aren't reserved. Its value's
+    /// steps are then shown. `<` ends each condition, and nothing else.
     ///
     /// The fault is the first of IC, NU and SY that applies, or that memory ran out (PAL8, in this project's profile).
     pub fn read_statement(
         &mut self,
+        names: &SourceNames,
         tokens: &[Token],
         is_cut: bool,
         end: End,
         radix: Radix,
     ) -> Result<Body, GrammarFault>
-        ensures { Says (said_by radix tokens.now is_cut end) result self.new }
+        ensures { Says (said_by (vocabulary_of names.now) radix tokens.now is_cut end) result self.new }
     {
         if has_bad(tokens) {
             return Err(GrammarFault::IC);
@@ -100,7 +109,7 @@ impl Reader {
         if is_cut || !has_free_tags(tokens) {
             return Err(GrammarFault::SY);
         }
-        match self.read_body(radix, rest)? {
+        match self.read_body(names, radix, rest)? {
             Some(body) => {
                 let again = body;
                 if ends_condition(end, body) {
@@ -114,24 +123,29 @@ impl Reader {
     }
 
     /// Reads a body.
-    fn read_body(&mut self, radix: Radix, tokens: &[Token]) -> Result<Option<Body>, AllocError>
-        ensures { ReadsBody (body_phrase radix tokens.now) result self.new }
+    fn read_body(
+        &mut self,
+        names: &SourceNames,
+        radix: Radix,
+        tokens: &[Token],
+    ) -> Result<Option<Body>, AllocError>
+        ensures { ReadsBody (body_phrase (vocabulary_of names.now) radix tokens.now) result self.new }
     {
         match tokens {
             [] => Ok(self.read_alone(Body::Nothing, tokens)),
             [first, rest @ ..] => {
                 if is_star(first.kind) {
-                    return self.read_expression(radix, Body::Origin, rest);
+                    return self.read_expression(names, radix, Body::Origin, rest);
                 }
                 match name_of(first.kind) {
                     Some(name) => {
                         if is_reserved(name) {
-                            self.read_form(radix, form_by(name), rest)
+                            self.read_form(names, radix, form_by(name), rest)
                         } else {
-                            self.read_named(radix, name, tokens, rest)
+                            self.read_named(names, radix, name, tokens, rest)
                         }
                     }
-                    None => self.read_word(radix, tokens),
+                    None => self.read_word(names, radix, tokens),
                 }
             }
         }
@@ -140,21 +154,22 @@ impl Reader {
     /// Reads a body that begins with a name that isn't reserved.
     fn read_named(
         &mut self,
+        names: &SourceNames,
         radix: Radix,
         name: Name,
         tokens: &[Token],
         rest: &[Token],
     ) -> Result<Option<Body>, AllocError>
         ensures { (first : Token) → tokens.now ≡ first ∷ rest.now
-            → ReadsBody (named_phrase radix name first rest.now) result self.new }
+            → ReadsBody (named_phrase (vocabulary_of names.now) radix name first rest.now) result self.new }
     {
         match rest {
-            [] => self.read_word(radix, tokens),
+            [] => self.read_word(names, radix, tokens),
             [second, others @ ..] => {
                 if is_equals(second.kind) {
-                    self.read_definition(radix, name, others)
+                    self.read_value(names, radix, Body::Define(name), others)
                 } else {
-                    self.read_word(radix, tokens)
+                    self.read_word(names, radix, tokens)
                 }
             }
         }
@@ -163,30 +178,32 @@ impl Reader {
     /// Reads what stands after a reserved name.
     fn read_form(
         &mut self,
+        names: &SourceNames,
         radix: Radix,
         form: Form,
         rest: &[Token],
     ) -> Result<Option<Body>, AllocError>
-        ensures { ReadsBody (form_phrase radix form rest.now) result self.new }
+        ensures { ReadsBody (form_phrase (vocabulary_of names.now) radix form rest.now) result self.new }
     {
         match form {
             Form::Alone(body) => Ok(self.read_alone(body, rest)),
-            Form::Valued(body) => self.read_argument(radix, body, rest),
+            Form::Valued(body) => self.read_argument(names, radix, body, rest),
             Form::Page => {
                 if rest.is_empty() {
                     return Ok(self.read_alone(Body::NextPage, rest));
                 }
-                self.read_argument(radix, Body::Page, rest)
+                self.read_argument(names, radix, Body::Page, rest)
             }
             Form::Reloc => match rest {
                 [] => Ok(self.read_alone(Body::Unrelocate, rest)),
-                _ => self.read_argument(radix, Body::Relocate, rest),
+                _ => self.read_argument(names, radix, Body::Relocate, rest),
             },
             Form::Text => Ok(self.read_text(rest)),
             Form::IfDefined => Ok(self.read_defined(rest)),
             Form::IfUndefined => Ok(self.read_undefined(rest)),
             Form::FileName => self.read_file(rest),
             Form::Device => self.read_device(rest),
+            Form::FixOperation => self.read_operation(names, radix, rest),
             Form::Later => Ok(None),
         }
     }
@@ -219,17 +236,18 @@ impl Reader {
     /// Reads an expression after a blank, or one that begins with a sign.
     fn read_argument(
         &mut self,
+        names: &SourceNames,
         radix: Radix,
         body: Body,
         rest: &[Token],
     ) -> Result<Option<Body>, AllocError>
-        ensures { ReadsBody (phrase body (argument_steps radix rest.now)) result self.new }
+        ensures { ReadsBody (phrase body (argument_steps (vocabulary_of names.now) radix rest.now)) result self.new }
     {
         match rest {
             [] => Ok(None),
             [first, ..] => {
                 if first.is_spaced || sign_of(first.kind).is_some() {
-                    self.read_expression(radix, body, rest)
+                    self.read_expression(names, radix, body, rest)
                 } else {
                     Ok(None)
                 }
@@ -240,50 +258,76 @@ impl Reader {
     /// Reads an expression.
     fn read_expression(
         &mut self,
+        names: &SourceNames,
         radix: Radix,
         body: Body,
         tokens: &[Token],
     ) -> Result<Option<Body>, AllocError>
-        ensures { ReadsBody (phrase body (expression_steps radix tokens.now)) result self.new }
+        ensures { ReadsBody (phrase body (expression_steps (vocabulary_of names.now) radix tokens.now)) result self.new }
     {
         let rules = Rules {
             radix,
             has_literals: false,
         };
-        let is_one = self.read(rules, Stand::Expression, tokens)?;
+        let is_one = self.read(names, rules, Stand::Expression, tokens)?;
         if is_one { Ok(Some(body)) } else { Ok(None) }
     }
 
     /// Reads the value that a name is given.
-    fn read_definition(
+    fn read_value(
         &mut self,
+        names: &SourceNames,
         radix: Radix,
-        name: Name,
+        body: Body,
         tokens: &[Token],
     ) -> Result<Option<Body>, AllocError>
-        ensures { ReadsBody (definition_phrase radix name tokens.now) result self.new }
+        ensures { ReadsBody (phrase body (value_steps (vocabulary_of names.now) radix tokens.now)) result self.new }
     {
         let rules = Rules {
             radix,
             has_literals: false,
         };
-        let is_one = self.read(rules, Stand::Value, tokens)?;
-        if is_one {
-            Ok(Some(Body::Define(name)))
-        } else {
-            Ok(None)
+        let is_one = self.read(names, rules, Stand::Value, tokens)?;
+        if is_one { Ok(Some(body)) } else { Ok(None) }
+    }
+
+    /// Reads the name of an operation and its value.
+    fn read_operation(
+        &mut self,
+        names: &SourceNames,
+        radix: Radix,
+        rest: &[Token],
+    ) -> Result<Option<Body>, AllocError>
+        ensures { ReadsBody (operation_phrase (vocabulary_of names.now) radix rest.now) result self.new }
+    {
+        match rest {
+            [first, second, others @ ..] => {
+                if !is_equals(second.kind) {
+                    return Ok(None);
+                }
+                match spaced_name(first) {
+                    Some(name) => self.read_value(names, radix, Body::FixOperation(name), others),
+                    None => Ok(None),
+                }
+            }
+            _ => Ok(None),
         }
     }
 
     /// Reads the value of a word.
-    fn read_word(&mut self, radix: Radix, tokens: &[Token]) -> Result<Option<Body>, AllocError>
-        ensures { ReadsBody (word_phrase radix tokens.now) result self.new }
+    fn read_word(
+        &mut self,
+        names: &SourceNames,
+        radix: Radix,
+        tokens: &[Token],
+    ) -> Result<Option<Body>, AllocError>
+        ensures { ReadsBody (word_phrase (vocabulary_of names.now) radix tokens.now) result self.new }
     {
         let rules = Rules {
             radix,
             has_literals: true,
         };
-        let is_one = self.read(rules, Stand::Value, tokens)?;
+        let is_one = self.read(names, rules, Stand::Value, tokens)?;
         if is_one {
             Ok(Some(Body::Word))
         } else {

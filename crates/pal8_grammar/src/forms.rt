@@ -25,7 +25,9 @@ pub enum Form {
     IfUndefined,
     FileName,
     Device,
-    /// Nothing that is known yet.
+    /// `FIXMRI` with a name, `=` and a value.
+    FixOperation,
+    /// Nothing.
     Later,
 }
 
@@ -75,6 +77,12 @@ const FILENAME: u64 = name!(b'F' b'I' b'L' b'E' b'N' b'A');
 
 const DEVICE: u64 = name!(b'D' b'E' b'V' b'I' b'C' b'E');
 
+const EXPUNGE: u64 = name!(b'E' b'X' b'P' b'U' b'N' b'G');
+
+const FIXTAB: u64 = name!(b'F' b'I' b'X' b'T' b'A' b'B');
+
+const FIXMRI: u64 = name!(b'F' b'I' b'X' b'M' b'R' b'I');
+
 /// What a reserved name begins.
 pub fn form_by(name: Name) -> Form
     ensures { result ≡ form_by name }
@@ -97,6 +105,9 @@ pub fn form_by(name: Name) -> Form
         RELOC => Form::Reloc,
         FILENAME => Form::FileName,
         DEVICE => Form::Device,
+        EXPUNGE => Form::Alone(Body::Expunge),
+        FIXTAB => Form::Alone(Body::FixTable),
+        FIXMRI => Form::FixOperation,
         _ => Form::Later,
     }
 }
@@ -130,7 +141,8 @@ fn is_condition(body: Body) -> bool
         Body::Nothing | Body::Origin | Body::Define(_) | Body::Decimal | Body::Octal => false,
         Body::Field | Body::NextPage | Body::Page | Body::Zeros | Body::Text => false,
         Body::Listing | Body::Word | Body::NoPunch | Body::Punch | Body::Relocate => false,
-        Body::Unrelocate | Body::FileName | Body::Device => false,
+        Body::Unrelocate | Body::FileName | Body::Device | Body::Expunge => false,
+        Body::FixTable | Body::FixOperation(_) => false,
     }
 }
 

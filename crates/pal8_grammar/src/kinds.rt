@@ -1,62 +1,35 @@
-ghost use Rattle.std.specs.Prelude.{◌≡◌, ◌<◌, IfSome};
-ghost use Rattle.pal8_grammar.specs.Values.{if_first, is_closing, is_first_sign, is_same, modifier_by, modifier_of, name_step, number_in, number_step, opening_of, operation_of, operator_of, sign_of, term_of, word_in};
+ghost use Rattle.std.specs.Prelude.{◌≡◌};
+ghost use Rattle.pal8_grammar.specs.Values.{if_first, is_closing, is_first_sign, is_same, modifier_by, modifier_of, name_step, named_by, number_in, number_step, opening_of, operation_of, operator_of, sign_of, term_of};
+ghost use Rattle.pal8_grammar.specs.Steps.{setting_of};
 ghost use Rattle.pal8_grammar.specs.Bodies.{is_equals, is_star, is_string};
 ghost use Rattle.pal8_grammar.specs.Names.{free_name, name_of};
-ghost use Rattle.pal_lex.specs.Language as pal3;
+ghost use Rattle.pal8_sym.specs.SourceNames.{vocabulary_of};
 
-use crate::Step;
+use crate::{Rules, Step};
 use pal8_lex::{Kind, Name, Number, Operator, Pool, Radix};
-use pal8_sym::is_reserved;
+use pal8_sym::{SourceNames, is_reserved};
 use word12::Word;
 
-/// The number of a name of up to six characters, of which missing ones are written as 0.
+/// The number of a name of one letter.
 macro_rules! name {
-    ($a:literal $b:literal $c:literal) => {
+    ($a:literal) => {
         0o10000000000 * ($a as u64 % 0o100)
-            + 0o100000000 * ($b as u64 % 0o100)
-            + 0o1000000 * ($c as u64 % 0o100)
     };
 }
 
-const AND: u64 = name!(b'A' b'N' b'D');
+const INDIRECT: u64 = name!(b'I');
 
-const TAD: u64 = name!(b'T' b'A' b'D');
+const ZERO: u64 = name!(b'Z');
 
-const ISZ: u64 = name!(b'I' b'S' b'Z');
-
-const DCA: u64 = name!(b'D' b'C' b'A');
-
-const JMS: u64 = name!(b'J' b'M' b'S');
-
-const JMP: u64 = name!(b'J' b'M' b'P');
-
-const INDIRECT: u64 = name!(b'I' 0 0);
-
-const ZERO: u64 = name!(b'Z' 0 0);
-
-/// The word of an operation of this name (Small Computer Handbook).
-fn operation_word(name: Name) -> Option<Word>
-    ensures value { result ≡ word_in (pal3.operation_of name) }
-    ensures range { IfSome result (λ word. word < 0o10000) }
-{
-    match name.number() {
-        AND => Some(Word::low(0)),
-        TAD => Some(Word::low(0o1000)),
-        ISZ => Some(Word::low(0o2000)),
-        DCA => Some(Word::low(0o3000)),
-        JMS => Some(Word::low(0o4000)),
-        JMP => Some(Word::low(0o5000)),
-        _ => None,
-    }
-}
-
-/// The word of an operation that a token names.
-pub fn operation_of(kind: Kind) -> Option<Word>
-    ensures value { result ≡ operation_of kind }
-    ensures range { IfSome result (λ word. word < 0o10000) }
+/// The operation that a token names, with its word.
+pub fn operation_of(names: &SourceNames, kind: Kind) -> Option<(Name, Word)>
+    ensures { result ≡ operation_of (vocabulary_of names.now) kind }
 {
     match kind {
-        Kind::Name(name) => operation_word(name),
+        Kind::Name(name) => match names.operation(name) {
+            Some(word) => Some((name, word)),
+            None => None,
+        },
         Kind::Number(_) | Kind::Character(_) | Kind::Here | Kind::Operator(_) => None,
         Kind::Equals | Kind::Comma | Kind::Star | Kind::Opening(_) => None,
         Kind::Closing(_) | Kind::String | Kind::Bad => None,
@@ -169,24 +142,34 @@ fn number_step(radix: Radix, number: Number) -> Option<Step>
     }
 }
 
+/// The step that a name is as a term. A permanent one has its value with it.
+pub fn named(names: &SourceNames, name: Name) -> Step
+    ensures { result ≡ named_by (vocabulary_of names.now) name }
+{
+    match names.permanent_value(name) {
+        Some(value) => Step::Permanent(name, value),
+        None => Step::Name(name),
+    }
+}
+
 /// The step that a name is as a term, if it isn't reserved.
-fn name_step(name: Name) -> Option<Step>
-    ensures { result ≡ name_step name }
+fn name_step(names: &SourceNames, name: Name) -> Option<Step>
+    ensures { result ≡ name_step (vocabulary_of names.now) name }
 {
     if is_reserved(name) {
         None
     } else {
-        Some(Step::Name(name))
+        Some(named(names, name))
     }
 }
 
 /// The step that a term is, if it is no literal.
-pub fn term_of(radix: Radix, kind: Kind) -> Option<Step>
-    ensures { result ≡ term_of radix kind }
+pub fn term_of(names: &SourceNames, rules: Rules, kind: Kind) -> Option<Step>
+    ensures { result ≡ term_of (setting_of names.now rules) kind }
 {
     match kind {
-        Kind::Name(name) => name_step(name),
-        Kind::Number(number) => number_step(radix, number),
+        Kind::Name(name) => name_step(names, name),
+        Kind::Number(number) => number_step(rules.radix, number),
         Kind::Character(byte) => Some(Step::Number(Word::low(u16::from(byte)))),
         Kind::Here => Some(Step::Here),
         Kind::Operator(_) | Kind::Equals | Kind::Comma | Kind::Star => None,

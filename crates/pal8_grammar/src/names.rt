@@ -50,7 +50,7 @@ fn spaced_run(token: &Token) -> Option<Name>
 }
 
 /// The name after a blank, if it isn't reserved.
-fn spaced_name(token: &Token) -> Option<Name>
+pub(crate) fn spaced_name(token: &Token) -> Option<Name>
     ensures { result ≡ spaced_name token.now }
 {
     if token.is_spaced {

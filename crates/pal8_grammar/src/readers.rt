@@ -1,16 +1,17 @@
 ghost use Rattle.std.specs.Prelude.{◌≡◌, Some, [], ◌∷◌, ◌++◌, OnOk};
 ghost use Rattle.pal8_grammar.specs.Values.{Reading, steps_in, steps_of, with_address, with_end, with_expression, with_literal, with_next, with_sign, with_term, with_token, with_value};
-ghost use Rattle.pal8_grammar.specs.Steps.{Closes, Reads, Takes};
+ghost use Rattle.pal8_grammar.specs.Steps.{Closes, Reads, Takes, setting_of};
 ghost use Rattle.pal8_grammar.specs.declared.stands.Stand.{Stand};
 ghost use Rattle.pal8_grammar.specs.declared.steps.Step.{Step};
 
 use crate::kinds::{
-    is_closing, modifier_of, opening_of, operation_of, operator_of, sign_of, term_of,
+    is_closing, modifier_of, named, opening_of, operation_of, operator_of, sign_of, term_of,
 };
 use crate::literals::Literals;
 use crate::stands::{goes_on, is_whole};
 use crate::{Outer, Rules, Stand, Step};
-use pal8_lex::{Kind, Operator, Pool, Token};
+use pal8_lex::{Kind, Name, Operator, Pool, Token};
+use pal8_sym::SourceNames;
 use std::alloc::{AllocError, Global};
 use std::marker::Model;
 
@@ -61,16 +62,17 @@ impl Reader {
     /// Reads a value, or where it begins so an expression, and answers whether the tokens are one (PAL8, in this project's profile).
     pub(crate) fn read(
         &mut self,
+        names: &SourceNames,
         rules: Rules,
         first: Stand,
         tokens: &[Token],
     ) -> Result<bool, AllocError>
-        ensures { Reads (steps_of rules first tokens.now) result self.new }
+        ensures { Reads (steps_of (setting_of names.now rules) first tokens.now) result self.new }
     {
         self.clear(first);
         let mut rest = tokens;
         while let [token, others @ ..] = rest {
-            let is_taken = self.take(rules, token)?;
+            let is_taken = self.take(names, rules, token)?;
             if !is_taken {
                 return Ok(false);
             }
@@ -91,40 +93,50 @@ impl Reader {
     }
 
     /// Takes the next token, and answers whether it may stand there.
-    fn take(&mut self, rules: Rules, token: &Token) -> Result<bool, AllocError>
-        ensures { Takes (with_token rules token.now self.old) result self.new }
+    fn take(&mut self, names: &SourceNames, rules: Rules, token: &Token) -> Result<bool, AllocError>
+        ensures { Takes (with_token (setting_of names.now rules) token.now self.old) result self.new }
     {
         match self.stand {
-            Stand::Value => self.begin_value(rules, token.kind),
-            Stand::Expression => self.begin_expression(rules, token.kind),
-            Stand::Sign(is_address) => self.put_term(rules, is_address, token.kind),
-            Stand::Operation | Stand::Address | Stand::Term(_) => {
+            Stand::Value => self.begin_value(names, rules, token.kind),
+            Stand::Expression => self.begin_expression(names, rules, token.kind),
+            Stand::Sign(is_address) => self.put_term(names, rules, is_address, token.kind),
+            Stand::Operation(_) | Stand::Address | Stand::Term(_) => {
                 if goes_on(self.stand, token) {
-                    self.go_on(rules, token.kind)
+                    self.go_on(names, rules, token.kind)
                 } else {
-                    self.end(rules, token)
+                    self.end(names, rules, token)
                 }
             }
         }
     }
 
     /// Takes the first token of a value.
-    fn begin_value(&mut self, rules: Rules, kind: Kind) -> Result<bool, AllocError>
-        ensures { Takes (with_value rules kind self.old) result self.new }
+    fn begin_value(
+        &mut self,
+        names: &SourceNames,
+        rules: Rules,
+        kind: Kind,
+    ) -> Result<bool, AllocError>
+        ensures { Takes (with_value (setting_of names.now rules) kind self.old) result self.new }
     {
         let again = kind;
-        match operation_of(kind) {
-            Some(word) => {
-                self.put(Step::Operation(word), Stand::Operation)?;
+        match operation_of(names, kind) {
+            Some((name, word)) => {
+                self.put(Step::Operation(word), Stand::Operation(name.number()))?;
                 Ok(true)
             }
-            None => self.begin_expression(rules, again),
+            None => self.begin_expression(names, rules, again),
         }
     }
 
     /// Takes the first token of an expression.
-    fn begin_expression(&mut self, rules: Rules, kind: Kind) -> Result<bool, AllocError>
-        ensures { Takes (with_expression rules kind self.old) result self.new }
+    fn begin_expression(
+        &mut self,
+        names: &SourceNames,
+        rules: Rules,
+        kind: Kind,
+    ) -> Result<bool, AllocError>
+        ensures { Takes (with_expression (setting_of names.now rules) kind self.old) result self.new }
     {
         let again = kind;
         match sign_of(kind) {
@@ -132,25 +144,27 @@ impl Reader {
                 self.put_sign(false, operator)?;
                 Ok(true)
             }
-            None => self.put_term(rules, false, again),
+            None => self.put_term(names, rules, false, again),
         }
     }
 
     /// Takes a token that goes on with a value.
-    fn go_on(&mut self, rules: Rules, kind: Kind) -> Result<bool, AllocError>
-        ensures { Takes (with_next rules kind self.old) result self.new }
+    fn go_on(&mut self, names: &SourceNames, rules: Rules, kind: Kind) -> Result<bool, AllocError>
+        ensures { Takes (with_next (setting_of names.now rules) kind self.old) result self.new }
     {
         let again = kind;
         match self.stand {
-            Stand::Operation => match operator_of(kind) {
+            Stand::Operation(number) => match operator_of(kind) {
                 Some(operator) => {
                     self.put(Step::Alone, Stand::Term(false))?;
+                    let name = Name::numbered(number);
+                    self.put(named(names, name), Stand::Term(false))?;
                     self.put_sign(false, operator)?;
                     Ok(true)
                 }
-                None => self.put_address(rules, again),
+                None => self.put_address(names, rules, again),
             },
-            Stand::Address => self.put_address(rules, again),
+            Stand::Address => self.put_address(names, rules, again),
             Stand::Term(is_address) => match operator_of(kind) {
                 Some(operator) => {
                     self.put_sign(is_address, operator)?;
@@ -158,7 +172,7 @@ impl Reader {
                 }
                 None => {
                     self.put_sign(is_address, Operator::Or)?;
-                    self.put_term(rules, is_address, again)
+                    self.put_term(names, rules, is_address, again)
                 }
             },
             Stand::Value | Stand::Expression | Stand::Sign(_) => Ok(false),
@@ -166,8 +180,13 @@ impl Reader {
     }
 
     /// Takes what stands after an operation, `I` or `Z` with a blank.
-    fn put_address(&mut self, rules: Rules, kind: Kind) -> Result<bool, AllocError>
-        ensures { Takes (with_address rules kind self.old) result self.new }
+    fn put_address(
+        &mut self,
+        names: &SourceNames,
+        rules: Rules,
+        kind: Kind,
+    ) -> Result<bool, AllocError>
+        ensures { Takes (with_address (setting_of names.now rules) kind self.old) result self.new }
     {
         let again = kind;
         match modifier_of(kind) {
@@ -179,20 +198,20 @@ impl Reader {
                 }
                 Ok(true)
             }
-            None => self.put_term(rules, true, again),
+            None => self.put_term(names, rules, true, again),
         }
     }
 
     /// Takes a token that doesn't go on with the innermost value: it ends that, and others around it.
-    fn end(&mut self, rules: Rules, token: &Token) -> Result<bool, AllocError>
-        ensures { Takes (with_end rules token.now self.old.literals self.old.steps) result self.new }
+    fn end(&mut self, names: &SourceNames, rules: Rules, token: &Token) -> Result<bool, AllocError>
+        ensures { Takes (with_end (setting_of names.now rules) token.now self.old.literals self.old.steps) result self.new }
     {
         while let Some(outer) = self.close()? {
             if is_closing(outer.pool, token.kind) {
                 return Ok(true);
             }
             if goes_on(Stand::Term(outer.is_address), token) {
-                return self.go_on(rules, token.kind);
+                return self.go_on(names, rules, token.kind);
             }
         }
         Ok(false)
@@ -212,13 +231,19 @@ impl Reader {
     }
 
     /// Takes a term, or the opening of a literal.
-    fn put_term(&mut self, rules: Rules, is_address: bool, kind: Kind) -> Result<bool, AllocError>
-        ensures { Takes (with_term rules is_address kind self.old) result self.new }
+    fn put_term(
+        &mut self,
+        names: &SourceNames,
+        rules: Rules,
+        is_address: bool,
+        kind: Kind,
+    ) -> Result<bool, AllocError>
+        ensures { Takes (with_term (setting_of names.now rules) is_address kind self.old) result self.new }
     {
         let again = kind;
         match opening_of(kind) {
             Some(pool) => self.open(rules.has_literals, pool, is_address),
-            None => match term_of(rules.radix, again) {
+            None => match term_of(names, rules, again) {
                 Some(step) => {
                     self.put(step, Stand::Term(is_address))?;
                     Ok(true)

@@ -11,8 +11,8 @@ pub enum Stand {
     Value,
     /// Nothing of an expression.
     Expression,
-    /// The name of an operation, with which a value begins.
-    Operation,
+    /// The name of an operation, with which a value begins, by its number.
+    Operation(u64),
     /// `I` or `Z`.
     Address,
     /// A sign, in an address or else in an expression.
@@ -42,7 +42,7 @@ pub fn goes_on(stand: Stand, token: &Token) -> bool
     ensures { result ≡ goes_on stand token.now }
 {
     match stand {
-        Stand::Operation => token.is_spaced || operator_of(token.kind).is_some(),
+        Stand::Operation(_) => token.is_spaced || operator_of(token.kind).is_some(),
         Stand::Address => token.is_spaced,
         Stand::Term(is_address) => {
             (token.is_spaced && !is_address) || operator_of(token.kind).is_some()
@@ -56,7 +56,7 @@ pub fn is_whole(stand: Stand) -> bool
     ensures { result ≡ is_whole stand }
 {
     match stand {
-        Stand::Operation | Stand::Address | Stand::Term(_) => true,
+        Stand::Operation(_) | Stand::Address | Stand::Term(_) => true,
         Stand::Value | Stand::Expression | Stand::Sign(_) => false,
     }
 }

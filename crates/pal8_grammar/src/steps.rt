@@ -7,12 +7,14 @@ use word12::Word;
 pub enum Step {
     /// A memory reference begins, with the word of its operation.
     Operation(Word),
-    /// The operation is a term, and no reference begins.
+    /// No reference begins: the name of the operation is a term, which comes next.
     Alone,
     /// `I`
     Indirect,
-    /// A term that is a name.
+    /// A term that is a name, and no permanent one.
     Name(Name),
+    /// A term that is a permanent name, with the value that it has where the source gives it none.
+    Permanent(Name, Word),
     /// A term that is a number or a character.
     Number(Word),
     /// `.`, a term.

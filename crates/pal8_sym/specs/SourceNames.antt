@@ -37,6 +37,9 @@ kept_in (Some m) = if keeps m.standing then Some m.value else None
 abbrev pub permanent_in : SourceNames → ℕ → Option Meaning
 permanent_in names name = if names.is_expunged then None else permanent name
 
+abbrev pub permanent_value : SourceNames → ℕ → Option ℕ
+permanent_value names name = value_in (permanent_in names name)
+
 -- ## Names of a source
 
 -- the last value that the source gave a name, by a tag, `=` or FIXMRI
@@ -49,7 +52,7 @@ is_own_fixed names name = is_some (own_value names name) && not (contains nat_cm
 
 -- what a name stands for
 abbrev pub value_of : SourceNames → ℕ → Option ℕ
-value_of names name = if_none (own_value names name) (value_in (permanent_in names name))
+value_of names name = if_none (own_value names name) (permanent_value names name)
 
 -- the value that a name keeps, whatever the source defines later: a soft one gives way
 abbrev pub kept_value : SourceNames → ℕ → Option ℕ
@@ -66,6 +69,23 @@ is_operation names name = contains nat_cmp names.operations name || (not names.i
 -- the word of an operation: the value of its name
 abbrev pub operation_word : SourceNames → ℕ → Option ℕ
 operation_word names name = if is_operation names name then value_of names name else None
+
+-- ## What a statement reads by
+
+-- Of the names before a statement: the words of those that begin a memory reference, and the values of the permanent ones.
+pub record Vocabulary : Type 0 where
+  pub operation : ℕ → Option ℕ
+  pub permanent : ℕ → Option ℕ
+
+abbrev pub vocabulary_of : SourceNames → Vocabulary
+vocabulary_of names = record { operation = operation_word names; permanent = permanent_value names }
+
+-- where a source begins: the six operations, and all permanent names
+abbrev pub first_vocabulary : Vocabulary
+first_vocabulary = record {
+  operation = λ name. if is_some (pal3.operation_of name) then value_in (permanent name) else None;
+  permanent = λ name. value_in (permanent name);
+}
 
 -- ## Definitions
 

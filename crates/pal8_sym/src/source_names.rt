@@ -4,7 +4,7 @@ ghost use Rattle.std.specs.Prelude.{◌≡◌, ℕ, ◌<◌, None, IfSome, is_so
 ghost use Rattle.pal_lex.specs.Language as pal3;
 ghost use Rattle.pal8_sym.specs.Permanent.{permanent};
 ghost use Rattle.pal8_sym.specs.Symbols.{value_in};
-ghost use Rattle.pal8_sym.specs.SourceNames.{DefinesOperation, DefinesTag, DefinesValue, Expunges, FixesAll, is_fixed, is_kept, is_operation, is_other, is_own_fixed, keeps, kept_in, kept_value, operation_word, own_value, permanent_in, value_of};
+ghost use Rattle.pal8_sym.specs.SourceNames.{DefinesOperation, DefinesTag, DefinesValue, Expunges, FixesAll, is_fixed, is_kept, is_operation, is_other, first_vocabulary, is_own_fixed, keeps, kept_in, kept_value, operation_word, own_value, permanent_in, permanent_value, value_of, vocabulary_of};
 ghost use Rattle.pal8_sym.specs.Steps.{Frees, Puts, PutsFree};
 
 use crate::permanent_names::{Meaning, Standing, is_operation, permanent};
@@ -95,6 +95,7 @@ impl SourceNames {
         ensures values { (name : ℕ) → value_of result name ≡ value_in (permanent name) }
         ensures fixed { (name : ℕ) → is_fixed result name ≡ is_kept (permanent name) }
         ensures operations { (name : ℕ) → is_operation result name ≡ is_some (pal3.operation_of name) }
+        ensures vocabulary { vocabulary_of result ≡ first_vocabulary }
     {
         SourceNames {
             own: BTreeMap::new(alloc),
@@ -136,8 +137,16 @@ impl SourceNames {
     {
         match self.own_value(name) {
             Some(word) => Some(word),
-            None => value_in(self.permanent(name)),
+            None => self.permanent_value(name),
         }
+    }
+
+    /// The value of a permanent name, unless EXPUNGE took it away, whatever the source defines (PAL8, in this project's profile).
+    pub fn permanent_value(&self, name: Name) -> Option<Word>
+        ensures value { result ≡ permanent_value self.now name }
+        ensures range { IfSome result (λ word. word < 0o10000) }
+    {
+        value_in(self.permanent(name))
     }
 
     /// The value that a name keeps, if it has one: what the source defined it as last, or else its permanent value if it isn't soft (PAL8, in

@@ -4,6 +4,7 @@ use Rattle.pal8_lex.specs.Reading.{Answers, Progress, shown_by}
 use Rattle.pal8_lex.specs.Statements.{Statement, statements}
 use Rattle.pal8_lex.specs.declared.rules.End.{End}
 use Rattle.pal8_lex.specs.declared.tokens.Token.{Token}
+use Rattle.pal8_lex.specs.declared.judging.Radix.{Radix}
 use Rattle.pal8_asm.specs.declared.faults.Code.{Code}
 use Rattle.pal8_tape.specs.Marks.{begins, mark_in, mark_of}
 use Rattle.pal8_lex.specs.Text.{as_read, live}
@@ -19,11 +20,11 @@ shown_tokens None l s is = absurd cc
 shown_tokens (Some e) l s is = ap tokens_or is
 
 -- a statement more
-pub with_one : (code : Code) (start mark : ℕ) (text : List ℕ) (b : ℕ) (new : Progress) → Answers text b (Ok true) new
-    → mark ≡ mark_in code start (statements text)
-    → (if begins start new.draft.tokens then mark_of code start new.draft.tokens else mark) ≡ mark_in code start (statements (b ∷ text))
-with_one code start mark text b new answers is =
+pub with_one : (code : Code) (radix : Radix) (start mark : ℕ) (text : List ℕ) (b : ℕ) (new : Progress) → Answers text b (Ok true) new
+    → mark ≡ mark_in code radix start (statements text)
+    → (if begins start new.draft.tokens then mark_of code radix start new.draft.tokens else mark) ≡ mark_in code radix start (statements (b ∷ text))
+with_one code radix start mark text b new answers is =
     let s = statement_of (as_read b) (live text) in
-    ap (λ t. if begins start t then mark_of code start t else mark) (shown_tokens new.end new s answers.0)
-    ∙ ap (λ m. if begins start s.tokens then mark_of code start s.tokens else m) is
-    ∙ sym (ap (mark_in code start) answers.1)
+    ap (λ t. if begins start t then mark_of code radix start t else mark) (shown_tokens new.end new s answers.0)
+    ∙ ap (λ m. if begins start s.tokens then mark_of code radix start s.tokens else m) is
+    ∙ sym (ap (mark_in code radix start) answers.1)

@@ -3,10 +3,11 @@ ghost use Rattle.std.specs.Prelude.{◌≡◌, ℕ, ◌∷◌, List, IfOk, if◌
 ghost use Rattle.pal8_lex.specs.Judging as judging;
 ghost use Rattle.pal8_lex.specs.Reading.{HasRead};
 ghost use Rattle.pal8_lex.specs.Statements.{statements};
-ghost use Rattle.pal8_tape.specs.Marks.{begins, fault_mark, is_meant, is_name, mark_in, mark_of};
+ghost use Rattle.pal8_tape.specs.Marks.{begins, fault_mark, first_start, is_meant, is_name, is_number_fault, is_redefinition, mark_in, mark_of, meant_mark, radix_at, radix_for};
 
-use pal8_asm::Code;
-use pal8_lex::{Kind, Lexer, Token};
+use assemble8::first_bytes;
+use pal8_asm::{AsmFault, Code, assemble};
+use pal8_lex::{Kind, Lexer, Radix, Token, tag_count};
 use std::alloc::{AllocError, Global};
 
 /// Where the fault of a source is whose statement begins at a place.
@@ -18,37 +19,97 @@ pub(crate) fn fault_mark(
 ) -> Result<u64, AllocError>
     ensures { IfOk result (λ at. at ≡ fault_mark source.now code.now start) }
 {
+    let radix = radix_for(alloc, source, code, start)?;
     let mut lexer = Lexer::new(alloc);
     let mut mark = start;
     let mut taken = 0;
     while taken < source.len() {
-        let next = look(&mut lexer, code, start, mark, source[taken])?;
+        let next = look(&mut lexer, code, radix, start, mark, source[taken])?;
         mark = next;
         taken += 1;
     }
     Ok(mark)
 }
 
+/// How numbers are read where the statement begins that has a fault, if it is NU.
+fn radix_for(alloc: Global, source: &[u8], code: &Code, start: u64) -> Result<Radix, AllocError>
+    ensures { IfOk result (λ radix. radix ≡ radix_for code.now source.now start) }
+{
+    if is_number_fault(code) {
+        return radix_at(alloc, source, start as usize);
+    }
+    Ok(Radix::Octal)
+}
+
+/// How numbers are read where a statement begins: in octal, if 8 is none there.
+fn radix_at(alloc: Global, source: &[u8], start: usize) -> Result<Radix, AllocError>
+    ensures { IfOk result (λ radix. radix ≡ radix_at source.now start) }
+{
+    let mut probe = Vec::new(alloc);
+    probe.extend_from_slice(first_bytes(source, start))?;
+    probe.extend_from_slice(b"8;")?;
+    match assemble(alloc, &probe) {
+        Ok(_) => Ok(Radix::Decimal),
+        Err(AsmFault::At(code, _)) => {
+            if is_number_fault(&code) {
+                Ok(Radix::Octal)
+            } else {
+                Ok(Radix::Decimal)
+            }
+        }
+        Err(AsmFault::Memory) => Err(AllocError),
+    }
+}
+
+fn is_number_fault(code: &Code) -> bool
+    ensures { result ≡ is_number_fault code.now }
+{
+    match code {
+        Code::NU => true,
+        Code::IC | Code::SY | Code::UA(_) | Code::DT | Code::RD | Code::IR | Code::II => false,
+        Code::FD | Code::PG | Code::PF | Code::DZ | Code::PE | Code::ZE | Code::PH => false,
+        Code::NE | Code::NW | Code::PageClash(_) | Code::ZeroClash(_) => false,
+    }
+}
+
+fn is_redefinition(code: &Code) -> bool
+    ensures { result ≡ is_redefinition code.now }
+{
+    match code {
+        Code::RD => true,
+        Code::IC | Code::SY | Code::NU | Code::UA(_) | Code::DT | Code::IR | Code::II => false,
+        Code::FD | Code::PG | Code::PF | Code::DZ | Code::PE | Code::ZE | Code::PH => false,
+        Code::NE | Code::NW | Code::PageClash(_) | Code::ZeroClash(_) => false,
+    }
+}
+
 /// Takes the next byte, and answers where the fault is of the statement that begins at a place, by the bytes so far.
-fn look(lexer: &mut Lexer, code: &Code, start: u64, mark: u64, byte: u8) -> Result<u64, AllocError>
-    ensures { (text : List ℕ) → HasRead lexer.old text → mark ≡ mark_in code.now start (statements text)
-        → IfOk result (λ next. (next ≡ mark_in code.now start (statements (byte ∷ text)))
+fn look(
+    lexer: &mut Lexer,
+    code: &Code,
+    radix: Radix,
+    start: u64,
+    mark: u64,
+    byte: u8,
+) -> Result<u64, AllocError>
+    ensures { (text : List ℕ) → HasRead lexer.old text → mark ≡ mark_in code.now radix start (statements text)
+        → IfOk result (λ next. (next ≡ mark_in code.now radix start (statements (byte ∷ text)))
         × HasRead lexer.new (byte ∷ text)) }
 {
     if lexer.push(byte)? {
-        return Ok(with_statement(code, start, mark, lexer.tokens()));
+        return Ok(with_statement(code, radix, start, mark, lexer.tokens()));
     }
     Ok(mark)
 }
 
 /// The mark with one statement more, that has these tokens.
-fn with_statement(code: &Code, start: u64, mark: u64, tokens: &[Token]) -> u64
-    ensures { result ≡ (if begins start tokens.now then mark_of code.now start tokens.now else mark) }
+fn with_statement(code: &Code, radix: Radix, start: u64, mark: u64, tokens: &[Token]) -> u64
+    ensures { result ≡ (if begins start tokens.now then mark_of code.now radix start tokens.now else mark) }
 {
     match tokens {
         [first, ..] => {
             if first.start == start {
-                return mark_of(code, start, tokens);
+                return mark_of(code, radix, start, tokens);
             }
             mark
         }
@@ -56,13 +117,34 @@ fn with_statement(code: &Code, start: u64, mark: u64, tokens: &[Token]) -> u64
     }
 }
 
+/// Where a fault is in its statement: of RD at the name, of others at the first token that they are about, else at the start.
+fn mark_of(code: &Code, radix: Radix, start: u64, tokens: &[Token]) -> u64
+    ensures { result ≡ mark_of code.now radix start tokens.now }
+{
+    if is_redefinition(code) {
+        let (_tags, body) = tokens.split_at(2 * tag_count(tokens));
+        return first_start(start, body);
+    }
+    meant_mark(code, radix, start, tokens)
+}
+
+/// Where the first token stands, else the start.
+fn first_start(start: u64, tokens: &[Token]) -> u64
+    ensures { result ≡ first_start start tokens.now }
+{
+    match tokens {
+        [first, ..] => first.start,
+        [] => start,
+    }
+}
+
 /// Where the first token stands that a fault is about, else the start.
-fn mark_of(code: &Code, start: u64, tokens: &[Token]) -> u64
-    ensures { result ≡ mark_of code.now start tokens.now }
+fn meant_mark(code: &Code, radix: Radix, start: u64, tokens: &[Token]) -> u64
+    ensures { result ≡ meant_mark code.now radix start tokens.now }
 {
     let mut rest = tokens;
     while let [token, others @ ..] = rest {
-        if is_meant(code, token.kind) {
+        if is_meant(code, radix, token) {
             return token.start;
         }
         rest = others;
@@ -71,15 +153,31 @@ fn mark_of(code: &Code, start: u64, tokens: &[Token]) -> u64
 }
 
 /// Whether a token is what a fault is about.
-fn is_meant(code: &Code, kind: Kind) -> bool
-    ensures { result ≡ is_meant code.now kind }
+fn is_meant(code: &Code, radix: Radix, token: &Token) -> bool
+    ensures { result ≡ is_meant code.now radix token.now.kind }
 {
     match code {
-        Code::IC => is_bad(kind),
-        Code::UA(name) => is_name(*name, kind),
-        Code::SY | Code::NU | Code::DT | Code::RD | Code::IR | Code::II | Code::FD => false,
+        Code::IC => is_bad(token.kind),
+        Code::NU => is_bad_number(radix, token.kind),
+        Code::UA(name) => is_name(*name, token.kind),
+        Code::SY | Code::DT | Code::RD | Code::IR | Code::II | Code::FD => false,
         Code::PG | Code::PF | Code::DZ | Code::PE | Code::ZE | Code::PH | Code::NE => false,
         Code::NW | Code::PageClash(_) | Code::ZeroClash(_) => false,
+    }
+}
+
+/// Whether a token begins with a digit, and is no number of twelve bits by a radix.
+fn is_bad_number(radix: Radix, kind: Kind) -> bool
+    ensures { result ≡ judging.is_bad_number radix kind }
+{
+    match kind {
+        Kind::Number(number) => match radix {
+            Radix::Octal => number.octal >= 0o10000,
+            Radix::Decimal => number.decimal >= 0o10000,
+        },
+        Kind::Name(_) | Kind::Character(_) | Kind::Here | Kind::Operator(_) => false,
+        Kind::Equals | Kind::Comma | Kind::Star | Kind::Opening(_) => false,
+        Kind::Closing(_) | Kind::String | Kind::Bad => false,
     }
 }
 

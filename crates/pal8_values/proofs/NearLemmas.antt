@@ -111,6 +111,7 @@ module _ (spot : Spot) where
   step_near known step.Alone e = plain_near e.frames e.asks (with_plain known spot.location step.Alone e.sum)
   step_near known step.Indirect e = plain_near e.frames e.asks (with_plain known spot.location step.Indirect e.sum)
   step_near known (step.Name name) e = plain_near e.frames e.asks (with_plain known spot.location (step.Name name) e.sum)
+  step_near known (step.Permanent name value) e = plain_near e.frames e.asks (with_plain known spot.location (step.Permanent name value) e.sum)
   step_near known (step.Number word) e = plain_near e.frames e.asks (with_plain known spot.location (step.Number word) e.sum)
   step_near known step.Here e = plain_near e.frames e.asks (with_plain known spot.location step.Here e.sum)
   step_near known (step.Sign op) e = plain_near e.frames e.asks (with_plain known spot.location (step.Sign op) e.sum)

@@ -49,17 +49,22 @@ with_known name (Some v) s = with_value v s
 abbrev pub with_place : ℕ → Sum → Result Sum ValueFault
 with_place location s = if nat_lt location 0o10000 then with_value location s else Err PF
 
--- an operation that no reference begins with is a first term
-abbrev pub alone_by : Bool → Sum → Sum
-alone_by false s = s
-alone_by true s = record { is_reference = false; operation = 0; is_indirect = false; total = s.operation; sign = s.sign }
+-- no reference began: the name of the operation is the first term, which comes next
+abbrev pub without_operation : Sum → Sum
+without_operation s = record { is_reference = false; operation = 0; is_indirect = false; total = s.total; sign = s.sign }
+
+-- a permanent name has its value where the source gives it none
+abbrev pub known_or : ℕ → Option ℕ → ℕ
+known_or value None = value
+known_or value (Some v) = v
 
 -- a step that neither opens nor closes a literal
 abbrev pub with_plain : Known → ℕ → Step → Sum → Result Sum ValueFault
 with_plain known location (step.Operation word) s = Ok record { is_reference = true; operation = word; is_indirect = false; total = s.total; sign = s.sign }
-with_plain known location step.Alone s = Ok (alone_by s.is_reference s)
+with_plain known location step.Alone s = Ok (without_operation s)
 with_plain known location step.Indirect s = Ok record s { is_indirect = true }
 with_plain known location (step.Name name) s = with_known name (known name) s
+with_plain known location (step.Permanent name value) s = with_value (known_or value (known name)) s
 with_plain known location (step.Number word) s = with_value word s
 with_plain known location step.Here s = with_place location s
 with_plain known location (step.Sign op) s = Ok record s { sign = op }

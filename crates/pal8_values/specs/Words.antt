@@ -85,6 +85,7 @@ with_step known spot (step.Operation word) e = evaluation e.frames e.asks (with_
 with_step known spot step.Alone e = evaluation e.frames e.asks (with_plain known spot.location step.Alone e.sum)
 with_step known spot step.Indirect e = evaluation e.frames e.asks (with_plain known spot.location step.Indirect e.sum)
 with_step known spot (step.Name name) e = evaluation e.frames e.asks (with_plain known spot.location (step.Name name) e.sum)
+with_step known spot (step.Permanent name value) e = evaluation e.frames e.asks (with_plain known spot.location (step.Permanent name value) e.sum)
 with_step known spot (step.Number word) e = evaluation e.frames e.asks (with_plain known spot.location (step.Number word) e.sum)
 with_step known spot step.Here e = evaluation e.frames e.asks (with_plain known spot.location step.Here e.sum)
 with_step known spot (step.Sign op) e = evaluation e.frames e.asks (with_plain known spot.location (step.Sign op) e.sum)

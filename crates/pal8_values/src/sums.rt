@@ -1,6 +1,6 @@
 ghost use Rattle.std.specs.Prelude.{◌≡◌, ◌<◌, IfSome, false};
 ghost use Rattle.pal8_sym.specs.Symbols.{value_of};
-ghost use Rattle.pal8_values.specs.Sums.{alone_by, direct, direct_by, early_value, empty, indirect_bit, is_undivided, joined, offset_of, reference_word, with_known, with_place, with_plain, with_value};
+ghost use Rattle.pal8_values.specs.Sums.{direct, direct_by, early_value, empty, indirect_bit, is_undivided, joined, known_or, offset_of, reference_word, with_known, with_place, with_plain, with_value};
 ghost use Rattle.pal8_values.specs.Answering.{Answers};
 
 use crate::ValueFault;
@@ -114,18 +114,13 @@ fn with_place(location: u16, sum: Sum) -> Result<Sum, ValueFault>
     }
 }
 
-/// The operation is a term.
-fn alone(sum: Sum) -> Sum
-    ensures { result ≡ alone_by sum.is_reference sum }
+/// A permanent name more, with the value that it has where the source gives it none.
+fn with_permanent(symbols: &Symbols, name: Name, value: Word, sum: Sum) -> Result<Sum, ValueFault>
+    ensures { Answers (with_value (known_or value (value_of symbols.now name)) sum) result }
 {
-    if sum.is_reference {
-        Sum {
-            total: sum.operation,
-            sign: sum.sign,
-            ..empty()
-        }
-    } else {
-        sum
+    match symbols.value(name) {
+        Some(known) => with_value(known, sum),
+        None => with_value(value, sum),
     }
 }
 
@@ -140,12 +135,18 @@ pub fn with_plain(symbols: &Symbols, location: u16, step: Step, sum: Sum) -> Res
             is_indirect: false,
             ..sum
         }),
-        Step::Alone => Ok(alone(sum)),
+        Step::Alone => Ok(Sum {
+            is_reference: false,
+            operation: Word::ZERO,
+            is_indirect: false,
+            ..sum
+        }),
         Step::Indirect => Ok(Sum {
             is_indirect: true,
             ..sum
         }),
         Step::Name(name) => with_name(symbols, name, sum),
+        Step::Permanent(name, value) => with_permanent(symbols, name, value, sum),
         Step::Number(word) => with_value(word, sum),
         Step::Here => with_place(location, sum),
         Step::Sign(sign) => Ok(Sum { sign, ..sum }),

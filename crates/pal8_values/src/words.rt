@@ -146,7 +146,12 @@ fn take(
         Step::Operation(_) | Step::Alone | Step::Indirect | Step::Name(_) | Step::Number(_) => {
             with_plain(symbols, spot.location, again, sum)
         }
-        Step::Here | Step::Sign(_) => with_plain(symbols, spot.location, again, sum),
+        Step::Permanent(_, _) | Step::Here | Step::Sign(_) => with_plain(
+            symbols,
+            spot.location,
+            again,
+            sum,
+        ),
     }
 }
 

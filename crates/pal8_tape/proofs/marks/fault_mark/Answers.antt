@@ -14,5 +14,5 @@ loop-taken-preserved c =
     let looked = c.in_ok-next.ensures (text_of (take taken text)) c.loop-taken.invariant.read c.loop-taken.invariant.mark in
     record {
       read = subst (HasRead c.look.new.lexer) next looked.1;
-      mark = looked.0 ∙ ap (λ t. mark_in c.args.code.now c.args.start (statements t)) next;
+      mark = looked.0 ∙ ap (λ t. mark_in c.args.code.now c.in_ok-radix.radix c.args.start (statements t)) next;
     }

@@ -8,7 +8,7 @@ use Rattle.pal8_tape.proofs.marks.fault_mark.Given as goal
 abbrev pub invariant-loop-taken : goal.invariant-loop-taken
 invariant-loop-taken l = record {
   read : HasRead l.lexer (text_of (take l.taken l.source));
-  mark : l.mark ≡ mark_in l.fn.code l.fn.start (statements (text_of (take l.taken l.source)));
+  mark : l.mark ≡ mark_in l.fn.code l.radix l.fn.start (statements (text_of (take l.taken l.source)));
 }
 
 abbrev pub decreases-loop-taken : goal.decreases-loop-taken
