@@ -7,7 +7,7 @@ use Rattle.pal8_lex.specs.declared.tokens.Token.{Token}
 use Rattle.pal8_lex.specs.declared.tokens.Kind.{Kind}
 use Rattle.pal8_lex.specs.declared.tokens.Kind.TheVariants as kind
 use Rattle.pal8_asm.specs.declared.faults.Code.{Code}
-use Rattle.pal8_asm.specs.declared.faults.Code.TheVariants.{IC, SY, NU, UA, DT, RD, IR, II, FD, PG, PF, DZ, PE, ZE, PageClash, ZeroClash, PH, NE, NW}
+use Rattle.pal8_asm.specs.declared.faults.Code.TheVariants.{IC, SY, NU, UA, DT, RD, IR, II, FD, PG, PF, DZ, PE, ZE, PageClash, ZeroClash, RL, PH, NE, NW}
 
 abbrev pub is_name : ℕ → Kind → Bool
 is_name name (kind.Name n) = nat_eq n name
@@ -41,6 +41,7 @@ is_meant PE token = false
 is_meant ZE token = false
 is_meant (PageClash cell) token = false
 is_meant (ZeroClash cell) token = false
+is_meant RL token = false
 is_meant PH token = false
 is_meant NE token = false
 is_meant NW token = false

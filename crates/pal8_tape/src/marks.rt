@@ -79,7 +79,7 @@ fn is_meant(code: &Code, kind: Kind) -> bool
         Code::UA(name) => is_name(*name, kind),
         Code::SY | Code::NU | Code::DT | Code::RD | Code::IR | Code::II | Code::FD => false,
         Code::PG | Code::PF | Code::DZ | Code::PE | Code::ZE | Code::PH | Code::NE => false,
-        Code::NW | Code::PageClash(_) | Code::ZeroClash(_) => false,
+        Code::RL | Code::NW | Code::PageClash(_) | Code::ZeroClash(_) => false,
     }
 }
 
