@@ -23,6 +23,7 @@ NAMES = ("A", "B", "C", "LOOP", "ABCDEFG", "BSW", "IOT", "X1", "CLA", "TAD", "I"
 OPERATORS = ("+", "-", "!", "&", "^", "%", " ", " + ", " -", "  ")
 PIECES = (*"AZ019+-!&^%=,*.()[]\"/;<>$# \t\n", *"\n\n;;,(([[  ", "TAD ", "TAD I ", "A", "B", "TEXT /", "PAGE ", "ZBLOCK ", "*200", "FIELD ", "A,", "$\n", "XLIST", "DECIMAL", "\r\n", "\f", "\0")
 PIECES += ("IFZERO 0 <", "IFNZRO A<", "IFDEF A <", "IFNDEF B <", ">\n", "<")
+PIECES += ("NOPUNCH", "ENPUNCH\n", "RELOC ", "RELOC\n", "RELOC 400\n", "FILENAME A.B\n", "DEVICE 8\n", "FILENAME ")
 
 
 class Maker:
@@ -89,7 +90,13 @@ class Maker:
         return f"{self.random.randrange(limit):o}"
 
     def body(self) -> str:
-        kind = self.random.randrange(30)
+        kind = self.random.randrange(33)
+        if kind == 30:
+            return self.random.choice(("NOPUNCH", "ENPUNCH", "enpunch", "NOPUNCH"))
+        if kind == 31:
+            return self.random.choice(("RELOC", "RELOC", "RELOC 400", "RELOC .+200", "RELOC 1000", "RELOC .-400", "RELOC " + self.argument(0o10000)))
+        if kind == 32:
+            return self.file_name()
         if kind == 0:
             return "*" + self.argument(0o10000)
         if kind == 1:
@@ -110,6 +117,13 @@ class Maker:
         if kind == 10:
             return self.random.choice(("XLIST", "EJECT ANY $", "", "/ note"))
         return self.value(0)
+
+    def file_name(self) -> str:
+        """The name of a file or of a device."""
+        runs = [self.random.choice(("PIP", "A", "8", "99999", "LTA1", "ABCDEFGH", "sys", "2Z")) for _ in range(2)]
+        if self.rarely():
+            return self.random.choice(("FILENAME", "DEVICE A.B", "FILENAME A .B", "FILENAME A. B", "DEVICE (5", "FILENAME .A", "FILENAMEA.B"))
+        return self.random.choice(("FILENAME ", "filename ")) + self.random.choice((runs[0], ".".join(runs))) if self.random.random() < 0.6 else "DEVICE " + runs[0]
 
     def condition(self) -> str:
         kind = self.random.randrange(8)

@@ -1,9 +1,9 @@
 -- Why the laws hold.
-use Rattle.std.proofs.Common.{◌≡◌, ℕ, ◌+◌, ◌-◌, ◌%◌, ◌<◌, nat_eq, arith, Bool, true, false, inl, inr, Option, Some, None, Result, Ok, Err, length, if◌then◌else◌, is_some, List, [], ◌∷◌, ◌++◌, refl, ap, subst, ◌∙◌}
+use Rattle.std.proofs.Common.{◌≡◌, ℕ, ◌+◌, ◌-◌, ◌<◌, nat_eq, arith, Bool, true, false, inl, inr, Option, Some, None, Result, Ok, Err, length, if◌then◌else◌, is_some, List, [], ◌∷◌, ◌++◌, refl, ap, subst, ◌∙◌}
 use Rattle.std.proofs.lemmas.List.{append-nil}
 use Rattle.std.proofs.lemmas.Bool.Decides.{nat_tests}
 use Rattle.pal_sym.specs.Values.{if_none}
-use Rattle.pal8_pools.specs.Asks.{cell_in}
+use Rattle.pal8_pools.specs.Asks.{Ask, cell_in}
 use Rattle.pal8_pools.specs.Cells.{ArePairs, IsIn, IsPair, RiseFrom}
 use Rattle.pal8_clash.specs.Clashes.{lowest_clash}
 use Rattle.pal8_clash.specs.Laws.{NoClashIsApart}
@@ -14,9 +14,9 @@ use Rattle.pal8_grammar.specs.Bodies.{Phrase}
 use Rattle.pal8_grammar.specs.declared.bodies.Body.TheVariants as body
 use Rattle.pal8_grammar.specs.declared.faults.GrammarFault.{GrammarFault}
 use Rattle.pal8_grammar.specs.declared.steps.Step.{Step}
-use Rattle.pal8_asm.specs.Places.{Standing, stands, truth_of, with_body_if, with_statement, with_tags}
+use Rattle.pal8_asm.specs.Places.{Standing, spot_at, stands, truth_of, with_body_if, with_statement, with_tags}
 use Rattle.pal8_asm.specs.Sources.{Entry, Left, Passed, Statement, bracketed, is_selected, left_of, number, passed, place_of, said_of, with_brackets, with_entries as with_entries_of, with_next, with_phrase, with_said, with_selected, with_skipped, words_in}
-use Rattle.pal8_asm.specs.Tapes.{Made, cleared, cleared_by, made_of, spot_of, with_entries, with_entry, with_word}
+use Rattle.pal8_asm.specs.Tapes.{Made, cleared, cleared_by, made_of, spot_of, with_entries, with_entry, with_made}
 use Rattle.pal8_asm.specs.Assembled.{dollar_in, has_words, judged, judged_by, made_by}
 use Rattle.pal8_asm.specs.Laws.{Apart, NoPoolNoChange, PlacesStay, ValueIsFound, meaning, passed_zero, read_zero, without_words, zero_phrase, zero_said}
 use Rattle.pal8_asm.specs.declared.faults.Fault.{Fault}
@@ -31,13 +31,13 @@ abbrev Free : Result Made Fault → Type 0
 Free (Err fault) = Unit {0}
 Free (Ok made) = made.clash ≡ None → lowest_clash made.asks made.words ≡ None
 
-word_is_free : (e : Entry) (made : Made) (r : Asked) → Free (with_word e made r)
+word_is_free : (e : Entry) (made : Made) (r : Asked) → Free (with_made e made r)
 word_is_free e made (Err fault) = tt
-word_is_free e made (Ok (word, asks)) = free_by made.clash e.place _
+word_is_free e made (Ok (word, asks, punched)) = free_by made.clash e.place _
 
 entry_is_free : (last : Known) (e : Entry) (r : Result Made Fault) → Free (with_entry last e r)
 entry_is_free last e (Err fault) = tt
-entry_is_free last e (Ok made) = word_is_free e made (word_value last (spot_of e.cell) e.steps made.asks)
+entry_is_free last e (Ok made) = word_is_free e made (word_value last (spot_of e) e.steps made.asks made.punched)
 
 entries_are_free : (last : Known) (entries : List Entry) (r : Result Made Fault) → Free r → Free (with_entries last entries r)
 entries_are_free last [] r free = free
@@ -73,16 +73,16 @@ apart law text made is c has = law made.words made.asks (by_left made (left_of t
 
 -- ## No pool
 
-none_asked : (c v : ℕ) → IsPair [] [] c v → ⊥
-none_asked c v pair = pair.is_asked
+none_asked : (asks : List Ask) (c v : ℕ) → IsPair asks [] c v → ⊥
+none_asked asks c v pair = pair.is_asked
 
-no_pairs : (pool : List (ℕ × ℕ)) → ArePairs [] [] pool → pool ≡ []
-no_pairs [] are = refl
-no_pairs (pair ∷ others) are = absurd (none_asked pair.0 pair.1 ((are.each pair.0 pair.1).0 (inl (refl, refl))))
+no_pairs : (asks : List Ask) (pool : List (ℕ × ℕ)) → ArePairs asks [] pool → pool ≡ []
+no_pairs asks [] are = refl
+no_pairs asks (pair ∷ others) are = absurd (none_asked asks pair.0 pair.1 ((are.each pair.0 pair.1).0 (inl (refl, refl))))
 
 pub no_pool_no_change : NoPoolNoChange
 no_pool_no_change text pairs whole none =
-    whole.are ∙ ap (λ l. whole.made.words ++ l) (no_pairs whole.pool (subst (λ a. ArePairs a a whole.pool) none whole.is_pool)) ∙ append-nil whole.made.words
+    whole.are ∙ ap (λ l. whole.made.words ++ l) (no_pairs whole.made.asks whole.pool (subst (λ a. ArePairs whole.made.asks a whole.pool) none whole.is_pool)) ∙ append-nil whole.made.words
 
 -- ## Pools' values
 
@@ -194,7 +194,7 @@ module _ (s : Statement) where
 
   abbrev words_after : Phrase → Left → List Entry → Standing → List Entry
   words_after phrase left entries standing =
-      with_entries_of (place_of s) left.standing.position.field (left.standing.position.location % 0o10000)
+      with_entries_of (place_of s) (spot_at left.standing.position)
       (words_in phrase.0 standing.kept phrase.1 s.string (standing.position.location - left.standing.position.location)) entries
 
   by_result : (phrase : Phrase) (left : Left) (entries : List Entry) (r : Result Standing Code)

@@ -1,21 +1,21 @@
 -- Entries, one after the other.
-use Rattle.std.proofs.Common.{◌≡◌, ℕ, ◌+◌, ◌/◌, ◌≤◌, suc, Bool, Option, Some, None, Result, Ok, Err, length, get_or, take, drop, List, [], ◌∷◌, ◌++◌, refl, sym, ap, subst, ◌∙◌, arith}
+use Rattle.std.proofs.Common.{◌≡◌, ℕ, ◌+◌, ◌*◌, ◌/◌, ◌%◌, ◌≤◌, suc, Bool, Option, Some, None, Result, Ok, Err, length, get_or, take, drop, List, [], ◌∷◌, ◌++◌, refl, sym, ap, subst, ◌∙◌, arith}
 use Rattle.std.proofs.lemmas.List.{append_assoc, append-nil, length-append, length-drop, take-append-le, drop-append-le}
 use Rattle.std.proofs.Math.Seq.{take-length}
 use Rattle.word12.specs.declared.sizes.TheConstants.{PAGE}
 use Rattle.pal8_pools.specs.Asks.{Ask}
 use Rattle.pal8_pools.specs.Cells.{ArePairs}
 use Rattle.pal8_pools.specs.Pooled.{PoolTable}
-use Rattle.pal8_clash.specs.Clashes.{AreMarks, OthersStay, lowest_clash}
+use Rattle.pal8_clash.specs.Clashes.{AreMarks, OthersStay, lowest_clash, with_word}
 use Rattle.pal8_grammar.specs.declared.steps.Step.{Step}
 use Rattle.pal8_values.specs.Sums.{Known}
 use Rattle.pal8_values.specs.Words.{Asked, word_value}
 use Rattle.pal8_values.specs.Answering.{IsAsked}
 use Rattle.pal8_values.specs.Laws.{GoesNear, WordsAskNear}
 use Rattle.pal8_values.specs.declared.sums.Spot.{Spot}
-use Rattle.pal8_asm.specs.Kept.{cut, total}
-use Rattle.pal8_asm.specs.Sources.{Entry, resolved}
-use Rattle.pal8_asm.specs.Tapes.{Made, clash_fault, first_of, spot_of, with_entries, with_entry, with_word}
+use Rattle.pal8_asm.specs.Kept.{cut, entry_of, total}
+use Rattle.pal8_asm.specs.Sources.{Entry, entry_at, resolved}
+use Rattle.pal8_asm.specs.Tapes.{Made, clash_fault, first_of, spot_of, with_entries, with_entry, with_made}
 use Rattle.pal8_asm.specs.Steps.{AddsPool, GivesAt, IsMaking, Makes, coded_at}
 use Rattle.pal8_asm.specs.declared.faults.Fault.{Fault}
 use Rattle.pal8_asm.specs.declared.faults.Place.{Place}
@@ -35,7 +35,7 @@ entries_stay last [] fault = refl
 entries_stay last (e ∷ others) fault = entries_stay last others fault
 
 abbrev entry : Head → List Step → Entry
-entry h steps = record { place = h.place; cell = h.cell; steps = take h.count steps }
+entry h steps = entry_of h (take h.count steps)
 
 -- an entry that fails makes all fail
 pub entry_fails : (last : Known) (whole : Result Made Fault) (heads : List Head) (h : Head) (steps : List Step) (pools pools' : PoolTable) (marks marks' : List Bool)
@@ -54,14 +54,14 @@ abbrev fault_or : {A : Type 0} → Fault → Result A Fault → Fault
 fault_or other (Err fault) = fault
 fault_or other (Ok a) = other
 
-coded_word : (e : Entry) (made : Made) (whole : Asked) (fault : Fault) → coded_at e.place whole ≡ Err fault → with_word e made whole ≡ Err fault
+coded_word : (e : Entry) (made : Made) (whole : Asked) (fault : Fault) → coded_at e.place whole ≡ Err fault → with_made e made whole ≡ Err fault
 coded_word e made (Err why) fault is = ap Err (ap (fault_or fault) is)
 coded_word e made (Ok asked) fault is = absurd cc
 
 -- a word that fails
 pub word_fails : (last : Known) (e : Entry) (whole : Result Made Fault) (pools pools' : PoolTable) (marks marks' : List Bool) (clash clash' : Option Fault)
     (pairs pairs' : List (ℕ × ℕ)) (fault : AsmFault) (making : IsMaking whole pools marks clash pairs)
-    → GivesAt e.place (word_value last (spot_of e.cell) e.steps making.made.asks) (Err fault) pools' → Makes (with_entry last e whole) (Err fault) pools' marks' clash' pairs'
+    → GivesAt e.place (word_value last (spot_of e) e.steps making.made.asks making.made.punched) (Err fault) pools' → Makes (with_entry last e whole) (Err fault) pools' marks' clash' pairs'
 word_fails last e whole pools pools' marks marks' clash clash' pairs pairs' (At code place) making gives =
     ap (with_entry last e) making.is_whole ∙ coded_word e making.made _ _ gives
 word_fails last e whole pools pools' marks marks' clash clash' pairs pairs' Memory making gives = tt
@@ -79,18 +79,19 @@ free_by (Some fault) place lowest is = absurd cc
 -- a word that was made, and put at its cell
 pub word_goes_on : (last : Known) (e : Entry) (whole : Result Made Fault) (pools pools' : PoolTable) (marks marks' : List Bool) (clash : Option Fault)
     (pairs pairs' : List (ℕ × ℕ)) (word : ℕ) (found : Option ℕ) (making : IsMaking whole pools marks clash pairs)
-    → (asked : IsAsked (word_value last (spot_of e.cell) e.steps making.made.asks) word pools') → pairs' ≡ pairs ++ (e.cell, word) ∷ []
-    → AreMarks marks' (making.made.words ++ (e.cell, word) ∷ [])
-    → (lowest_clash making.made.asks making.made.words ≡ None → found ≡ lowest_clash asked.asks (making.made.words ++ (e.cell, word) ∷ []))
+    → (asked : IsAsked (word_value last (spot_of e) e.steps making.made.asks making.made.punched) word pools')
+    → pairs' ≡ with_word e.is_punched e.cell word pairs → AreMarks marks' (with_word e.is_punched e.cell word making.made.words)
+    → (lowest_clash making.made.asks making.made.words ≡ None → found ≡ lowest_clash asked.asks (with_word e.is_punched e.cell word making.made.words))
     → IsMaking (with_entry last e whole) pools' marks' (first_of clash (clash_fault e.place found)) pairs'
 word_goes_on last e whole pools pools' marks marks' clash pairs pairs' word found making asked are marked lowest = record {
   made = record {
-    words = making.made.words ++ (e.cell, word) ∷ [];
+    words = with_word e.is_punched e.cell word making.made.words;
     asks = asked.asks;
-    clash = first_of making.made.clash (clash_fault e.place (lowest_clash asked.asks (making.made.words ++ (e.cell, word) ∷ [])));
+    punched = asked.punched;
+    clash = first_of making.made.clash (clash_fault e.place (lowest_clash asked.asks (with_word e.is_punched e.cell word making.made.words)));
   };
-  is_whole = ap (with_entry last e) making.is_whole ∙ ap (with_word e making.made) asked.is_whole;
-  words = are ∙ ap (λ l. l ++ (e.cell, word) ∷ []) making.words;
+  is_whole = ap (with_entry last e) making.is_whole ∙ ap (with_made e making.made) asked.is_whole;
+  words = are ∙ ap (with_word e.is_punched e.cell word) making.words;
   holds = asked.holds;
   marked = marked;
   clashes =
@@ -100,9 +101,9 @@ word_goes_on last e whole pools pools' marks marks' clash pairs pairs' word foun
 }
 
 -- the asks of a word leave those of far pages
-pub others_stay : WordsAskNear → (last : Known) (spot : Spot) (steps : List Step) (asks : List Ask) (word : ℕ) (pools : PoolTable)
-    → (asked : IsAsked (word_value last spot steps asks) word pools) → OthersStay spot.field (spot.location / PAGE) asks asked.asks
-others_stay law last spot steps asks word pools asked = (subst (λ r. GoesNear spot asks r) asked.is_whole (law last spot steps asks)).others
+pub others_stay : WordsAskNear → (last : Known) (spot : Spot) (steps : List Step) (asks punched : List Ask) (word : ℕ) (pools : PoolTable)
+    → (asked : IsAsked (word_value last spot steps asks punched) word pools) → OthersStay spot.field (spot.location / PAGE) asks asked.asks
+others_stay law last spot steps asks punched word pools asked = (subst (λ r. GoesNear spot asks r) asked.is_whole (law last spot steps asks punched)).others
 
 -- ## One entry more
 
@@ -112,13 +113,13 @@ total_more (x ∷ heads) h = ap (λ n. x.count + n) (total_more heads h) ∙ ome
 
 -- a head more, and its own steps after the others
 pub cut_more : (heads : List Head) (steps own : List Step) (h : Head) → total heads ≡ length steps → h.count ≡ length own
-    → cut (heads ++ h ∷ []) (steps ++ own) ≡ cut heads steps ++ record { place = h.place; cell = h.cell; steps = own } ∷ []
+    → cut (heads ++ h ∷ []) (steps ++ own) ≡ cut heads steps ++ entry_of h own ∷ []
 cut_more [] [] own h fits count =
-    ap (λ l. record { place = h.place; cell = h.cell; steps = l } ∷ []) (ap (λ n. take n own) count ∙ take-length own)
+    ap (λ l. entry_of h l ∷ []) (ap (λ n. take n own) count ∙ take-length own)
 cut_more [] (s ∷ steps) own h fits count = absurd (omega (arith, fits))
 cut_more (x ∷ heads) steps own h fits count =
     let long : x.count ≤ length steps = omega (arith, fits) in
-    ap (λ l. record { place = x.place; cell = x.cell; steps = l } ∷ cut (heads ++ h ∷ []) (drop x.count (steps ++ own))) (take-append-le x.count steps own long)
+    ap (λ l. entry_of x l ∷ cut (heads ++ h ∷ []) (drop x.count (steps ++ own))) (take-append-le x.count steps own long)
     ∙ ap (λ l. entry x steps ∷ cut (heads ++ h ∷ []) l) (drop-append-le x.count steps own long)
     ∙ ap (λ l. entry x steps ∷ l) (cut_more heads (drop x.count steps) own h (rest_fits x.count (total heads) steps fits) count)
   where
@@ -136,33 +137,41 @@ module _ (heads heads1 heads2 : List Head) (steps steps1 steps2 own : List Step)
       ap total (heads_are ∙ ap (λ l. l ++ h ∷ []) heads_stay) ∙ total_more heads h
       ∙ omega (arith, fits, count, resolved_length kept own, length-append steps (resolved kept own), ap length (steps_are ∙ ap (λ l. l ++ resolved kept own) steps_stay))
 
-  pub one_more : cut heads2 steps2 ≡ cut heads steps ++ record { place = h.place; cell = h.cell; steps = resolved kept own } ∷ []
+  pub one_more : cut heads2 steps2 ≡ cut heads steps ++ entry_of h (resolved kept own) ∷ []
   one_more =
       ap (λ l. cut l steps2) (heads_are ∙ ap (λ l. l ++ h ∷ []) heads_stay)
       ∙ ap (cut (heads ++ h ∷ [])) (steps_are ∙ ap (λ l. l ++ resolved kept own) steps_stay)
       ∙ cut_more heads steps (resolved kept own) h fits (count ∙ sym (resolved_length kept own))
 
+-- the entry of a word's head is that of where it stands
+pub same_entry : (place : Place) (spot : Spot) (cell here count : ℕ) (steps : List Step) → cell ≡ 4096 * spot.field + spot.location % 0o10000
+    → here ≡ spot.here % 0o10000
+    → entry_of record { place = place; cell = cell; here = here; is_punched = spot.is_punched; count = count } steps ≡ entry_at place spot steps
+same_entry place spot cell here count steps cell_is here_is =
+    ap (λ n. entry_of record { place = place; cell = n; here = here; is_punched = spot.is_punched; count = count } steps) cell_is
+    ∙ ap (λ n. entry_of record { place = place; cell = 4096 * spot.field + spot.location % 0o10000; here = n; is_punched = spot.is_punched; count = count } steps) here_is
+
 -- ## Pools
 
 -- The cells that are left come after those that were put.
-pub record IsAdding (asks : List Ask) (old pairs left : List (ℕ × ℕ)) : Type 0 where
+pub record IsAdding (asks punched : List Ask) (old pairs left : List (ℕ × ℕ)) : Type 0 where
   pub pool : List (ℕ × ℕ)
-  pub is_pool : ArePairs asks asks pool
+  pub is_pool : ArePairs asks punched pool
   pub same : pairs ++ left ≡ old ++ pool
 
-pub adds_none : (asks : List Ask) (old left : List (ℕ × ℕ)) → ArePairs asks asks left → IsAdding asks old old left
-adds_none asks old left are = record { pool = left; is_pool = are; same = refl }
+pub adds_none : (asks punched : List Ask) (old left : List (ℕ × ℕ)) → ArePairs asks punched left → IsAdding asks punched old old left
+adds_none asks punched old left are = record { pool = left; is_pool = are; same = refl }
 
-pub adds_one : (asks : List Ask) (old pairs pairs' left left' : List (ℕ × ℕ)) (pair : ℕ × ℕ) → IsAdding asks old pairs left → left ≡ pair ∷ left' → pairs' ≡ pairs ++ pair ∷ []
-    → IsAdding asks old pairs' left'
-adds_one asks old pairs pairs' left left' pair adding is are = record {
+pub adds_one : (asks punched : List Ask) (old pairs pairs' left left' : List (ℕ × ℕ)) (pair : ℕ × ℕ) → IsAdding asks punched old pairs left → left ≡ pair ∷ left'
+    → pairs' ≡ pairs ++ pair ∷ [] → IsAdding asks punched old pairs' left'
+adds_one asks punched old pairs pairs' left left' pair adding is are = record {
   pool = adding.pool;
   is_pool = adding.is_pool;
   same = ap (λ l. l ++ left') are ∙ append_assoc pairs (pair ∷ []) left' ∙ ap (λ l. pairs ++ l) (sym is) ∙ adding.same;
 }
 
-pub adds_all : (asks : List Ask) (old pairs left : List (ℕ × ℕ)) → IsAdding asks old pairs left → left ≡ [] → AddsPool asks old pairs
-adds_all asks old pairs left adding none = record {
+pub adds_all : (asks punched : List Ask) (old pairs left : List (ℕ × ℕ)) → IsAdding asks punched old pairs left → left ≡ [] → AddsPool asks punched old pairs
+adds_all asks punched old pairs left adding none = record {
   pool = adding.pool;
   are = sym (append-nil pairs) ∙ ap (λ l. pairs ++ l) (sym none) ∙ adding.same;
   is_pool = adding.is_pool;

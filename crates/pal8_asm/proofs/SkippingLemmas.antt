@@ -1,5 +1,5 @@
 -- Why statements that aren't selected are nothing.
-use Rattle.std.proofs.Common.{◌≡◌, ℕ, ◌+◌, ◌-◌, ◌*◌, ◌%◌, suc, Bool, true, false, ◌&&◌, ◌||◌, not, if◌then◌else◌, is_some, Option, Some, None, Result, Ok, Err, length, take, drop, List, [], ◌∷◌, refl, sym, ap, ◌∙◌, arith}
+use Rattle.std.proofs.Common.{◌≡◌, ℕ, ◌+◌, ◌-◌, ◌*◌, suc, Bool, true, false, ◌&&◌, ◌||◌, not, if◌then◌else◌, is_some, Option, Some, None, Result, Ok, Err, length, take, drop, List, [], ◌∷◌, refl, sym, ap, ◌∙◌, arith}
 use Rattle.pal8_lex.specs.Kinds.{is_comma}
 use Rattle.pal8_lex.specs.Judging.{has_bad, has_bad_number, is_bad, is_bad_number, tag_count}
 use Rattle.pal8_lex.specs.declared.tokens.Token.{Token}
@@ -13,7 +13,7 @@ use Rattle.pal8_grammar.specs.declared.bodies.Body.TheVariants as body
 use Rattle.pal8_grammar.specs.declared.steps.Step.{Step}
 use Rattle.pal8_grammar.specs.declared.faults.GrammarFault.{GrammarFault}
 use Rattle.pal8_grammar.specs.declared.faults.GrammarFault.TheVariants.{IC, NU, SY}
-use Rattle.pal8_asm.specs.Places.{Standing, truth_of, with_body, with_body_if, with_statement, with_tag_if, with_tags}
+use Rattle.pal8_asm.specs.Places.{Standing, spot_at, truth_of, with_body, with_body_if, with_statement, with_tag_if, with_tags}
 use Rattle.pal8_asm.specs.Sources.{Entry, Left, Passed, Source, Statement, bracketed, ended, is_selected, passed, place_of, said_of, statements, with_brackets, with_end, with_entries, with_next, with_phrase, with_said, with_selected, with_skipped, words_in}
 use Rattle.pal8_values.specs.Sums.{Known}
 use Rattle.pal8_asm.specs.Laws.{SkippedIsNothing, plain, plain_by, plain_end, plain_statement}
@@ -248,7 +248,7 @@ module _ (line at : ℕ) (string : List ℕ) (is_cut : Bool) where
     tags_go tokens others phrase passive (Ok standing) is =
         by_truth (truth_of phrase.0 phrase.1 standing)
         (sym (ap (λ l. with_brackets (ended_by tokens end.Open) standing
-        (with_entries (place_of (ended_by tokens end.Open)) before.standing.position.field (before.standing.position.location % 0o10000) l before.entries)
+        (with_entries (place_of (ended_by tokens end.Open)) (spot_at before.standing.position) l before.entries)
         (bracketed (place_of (ended_by tokens end.Open)) end.Open before.brackets (truth_of phrase.0 phrase.1 standing)))
         (passive.no_words standing.kept phrase.1 string (standing.position.location - before.standing.position.location)))
         ∙ sym (ap (with_phrase (ended_by tokens end.Open) phrase before) (passive.stays phrase.1 (length string) standing)) ∙ is)

@@ -16,7 +16,7 @@ use Rattle.pal8_asm.specs.declared.faults.Fault.{Fault}
 use Rattle.pal8_asm.specs.declared.faults.Place.{Place}
 use Rattle.pal8_asm.specs.Steps.{Closes, HasReadAll, HasTaken, IsMaking, IsOnTheWay, Makes, Pushes, ReadsOn, TakesByte}
 use Rattle.pal8_asm.specs.Assembling.{IsMade, MakesWords, Progress, ReadsText, left_in}
-use Rattle.pal8_asm.specs.Tapes.{Made, cleared, cleared_by}
+use Rattle.pal8_asm.specs.Tapes.{Made, cleared, cleared_by, nothing_made}
 use Rattle.pal8_pools.specs.Pooled.{Holds, PoolTable}
 use Rattle.pal8_clash.specs.Clashes.{AreMarks}
 use Rattle.pal8_asm.specs.declared.faults.AsmFault.{AsmFault}
@@ -208,9 +208,9 @@ module _ (text : List ℕ) (left : Left) (place : Place) where
 
 -- nothing is made yet
 pub starts_making : (pools : PoolTable) (marks : List Bool) (clash : Option Fault) (pairs : List (ℕ × ℕ)) → Holds pools [] [] → AreMarks marks [] → clash ≡ None → pairs ≡ []
-    → IsMaking (Ok record { words = []; asks = []; clash = None }) pools marks clash pairs
+    → IsMaking (Ok nothing_made) pools marks clash pairs
 starts_making pools marks clash pairs holds marked none empty = record {
-  made = record { words = []; asks = []; clash = None };
+  made = nothing_made;
   is_whole = refl;
   words = empty;
   holds = holds;

@@ -1,5 +1,6 @@
 -- What a text comes to, by what its parts do.
-use Rattle.std.proofs.Common.{◌≡◌, ℕ, true, false, Result, Ok, Err, List, ◌++◌, sym, ap, ◌∙◌}
+use Rattle.std.proofs.Common.{◌≡◌, ℕ, true, false, Result, Ok, Err, length, List, [], ◌∷◌, ◌++◌, refl, sym, ap, ◌∙◌}
+use Rattle.std.specs.Prelude.{nat_eq}
 use Rattle.pal_sym.specs.Values.{symbol_value}
 use Rattle.pal8_pools.specs.Pooled.{PoolTable}
 use Rattle.pal8_asm.specs.Places.{stands}
@@ -13,6 +14,11 @@ use Rattle.pal8_asm.specs.declared.faults.Code.TheVariants as code
 use Rattle.pal8_asm.specs.declared.faults.Fault.{Fault}
 use Rattle.pal8_asm.specs.declared.faults.Place.{Place}
 use Rattle.pal8_asm.specs.declared.faults.Code.{Code}
+
+-- a list that isn't empty has words
+pub has_some : (pairs : List (ℕ × ℕ)) → false ≡ nat_eq (length pairs) 0 → has_words pairs ≡ true
+has_some [] is = absurd cc
+has_some (pair ∷ others) is = refl
 
 module _ (text : List ℕ) (a : Progress) where
   -- a statement or the end has a fault
@@ -36,7 +42,7 @@ module _ (text : List ℕ) (a : Progress) where
 
   -- all is well
   pub all_words : (end : Place) (pools : PoolTable) (pairs pairs' : List (ℕ × ℕ)) → ReadsText text (Ok end) a → (made : IsMade whole pools pairs) → has_words pairs ≡ true
-      → AddsPool made.made.asks pairs pairs' → IsAssembled (assembled text) pairs'
+      → AddsPool made.made.asks made.made.punched pairs pairs' → IsAssembled (assembled text) pairs'
   all_words end pools pairs pairs' reads made some adds = record {
     made = made.made;
     is_whole =

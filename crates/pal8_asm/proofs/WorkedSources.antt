@@ -10,18 +10,19 @@ use Rattle.pal8_asm.specs.declared.faults.Fault.{Fault}
 use Rattle.pal8_asm.specs.Tapes.{Made}
 use Rattle.pal8_asm.specs.Assembled.{assembled}
 use Rattle.pal8_asm.specs.declared.faults.Code.{Code}
-use Rattle.pal8_asm.specs.declared.faults.Code.TheVariants.{IC, SY, NU, UA, DT, RD, IR, II, FD, PG, PF, DZ, PageClash, ZeroClash, PH, NE, NW}
+use Rattle.pal8_asm.specs.declared.faults.Code.TheVariants.{IC, SY, NU, UA, DT, RD, IR, II, FD, PG, PF, DZ, RL, PageClash, ZeroClash, PH, NE, NW}
 
 -- each ask with its cell, the oldest first
 abbrev cells : List Ask → List Ask → List (ℕ × ℕ)
 cells asks [] = []
 cells asks (a ∷ older) = cells asks older ++ (cell_in asks a, a.value) ∷ []
 
-abbrev brief : Result Made Fault → Result (List (ℕ × ℕ) × List (ℕ × ℕ)) (Code × ℕ)
+-- the words, what all of them ask, and what punched ones ask
+abbrev brief : Result Made Fault → Result (List (ℕ × ℕ) × List (ℕ × ℕ) × List (ℕ × ℕ)) (Code × ℕ)
 brief (Err fault) = Err (fault.code, fault.place.line)
-brief (Ok made) = Ok (made.words, cells made.asks made.asks)
+brief (Ok made) = Ok (made.words, cells made.asks made.asks, cells made.asks made.punched)
 
-abbrev read : List ℕ → Result (List (ℕ × ℕ) × List (ℕ × ℕ)) (Code × ℕ)
+abbrev read : List ℕ → Result (List (ℕ × ℕ) × List (ℕ × ℕ) × List (ℕ × ℕ)) (Code × ℕ)
 read bytes = brief (assembled (text_of bytes))
 
 dt : read (codes "A=1;A, 2" ++ 10 ∷ codes "$" ++ 10 ∷ []) ≡ Err (DT, 1)
@@ -32,7 +33,7 @@ dz : read (codes "1%(5)" ++ 10 ∷ codes "1%0" ++ 10 ∷ codes "$" ++ 10 ∷ [])
 unfolding permanent pal8_permanent
 dz = refl
 
-equals_reference : read (codes "*400" ++ 10 ∷ codes "A, 0" ++ 10 ∷ codes "CALL=JMS A" ++ 10 ∷ codes "CALL" ++ 10 ∷ codes "*600" ++ 10 ∷ codes "CALL" ++ 10 ∷ codes "C2=JMS I 20" ++ 10 ∷ codes "C2" ++ 10 ∷ codes "C2 5" ++ 10 ∷ codes "$" ++ 10 ∷ []) ≡ Ok ((0o400, 0) ∷ (0o401, 0o4200) ∷ (0o600, 0o4200) ∷ (0o601, 0o4420) ∷ (0o602, 0o4425) ∷ [], [])
+equals_reference : read (codes "*400" ++ 10 ∷ codes "A, 0" ++ 10 ∷ codes "CALL=JMS A" ++ 10 ∷ codes "CALL" ++ 10 ∷ codes "*600" ++ 10 ∷ codes "CALL" ++ 10 ∷ codes "C2=JMS I 20" ++ 10 ∷ codes "C2" ++ 10 ∷ codes "C2 5" ++ 10 ∷ codes "$" ++ 10 ∷ []) ≡ Ok ((0o400, 0) ∷ (0o401, 0o4200) ∷ (0o600, 0o4200) ∷ (0o601, 0o4420) ∷ (0o602, 0o4425) ∷ [], [], [])
 unfolding permanent pal8_permanent
 equals_reference = refl
 
@@ -52,54 +53,54 @@ ir_equals : read (codes "*400" ++ 10 ∷ codes "C=JMS 1234" ++ 10 ∷ codes "C" 
 unfolding permanent pal8_permanent
 ir_equals = refl
 
-link_in_literal : read (codes "TAD (TAD A" ++ 10 ∷ codes "*400" ++ 10 ∷ codes "A, 0" ++ 10 ∷ codes "$" ++ 10 ∷ []) ≡ Ok ((0o200, 0o1376) ∷ (0o400, 0) ∷ [], (0o377, 0o400) ∷ (0o376, 0o1777) ∷ [])
+link_in_literal : read (codes "TAD (TAD A" ++ 10 ∷ codes "*400" ++ 10 ∷ codes "A, 0" ++ 10 ∷ codes "$" ++ 10 ∷ []) ≡ Ok ((0o200, 0o1376) ∷ (0o400, 0) ∷ [], (0o377, 0o400) ∷ (0o376, 0o1777) ∷ [], (0o377, 0o400) ∷ (0o376, 0o1777) ∷ [])
 unfolding permanent pal8_permanent
 link_in_literal = refl
 
-link_on_zero : read (codes "*20" ++ 10 ∷ codes "TAD A" ++ 10 ∷ codes "*200" ++ 10 ∷ codes "A, 1" ++ 10 ∷ codes "$" ++ 10 ∷ []) ≡ Ok ((0o20, 0o1777) ∷ (0o200, 1) ∷ [], (0o177, 0o200) ∷ [])
+link_on_zero : read (codes "*20" ++ 10 ∷ codes "TAD A" ++ 10 ∷ codes "*200" ++ 10 ∷ codes "A, 1" ++ 10 ∷ codes "$" ++ 10 ∷ []) ≡ Ok ((0o20, 0o1777) ∷ (0o200, 1) ∷ [], (0o177, 0o200) ∷ [], (0o177, 0o200) ∷ [])
 unfolding permanent pal8_permanent
 link_on_zero = refl
 
 -- a link and a literal share a cell
-link_shares : read (codes "*200" ++ 10 ∷ codes "TAD 1234" ++ 10 ∷ codes "TAD (1234" ++ 10 ∷ codes "$" ++ 10 ∷ []) ≡ Ok ((0o200, 0o1777) ∷ (0o201, 0o1377) ∷ [], (0o377, 0o1234) ∷ (0o377, 0o1234) ∷ [])
+link_shares : read (codes "*200" ++ 10 ∷ codes "TAD 1234" ++ 10 ∷ codes "TAD (1234" ++ 10 ∷ codes "$" ++ 10 ∷ []) ≡ Ok ((0o200, 0o1777) ∷ (0o201, 0o1377) ∷ [], (0o377, 0o1234) ∷ (0o377, 0o1234) ∷ [], (0o377, 0o1234) ∷ (0o377, 0o1234) ∷ [])
 unfolding permanent pal8_permanent
 link_shares = refl
 
 -- an address out of reach goes through a link
-link : read (codes "*200" ++ 10 ∷ codes "TAD A" ++ 10 ∷ codes "DCA A" ++ 10 ∷ codes "*400" ++ 10 ∷ codes "A, 1" ++ 10 ∷ codes "$" ++ 10 ∷ []) ≡ Ok ((0o200, 0o1777) ∷ (0o201, 0o3777) ∷ (0o400, 1) ∷ [], (0o377, 0o400) ∷ (0o377, 0o400) ∷ [])
+link : read (codes "*200" ++ 10 ∷ codes "TAD A" ++ 10 ∷ codes "DCA A" ++ 10 ∷ codes "*400" ++ 10 ∷ codes "A, 1" ++ 10 ∷ codes "$" ++ 10 ∷ []) ≡ Ok ((0o200, 0o1777) ∷ (0o201, 0o3777) ∷ (0o400, 1) ∷ [], (0o377, 0o400) ∷ (0o377, 0o400) ∷ [], (0o377, 0o400) ∷ (0o377, 0o400) ∷ [])
 unfolding permanent pal8_permanent
 link = refl
 
-literal_alone : read (codes "(5" ++ 10 ∷ codes "[5" ++ 10 ∷ codes "(5)+1" ++ 10 ∷ codes "$" ++ 10 ∷ []) ≡ Ok ((0o200, 0o377) ∷ (0o201, 0o177) ∷ (0o202, 0o400) ∷ [], (0o377, 5) ∷ (0o177, 5) ∷ (0o377, 5) ∷ [])
+literal_alone : read (codes "(5" ++ 10 ∷ codes "[5" ++ 10 ∷ codes "(5)+1" ++ 10 ∷ codes "$" ++ 10 ∷ []) ≡ Ok ((0o200, 0o377) ∷ (0o201, 0o177) ∷ (0o202, 0o400) ∷ [], (0o377, 5) ∷ (0o177, 5) ∷ (0o377, 5) ∷ [], (0o377, 5) ∷ (0o177, 5) ∷ (0o377, 5) ∷ [])
 unfolding permanent pal8_permanent
 literal_alone = refl
 
 -- each field has its own pools, and a page that is come back to keeps its own
-literal_fields : read (codes "*200" ++ 10 ∷ codes "TAD (1" ++ 10 ∷ codes "TAD [1" ++ 10 ∷ codes "FIELD 1" ++ 10 ∷ codes "1" ++ 10 ∷ codes "FIELD 0" ++ 10 ∷ codes "*210" ++ 10 ∷ codes "TAD (2" ++ 10 ∷ codes "TAD [2" ++ 10 ∷ codes "$" ++ 10 ∷ []) ≡ Ok ((0o200, 0o1377) ∷ (0o201, 0o1177) ∷ (0o10200, 1) ∷ (0o210, 0o1376) ∷ (0o211, 0o1176) ∷ [], (0o377, 1) ∷ (0o177, 1) ∷ (0o376, 2) ∷ (0o176, 2) ∷ [])
+literal_fields : read (codes "*200" ++ 10 ∷ codes "TAD (1" ++ 10 ∷ codes "TAD [1" ++ 10 ∷ codes "FIELD 1" ++ 10 ∷ codes "1" ++ 10 ∷ codes "FIELD 0" ++ 10 ∷ codes "*210" ++ 10 ∷ codes "TAD (2" ++ 10 ∷ codes "TAD [2" ++ 10 ∷ codes "$" ++ 10 ∷ []) ≡ Ok ((0o200, 0o1377) ∷ (0o201, 0o1177) ∷ (0o10200, 1) ∷ (0o210, 0o1376) ∷ (0o211, 0o1176) ∷ [], (0o377, 1) ∷ (0o177, 1) ∷ (0o376, 2) ∷ (0o176, 2) ∷ [], (0o377, 1) ∷ (0o177, 1) ∷ (0o376, 2) ∷ (0o176, 2) ∷ [])
 unfolding permanent pal8_permanent
 literal_fields = refl
 
-literal_indirect : read (codes "TAD I (5" ++ 10 ∷ codes "JMS I (A" ++ 10 ∷ codes "A, 0" ++ 10 ∷ codes "$" ++ 10 ∷ []) ≡ Ok ((0o200, 0o1777) ∷ (0o201, 0o4776) ∷ (0o202, 0) ∷ [], (0o377, 5) ∷ (0o376, 0o202) ∷ [])
+literal_indirect : read (codes "TAD I (5" ++ 10 ∷ codes "JMS I (A" ++ 10 ∷ codes "A, 0" ++ 10 ∷ codes "$" ++ 10 ∷ []) ≡ Ok ((0o200, 0o1777) ∷ (0o201, 0o4776) ∷ (0o202, 0) ∷ [], (0o377, 5) ∷ (0o376, 0o202) ∷ [], (0o377, 5) ∷ (0o376, 0o202) ∷ [])
 unfolding permanent pal8_permanent
 literal_indirect = refl
 
 -- the inner literal asks first
-literal_inner : read (codes "*200" ++ 10 ∷ codes "TAD (TAD (5" ++ 10 ∷ codes "TAD (TAD (5))" ++ 10 ∷ codes "$" ++ 10 ∷ []) ≡ Ok ((0o200, 0o1376) ∷ (0o201, 0o1376) ∷ [], (0o377, 5) ∷ (0o376, 0o1377) ∷ (0o377, 5) ∷ (0o376, 0o1377) ∷ [])
+literal_inner : read (codes "*200" ++ 10 ∷ codes "TAD (TAD (5" ++ 10 ∷ codes "TAD (TAD (5))" ++ 10 ∷ codes "$" ++ 10 ∷ []) ≡ Ok ((0o200, 0o1376) ∷ (0o201, 0o1376) ∷ [], (0o377, 5) ∷ (0o376, 0o1377) ∷ (0o377, 5) ∷ (0o376, 0o1377) ∷ [], (0o377, 5) ∷ (0o376, 0o1377) ∷ (0o377, 5) ∷ (0o376, 0o1377) ∷ [])
 unfolding permanent pal8_permanent
 literal_inner = refl
 
 -- a later name counts in a literal
-literal_later_name : read (codes "*200" ++ 10 ∷ codes "TAD (A" ++ 10 ∷ codes "TAD (201" ++ 10 ∷ codes "A, 7" ++ 10 ∷ codes "TAD (202" ++ 10 ∷ codes "$" ++ 10 ∷ []) ≡ Ok ((0o200, 0o1377) ∷ (0o201, 0o1376) ∷ (0o202, 7) ∷ (0o203, 0o1377) ∷ [], (0o377, 0o202) ∷ (0o376, 0o201) ∷ (0o377, 0o202) ∷ [])
+literal_later_name : read (codes "*200" ++ 10 ∷ codes "TAD (A" ++ 10 ∷ codes "TAD (201" ++ 10 ∷ codes "A, 7" ++ 10 ∷ codes "TAD (202" ++ 10 ∷ codes "$" ++ 10 ∷ []) ≡ Ok ((0o200, 0o1377) ∷ (0o201, 0o1376) ∷ (0o202, 7) ∷ (0o203, 0o1377) ∷ [], (0o377, 0o202) ∷ (0o376, 0o201) ∷ (0o377, 0o202) ∷ [], (0o377, 0o202) ∷ (0o376, 0o201) ∷ (0o377, 0o202) ∷ [])
 unfolding permanent pal8_permanent
 literal_later_name = refl
 
 -- on page zero both openings ask one pool
-literal_on_zero : read (codes "*0" ++ 10 ∷ codes "TAD (5" ++ 10 ∷ codes "TAD [5" ++ 10 ∷ codes "TAD (6" ++ 10 ∷ codes "$" ++ 10 ∷ []) ≡ Ok ((0, 0o1177) ∷ (1, 0o1177) ∷ (2, 0o1176) ∷ [], (0o177, 5) ∷ (0o177, 5) ∷ (0o176, 6) ∷ [])
+literal_on_zero : read (codes "*0" ++ 10 ∷ codes "TAD (5" ++ 10 ∷ codes "TAD [5" ++ 10 ∷ codes "TAD (6" ++ 10 ∷ codes "$" ++ 10 ∷ []) ≡ Ok ((0, 0o1177) ∷ (1, 0o1177) ∷ (2, 0o1176) ∷ [], (0o177, 5) ∷ (0o177, 5) ∷ (0o176, 6) ∷ [], (0o177, 5) ∷ (0o177, 5) ∷ (0o176, 6) ∷ [])
 unfolding permanent pal8_permanent
 literal_on_zero = refl
 
 -- equal values have one cell, and the first one has the page's last
-literal_twice : read (codes "*200" ++ 10 ∷ codes "TAD (5)" ++ 10 ∷ codes "TAD (6)" ++ 10 ∷ codes "TAD (5" ++ 10 ∷ codes "$" ++ 10 ∷ []) ≡ Ok ((0o200, 0o1377) ∷ (0o201, 0o1376) ∷ (0o202, 0o1377) ∷ [], (0o377, 5) ∷ (0o376, 6) ∷ (0o377, 5) ∷ [])
+literal_twice : read (codes "*200" ++ 10 ∷ codes "TAD (5)" ++ 10 ∷ codes "TAD (6)" ++ 10 ∷ codes "TAD (5" ++ 10 ∷ codes "$" ++ 10 ∷ []) ≡ Ok ((0o200, 0o1377) ∷ (0o201, 0o1376) ∷ (0o202, 0o1377) ∷ [], (0o377, 5) ∷ (0o376, 6) ∷ (0o377, 5) ∷ [], (0o377, 5) ∷ (0o376, 6) ∷ (0o377, 5) ∷ [])
 unfolding permanent pal8_permanent
 literal_twice = refl
 
@@ -107,7 +108,7 @@ ne : read (codes "1" ++ 10 ∷ []) ≡ Err (NE, 2)
 unfolding permanent pal8_permanent
 ne = refl
 
-no_link : read (codes "+TAD 1" ++ 10 ∷ codes "TAD TAD" ++ 10 ∷ codes "CLL TAD" ++ 10 ∷ codes "TAD -1" ++ 10 ∷ codes "$" ++ 10 ∷ []) ≡ Ok ((0o200, 0o1001) ∷ (0o201, 0o1777) ∷ (0o202, 0o7100) ∷ (0o203, 0o777) ∷ [], (0o377, 0o1000) ∷ [])
+no_link : read (codes "+TAD 1" ++ 10 ∷ codes "TAD TAD" ++ 10 ∷ codes "CLL TAD" ++ 10 ∷ codes "TAD -1" ++ 10 ∷ codes "$" ++ 10 ∷ []) ≡ Ok ((0o200, 0o1001) ∷ (0o201, 0o1777) ∷ (0o202, 0o7100) ∷ (0o203, 0o777) ∷ [], (0o377, 0o1000) ∷ [], (0o377, 0o1000) ∷ [])
 unfolding permanent pal8_permanent
 no_link = refl
 
@@ -120,11 +121,11 @@ unfolding permanent pal8_permanent
 nw = refl
 
 -- all operators have one rank
-operators : read (codes "7777^2;17%3;12&6!1;1 2+1;2+3^4;-1!1" ++ 10 ∷ codes "$" ++ 10 ∷ []) ≡ Ok ((0o200, 0o7776) ∷ (0o201, 5) ∷ (0o202, 3) ∷ (0o203, 4) ∷ (0o204, 0o24) ∷ (0o205, 0o7777) ∷ [], [])
+operators : read (codes "7777^2;17%3;12&6!1;1 2+1;2+3^4;-1!1" ++ 10 ∷ codes "$" ++ 10 ∷ []) ≡ Ok ((0o200, 0o7776) ∷ (0o201, 5) ∷ (0o202, 3) ∷ (0o203, 4) ∷ (0o204, 0o24) ∷ (0o205, 0o7777) ∷ [], [], [])
 unfolding permanent pal8_permanent
 operators = refl
 
-order_nw : read (codes "A=1" ++ 10 ∷ codes "A" ++ 10 ∷ codes "$" ++ 10 ∷ []) ≡ Ok ((0o200, 1) ∷ [], [])
+order_nw : read (codes "A=1" ++ 10 ∷ codes "A" ++ 10 ∷ codes "$" ++ 10 ∷ []) ≡ Ok ((0o200, 1) ∷ [], [], [])
 unfolding permanent pal8_permanent
 order_nw = refl
 
@@ -133,7 +134,7 @@ order_ua_pe : read (codes "*377" ++ 10 ∷ codes "TAD (1" ++ 10 ∷ codes "TAD X
 unfolding permanent pal8_permanent
 order_ua_pe = refl
 
-page : read (codes "1" ++ 10 ∷ codes "PAGE" ++ 10 ∷ codes "2" ++ 10 ∷ codes "PAGE 1+2" ++ 10 ∷ codes "PAGE" ++ 10 ∷ codes "." ++ 10 ∷ codes "$" ++ 10 ∷ []) ≡ Ok ((0o200, 1) ∷ (0o400, 2) ∷ (0o600, 0o600) ∷ [], [])
+page : read (codes "1" ++ 10 ∷ codes "PAGE" ++ 10 ∷ codes "2" ++ 10 ∷ codes "PAGE 1+2" ++ 10 ∷ codes "PAGE" ++ 10 ∷ codes "." ++ 10 ∷ codes "$" ++ 10 ∷ []) ≡ Ok ((0o200, 1) ∷ (0o400, 2) ∷ (0o600, 0o600) ∷ [], [], [])
 unfolding permanent pal8_permanent
 page = refl
 
@@ -159,7 +160,7 @@ unfolding permanent pal8_permanent
 rd = refl
 
 -- a soft name gives way to a later definition
-soft_names : read (codes "BSW" ++ 10 ∷ codes "CDI 10" ++ 10 ∷ codes "MQL" ++ 10 ∷ codes "A=BSW" ++ 10 ∷ codes "A" ++ 10 ∷ codes "BSW=5" ++ 10 ∷ codes "BSW" ++ 10 ∷ codes "$" ++ 10 ∷ []) ≡ Ok ((0o200, 5) ∷ (0o201, 0o6213) ∷ (0o202, 0o7421) ∷ (0o203, 0o7002) ∷ (0o204, 5) ∷ [], [])
+soft_names : read (codes "BSW" ++ 10 ∷ codes "CDI 10" ++ 10 ∷ codes "MQL" ++ 10 ∷ codes "A=BSW" ++ 10 ∷ codes "A" ++ 10 ∷ codes "BSW=5" ++ 10 ∷ codes "BSW" ++ 10 ∷ codes "$" ++ 10 ∷ []) ≡ Ok ((0o200, 5) ∷ (0o201, 0o6213) ∷ (0o202, 0o7421) ∷ (0o203, 0o7002) ∷ (0o204, 5) ∷ [], [], [])
 unfolding permanent pal8_permanent
 soft_names = refl
 
@@ -172,12 +173,12 @@ sy_literal_in_equals : read (codes "A=(5" ++ 10 ∷ codes "$" ++ 10 ∷ []) ≡ 
 unfolding permanent pal8_permanent
 sy_literal_in_equals = refl
 
-text_empty : read (codes "TEXT //" ++ 10 ∷ codes "1" ++ 10 ∷ codes "$" ++ 10 ∷ []) ≡ Ok ((0o200, 0) ∷ (0o201, 1) ∷ [], [])
+text_empty : read (codes "TEXT //" ++ 10 ∷ codes "1" ++ 10 ∷ codes "$" ++ 10 ∷ []) ≡ Ok ((0o200, 0) ∷ (0o201, 1) ∷ [], [], [])
 unfolding permanent pal8_permanent
 text_empty = refl
 
 -- an even text has 00 after it
-text : read (codes "*200" ++ 10 ∷ codes "TEXT /AB/" ++ 10 ∷ codes "A, TEXT \"CDE\"" ++ 10 ∷ codes "B, A" ++ 10 ∷ codes "B" ++ 10 ∷ codes "$" ++ 10 ∷ []) ≡ Ok ((0o200, 0o102) ∷ (0o201, 0) ∷ (0o202, 0o304) ∷ (0o203, 0o500) ∷ (0o204, 0o202) ∷ (0o205, 0o204) ∷ [], [])
+text : read (codes "*200" ++ 10 ∷ codes "TEXT /AB/" ++ 10 ∷ codes "A, TEXT \"CDE\"" ++ 10 ∷ codes "B, A" ++ 10 ∷ codes "B" ++ 10 ∷ codes "$" ++ 10 ∷ []) ≡ Ok ((0o200, 0o102) ∷ (0o201, 0) ∷ (0o202, 0o304) ∷ (0o203, 0o500) ∷ (0o204, 0o202) ∷ (0o205, 0o204) ∷ [], [], [])
 unfolding permanent pal8_permanent
 text = refl
 
@@ -189,13 +190,96 @@ ua : read (codes "*200" ++ 10 ∷ codes "TAD (XX" ++ 10 ∷ codes "1" ++ 10 ∷ 
 unfolding permanent pal8_permanent
 ua = refl
 
-zblock : read (codes "A=2" ++ 10 ∷ codes "ZBLOCK A" ++ 10 ∷ codes "1" ++ 10 ∷ codes "ZBLOCK 0" ++ 10 ∷ codes "2" ++ 10 ∷ codes "$" ++ 10 ∷ []) ≡ Ok ((0o200, 0) ∷ (0o201, 0) ∷ (0o202, 1) ∷ (0o203, 2) ∷ [], [])
+zblock : read (codes "A=2" ++ 10 ∷ codes "ZBLOCK A" ++ 10 ∷ codes "1" ++ 10 ∷ codes "ZBLOCK 0" ++ 10 ∷ codes "2" ++ 10 ∷ codes "$" ++ 10 ∷ []) ≡ Ok ((0o200, 0) ∷ (0o201, 0) ∷ (0o202, 1) ∷ (0o203, 2) ∷ [], [], [])
 unfolding permanent pal8_permanent
 zblock = refl
 
 ze : read (codes "*177" ++ 10 ∷ codes "2" ++ 10 ∷ codes "*200" ++ 10 ∷ codes "TAD [1" ++ 10 ∷ codes "$" ++ 10 ∷ []) ≡ Err (ZeroClash 0o177, 4)
 unfolding permanent pal8_permanent
 ze = refl
+
+-- ## Punching, relocation, and names of files and devices
+
+-- words that aren't punched take their places
+nopunch : read (codes "*200" ++ 10 ∷ codes "1" ++ 10 ∷ codes "NOPUNCH" ++ 10 ∷ codes "2" ++ 10 ∷ codes "3" ++ 10 ∷ codes "ENPUNCH" ++ 10 ∷ codes "4" ++ 10 ∷ codes "$" ++ 10 ∷ []) ≡ Ok ((0o200, 1) ∷ (0o203, 4) ∷ [], [], [])
+unfolding permanent pal8_permanent
+nopunch = refl
+
+-- a word that isn't punched asks, and its literal stays where none that is punched asks for it
+nopunch_literal : read (codes "NOPUNCH" ++ 10 ∷ codes "TAD (1" ++ 10 ∷ codes "ENPUNCH" ++ 10 ∷ codes "TAD (2" ++ 10 ∷ codes "$" ++ 10 ∷ []) ≡ Ok ((0o201, 0o1376) ∷ [], (0o377, 1) ∷ (0o376, 2) ∷ [], (0o376, 2) ∷ [])
+unfolding permanent pal8_permanent
+nopunch_literal = refl
+
+nopunch_asked : read (codes "*200" ++ 10 ∷ codes "TAD (1" ++ 10 ∷ codes "NOPUNCH" ++ 10 ∷ codes "TAD (2" ++ 10 ∷ codes "*400" ++ 10 ∷ codes "ENPUNCH" ++ 10 ∷ codes "4" ++ 10 ∷ codes "$" ++ 10 ∷ []) ≡ Ok ((0o200, 0o1377) ∷ (0o400, 4) ∷ [], (0o377, 1) ∷ (0o376, 2) ∷ [], (0o377, 1) ∷ [])
+unfolding permanent pal8_permanent
+nopunch_asked = refl
+
+-- RELOC shifts places, not words
+reloc : read (codes "*200" ++ 10 ∷ codes "RELOC 400" ++ 10 ∷ codes "A, 1" ++ 10 ∷ codes "JMP A" ++ 10 ∷ codes "B, 2" ++ 10 ∷ codes "RELOC" ++ 10 ∷ codes "A" ++ 10 ∷ codes "B" ++ 10 ∷ codes "C, ." ++ 10 ∷ codes "$" ++ 10 ∷ []) ≡ Ok ((0o200, 1) ∷ (0o201, 0o5200) ∷ (0o202, 2) ∷ (0o203, 0o400) ∷ (0o204, 0o402) ∷ (0o205, 0o205) ∷ [], [], [])
+unfolding permanent pal8_permanent
+reloc = refl
+
+-- an origin sets the place
+reloc_origin : read (codes "*200" ++ 10 ∷ codes "RELOC 423" ++ 10 ∷ codes "*400" ++ 10 ∷ codes "1" ++ 10 ∷ codes "." ++ 10 ∷ codes "$" ++ 10 ∷ []) ≡ Ok ((0o155, 1) ∷ (0o156, 0o401) ∷ [], [], [])
+unfolding permanent pal8_permanent
+reloc_origin = refl
+
+-- and so does a page
+reloc_page : read (codes "*200" ++ 10 ∷ codes "RELOC 423" ++ 10 ∷ codes "1" ++ 10 ∷ codes "PAGE" ++ 10 ∷ codes "2" ++ 10 ∷ codes "." ++ 10 ∷ codes "$" ++ 10 ∷ []) ≡ Ok ((0o200, 1) ∷ (0o355, 2) ∷ (0o356, 0o601) ∷ [], [], [])
+unfolding permanent pal8_permanent
+reloc_page = refl
+
+-- a field leaves the shift
+reloc_field : read (codes "*200" ++ 10 ∷ codes "RELOC 400" ++ 10 ∷ codes "1" ++ 10 ∷ codes "FIELD 1" ++ 10 ∷ codes "." ++ 10 ∷ codes "2" ++ 10 ∷ codes "RELOC" ++ 10 ∷ codes "." ++ 10 ∷ codes "$" ++ 10 ∷ []) ≡ Ok ((0o200, 1) ∷ (0o10200, 0o400) ∷ (0o10201, 2) ∷ (0o10202, 0o202) ∷ [], [], [])
+unfolding permanent pal8_permanent
+reloc_field = refl
+
+-- a literal lies on the page of the location, and is reached on that of the place
+reloc_literal : read (codes "*200" ++ 10 ∷ codes "RELOC 400" ++ 10 ∷ codes "TAD (5" ++ 10 ∷ codes "JMP ." ++ 10 ∷ codes "RELOC" ++ 10 ∷ codes "TAD (6" ++ 10 ∷ codes "$" ++ 10 ∷ []) ≡ Ok ((0o200, 0o1377) ∷ (0o201, 0o5201) ∷ (0o202, 0o1376) ∷ [], (0o377, 5) ∷ (0o376, 6) ∷ [], (0o377, 5) ∷ (0o376, 6) ∷ [])
+unfolding permanent pal8_permanent
+reloc_literal = refl
+
+-- page zero is never shifted
+reloc_zero : read (codes "RELOC 423" ++ 10 ∷ codes "TAD [5" ++ 10 ∷ codes "$" ++ 10 ∷ []) ≡ Ok ((0o200, 0o1177) ∷ [], (0o177, 5) ∷ [], (0o177, 5) ∷ [])
+unfolding permanent pal8_permanent
+reloc_zero = refl
+
+-- the name of a file fills four words
+filename : read (codes "*200" ++ 10 ∷ codes "FILENAME PIP.SV" ++ 10 ∷ codes "FILENAME ABCDEFGH.IJK" ++ 10 ∷ codes "FILENAME 8" ++ 10 ∷ codes "1" ++ 10 ∷ codes "$" ++ 10 ∷ []) ≡ Ok ((0o200, 0o2011) ∷ (0o201, 0o2000) ∷ (0o202, 0) ∷ (0o203, 0o2326) ∷ (0o204, 0o102) ∷ (0o205, 0o304) ∷ (0o206, 0o506) ∷ (0o207, 0o1112) ∷ (0o210, 0o7000) ∷ (0o211, 0) ∷ (0o212, 0) ∷ (0o213, 0) ∷ (0o214, 1) ∷ [], [], [])
+unfolding permanent pal8_permanent
+filename = refl
+
+device : read (codes "*200" ++ 10 ∷ codes "DEVICE DSK" ++ 10 ∷ codes "device lta1" ++ 10 ∷ codes "1" ++ 10 ∷ codes "$" ++ 10 ∷ []) ≡ Ok ((0o200, 0o423) ∷ (0o201, 0o1300) ∷ (0o202, 0o1424) ∷ (0o203, 0o161) ∷ (0o204, 1) ∷ [], [], [])
+unfolding permanent pal8_permanent
+device = refl
+
+-- a link under a shift by no whole page
+rl : read (codes "*200" ++ 10 ∷ codes "RELOC 423" ++ 10 ∷ codes "A, TAD A" ++ 10 ∷ codes "TAD 577" ++ 10 ∷ codes "TAD 400" ++ 10 ∷ codes "TAD 600" ++ 10 ∷ codes "$" ++ 10 ∷ []) ≡ Err (RL, 6)
+unfolding permanent pal8_permanent
+rl = refl
+
+rl_literal : read (codes "*200" ++ 10 ∷ codes "RELOC 20" ++ 10 ∷ codes "TAD [6" ++ 10 ∷ codes "TAD (5" ++ 10 ∷ codes "$" ++ 10 ∷ []) ≡ Err (RL, 4)
+unfolding permanent pal8_permanent
+rl_literal = refl
+
+-- a word that isn't punched asks for a cell, which no punched one may take
+pe_unpunched : read (codes "NOPUNCH" ++ 10 ∷ codes "TAD (1" ++ 10 ∷ codes "ENPUNCH" ++ 10 ∷ codes "*377" ++ 10 ∷ codes "5" ++ 10 ∷ codes "$" ++ 10 ∷ []) ≡ Err (PageClash 0o377, 5)
+unfolding permanent pal8_permanent
+pe_unpunched = refl
+
+-- and has faults
+ua_unpunched : read (codes "NOPUNCH" ++ 10 ∷ codes "TAD XX" ++ 10 ∷ codes "$" ++ 10 ∷ []) ≡ Err (UA (name_number (codes "XX")), 2)
+unfolding permanent pal8_permanent
+ua_unpunched = refl
+
+-- but is no word
+nw_unpunched : read (codes "NOPUNCH" ++ 10 ∷ codes "1" ++ 10 ∷ codes "$" ++ 10 ∷ []) ≡ Err (NW, 3)
+unfolding permanent pal8_permanent
+nw_unpunched = refl
+
+sy_filename : read (codes "FILENAME A.B C" ++ 10 ∷ codes "$" ++ 10 ∷ []) ≡ Err (SY, 1)
+unfolding permanent pal8_permanent
+sy_filename = refl
 
 -- ## Places: the line, and the byte in the text as it stands
 

@@ -20,7 +20,7 @@ abbrev pub judged_by : Place → Made → Bool → Result Made Fault
 judged_by dollar made true = Ok made
 judged_by dollar made false = Err (at_place dollar code.NW)
 
--- there is a word
+-- there is a punched word
 abbrev pub judged : Place → Result Made Fault → Result Made Fault
 judged dollar (Err fault) = Err fault
 judged dollar (Ok made) = judged_by dollar made (has_words made.words)

@@ -57,7 +57,7 @@ pub record IsMade (whole : Result Made Fault) (pools : PoolTable) (pairs : List 
   pub made : Made
   pub is_whole : whole ≡ Ok made
   pub words : pairs ≡ made.words
-  pub holds : Holds pools made.asks made.asks
+  pub holds : Holds pools made.asks made.punched
 
 -- the words are answered, and the pools hold what they asked; or the first fault of a word; or memory ran out
 abbrev pub MakesWords : Result Made Fault → Result (Vec (ℕ × ℕ)) AsmFault → PoolTable → Type 0
@@ -65,13 +65,13 @@ MakesWords whole (Ok pairs) pools = IsMade whole pools pairs.items
 MakesWords whole (Err (asm.At code place)) pools = whole ≡ Err (at_place place code)
 MakesWords whole (Err asm.Memory) pools = Unit {0}
 
--- The pairs are the words of what was made, and then each pool's cell with its value, by rising cell.
+-- The pairs are the punched words of what was made, and then each cell that they ask for with its value, by rising cell.
 pub record IsAssembled (whole : Result Made Fault) (pairs : List (ℕ × ℕ)) : Type 0 where
   pub made : Made
   pub is_whole : whole ≡ Ok made
   pub pool : List (ℕ × ℕ)
   pub are : pairs ≡ made.words ++ pool
-  pub is_pool : ArePairs made.asks made.asks pool
+  pub is_pool : ArePairs made.asks made.punched pool
 
 -- a text is assembled, or its first fault is answered; or memory ran out
 abbrev pub Assembles : List ℕ → Result (Vec (ℕ × ℕ)) AsmFault → Type 0

@@ -9,7 +9,10 @@ abbrev pub total : List Head → ℕ
 total [] = 0
 total (h ∷ others) = h.count + total others
 
+abbrev pub entry_of : Head → List Step → Entry
+entry_of h steps = record { place = h.place; cell = h.cell; here = h.here; is_punched = h.is_punched; steps = steps }
+
 -- each head with its own steps
 abbrev pub cut : List Head → List Step → List Entry
 cut [] steps = []
-cut (h ∷ others) steps = record { place = h.place; cell = h.cell; steps = take h.count steps } ∷ cut others (drop h.count steps)
+cut (h ∷ others) steps = entry_of h (take h.count steps) ∷ cut others (drop h.count steps)

@@ -19,23 +19,23 @@ use Rattle.pal8_asm.specs.declared.faults.Fault.{Fault}
 abbrev pub FaultStays : Type 0
 FaultStays = (later text : List ℕ) (fault : Fault) → passed (statements text) ≡ Err fault → left_of (later ++ text) ≡ Err fault
 
--- in a text without a fault no cell of a word is a pool's cell
+-- in a text without a fault no cell of a punched word is a pool's cell
 abbrev pub Apart : Type 0
 Apart = (text : List ℕ) (made : Made) → assembled text ≡ Ok made → (c : ℕ) → has_word made.words c ≡ true → is_cell_of made.asks made.asks c ≡ false
 
--- the pairs of a text that asks nothing are its words
+-- the pairs of a text whose punched words ask nothing are these words
 abbrev pub NoPoolNoChange : Type 0
-NoPoolNoChange = (text : List ℕ) (pairs : List (ℕ × ℕ)) → (whole : IsAssembled (assembled text) pairs) → whole.made.asks ≡ [] → pairs ≡ whole.made.words
+NoPoolNoChange = (text : List ℕ) (pairs : List (ℕ × ℕ)) → (whole : IsAssembled (assembled text) pairs) → whole.made.punched ≡ [] → pairs ≡ whole.made.words
 
 -- what pairs give a cell: the word of the last of them at that cell
 abbrev pub meaning : List (ℕ × ℕ) → ℕ → Option ℕ
 meaning [] c = None
 meaning (pair ∷ later) c = if_none (meaning later c) (if nat_eq pair.0 c then Some pair.1 else None)
 
--- in a text without a fault the cell that a literal or a link is asked for holds its value
+-- in a text without a fault the cell that a punched word's literal or link asks for holds its value
 abbrev pub ValueIsFound : Type 0
 ValueIsFound =
-    (text : List ℕ) (pairs : List (ℕ × ℕ)) → (whole : IsAssembled (assembled text) pairs) → (a : Ask) → IsAsked whole.made.asks a
+    (text : List ℕ) (pairs : List (ℕ × ℕ)) → (whole : IsAssembled (assembled text) pairs) → (a : Ask) → IsAsked whole.made.punched a
     → meaning pairs (cell_in whole.made.asks a) ≡ Some a.value
 
 -- ## What isn't selected is nothing

@@ -1,18 +1,20 @@
 -- What a statement does to places and names, by those before it (PAL8, in this project's profile). No place and no name rests on a literal
 -- or a link.
-use Rattle.std.specs.Prelude.{ℕ, ◌+◌, ◌*◌, ◌/◌, nat_eq, nat_lt, Bool, true, false, not, if◌then◌else◌, is_some, Option, Some, None, Result, Ok, Err, List, [], ◌∷◌}
+use Rattle.std.specs.Prelude.{ℕ, ◌+◌, ◌-◌, ◌*◌, ◌/◌, ◌%◌, nat_eq, nat_lt, Bool, true, false, not, if◌then◌else◌, is_some, Option, Some, None, Result, Ok, Err, List, [], ◌∷◌}
 use Rattle.std.specs.Ordering.{nat_cmp}
 use Rattle.std.specs.FinMap.{find}
 use Rattle.pal_sym.specs.Values.{if_none}
 use Rattle.pal8_lex.specs.Kinds.{is_comma}
 use Rattle.pal8_lex.specs.declared.tokens.Token.{Token}
+use Rattle.pal8_lex.specs.declared.judging.Radix.{Radix}
 use Rattle.pal8_lex.specs.declared.judging.Radix.TheVariants as radix
 use Rattle.pal8_sym.specs.Permanent.{soft_names}
 use Rattle.pal8_grammar.specs.Bodies.{free_name}
 use Rattle.pal8_grammar.specs.declared.bodies.Body.{Body}
 use Rattle.pal8_grammar.specs.declared.bodies.Body.TheVariants as body
 use Rattle.pal8_grammar.specs.declared.steps.Step.{Step}
-use Rattle.pal8_values.specs.Sums.{Known, early_value}
+use Rattle.pal8_values.specs.Sums.{Known, early_value, here_of}
+use Rattle.pal8_values.specs.declared.sums.Spot.{Spot}
 use Rattle.pal8_values.specs.declared.faults.ValueFault.{ValueFault}
 use Rattle.pal8_values.specs.declared.faults.ValueFault.TheVariants as value
 use Rattle.pal8_asm.specs.declared.faults.Code.{Code}
@@ -31,6 +33,21 @@ pub record Standing : Type 0 where
 abbrev pub stands : Known → Known
 stands kept name = if_none (kept name) (find nat_cmp name soft_names)
 
+-- ## Places
+
+-- The place is the location, which RELOC shifts: the address at which a word runs, where the tape loads it at another one. (Without a shift a
+-- location may be 10000, which is past 7777.)
+abbrev pub shifted : ℕ → ℕ → ℕ
+shifted shift location = if nat_eq shift 0 then location else (location + shift) % 0o10000
+
+-- the location that has this place
+abbrev pub location_at : ℕ → ℕ → ℕ
+location_at shift place = (place + 0o10000 - shift) % 0o10000
+
+-- where a statement stands
+abbrev pub spot_at : Position → Spot
+spot_at p = record { field = p.field; location = p.location; here = shifted p.shift p.location; is_punched = p.is_punched }
+
 -- ## Names
 
 -- a name keeps this value from here on
@@ -46,18 +63,21 @@ keeps_other v None = false
 keeps_other v (Some known) = if nat_eq known v then false else true
 
 -- a tag stands for the place, which must not be past 7777, and its name for nothing else
-abbrev pub with_tag_by : ℕ → ℕ → Standing → Bool → Bool → Result Standing Code
-with_tag_by tag location s true is_other = Err code.PF
-with_tag_by tag location s false true = Err code.DT
-with_tag_by tag location s false false = Ok record {
-  kept = with_name tag location s.kept;
+abbrev pub with_tag_by : ℕ → ℕ → Standing → Bool → Result Standing Code
+with_tag_by tag place s true = Err code.DT
+with_tag_by tag place s false = Ok record {
+  kept = with_name tag place s.kept;
   fixed = with_fixed tag s.fixed;
   position = s.position;
 }
 
+abbrev pub with_tag_at : ℕ → Option ℕ → Standing → Result Standing Code
+with_tag_at tag None s = Err code.PF
+with_tag_at tag (Some place) s = with_tag_by tag place s (keeps_other place (s.kept tag))
+
 abbrev pub with_tag : Option ℕ → Standing → Result Standing Code
 with_tag None s = Ok s
-with_tag (Some tag) s = with_tag_by tag s.position.location s (nat_lt 0o7777 s.position.location) (keeps_other s.position.location (s.kept tag))
+with_tag (Some tag) s = with_tag_at tag (here_of (spot_at s.position)) s
 
 abbrev pub with_tag_if : Option ℕ → Result Standing Code → Result Standing Code
 with_tag_if tag (Err fault) = Err fault
@@ -78,10 +98,14 @@ with_definition_by name v s true true = Err code.RD
 abbrev pub with_definition : ℕ → ℕ → Standing → Result Standing Code
 with_definition name v s = with_definition_by name v s (s.fixed name) (keeps_other v (s.kept name))
 
--- ## Places
+-- ## Positions
 
 abbrev pub at_location : ℕ → Position → Position
-at_location location p = record { radix = p.radix; location = location; field = p.field }
+at_location location p = record p { location = location }
+
+-- `*` and PAGE set the place
+abbrev pub to_place : ℕ → Position → Position
+to_place place p = at_location (location_at p.shift place) p
 
 -- so many words more; the last one must not be past 7777
 abbrev pub with_size : ℕ → Position → Result Position Code
@@ -91,14 +115,37 @@ with_size n p =
 
 abbrev pub with_field : ℕ → Position → Result Position Code
 with_field n p =
-    if nat_lt 7 n then Err code.FD else Ok record { radix = p.radix; location = FIRST_PLACE; field = n }
+    if nat_lt 7 n then Err code.FD else Ok record p { location = FIRST_PLACE; field = n }
 
 abbrev pub with_page : ℕ → Position → Result Position Code
-with_page n p = if nat_lt 0o37 n then Err code.PG else Ok (at_location (0o200 * n) p)
+with_page n p = if nat_lt 0o37 n then Err code.PG else Ok (to_place (0o200 * n) p)
 
--- the first place of a page that isn't before this one
-abbrev pub next_page : ℕ → ℕ
-next_page location = (location + 0o177) / 0o200 * 0o200
+-- so many places are left to the first one of a page that isn't before this one
+abbrev pub to_page : ℕ → ℕ
+to_page place = (0o200 - place % 0o200) % 0o200
+
+-- past 7777 a location takes no word, and counts modulo 10000 alone
+abbrev pub kept_low : ℕ → ℕ
+kept_low location = if nat_lt location 0o20000 then location else location - 0o10000
+
+abbrev pub next_page : Position → Position
+next_page p = at_location (kept_low (p.location + to_page (shifted p.shift p.location))) p
+
+-- DECIMAL and OCTAL
+abbrev pub with_radix : Radix → Position → Position
+with_radix radix p = record p { radix = radix }
+
+-- ENPUNCH and NOPUNCH
+abbrev pub with_punching : Bool → Position → Position
+with_punching is_punched p = record p { is_punched = is_punched }
+
+-- RELOC alone: the place is the location again
+abbrev pub unrelocated : Position → Position
+unrelocated p = record p { shift = 0 }
+
+-- RELOC: this is the place from here on
+abbrev pub relocated : ℕ → Position → Position
+relocated place p = record p { shift = (place + 0o20000 - p.location) % 0o10000 }
 
 -- two characters a word, and 00 after the last one
 abbrev pub text_size : ℕ → ℕ
@@ -115,6 +162,7 @@ code_of value.IR = code.IR
 code_of value.II = code.II
 code_of value.PE = code.PE
 code_of value.ZE = code.ZE
+code_of value.RL = code.RL
 code_of value.Memory = code.SY
 
 abbrev pub coded : Result ℕ ValueFault → Result ℕ Code
@@ -128,7 +176,7 @@ moved s (Ok position) = Ok record { kept = s.kept; fixed = s.fixed; position = p
 -- a body with a value
 abbrev pub with_valued : Body → Standing → ℕ → Result Standing Code
 with_valued body.Nothing s v = Ok s
-with_valued body.Origin s v = moved s (Ok (at_location v s.position))
+with_valued body.Origin s v = moved s (Ok (to_place v s.position))
 with_valued (body.Define name) s v = with_definition name v s
 with_valued body.Decimal s v = Ok s
 with_valued body.Octal s v = Ok s
@@ -144,7 +192,7 @@ with_valued (body.IfDefined name) s v = Ok s
 with_valued (body.IfUndefined name) s v = Ok s
 with_valued body.NoPunch s v = Ok s
 with_valued body.Punch s v = Ok s
-with_valued body.Relocate s v = Ok s
+with_valued body.Relocate s v = moved s (Ok (relocated v s.position))
 with_valued body.Unrelocate s v = Ok s
 with_valued body.FileName s v = Ok s
 with_valued body.Device s v = Ok s
@@ -159,18 +207,17 @@ with_value_of body s (Ok v) = with_valued body s v
 
 -- a value by the names before, of which a statement's own tags are some
 abbrev pub value_at : Standing → List Step → Result ℕ Code
-value_at s steps = coded (early_value (stands s.kept) s.position.location steps)
+value_at s steps = coded (early_value (stands s.kept) (spot_at s.position) steps)
 
--- what a body does, with the steps of its value and the length of its string; `NOPUNCH`, `RELOC`, `EXPUNGE` and the like aren't taken yet
+-- what a body does, with the steps of its value and the length of its string; `EXPUNGE` and the like aren't taken yet
 abbrev pub with_body : Body → List Step → ℕ → Standing → Result Standing Code
 with_body body.Nothing steps length s = Ok s
 with_body body.Origin steps length s = with_value_of body.Origin s (value_at s steps)
 with_body (body.Define name) steps length s = with_value_of (body.Define name) s (value_at s steps)
-with_body body.Decimal steps length s =
-    moved s (Ok record { radix = radix.Decimal; location = s.position.location; field = s.position.field })
-with_body body.Octal steps length s = moved s (Ok record { radix = radix.Octal; location = s.position.location; field = s.position.field })
+with_body body.Decimal steps length s = moved s (Ok (with_radix radix.Decimal s.position))
+with_body body.Octal steps length s = moved s (Ok (with_radix radix.Octal s.position))
 with_body body.Field steps length s = with_value_of body.Field s (value_at s steps)
-with_body body.NextPage steps length s = moved s (Ok (at_location (next_page s.position.location) s.position))
+with_body body.NextPage steps length s = moved s (Ok (next_page s.position))
 with_body body.Page steps length s = with_value_of body.Page s (value_at s steps)
 with_body body.Zeros steps length s = with_value_of body.Zeros s (value_at s steps)
 with_body body.Text steps length s = moved s (with_size (text_size length) s.position)
@@ -179,12 +226,12 @@ with_body body.IfZero steps length s = Ok s
 with_body body.IfNotZero steps length s = Ok s
 with_body (body.IfDefined name) steps length s = Ok s
 with_body (body.IfUndefined name) steps length s = Ok s
-with_body body.NoPunch steps length s = Err code.SY
-with_body body.Punch steps length s = Err code.SY
-with_body body.Relocate steps length s = Err code.SY
-with_body body.Unrelocate steps length s = Err code.SY
-with_body body.FileName steps length s = Err code.SY
-with_body body.Device steps length s = Err code.SY
+with_body body.NoPunch steps length s = moved s (Ok (with_punching false s.position))
+with_body body.Punch steps length s = moved s (Ok (with_punching true s.position))
+with_body body.Relocate steps length s = with_value_of body.Relocate s (value_at s steps)
+with_body body.Unrelocate steps length s = moved s (Ok (unrelocated s.position))
+with_body body.FileName steps length s = moved s (with_size 4 s.position)
+with_body body.Device steps length s = moved s (with_size 2 s.position)
 with_body body.Expunge steps length s = Err code.SY
 with_body body.FixTable steps length s = Err code.SY
 with_body (body.FixOperation name) steps length s = Err code.SY

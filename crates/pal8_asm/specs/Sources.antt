@@ -22,7 +22,8 @@ use Rattle.pal8_grammar.specs.declared.steps.Step.TheVariants as step
 use Rattle.pal8_grammar.specs.declared.faults.GrammarFault.{GrammarFault}
 use Rattle.pal8_grammar.specs.declared.faults.GrammarFault.TheVariants as grammar
 use Rattle.pal8_values.specs.Sums.{Known}
-use Rattle.pal8_asm.specs.Places.{Standing, truth_of, with_statement}
+use Rattle.pal8_values.specs.declared.sums.Spot.{Spot}
+use Rattle.pal8_asm.specs.Places.{Standing, spot_at, truth_of, with_statement}
 use Rattle.pal8_asm.specs.declared.faults.Place.{Place}
 use Rattle.pal8_asm.specs.declared.faults.Fault.{Fault}
 use Rattle.pal8_asm.specs.declared.faults.Code.{Code}
@@ -61,10 +62,12 @@ start_of at (t ∷ others) = t.start
 abbrev pub place_of : Statement → Place
 place_of s = record { line = s.line; start = start_of s.at s.tokens }
 
--- A word that is to be made: the place of its statement, its cell, and the steps of its value.
+-- A word that is to be made: the place of its statement in the text, its cell, what `.` is there, whether it is punched, and the steps of its value.
 pub record Entry : Type 0 where
   pub place : Place
   pub cell : ℕ
+  pub here : ℕ
+  pub is_punched : Bool
   pub steps : List Step
 
 -- What statements leave: places and names; their words, in the order of the source; of each bracket that is open whether it is true, the newest
@@ -84,7 +87,7 @@ first_left = record {
   standing = record {
     kept = old.permanent;
     fixed = λ n. is_some (old.permanent n);
-    position = record { radix = radix.Octal; location = FIRST_PLACE; field = 0 };
+    position = record { radix = radix.Octal; location = FIRST_PLACE; field = 0; shift = 0; is_punched = true };
   };
   entries = [];
   brackets = [];
@@ -123,6 +126,11 @@ text_words [] = number 0 ∷ []
 text_words (a ∷ []) = number (0o100 * (a % 0o100)) ∷ []
 text_words (a ∷ b ∷ others) = number (0o100 * (a % 0o100) + b % 0o100) ∷ text_words others
 
+-- a word of each step
+abbrev pub word_each : List Step → List (List Step)
+word_each [] = []
+word_each (s ∷ others) = (s ∷ []) ∷ word_each others
+
 -- the words of a body, each as its steps, in their order
 abbrev pub words_in : Body → Known → List Step → List ℕ → ℕ → List (List Step)
 words_in body.Nothing kept steps string size = []
@@ -144,18 +152,30 @@ words_in body.NoPunch kept steps string size = []
 words_in body.Punch kept steps string size = []
 words_in body.Relocate kept steps string size = []
 words_in body.Unrelocate kept steps string size = []
-words_in body.FileName kept steps string size = []
-words_in body.Device kept steps string size = []
+words_in body.FileName kept steps string size = word_each (resolved kept steps)
+words_in body.Device kept steps string size = word_each (resolved kept steps)
 words_in body.Expunge kept steps string size = []
 words_in body.FixTable kept steps string size = []
 words_in (body.FixOperation name) kept steps string size = []
 words_in body.Word kept steps string size = resolved kept steps ∷ []
 
--- words from an address on, after others (no word that has a fault is kept, so none is past 7777)
-abbrev pub with_entries : Place → ℕ → ℕ → List (List Step) → List Entry → List Entry
-with_entries place field address [] entries = entries
-with_entries place field address (steps ∷ others) entries =
-    with_entries place field ((address + 1) % 0o10000) others (entries ++ record { place = place; cell = FIELD * field + address; steps = steps } ∷ [])
+abbrev pub entry_at : Place → Spot → List Step → Entry
+entry_at place spot steps = record {
+  place = place;
+  cell = FIELD * spot.field + spot.location % 0o10000;
+  here = spot.here % 0o10000;
+  is_punched = spot.is_punched;
+  steps = steps;
+}
+
+abbrev pub next_spot : Spot → Spot
+next_spot spot = record spot { location = (spot.location + 1) % 0o10000; here = (spot.here + 1) % 0o10000 }
+
+-- words from a spot on, after others (no word that has a fault is kept, so none is past 7777)
+abbrev pub with_entries : Place → Spot → List (List Step) → List Entry → List Entry
+with_entries place spot [] entries = entries
+with_entries place spot (steps ∷ others) entries =
+    with_entries place (next_spot spot) others (entries ++ entry_at place spot steps ∷ [])
 
 -- ## Statements
 
@@ -224,7 +244,7 @@ with_brackets s standing entries (Ok brackets) = Ok record { standing = standing
 abbrev pub with_phrase : Statement → Phrase → Left → Result Standing Code → Passed
 with_phrase s phrase left (Err fault) = Err (at_place (place_of s) fault)
 with_phrase s phrase left (Ok standing) = with_brackets s standing
-    (with_entries (place_of s) left.standing.position.field (left.standing.position.location % 0o10000)
+    (with_entries (place_of s) (spot_at left.standing.position)
     (words_in phrase.0 standing.kept phrase.1 s.string (standing.position.location - left.standing.position.location)) left.entries)
     (bracketed (place_of s) s.end left.brackets (truth_of phrase.0 phrase.1 standing))
 

@@ -1,6 +1,6 @@
 -- What the small steps of a pass come to, for private clauses.
 use Rattle.pal8_asm.specs.Assembling.{Progress, left_in, standing}
-use Rattle.std.specs.Prelude.{◌≡◌, ℕ, ◌-◌, ◌%◌, Bool, true, false, length, Option, Some, None, Result, Ok, Err, List, ◌∷◌, ◌++◌}
+use Rattle.std.specs.Prelude.{◌≡◌, ℕ, ◌-◌, Bool, true, false, length, Option, Some, None, Result, Ok, Err, List, ◌∷◌, ◌++◌}
 use Rattle.pal_sym.specs.SymbolTable.{SymbolTable}
 use Rattle.pal_sym.specs.Values.{symbol_value}
 use Rattle.pal_lex.specs.Text.{limit, text_from}
@@ -15,7 +15,7 @@ use Rattle.pal8_pools.specs.Cells.{ArePairs}
 use Rattle.pal8_pools.specs.Pooled.{Holds, PoolTable}
 use Rattle.pal8_values.specs.Answering.{IsAsked}
 use Rattle.pal8_values.specs.Words.{Asked}
-use Rattle.pal8_asm.specs.Places.{Standing, code_of}
+use Rattle.pal8_asm.specs.Places.{Standing, code_of, spot_at}
 use Rattle.pal8_asm.specs.Tapes.{Made}
 use Rattle.pal8_clash.specs.Clashes.{AreMarks, lowest_clash}
 use Rattle.pal8_asm.specs.Sources.{Entry, Passed, at_place, ended_at, passed, statements, with_entries, words_in}
@@ -68,7 +68,7 @@ TakesStatement whole (Err asm.Memory) table entries brackets end = Unit {0}
 pub record IsTaken (whole : Result Standing Code) (place : Place) (body : Body) (steps : List Step) (string : List ℕ) (before next : Position) (old : List Entry)
     (table : SymbolTable) (new : List Entry) : Type 0 where
   pub passed : whole ≡ Ok (standing table next)
-  pub words : new ≡ with_entries place before.field (before.location % 0o10000) (words_in body (symbol_value table) steps string (next.location - before.location)) old
+  pub words : new ≡ with_entries place (spot_at before) (words_in body (symbol_value table) steps string (next.location - before.location)) old
 
 abbrev pub TakesBody : Result Standing Code → Place → Body → List Step → List ℕ → Position → List Entry → Result Position AsmFault → SymbolTable → List Entry → Type 0
 TakesBody whole place body steps string before old (Ok next) table new = IsTaken whole place body steps string before next old table new
@@ -124,22 +124,26 @@ Closes whole (Err asm.Memory) a = Unit {0}
 -- ## Words
 
 -- the fault of a word at this place
-abbrev pub coded_at : Place → Asked → Result (ℕ × List Ask) Fault
+abbrev pub coded_at : Place → Asked → Result (ℕ × List Ask × List Ask) Fault
 coded_at place (Err fault) = Err (at_place place (code_of fault))
 coded_at place (Ok asked) = Ok asked
+
+-- this is the fault of a word at this place; or memory ran out
+abbrev pub IsFaultAt : Place → Asked → AsmFault → Type 0
+IsFaultAt place whole (asm.At code place') = coded_at place whole ≡ Err (at_place place' code)
+IsFaultAt place whole asm.Memory = Unit {0}
 
 -- a word is answered, and the pools hold what was asked up to it; or its fault at this place; or memory ran out
 abbrev pub GivesAt : Place → Asked → Result ℕ AsmFault → PoolTable → Type 0
 GivesAt place whole (Ok word) new = IsAsked whole word new
-GivesAt place whole (Err (asm.At code place')) new = coded_at place whole ≡ Err (at_place place' code)
-GivesAt place whole (Err asm.Memory) new = Unit {0}
+GivesAt place whole (Err fault) new = IsFaultAt place whole fault
 
 -- Entries were made, after others: these are the words so far, with their cells, the first clash, and the pools hold what was asked.
 pub record IsMaking (whole : Result Made Fault) (pools : PoolTable) (marks : List Bool) (clash : Option Fault) (pairs : List (ℕ × ℕ)) : Type 0 where
   pub made : Made
   pub is_whole : whole ≡ Ok made
   pub words : pairs ≡ made.words
-  pub holds : Holds pools made.asks made.asks
+  pub holds : Holds pools made.asks made.punched
   pub marked : AreMarks marks made.words
   pub clashes : clash ≡ made.clash
   pub free : made.clash ≡ None → lowest_clash made.asks made.words ≡ None
@@ -151,7 +155,7 @@ Makes whole (Err (asm.At code place)) pools marks clash pairs = whole ≡ Err (a
 Makes whole (Err asm.Memory) pools marks clash pairs = Unit {0}
 
 -- The pairs of pools come after others, by rising cell.
-pub record AddsPool (asks : List Ask) (old new : List (ℕ × ℕ)) : Type 0 where
+pub record AddsPool (asks punched : List Ask) (old new : List (ℕ × ℕ)) : Type 0 where
   pub pool : List (ℕ × ℕ)
   pub are : new ≡ old ++ pool
-  pub is_pool : ArePairs asks asks pool
+  pub is_pool : ArePairs asks punched pool

@@ -1,8 +1,8 @@
 -- The words of a source with their cells, and what its pools hold (PAL8, in this project's profile).
-use Rattle.std.specs.Prelude.{ℕ, ◌/◌, ◌%◌, nat_lt, Bool, if◌then◌else◌, Option, Some, None, Result, Ok, Err, List, [], ◌∷◌, ◌++◌}
+use Rattle.std.specs.Prelude.{ℕ, ◌/◌, ◌%◌, nat_lt, Bool, if◌then◌else◌, Option, Some, None, Result, Ok, Err, List, [], ◌∷◌}
 use Rattle.word12.specs.declared.sizes.TheConstants.{FIELD, PAGE}
 use Rattle.pal8_pools.specs.Asks.{Ask}
-use Rattle.pal8_clash.specs.Clashes.{lowest_clash}
+use Rattle.pal8_clash.specs.Clashes.{lowest_clash, with_word}
 use Rattle.pal8_values.specs.Sums.{Known}
 use Rattle.pal8_values.specs.Words.{Asked, word_value}
 use Rattle.pal8_values.specs.declared.sums.Spot.{Spot}
@@ -13,15 +13,19 @@ use Rattle.pal8_asm.specs.declared.faults.Fault.{Fault}
 use Rattle.pal8_asm.specs.declared.faults.Code.{Code}
 use Rattle.pal8_asm.specs.declared.faults.Code.TheVariants as code
 
--- What entries make: their words with their cells, in the order of the source; what they asked, the newest first; and the first fault of a word
--- on a pool's cell.
+-- What entries make: the punched words with their cells, in the order of the source; what all words asked, and what the punched ones asked of
+-- that, the newest first; and the first fault of a punched word on a pool's cell.
 pub record Made : Type 0 where
   pub words : List (ℕ × ℕ)
   pub asks : List Ask
+  pub punched : List Ask
   pub clash : Option Fault
 
-abbrev pub spot_of : ℕ → Spot
-spot_of cell = record { field = cell / FIELD; location = cell % FIELD }
+abbrev pub nothing_made : Made
+nothing_made = record { words = []; asks = []; punched = []; clash = None }
+
+abbrev pub spot_of : Entry → Spot
+spot_of e = record { field = e.cell / FIELD; location = e.cell % FIELD; here = e.here; is_punched = e.is_punched }
 
 -- a cell of a page zero
 abbrev pub is_on_zero : ℕ → Bool
@@ -39,17 +43,19 @@ abbrev pub first_of : Option Fault → Option Fault → Option Fault
 first_of None later = later
 first_of (Some fault) later = Some fault
 
-abbrev pub with_word : Entry → Made → Asked → Result Made Fault
-with_word e made (Err fault) = Err (at_place e.place (code_of fault))
-with_word e made (Ok (word, asks)) = Ok record {
-  words = made.words ++ (e.cell, word) ∷ [];
+-- an entry's word; one that isn't punched asks, too
+abbrev pub with_made : Entry → Made → Asked → Result Made Fault
+with_made e made (Err fault) = Err (at_place e.place (code_of fault))
+with_made e made (Ok (word, asks, punched)) = Ok record {
+  words = with_word e.is_punched e.cell word made.words;
   asks = asks;
-  clash = first_of made.clash (clash_fault e.place (lowest_clash asks (made.words ++ (e.cell, word) ∷ [])));
+  punched = punched;
+  clash = first_of made.clash (clash_fault e.place (lowest_clash asks (with_word e.is_punched e.cell word made.words)));
 }
 
 abbrev pub with_entry : Known → Entry → Result Made Fault → Result Made Fault
 with_entry last e (Err fault) = Err fault
-with_entry last e (Ok made) = with_word e made (word_value last (spot_of e.cell) e.steps made.asks)
+with_entry last e (Ok made) = with_made e made (word_value last (spot_of e) e.steps made.asks made.punched)
 
 -- entries more, up to the first fault of a word
 abbrev pub with_entries : Known → List Entry → Result Made Fault → Result Made Fault
@@ -58,13 +64,13 @@ with_entries last (e ∷ others) made = with_entries last others (with_entry las
 
 -- what entries make, by what names stand for at last; or the first fault of a word
 abbrev pub made_of : Known → List Entry → Result Made Fault
-made_of last entries = with_entries last entries (Ok record { words = []; asks = []; clash = None })
+made_of last entries = with_entries last entries (Ok nothing_made)
 
 abbrev pub cleared_by : Made → Option Fault → Result Made Fault
 cleared_by made (Some fault) = Err fault
 cleared_by made None = Ok made
 
--- no word lies on a pool's cell
+-- no punched word lies on a pool's cell
 abbrev pub cleared : Result Made Fault → Result Made Fault
 cleared (Err fault) = Err fault
 cleared (Ok made) = cleared_by made made.clash

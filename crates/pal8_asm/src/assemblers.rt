@@ -1,4 +1,4 @@
-ghost use Rattle.std.specs.Prelude.{◌≡◌, ◌<◌, ◌≤◌, IfOk, Ok, None, length};
+ghost use Rattle.std.specs.Prelude.{◌≡◌, ◌<◌, IfOk, Ok, None, length};
 ghost use Rattle.pal8_sym.specs.SourceNames.{first_vocabulary, vocabulary_of};
 ghost use Rattle.pal8_grammar.specs.Saying.{Says};
 ghost use Rattle.pal8_asm.specs.Places.{truth_of, with_statement};
@@ -8,7 +8,7 @@ ghost use Rattle.pal8_asm.specs.Assembling.{Takes, left_in, standing};
 
 use crate::brackets::Brackets;
 use crate::entries::Entries;
-use crate::places::{Position, first_position};
+use crate::places::{Position, first_position, spot_at};
 use crate::tags::{pass_statement, truth_of};
 use crate::{AsmFault, Code, Place, Stop};
 use pal8_grammar::{Body, GrammarFault, Reader, Step};
@@ -16,7 +16,6 @@ use pal8_lex::{End, Radix, Token};
 use pal8_sym::{SourceNames, Symbols};
 use std::alloc::Global;
 use std::marker::Model;
-use word12::Word;
 
 /// Takes the statements of a source one after the other, and learns what names stand for, which statements are selected and which words are to
 /// be made.
@@ -33,7 +32,7 @@ pub struct Assembler {
 }
 
 impl Model for Assembler {
-    ghost use Rattle.std.specs.Prelude.{◌≡◌, ◌<◌, ◌≤◌};
+    ghost use Rattle.std.specs.Prelude.{◌≡◌, ◌<◌};
     ghost use Rattle.pal8_sym.specs.SourceNames.{first_vocabulary, vocabulary_of};
     ghost use Rattle.pal_sym.specs.SymbolTable.{table_code};
     ghost use Rattle.std.specs.Coded.{codes};
@@ -51,7 +50,8 @@ impl Model for Assembler {
       end = a.end;
     } };
 
-    ghost invariant = { λ a. (a.position.location ≤ 0o10000) × (a.position.field < 8) × (vocabulary_of a.names ≡ first_vocabulary) };
+    ghost invariant = { λ a. (a.position.location < 0o20000) × (a.position.field < 8) × (a.position.shift < 0o10000)
+        × (vocabulary_of a.names ≡ first_vocabulary) };
 }
 
 /// The place of the `$` at this byte that ends a statement, if one does.
@@ -85,11 +85,12 @@ fn take_body(
     body: Body,
     steps: &[Step],
 ) -> Result<Position, AsmFault>
-    requires place { position.location ≤ 0o10000 }
+    requires location { position.location < 0o20000 }
     requires field { position.field < 8 }
+    requires shift { position.shift < 0o10000 }
     ensures takes { TakesBody (with_statement tokens.now body steps.now (length string.now) (standing symbols.old position)) place body
         steps.now string.now position entries.old result symbols.new entries.new }
-    ensures range { IfOk result (λ p. (p.location ≤ 0o10000) × (p.field < 8)) }
+    ensures range { IfOk result (λ p. (p.location < 0o20000) × (p.field < 8) × (p.shift < 0o10000)) }
 {
     let before = position;
     let again = body;
@@ -99,17 +100,7 @@ fn take_body(
         Err(Stop::Memory) => return Err(AsmFault::Memory),
     };
     let size = next.location.saturating_sub(before.location);
-    let address = Word::low(before.location);
-    entries.push_body(
-        symbols,
-        place,
-        before.field,
-        address,
-        again,
-        steps,
-        string,
-        size,
-    )?;
+    entries.push_body(symbols, place, spot_at(before), again, steps, string, size)?;
     Ok(next)
 }
 
@@ -123,6 +114,8 @@ fn pass_end(
     steps: &[Step],
     end: End,
 ) -> Result<(), AsmFault>
+    requires location { position.location < 0o20000 }
+    requires shift { position.shift < 0o10000 }
     ensures { PassesEnd (bracketed place end brackets.old (truth_of body steps.now (standing symbols.now position))) result brackets.new }
 {
     let again = end;
@@ -168,13 +161,14 @@ fn take_statement(
     is_cut: bool,
     end: End,
 ) -> Result<Position, AsmFault>
-    requires place { position.location ≤ 0o10000 }
+    requires location { position.location < 0o20000 }
     requires field { position.field < 8 }
+    requires shift { position.shift < 0o10000 }
     requires names { vocabulary_of names.now ≡ first_vocabulary }
     ensures takes { TakesStatement (with_selected (record { line = line; at = at; tokens = tokens.now; string = string.now; is_cut = is_cut; end = end })
         (record { standing = standing symbols.old position; entries = entries.old; brackets = brackets.old; end = None }))
         result symbols.new entries.new brackets.new (dollar_at end (record { line = line; start = at })) }
-    ensures range { IfOk result (λ p. (p.location ≤ 0o10000) × (p.field < 8)) }
+    ensures range { IfOk result (λ p. (p.location < 0o20000) × (p.field < 8) × (p.shift < 0o10000)) }
 {
     let place = Place {
         line,

@@ -11,9 +11,9 @@ use pal8_pools::Pools;
 use std::alloc::{AllocError, Global};
 use word12::{Cell, Word};
 
-/// Puts the cells of pools with their values after words.
+/// Puts the cells that punched words ask for with their values after words.
 fn push_pool(pairs: &mut Vec<(Cell, Word)>, pools: &Pools) -> Result<(), AllocError>
-    ensures { (asks : List Ask) → Holds pools.now asks asks → OnOk result (AddsPool asks pairs.old.items pairs.new.items) }
+    ensures { (asks punched : List Ask) → Holds pools.now asks punched → OnOk result (AddsPool asks punched pairs.old.items pairs.new.items) }
 {
     let mut cells = pools.cells();
     while let Some(pair) = cells.next() {
@@ -23,11 +23,12 @@ fn push_pool(pairs: &mut Vec<(Cell, Word)>, pools: &Pools) -> Result<(), AllocEr
 }
 
 /// Assembles a source, which is the bytes of a host's text: CR, form feed, NUL and rubout are as if they weren't there, and LF ends a line.
-/// The answer is its words with their cells, in the order of the source, and then each cell of a pool with its value, by rising cell.
+/// The answer is its punched words with their cells, in the order of the source, and then each cell that they ask for with its value, by rising
+/// cell.
 ///
 /// Its fault is the first of this order: of its statements, by places and names, up to the `$`; NE, with the place of the text's end; of its
-/// words UA, DZ, II, or PE or ZE where a page has no cell left; the clash of a word with a pool's cell, at the later of the two
-/// statements, the first one; NW, with the place of the `$`. It takes time in proportion to the bytes, but that a name is found by
+/// words, punched or not, UA, DZ, II, RL, or PE or ZE where a page has no cell left; the clash of a punched word with a pool's cell, at the later
+/// of the two statements, the first one; NW, with the place of the `$`. It takes time in proportion to the bytes, but that a name is found by
 /// halving (PAL8, the assembler of OS/8, in this project's profile).
 pub fn assemble(alloc: Global, text: &[u8]) -> Result<Vec<(Cell, Word)>, AsmFault>
     ensures { Assembles (text_of text.now) result }

@@ -1,4 +1,4 @@
-ghost use Rattle.std.specs.Prelude.{◌≡◌, ◌+◌, ◌*◌, ◌<◌, ◌≤◌, ◌++◌, [], ◌∷◌, OnOk, Ok, Result, length, replicate, vec_len, vec_capacity};
+ghost use Rattle.std.specs.Prelude.{◌≡◌, ◌+◌, ◌*◌, ◌%◌, ◌<◌, ◌≤◌, ◌++◌, [], ◌∷◌, OnOk, Ok, Result, length, replicate, vec_len, vec_capacity};
 ghost use Rattle.word12.specs.declared.sizes.TheConstants.{FIELD, CORE};
 ghost use Rattle.pal_sym.specs.Values.{symbol_value};
 ghost use Rattle.pal8_sym.specs.Symbols.{value_of};
@@ -7,7 +7,7 @@ ghost use Rattle.pal8_asm.specs.Steps.{IsMaking, Makes};
 ghost use Rattle.pal8_asm.specs.declared.faults.Fault.{Fault};
 ghost use Rattle.pal8_grammar.specs.declared.steps.Step.{Step};
 ghost use Rattle.pal8_asm.specs.Places.{text_size};
-ghost use Rattle.pal8_asm.specs.Sources.{Entry, number, number_or, resolved, resolved_step, text_words, with_entries, words_in};
+ghost use Rattle.pal8_asm.specs.Sources.{Entry, entry_at, next_spot, number, number_or, resolved, resolved_step, text_words, with_entries, word_each, words_in};
 
 use crate::words::make_all;
 use crate::{AsmFault, Fault, Place};
@@ -15,16 +15,21 @@ use pal8_clash::WordCells;
 use pal8_grammar::{Body, Step};
 use pal8_pools::Pools;
 use pal8_sym::Symbols;
-use pal8_values::Frames;
+use pal8_values::{Frames, Spot};
 use std::alloc::{AllocError, Global};
 use std::marker::Model;
 use word12::{Cell, Word};
 
-/// A word that is to be made: the place of its statement, its cell, and how many steps its value has.
+/// A word that is to be made.
 #[derive(Clone, Copy)]
 pub struct Head {
+    /// The place of its statement in the text.
     pub place: Place,
     pub cell: Cell,
+    /// What `.` is there.
+    pub here: Word,
+    pub is_punched: bool,
+    /// How many steps its value has.
     pub count: usize,
 }
 
@@ -70,6 +75,32 @@ fn resolved_step(symbols: &Symbols, step: Step) -> Step
     }
 }
 
+/// The next address, after 7777 0.
+fn next_address(address: u16) -> u16
+    ensures { result ≡ (address + 1) % 0o10000 }
+{
+    Word::low(address).plus(Word::ONE).get()
+}
+
+/// Where the next word stands.
+fn next_spot(spot: Spot) -> Spot
+    ensures { result ≡ next_spot spot }
+{
+    Spot {
+        location: next_address(spot.location),
+        here: next_address(spot.here),
+        ..spot
+    }
+}
+
+/// The cell of a word that stands there.
+fn cell_of(spot: Spot) -> Cell
+    requires { spot.field < 8 }
+    ensures { result ≡ FIELD * spot.field + spot.location % 0o10000 }
+{
+    Cell::at(spot.field, Word::low(spot.location))
+}
+
 /// Puts steps after others, where there is room.
 fn put_steps(to: &mut Vec<Step>, symbols: &Symbols, steps: &[Step])
     requires { vec_len to.old + length steps.now ≤ vec_capacity to.old }
@@ -98,21 +129,20 @@ impl Entries {
         &mut self,
         symbols: &Symbols,
         place: Place,
-        cell: Cell,
+        spot: Spot,
         steps: &[Step],
     ) -> Result<(), AllocError>
-        ensures { OnOk result (self.new ≡ self.old ++ record {
-          place = place;
-          cell = cell;
-          steps = resolved (symbol_value symbols.now) steps.now;
-        } ∷ []) }
+        requires { spot.field < 8 }
+        ensures { OnOk result (self.new ≡ self.old ++ entry_at place spot (resolved (symbol_value symbols.now) steps.now) ∷ []) }
     {
         self.heads.reserve(1)?;
         self.steps.reserve(steps.len())?;
         put_steps(&mut self.steps, symbols, steps);
         self.heads.push_reserved(Head {
             place,
-            cell,
+            cell: cell_of(spot),
+            here: Word::low(spot.here),
+            is_punched: spot.is_punched,
             count: steps.len(),
         });
         Ok(())
@@ -123,12 +153,13 @@ impl Entries {
         &mut self,
         symbols: &Symbols,
         place: Place,
-        cell: Cell,
+        spot: Spot,
         word: Word,
     ) -> Result<(), AllocError>
-        ensures { OnOk result (self.new ≡ self.old ++ record { place = place; cell = cell; steps = number word } ∷ []) }
+        requires { spot.field < 8 }
+        ensures { OnOk result (self.new ≡ self.old ++ entry_at place spot (number word) ∷ []) }
     {
-        self.push(symbols, place, cell, &[Step::Number(word)])
+        self.push(symbols, place, spot, &[Step::Number(word)])
     }
 
     /// Puts so many zeros after the others.
@@ -136,18 +167,17 @@ impl Entries {
         &mut self,
         symbols: &Symbols,
         place: Place,
-        field: u8,
-        address: Word,
+        spot: Spot,
         count: u16,
     ) -> Result<(), AllocError>
-        requires { field < 8 }
-        ensures { OnOk result (self.new ≡ with_entries place field address (replicate count (number 0)) self.old) }
+        requires { spot.field < 8 }
+        ensures { OnOk result (self.new ≡ with_entries place spot (replicate count (number 0)) self.old) }
     {
-        let mut at = address;
+        let mut at = spot;
         let mut left = count;
         while left > 0 {
-            self.push_number(symbols, place, Cell::at(field, at), Word::ZERO)?;
-            at = at.plus(Word::ONE);
+            self.push_number(symbols, place, at, Word::ZERO)?;
+            at = next_spot(at);
             left -= 1;
         }
         Ok(())
@@ -158,54 +188,73 @@ impl Entries {
         &mut self,
         symbols: &Symbols,
         place: Place,
-        field: u8,
-        address: Word,
+        spot: Spot,
         string: &[u8],
     ) -> Result<(), AllocError>
-        requires { field < 8 }
-        ensures { OnOk result (self.new ≡ with_entries place field address (text_words string.now) self.old) }
+        requires { spot.field < 8 }
+        ensures { OnOk result (self.new ≡ with_entries place spot (text_words string.now) self.old) }
     {
-        let mut at = address;
+        let mut at = spot;
         let mut rest = string;
         while let [first, second, others @ ..] = rest {
             let word = Word::low(0o100 * u16::from(*first % 0o100) + u16::from(*second % 0o100));
-            self.push_number(symbols, place, Cell::at(field, at), word)?;
-            at = at.plus(Word::ONE);
+            self.push_number(symbols, place, at, word)?;
+            at = next_spot(at);
             rest = others;
         }
         let word = match rest {
             [first, ..] => Word::low(0o100 * u16::from(*first % 0o100)),
             [] => Word::ZERO,
         };
-        self.push_number(symbols, place, Cell::at(field, at), word)
+        self.push_number(symbols, place, at, word)
     }
 
-    /// Puts the words of a statement's body after the others, from an address on: of a value, of so many zeros, or of a string.
+    /// Puts a word of each step after the others.
+    fn push_each(
+        &mut self,
+        symbols: &Symbols,
+        place: Place,
+        spot: Spot,
+        steps: &[Step],
+    ) -> Result<(), AllocError>
+        requires { spot.field < 8 }
+        ensures { OnOk result (self.new ≡ with_entries place spot (word_each (resolved (symbol_value symbols.now) steps.now)) self.old) }
+    {
+        let mut at = spot;
+        let mut rest = steps;
+        while let [step, others @ ..] = rest {
+            self.push(symbols, place, at, &[*step])?;
+            at = next_spot(at);
+            rest = others;
+        }
+        Ok(())
+    }
+
+    /// Puts the words of a statement's body after the others, from where it stands on: of a value, of so many zeros, of a string, or of a name.
     pub(crate) fn push_body(
         &mut self,
         symbols: &Symbols,
         place: Place,
-        field: u8,
-        address: Word,
+        spot: Spot,
         body: Body,
         steps: &[Step],
         string: &[u8],
         size: u16,
     ) -> Result<(), AllocError>
-        requires { field < 8 }
-        ensures { OnOk result (self.new ≡ with_entries place field address
+        requires { spot.field < 8 }
+        ensures { OnOk result (self.new ≡ with_entries place spot
             (words_in body (symbol_value symbols.now) steps.now string.now size) self.old) }
     {
         match body {
-            Body::Word => self.push(symbols, place, Cell::at(field, address), steps),
-            Body::Zeros => self.push_zeros(symbols, place, field, address, size),
-            Body::Text => self.push_text(symbols, place, field, address, string),
+            Body::Word => self.push(symbols, place, spot, steps),
+            Body::Zeros => self.push_zeros(symbols, place, spot, size),
+            Body::Text => self.push_text(symbols, place, spot, string),
+            Body::FileName | Body::Device => self.push_each(symbols, place, spot, steps),
             Body::Nothing | Body::Origin | Body::Define(_) | Body::Decimal | Body::Octal => Ok(()),
             Body::Field | Body::NextPage | Body::Page | Body::Listing => Ok(()),
             Body::IfZero | Body::IfNotZero | Body::IfDefined(_) | Body::IfUndefined(_) => Ok(()),
             Body::NoPunch | Body::Punch | Body::Relocate | Body::Unrelocate => Ok(()),
-            Body::FileName | Body::Device | Body::Expunge | Body::FixTable => Ok(()),
-            Body::FixOperation(_) => Ok(()),
+            Body::Expunge | Body::FixTable | Body::FixOperation(_) => Ok(()),
         }
     }
 

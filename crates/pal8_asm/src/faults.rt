@@ -48,6 +48,9 @@ pub enum Code {
     /// Such a page zero.
     #[error("page zero exceeded")]
     ZE,
+    /// A literal of the own page, or a link, where `RELOC` shifts by no whole pages.
+    #[error("RELOC by no whole page")]
+    RL,
     /// A word on a cell of a page's pool: the lowest one. Its letters are PE.
     #[error("page exceeded")]
     PageClash(Cell),

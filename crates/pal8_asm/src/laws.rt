@@ -9,19 +9,20 @@ pub fn fault_stays()
     ensures { FaultStays }
 {}
 
-/// In a text without a fault no cell of a word is a pool's cell.
+/// In a text without a fault no cell of a punched word is a pool's cell.
 pub fn apart()
     ensures { Apart }
 {
     no_clash_is_apart();
 }
 
-/// The pairs of a text that asks nothing are its words.
+/// The pairs of a text whose punched words ask nothing are these words.
 pub fn no_pool_no_change()
     ensures { NoPoolNoChange }
 {}
 
-/// In a text without a fault the cell that a literal or a link is asked for holds its value: it is the last word that the pairs give that cell.
+/// In a text without a fault the cell that a punched word's literal or link asks for holds its value: it is the last word that the pairs give
+/// that cell.
 pub fn value_is_found()
     ensures { ValueIsFound }
 {}

@@ -1,26 +1,31 @@
-ghost use Rattle.std.specs.Prelude.{◌≡◌, ◌<◌, ◌≤◌, IfOk, Ok, Some};
+ghost use Rattle.std.specs.Prelude.{◌≡◌, ◌<◌, IfOk, Ok, Some};
 ghost use Rattle.pal8_sym.specs.Symbols.{value_of};
 ghost use Rattle.pal8_values.specs.Sums.{early_value};
+ghost use Rattle.pal8_values.specs.Answering.{Answers};
 ghost use Rattle.pal8_lex.specs.Kinds.{is_comma};
 ghost use Rattle.pal8_grammar.specs.Bodies.{free_name};
-ghost use Rattle.pal8_asm.specs.Places.{coded, truth_of, with_body, with_definition, with_statement, with_tag, with_tags, with_value_of, with_valued};
+ghost use Rattle.pal8_asm.specs.Places.{coded, spot_at, truth_of, with_body, with_definition, with_statement, with_tag, with_tags, with_value_of, with_valued};
 ghost use Rattle.pal8_asm.specs.Steps.{Defines, IsJudged, Values};
 ghost use Rattle.pal8_asm.specs.Assembling.{Passes, standing};
 
-use crate::places::{Position, at_location, next_page, with_field, with_page, with_size};
+use crate::places::{
+    Position, next_page, relocated, spot_at, to_place, with_field, with_page, with_size,
+};
 use crate::{Code, Stop};
 use pal_sym::SymFault;
 use pal8_grammar::{Body, Step, free_name};
 use pal8_lex::{Kind, Name, Radix, Token};
 use pal8_sym::Symbols;
-use pal8_values::{ValueFault, early_value};
+use pal8_values::{ValueFault, early_value, here_of};
 use word12::Word;
 
 /// Defines a tag at a place.
 fn define_tag(symbols: &mut Symbols, name: Name, position: Position) -> Result<(), Stop>
+    requires location { position.location < 0o20000 }
+    requires shift { position.shift < 0o10000 }
     ensures { Defines (with_tag (Some name) (standing symbols.old position)) position result symbols.new }
 {
-    let Some(place) = Word::new(position.location) else {
+    let Some(place) = here_of(spot_at(position)) else {
         return Err(Stop::At(Code::PF));
     };
     match symbols.define_tag(name, place) {
@@ -49,6 +54,8 @@ fn define(
 
 /// Defines the tag that a token is.
 fn define_token(symbols: &mut Symbols, kind: Kind, position: Position) -> Result<(), Stop>
+    requires location { position.location < 0o20000 }
+    requires shift { position.shift < 0o10000 }
     ensures { Defines (with_tag (free_name kind) (standing symbols.old position)) position result symbols.new }
 {
     match free_name(kind) {
@@ -65,6 +72,8 @@ fn is_comma(kind: Kind) -> bool
 
 /// Defines the tags in front of a statement, from the left.
 fn define_tags(symbols: &mut Symbols, tokens: &[Token], position: Position) -> Result<(), Stop>
+    requires location { position.location < 0o20000 }
+    requires shift { position.shift < 0o10000 }
     ensures { Defines (with_tags tokens.now (Ok (standing symbols.old position))) position result symbols.new }
 {
     let mut rest = tokens;
@@ -81,11 +90,22 @@ fn define_tags(symbols: &mut Symbols, tokens: &[Token], position: Position) -> R
     Ok(())
 }
 
-/// The value of steps by the names so far.
-fn value_at(symbols: &Symbols, location: u16, steps: &[Step]) -> Result<Word, Stop>
-    ensures { Values (coded (early_value (value_of symbols.now) location steps.now)) result }
+/// The value of steps at a position, by the names so far.
+fn early_at(symbols: &Symbols, position: Position, steps: &[Step]) -> Result<Word, ValueFault>
+    requires location { position.location < 0o20000 }
+    requires shift { position.shift < 0o10000 }
+    ensures { Answers (early_value (value_of symbols.now) (spot_at position) steps.now) result }
 {
-    match early_value(symbols, location, steps) {
+    early_value(symbols, spot_at(position), steps)
+}
+
+/// The value of steps by the names so far.
+fn value_at(symbols: &Symbols, position: Position, steps: &[Step]) -> Result<Word, Stop>
+    requires location { position.location < 0o20000 }
+    requires shift { position.shift < 0o10000 }
+    ensures { Values (coded (early_value (value_of symbols.now) (spot_at position) steps.now)) result }
+{
+    match early_at(symbols, position, steps) {
         Ok(value) => Ok(value),
         Err(ValueFault::UA(name)) => Err(Stop::At(Code::UA(name))),
         Err(ValueFault::PF) => Err(Stop::At(Code::PF)),
@@ -94,12 +114,13 @@ fn value_at(symbols: &Symbols, location: u16, steps: &[Step]) -> Result<Word, St
         Err(ValueFault::II) => Err(Stop::At(Code::II)),
         Err(ValueFault::PE) => Err(Stop::At(Code::PE)),
         Err(ValueFault::ZE) => Err(Stop::At(Code::ZE)),
+        Err(ValueFault::RL) => Err(Stop::At(Code::RL)),
         Err(ValueFault::Memory) => Err(Stop::Memory),
     }
 }
 
-/// Whether a condition is true, at a place (0 to 0o10000, which is past 7777), by the names so far, or the first fault of its value: UA, PF,
-/// DZ. Another body is none (PAL8, in this project's profile).
+/// Whether a condition is true, at a position, by the names so far, or the first fault of its value: UA, PF, DZ. Another body is none (PAL8, in
+/// this project's profile).
 #[tactic(auto, unfolding(pal8_sym::specs::Symbols::value_of))]
 pub(crate) fn truth_of(
     symbols: &Symbols,
@@ -107,14 +128,16 @@ pub(crate) fn truth_of(
     steps: &[Step],
     position: Position,
 ) -> Result<bool, Stop>
+    requires location { position.location < 0o20000 }
+    requires shift { position.shift < 0o10000 }
     ensures { IsJudged (truth_of body steps.now (standing symbols.now position)) result }
 {
     match body {
-        Body::IfZero => match value_at(symbols, position.location, steps) {
+        Body::IfZero => match value_at(symbols, position, steps) {
             Ok(value) => Ok(value.get() == 0),
             Err(stop) => Err(stop),
         },
-        Body::IfNotZero => match value_at(symbols, position.location, steps) {
+        Body::IfNotZero => match value_at(symbols, position, steps) {
             Ok(value) => Ok(value.get() != 0),
             Err(stop) => Err(stop),
         },
@@ -135,23 +158,25 @@ fn pass_valued(
     value: Word,
     position: Position,
 ) -> Result<Position, Stop>
-    requires place { position.location ≤ 0o10000 }
+    requires location { position.location < 0o20000 }
     requires field { position.field < 8 }
+    requires shift { position.shift < 0o10000 }
     ensures passes { Passes (with_valued body (standing symbols.old position) value) result symbols.new }
-    ensures range { IfOk result (λ p. (p.location ≤ 0o10000) × (p.field < 8)) }
+    ensures range { IfOk result (λ p. (p.location < 0o20000) × (p.field < 8) × (p.shift < 0o10000)) }
 {
     match body {
-        Body::Origin => Ok(at_location(value.get(), position)),
+        Body::Origin => Ok(to_place(value, position)),
         Body::Define(name) => define(symbols, name, value, position),
         Body::Field => with_field(value, position),
         Body::Page => with_page(value, position),
         Body::Zeros => with_size(usize::from(value.get()), position),
+        Body::Relocate => Ok(relocated(value, position)),
         Body::Nothing | Body::Decimal | Body::Octal | Body::NextPage => Ok(position),
         Body::Text | Body::Listing | Body::Word => Ok(position),
         Body::IfZero | Body::IfNotZero | Body::IfDefined(_) | Body::IfUndefined(_) => Ok(position),
-        Body::NoPunch | Body::Punch | Body::Relocate | Body::Unrelocate => Ok(position),
-        Body::FileName | Body::Device | Body::Expunge | Body::FixTable => Ok(position),
-        Body::FixOperation(_) => Ok(position),
+        Body::NoPunch | Body::Punch | Body::Unrelocate => Ok(position),
+        Body::FileName | Body::Device => Ok(position),
+        Body::Expunge | Body::FixTable | Body::FixOperation(_) => Ok(position),
     }
 }
 
@@ -162,14 +187,15 @@ fn pass_value(
     steps: &[Step],
     position: Position,
 ) -> Result<Position, Stop>
-    requires place { position.location ≤ 0o10000 }
+    requires location { position.location < 0o20000 }
     requires field { position.field < 8 }
+    requires shift { position.shift < 0o10000 }
     ensures passes { Passes (with_value_of body (standing symbols.old position)
-        (coded (early_value (value_of symbols.old) position.location steps.now))) result symbols.new }
-    ensures range { IfOk result (λ p. (p.location ≤ 0o10000) × (p.field < 8)) }
+        (coded (early_value (value_of symbols.old) (spot_at position) steps.now))) result symbols.new }
+    ensures range { IfOk result (λ p. (p.location < 0o20000) × (p.field < 8) × (p.shift < 0o10000)) }
 {
     let again = position;
-    match value_at(symbols, position.location, steps) {
+    match value_at(symbols, position, steps) {
         Ok(value) => pass_valued(symbols, body, value, again),
         Err(stop) => Err(stop),
     }
@@ -184,10 +210,11 @@ fn pass_body(
     length: usize,
     position: Position,
 ) -> Result<Position, Stop>
-    requires place { position.location ≤ 0o10000 }
+    requires location { position.location < 0o20000 }
     requires field { position.field < 8 }
+    requires shift { position.shift < 0o10000 }
     ensures passes { Passes (with_body body steps.now length (standing symbols.old position)) result symbols.new }
-    ensures range { IfOk result (λ p. (p.location ≤ 0o10000) × (p.field < 8)) }
+    ensures range { IfOk result (λ p. (p.location < 0o20000) × (p.field < 8) × (p.shift < 0o10000)) }
 {
     let again = body;
     match body {
@@ -204,27 +231,35 @@ fn pass_body(
             radix: Radix::Octal,
             ..position
         }),
-        Body::NextPage => Ok(at_location(next_page(position.location), position)),
+        Body::NextPage => Ok(next_page(position)),
         Body::Text => with_size(length / 2 + 1, position),
         Body::Word => with_size(1, position),
         Body::Nothing | Body::Listing => Ok(position),
         Body::IfZero | Body::IfNotZero | Body::IfDefined(_) | Body::IfUndefined(_) => Ok(position),
-        Body::NoPunch | Body::Punch | Body::Relocate | Body::Unrelocate => {
-            Err(Stop::At(Code::SY))
-        }
-        Body::FileName | Body::Device | Body::Expunge | Body::FixTable => {
-            Err(Stop::At(Code::SY))
-        }
-        Body::FixOperation(_) => Err(Stop::At(Code::SY)),
+        Body::NoPunch => Ok(Position {
+            is_punched: false,
+            ..position
+        }),
+        Body::Punch => Ok(Position {
+            is_punched: true,
+            ..position
+        }),
+        Body::Unrelocate => Ok(Position {
+            shift: 0,
+            ..position
+        }),
+        Body::Relocate => pass_value(symbols, Body::Relocate, steps, position),
+        Body::FileName => with_size(4, position),
+        Body::Device => with_size(2, position),
+        Body::Expunge | Body::FixTable | Body::FixOperation(_) => Err(Stop::At(Code::SY)),
     }
 }
 
 /// Takes a statement, whose tokens begin with its tags: they are defined from the left, then its body, with the steps of its value and the
 /// length of its string, defines a name or sets the position of the next statement. The position answered is that one.
 ///
-/// Its fault is the first of these: of each tag PF and DT; SY of `NOPUNCH`, `RELOC`, `FILENAME` and the like, which aren't taken yet; of a value
-/// that a place or a name rests on UA, PF, DZ and IR; then FD, PG or RD; last PF, where a word is past 7777. A name that memory ran out for isn't defined, and those before it are (PAL8, in this
-/// project's profile).
+/// Its fault is the first of these: of each tag PF and DT; of a value that a place or a name rests on UA, PF, DZ and IR; then FD, PG or RD; last
+/// PF, where a word is past 7777. A name that memory ran out for isn't defined, and those before it are (PAL8, in this project's profile).
 pub fn pass_statement(
     symbols: &mut Symbols,
     tokens: &[Token],
@@ -233,10 +268,11 @@ pub fn pass_statement(
     length: usize,
     position: Position,
 ) -> Result<Position, Stop>
-    requires place { position.location ≤ 0o10000 }
+    requires location { position.location < 0o20000 }
     requires field { position.field < 8 }
+    requires shift { position.shift < 0o10000 }
     ensures passes { Passes (with_statement tokens.now body steps.now length (standing symbols.old position)) result symbols.new }
-    ensures range { IfOk result (λ p. (p.location ≤ 0o10000) × (p.field < 8)) }
+    ensures range { IfOk result (λ p. (p.location < 0o20000) × (p.field < 8) × (p.shift < 0o10000)) }
 {
     match define_tags(symbols, tokens, position) {
         Ok(()) => pass_body(symbols, body, steps, length, position),

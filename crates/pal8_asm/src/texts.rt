@@ -139,11 +139,11 @@ impl Assembler {
         self.close(Place { line, start: at })
     }
 
-    /// Makes the words that the statements left, each with its cell, in the order of the source, by what names stand for at last. Nothing was
-    /// asked of the pools before; then they hold the values of the literals and links.
+    /// Makes the words that the statements left, by what names stand for at last, and gives the punched ones, each with its cell, in the order of
+    /// the source. Nothing was asked of the pools before; then they hold the values of the literals and links.
     ///
-    /// Its fault is the first of a word, in their order: UA, DZ, II, or PE or ZE where a page has no cell left; else the first clash of a word
-    /// with a pool's cell, by the later of the two statements (PAL8, in this project's profile).
+    /// Its fault is the first of a word, in their order: UA, DZ, II, RL, or PE or ZE where a page has no cell left; else the first clash of a
+    /// punched word with a pool's cell, by the later of the two statements (PAL8, in this project's profile).
     #[tactic(auto, unfolding(pal8_sym::specs::Symbols::value_of))]
     pub fn words(&self, alloc: Global, pools: &mut Pools) -> Result<Vec<(Cell, Word)>, AsmFault>
         requires { Holds pools.old [] [] }

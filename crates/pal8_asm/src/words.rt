@@ -1,12 +1,14 @@
-ghost use Rattle.std.specs.Prelude.{◌≡◌, ◌/◌, ◌<◌, ◌≤◌, List, Result, Ok, length};
-ghost use Rattle.word12.specs.declared.sizes.TheConstants.{PAGE};
+ghost use Rattle.std.specs.Prelude.{◌≡◌, ◌+◌, ◌/◌, ◌%◌, ◌<◌, ◌≤◌, List, Result, Ok, length, vec_len, vec_capacity};
+ghost use Rattle.word12.specs.declared.sizes.TheConstants.{FIELD, PAGE};
 ghost use Rattle.pal8_sym.specs.Symbols.{value_of};
 ghost use Rattle.pal8_pools.specs.Asks.{Ask};
 ghost use Rattle.pal8_pools.specs.Pooled.{Holds};
-ghost use Rattle.pal8_values.specs.Words.{word_value};
-ghost use Rattle.pal8_asm.specs.Kept.{cut, total};
-ghost use Rattle.pal8_asm.specs.Tapes.{Made, clash_code, clash_fault, first_of, spot_of, with_entries, with_entry};
-ghost use Rattle.pal8_asm.specs.Steps.{GivesAt, IsMaking, Makes};
+ghost use Rattle.pal8_clash.specs.Clashes.{with_word};
+ghost use Rattle.pal8_values.specs.Words.{Asked, word_value};
+ghost use Rattle.pal8_values.specs.Answering.{IsFault};
+ghost use Rattle.pal8_asm.specs.Kept.{cut, entry_of, total};
+ghost use Rattle.pal8_asm.specs.Tapes.{Made, clash_code, clash_fault, first_of, with_entries, with_entry};
+ghost use Rattle.pal8_asm.specs.Steps.{GivesAt, IsFaultAt, IsMaking, Makes};
 ghost use Rattle.pal8_asm.specs.declared.faults.Fault.{Fault};
 
 use crate::entries::Head;
@@ -20,18 +22,20 @@ use pal8_values::{Frames, Spot, ValueFault, word_value};
 use std::alloc::Global;
 use word12::{Cell, PAGE, Word};
 
-/// Where a word of this cell stands.
-fn spot_of(cell: Cell) -> Spot
-    ensures value { result ≡ spot_of cell }
-    ensures range { (result.field < 8) × (result.location < 0o10000) }
+/// Where a word stands.
+fn spot_of(cell: Cell, here: Word, is_punched: bool) -> Spot
+    ensures value { result ≡ record { field = cell / FIELD; location = cell % FIELD; here = here; is_punched = is_punched } }
+    ensures range { (result.field < 8) × (result.location < 0o10000) × (result.here < 0o10000) }
 {
     Spot {
         field: cell.field(),
         location: cell.address().get(),
+        here: here.get(),
+        is_punched,
     }
 }
 
-/// The page of a place in its field.
+/// The page of a word in its field.
 fn page_of(spot: Spot) -> u8
     requires { spot.location < 0o10000 }
     ensures value { result ≡ spot.location / PAGE }
@@ -68,6 +72,23 @@ fn first_clash(before: Option<Fault>, place: Place, cell: Option<Cell>) -> Optio
     }
 }
 
+/// The fault of a value in a statement that has this place.
+fn fault_at(fault: ValueFault, place: Place) -> AsmFault
+    ensures { (whole : Asked) → IsFault whole fault → IsFaultAt place whole result }
+{
+    match fault {
+        ValueFault::UA(name) => AsmFault::At(Code::UA(name), place),
+        ValueFault::PF => AsmFault::At(Code::PF, place),
+        ValueFault::DZ => AsmFault::At(Code::DZ, place),
+        ValueFault::IR => AsmFault::At(Code::IR, place),
+        ValueFault::II => AsmFault::At(Code::II, place),
+        ValueFault::PE => AsmFault::At(Code::PE, place),
+        ValueFault::ZE => AsmFault::At(Code::ZE, place),
+        ValueFault::RL => AsmFault::At(Code::RL, place),
+        ValueFault::Memory => AsmFault::Memory,
+    }
+}
+
 /// The word of a value, or the fault of its statement.
 fn word_at(
     frames: &mut Frames,
@@ -80,19 +101,23 @@ fn word_at(
 ) -> Result<Word, AsmFault>
     requires field { spot.field < 8 }
     requires location { spot.location < 0o10000 }
-    ensures { (asks : List Ask) → Holds pools.old asks asks
-        → GivesAt place (word_value (value_of symbols.now) spot steps.now asks) result pools.new }
+    requires here { spot.here < 0o10000 }
+    ensures { (asks punched : List Ask) → Holds pools.old asks punched
+        → GivesAt place (word_value (value_of symbols.now) spot steps.now asks punched) result pools.new }
 {
     match word_value(frames, pools, alloc, symbols, spot, steps) {
         Ok(word) => Ok(word),
-        Err(ValueFault::UA(name)) => Err(AsmFault::At(Code::UA(name), place)),
-        Err(ValueFault::PF) => Err(AsmFault::At(Code::PF, place)),
-        Err(ValueFault::DZ) => Err(AsmFault::At(Code::DZ, place)),
-        Err(ValueFault::IR) => Err(AsmFault::At(Code::IR, place)),
-        Err(ValueFault::II) => Err(AsmFault::At(Code::II, place)),
-        Err(ValueFault::PE) => Err(AsmFault::At(Code::PE, place)),
-        Err(ValueFault::ZE) => Err(AsmFault::At(Code::ZE, place)),
-        Err(ValueFault::Memory) => Err(AsmFault::Memory),
+        Err(fault) => Err(fault_at(fault, place)),
+    }
+}
+
+/// Puts a word with its cell after others, where there is room, if it is punched.
+fn put_word(pairs: &mut Vec<(Cell, Word)>, is_punched: bool, cell: Cell, word: Word)
+    requires { vec_len pairs.old + 1 ≤ vec_capacity pairs.old }
+    ensures { pairs.new.items ≡ with_word is_punched cell word pairs.old.items }
+{
+    if is_punched {
+        pairs.push_reserved((cell, word));
     }
 }
 
@@ -109,20 +134,20 @@ fn make_one(
     steps: &[Step],
 ) -> Result<(), AsmFault>
     ensures { (whole : Result Made Fault) → IsMaking whole pools.old cells.old clash.old pairs.old.items
-        → Makes (with_entry (value_of symbols.now) (record { place = head.place; cell = head.cell; steps = steps.now }) whole) result
+        → Makes (with_entry (value_of symbols.now) (entry_of head steps.now) whole) result
         pools.new cells.new clash.new pairs.new.items }
 {
     words_ask_near();
     pairs.reserve(1)?;
-    let spot = spot_of(head.cell);
+    let spot = spot_of(head.cell, head.here, head.is_punched);
     let own = pools.count(spot.field, page_of(spot));
     let zero = pools.count(spot.field, 0);
     let word = match word_at(frames, pools, alloc, symbols, head.place, spot, steps) {
         Ok(word) => word,
         Err(fault) => return Err(fault),
     };
-    pairs.push_reserved((head.cell, word));
-    let found = cells.put(pools, head.cell, own, zero);
+    put_word(pairs, head.is_punched, head.cell, word);
+    let found = cells.put(pools, head.cell, head.is_punched, own, zero);
     *clash = first_clash(*clash, head.place, found);
     Ok(())
 }

@@ -59,6 +59,7 @@ fn letters_of(code: Code) -> &'static str {
         Code::DZ => "DZ",
         Code::PE | Code::PageClash(_) => "PE",
         Code::ZE | Code::ZeroClash(_) => "ZE",
+        Code::RL => "RL",
         Code::PH => "PH",
         Code::NE => "NE",
         Code::NW => "NW",

@@ -86,8 +86,8 @@ record LiesAt (asks : List Ask) (c : ℕ) : Type 0 where
   pub to : c < 4096 * field + 128 * page + 128
   pub cell : IsPoolCell asks field page c
 
-lies : PoolIsPageEnd → (table : PoolTable) (asks : List Ask) → Holds table asks asks → (c : ℕ) → is_cell_of asks asks c ≡ true → LiesAt asks c
-lies law table asks holds c is =
+lies : PoolIsPageEnd → (table : PoolTable) (asks punched : List Ask) → Holds table asks punched → (c : ℕ) → is_cell_of asks asks c ≡ true → LiesAt asks c
+lies law table asks punched holds c is =
     let it = ask_of_cell asks asks c is in
     let core = holds.holds_values.in_core it.ask it.is_asked in
     let few = holds.holds_values.few it.ask.field it.ask.page core.0 core.1 in
@@ -114,14 +114,14 @@ same_page : (f p g q c : ℕ) → p < 32 → q < 32 → 4096 * f + 128 * p ≤ c
 same_page f p g q c a b low high low' high' = (omega (arith, a, b, low, high, low', high'), omega (arith, a, b, low, high, low', high'))
 
 -- no cell of such a page clashes now
-pub page_stays : PoolIsPageEnd → (table : PoolTable) (words : List (ℕ × ℕ)) (before after : List Ask) → Holds table after after
+pub page_stays : PoolIsPageEnd → (table : PoolTable) (words : List (ℕ × ℕ)) (before after punched : List Ask) → Holds table after punched
     → ((c : ℕ) → is_clash words before c ≡ false) → (f p : ℕ) → p < 32 → count after f p ≡ count before f p
     → IsLowestIn words after (4096 * f + 128 * p) (4096 * f + 128 * p + 128) None
-page_stays law table words before after holds none f p in_page same c low high = else_false (is_clash words after c) no
+page_stays law table words before after punched holds none f p in_page same c low high = else_false (is_clash words after c) no
   where
     no : is_clash words after c ≡ true → ⊥
     no is =
-        let at = lies law table after holds c (and_right (has_word words c) (is_cell_of after after c) is) in
+        let at = lies law table after punched holds c (and_right (has_word words c) (is_cell_of after after c) is) in
         let page = same_page at.field at.page f p c at.in_page in_page at.from at.to low high in
         let taken : is_cell_of before before c ≡ true = stays_on law before after at.field at.page c (rw (page.0, page.1) same) at.cell in
         cc (sym (none c) ∙ clash_of words before c (and_left (has_word words c) (is_cell_of after after c) is) taken)
@@ -209,14 +209,35 @@ has_word_more (x ∷ words) c word d = ap (λ t. nat_eq x.0 d || t) (has_word_mo
 pub none_is : (words : List (ℕ × ℕ)) (asks : List Ask) → lowest_clash asks words ≡ None → (c : ℕ) → is_clash words asks c ≡ false
 none_is words asks none = subst (λ r. IsLowest words asks r) none (lowest_is words asks)
 
+-- ## One cell after the other
+
+pub none_so_far : (words : List (ℕ × ℕ)) (asks : List Ask) (low at : ℕ) → ((c : ℕ) → low ≤ c → c < at → is_clash words asks c ≡ false)
+    → is_clash words asks at ≡ false → (c : ℕ) → low ≤ c → c < at + 1 → is_clash words asks c ≡ false
+none_so_far words asks low at none own c from to = by_test (nat_lt c at) refl
+  where
+    below : (a b : ℕ) → nat_lt a b ≡ true → a < b
+    below a b is = grind (arith, nat_tests)
+
+    above : (a b : ℕ) → nat_lt a b ≡ false → b ≤ a
+    above a b is = grind (arith, nat_tests)
+
+    by_test : (test : Bool) → nat_lt c at ≡ test → is_clash words asks c ≡ false
+    by_test true lt = none c from (below c at lt)
+    by_test false ge = ap (is_clash words asks) (omega (arith, to, above c at ge)) ∙ own
+
+pub lowest_found : (words : List (ℕ × ℕ)) (asks : List Ask) (low at high cell : ℕ) → cell ≡ at → low ≤ at → at < high → is_clash words asks at ≡ true
+    → ((c : ℕ) → low ≤ c → c < at → is_clash words asks c ≡ false) → IsLowestIn words asks low high (Some cell)
+lowest_found words asks low at high cell same from to is none =
+    (omega (arith, same, from), omega (arith, same, to), ap (is_clash words asks) same ∙ is, λ d first last. none d first (omega (arith, same, last)))
+
 -- ## Two pages
 
 -- where a clash lies, after none
-pub near : PoolIsPageEnd → (table : PoolTable) (words : List (ℕ × ℕ)) (before after : List Ask) → Holds table after after → ((c : ℕ) → is_clash words before c ≡ false)
+pub near : PoolIsPageEnd → (table : PoolTable) (words : List (ℕ × ℕ)) (before after punched : List Ask) → Holds table after punched → ((c : ℕ) → is_clash words before c ≡ false)
     → (f p : ℕ) → OthersStay f p before after → (d : ℕ) → is_clash words after d ≡ true
     → ((4096 * f ≤ d) × (d < 4096 * f + 128)) ⊎ ((4096 * f + 128 * p ≤ d) × (d < 4096 * f + 128 * p + 128))
-near law table words before after holds none f p stay d is =
-    let at = lies law table after holds d (and_right (has_word words d) (is_cell_of after after d) is) in
+near law table words before after punched holds none f p stay d is =
+    let at = lies law table after punched holds d (and_right (has_word words d) (is_cell_of after after d) is) in
     by_test at (nat_eq f at.field && (nat_eq p at.page || nat_eq 0 at.page)) refl
   where
     by_page : (at : LiesAt after d) → f ≡ at.field → (test : Bool) → nat_eq p at.page ≡ test → (test || nat_eq 0 at.page) ≡ true
@@ -235,7 +256,7 @@ near law table words before after holds none f p stay d is =
         let taken : is_cell_of before before d ≡ true = stays_on law before after at.field at.page d same at.cell in
         absurd (cc (sym (none d) ∙ clash_of words before d (and_left (has_word words d) (is_cell_of after after d) is) taken))
 
-module _ (law : PoolIsPageEnd) (table : PoolTable) (words : List (ℕ × ℕ)) (before after : List Ask) (holds : Holds table after after)
+module _ (law : PoolIsPageEnd) (table : PoolTable) (words : List (ℕ × ℕ)) (before after punched : List Ask) (holds : Holds table after punched)
     (none : lowest_clash before words ≡ None) (f p : ℕ) (stay : OthersStay f p before after) where
   abbrev Bounds : ℕ → Option ℕ → Type 0
   Bounds d None = ⊥
@@ -303,24 +324,28 @@ module _ (law : PoolIsPageEnd) (table : PoolTable) (words : List (ℕ × ℕ)) (
   as_lowest None clash bound = λ c. else_false (is_clash words after c) (λ is. bound c is)
   as_lowest (Some c) clash bound = (clash, bound)
 
-  pub lowest_near : (low own : Option ℕ) → IsLowestIn words after (4096 * f) (4096 * f + 128) low
+  lowest_near : (low own : Option ℕ) → IsLowestIn words after (4096 * f) (4096 * f + 128) low
       → IsLowestIn words after (4096 * f + 128 * p) (4096 * f + 128 * p + 128) own → IsLowest words after (lower low own)
   lowest_near low own a b =
       as_lowest (lower low own) (both_clash low own (clashes _ _ low a) (clashes _ _ own b))
-      (λ d is. by_page d is (near law table words before after holds (none_is words before none) f p stay d is))
+      (λ d is. by_page d is (near law table words before after punched holds (none_is words before none) f p stay d is))
     where
       by_page : (d : ℕ) → is_clash words after d ≡ true → ((4096 * f ≤ d) × (d < 4096 * f + 128)) ⊎ ((4096 * f + 128 * p ≤ d) × (d < 4096 * f + 128 * p + 128)) → Bounds d (lower low own)
       by_page d is (inl at) = bounds_left d low own (bounds _ _ low a d at.0 at.1 is)
       by_page d is (inr at) = bounds_right d low own (bounds _ _ own b d at.0 at.1 is)
 
-  -- the lowest clash of all, with a word more
-  pub lowest_after : (low own : Option ℕ) (c word : ℕ) → IsLowestIn words after (4096 * f) (4096 * f + 128) low
-      → IsLowestIn words after (4096 * f + 128 * p) (4096 * f + 128 * p + 128) own
-      → lower (lower low own) (cell_if (is_cell_of after after c) c) ≡ lowest_clash after (words ++ (c, word) ∷ [])
-  lowest_after low own c word a b =
-      one_lowest (words ++ (c, word) ∷ []) after _ _
-      (lower_is words (words ++ (c, word) ∷ []) after c (has_word_more words c word) (lower low own) (is_cell after c) refl (lowest_near low own a b))
-      (lowest_is (words ++ (c, word) ∷ []) after)
+  -- the lowest clash of all
+  pub lowest_of_all : (low own : Option ℕ) → IsLowestIn words after (4096 * f) (4096 * f + 128) low
+      → IsLowestIn words after (4096 * f + 128 * p) (4096 * f + 128 * p + 128) own → lower low own ≡ lowest_clash after words
+  lowest_of_all low own a b = one_lowest words after _ _ (lowest_near low own a b) (lowest_is words after)
+
+-- the lowest clash with a word more
+pub lowest_more : (words : List (ℕ × ℕ)) (asks : List Ask) (c word : ℕ)
+    → lower (lowest_clash asks words) (cell_if (is_cell_of asks asks c) c) ≡ lowest_clash asks (words ++ (c, word) ∷ [])
+lowest_more words asks c word =
+    one_lowest (words ++ (c, word) ∷ []) asks _ _
+    (lower_is words (words ++ (c, word) ∷ []) asks c (has_word_more words c word) (lowest_clash asks words) (is_cell asks c) refl (lowest_is words asks))
+    (lowest_is (words ++ (c, word) ∷ []) asks)
 
 -- the same, by other names of its bounds
 pub moved : (words : List (ℕ × ℕ)) (asks : List Ask) (low low' high high' : ℕ) (r : Option ℕ) → low ≡ low' → high ≡ high' → IsLowestIn words asks low high r

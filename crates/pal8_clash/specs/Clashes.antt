@@ -1,5 +1,5 @@
 -- Words on pools' cells (PAL8, in this project's profile): a cell that holds the value of a literal or a link is no word's.
-use Rattle.std.specs.Prelude.{◌≡◌, ℕ, nat_eq, nat_lt, Bool, true, false, ◌&&◌, ◌||◌, if◌then◌else◌, slice_index_or, Option, Some, None, List, [], ◌∷◌}
+use Rattle.std.specs.Prelude.{◌≡◌, ℕ, nat_eq, nat_lt, Bool, true, false, ◌&&◌, ◌||◌, if◌then◌else◌, slice_index_or, Option, Some, None, List, [], ◌∷◌, ◌++◌}
 use Rattle.pal8_pools.specs.Asks.{Ask, asked_of}
 use Rattle.pal8_pools.specs.Pooled.{is_cell_of}
 
@@ -22,6 +22,11 @@ lowest_clash asks (word ∷ others) = lower (lowest_clash asks others) (cell_if 
 abbrev pub has_word : List (ℕ × ℕ) → ℕ → Bool
 has_word [] c = false
 has_word (word ∷ others) c = nat_eq word.0 c || has_word others c
+
+-- the words with one more, if it is punched
+abbrev pub with_word : Bool → ℕ → ℕ → List (ℕ × ℕ) → List (ℕ × ℕ)
+with_word true c word words = words ++ (c, word) ∷ []
+with_word false c word words = words
 
 -- By cell, whether one of the words has it.
 abbrev pub AreMarks : List Bool → List (ℕ × ℕ) → Type 0

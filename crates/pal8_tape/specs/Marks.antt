@@ -13,7 +13,7 @@ use Rattle.pal8_asm.specs.Assembled.{assembled}
 use Rattle.pal8_asm.specs.Tapes.{Made}
 use Rattle.pal8_asm.specs.declared.faults.Fault.{Fault}
 use Rattle.pal8_asm.specs.declared.faults.Code.{Code}
-use Rattle.pal8_asm.specs.declared.faults.Code.TheVariants.{IC, SY, NU, UA, DT, RD, IR, II, FD, PG, PF, DZ, PE, ZE, PageClash, ZeroClash, PH, NE, NW}
+use Rattle.pal8_asm.specs.declared.faults.Code.TheVariants.{IC, SY, NU, UA, DT, RD, IR, II, FD, PG, PF, DZ, PE, ZE, PageClash, ZeroClash, RL, PH, NE, NW}
 
 abbrev pub is_name : ℕ → Kind → Bool
 is_name name (kind.Name n) = nat_eq n name
@@ -46,6 +46,7 @@ is_number_fault PE = false
 is_number_fault ZE = false
 is_number_fault (PageClash cell) = false
 is_number_fault (ZeroClash cell) = false
+is_number_fault RL = false
 is_number_fault PH = false
 is_number_fault NE = false
 is_number_fault NW = false
@@ -67,6 +68,7 @@ is_redefinition PE = false
 is_redefinition ZE = false
 is_redefinition (PageClash cell) = false
 is_redefinition (ZeroClash cell) = false
+is_redefinition RL = false
 is_redefinition PH = false
 is_redefinition NE = false
 is_redefinition NW = false
@@ -90,6 +92,7 @@ is_meant PE radix token = false
 is_meant ZE radix token = false
 is_meant (PageClash cell) radix token = false
 is_meant (ZeroClash cell) radix token = false
+is_meant RL radix token = false
 is_meant PH radix token = false
 is_meant NE radix token = false
 is_meant NW radix token = false

@@ -2,7 +2,7 @@
 use Rattle.std.specs.Prelude.{ℕ, codes, decimal, List, [], ◌++◌}
 use Rattle.word12.specs.Octal.{octal5}
 use Rattle.pal8_asm.specs.declared.faults.Code.{Code}
-use Rattle.pal8_asm.specs.declared.faults.Code.TheVariants.{IC, SY, NU, UA, DT, RD, IR, II, FD, PG, PF, DZ, PE, ZE, PageClash, ZeroClash, PH, NE, NW}
+use Rattle.pal8_asm.specs.declared.faults.Code.TheVariants.{IC, SY, NU, UA, DT, RD, IR, II, FD, PG, PF, DZ, PE, ZE, PageClash, ZeroClash, RL, PH, NE, NW}
 use Rattle.assemble8.specs.Spelling.{spelling}
 use Rattle.assemble8.specs.Telling.{character_text, located, marked_line}
 use Rattle.pal8_tape.specs.declared.faults.Fault.{Fault}
@@ -25,6 +25,7 @@ letters_of PE = codes "PE"
 letters_of ZE = codes "ZE"
 letters_of (PageClash cell) = codes "PE"
 letters_of (ZeroClash cell) = codes "ZE"
+letters_of RL = codes "RL"
 letters_of PH = codes "PH"
 letters_of NE = codes "NE"
 letters_of NW = codes "NW"
@@ -47,6 +48,7 @@ words_of PE = codes "page exceeded"
 words_of ZE = codes "page zero exceeded"
 words_of (PageClash cell) = codes "page exceeded"
 words_of (ZeroClash cell) = codes "page zero exceeded"
+words_of RL = codes "RELOC by no whole page"
 words_of PH = codes "unmatched bracket"
 words_of NE = codes "no $"
 words_of NW = codes "no word"
@@ -69,6 +71,7 @@ about PE byte = []
 about ZE byte = []
 about (PageClash cell) byte = codes " at " ++ octal5 cell
 about (ZeroClash cell) byte = codes " at " ++ octal5 cell
+about RL byte = []
 about PH byte = []
 about NE byte = []
 about NW byte = []

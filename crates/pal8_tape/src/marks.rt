@@ -162,7 +162,7 @@ fn is_meant(code: &Code, radix: Radix, token: &Token) -> bool
         Code::UA(name) => is_name(*name, token.kind),
         Code::SY | Code::DT | Code::RD | Code::IR | Code::II | Code::FD => false,
         Code::PG | Code::PF | Code::DZ | Code::PE | Code::ZE | Code::PH | Code::NE => false,
-        Code::NW | Code::PageClash(_) | Code::ZeroClash(_) => false,
+        Code::RL | Code::NW | Code::PageClash(_) | Code::ZeroClash(_) => false,
     }
 }
 

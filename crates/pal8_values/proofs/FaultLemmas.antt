@@ -5,8 +5,9 @@ use Rattle.pal8_grammar.specs.declared.steps.Step.{Step}
 use Rattle.pal8_values.specs.Sums.{Known, direct_value, with_plain, with_plains}
 use Rattle.pal8_values.specs.Answering.{IsFault}
 use Rattle.pal8_values.specs.declared.sums.Sum.{Sum}
+use Rattle.pal8_values.specs.declared.sums.Spot.{Spot}
 use Rattle.pal8_values.specs.declared.faults.ValueFault.{ValueFault}
-use Rattle.pal8_values.specs.declared.faults.ValueFault.TheVariants.{UA, PF, DZ, IR, II, PE, ZE, Memory}
+use Rattle.pal8_values.specs.declared.faults.ValueFault.TheVariants.{UA, PF, DZ, IR, II, PE, ZE, RL, Memory}
 
 -- what stands after the first of a list
 abbrev pub behind_one : {A : Type 0} → List A → List A
@@ -30,20 +31,21 @@ keeps_fault f keeps whole IR is = ap f is ∙ keeps IR
 keeps_fault f keeps whole II is = ap f is ∙ keeps II
 keeps_fault f keeps whole PE is = ap f is ∙ keeps PE
 keeps_fault f keeps whole ZE is = ap f is ∙ keeps ZE
+keeps_fault f keeps whole RL is = ap f is ∙ keeps RL
 keeps_fault f keeps whole Memory is = tt
 
 pub same_fault : {A : Type 0} (whole other : Result A ValueFault) (fault : ValueFault) → whole ≡ other → IsFault whole fault → IsFault other fault
 same_fault whole other fault e is = subst (λ w. IsFault w fault) e is
 
-module _ (known : Known) (location : ℕ) where
-  plains_stay : (steps : List Step) (e : ValueFault) → with_plains known location steps (Err e) ≡ Err e
+module _ (known : Known) (spot : Spot) where
+  plains_stay : (steps : List Step) (e : ValueFault) → with_plains known spot steps (Err e) ≡ Err e
   plains_stay [] e = refl
   plains_stay (step ∷ others) e = plains_stay others e
 
   -- the steps after the first one have its fault
   pub plain_fails : (steps : List Step) (step : Step) (sum : Sum) (fault : ValueFault) → 1 ≤ length steps → step ≡ get_or steps 0 step
-      → IsFault (with_plain known location step sum) fault → IsFault (direct_value location (with_plains known location steps (Ok sum))) fault
+      → IsFault (with_plain known spot step sum) fault → IsFault (direct_value spot.here (with_plains known spot steps (Ok sum))) fault
   plain_fails steps step sum fault long first is =
-      subst (λ l. IsFault (direct_value location (with_plains known location l (Ok sum))) fault) (sym (first_one steps step long first))
-      (keeps_fault (λ r. direct_value location (with_plains known location (behind_one steps) r)) (λ e. ap (direct_value location) (plains_stay (behind_one steps) e))
-      (with_plain known location step sum) fault is)
+      subst (λ l. IsFault (direct_value spot.here (with_plains known spot l (Ok sum))) fault) (sym (first_one steps step long first))
+      (keeps_fault (λ r. direct_value spot.here (with_plains known spot (behind_one steps) r)) (λ e. ap (direct_value spot.here) (plains_stay (behind_one steps) e))
+      (with_plain known spot step sum) fault is)

@@ -1,3 +1,4 @@
 pub mod FaultLemmas
 pub mod WordLemmas
 pub mod NearLemmas
+pub mod AskLemmas

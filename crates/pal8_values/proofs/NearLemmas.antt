@@ -1,20 +1,22 @@
 -- Which pools a word asks.
 use Rattle.std.proofs.Common.{◌≡◌, ℕ, ◌&&◌, ◌||◌, Bool, true, false, if◌then◌else◌, Option, Some, None, Result, Ok, Err, List, [], ◌∷◌, ◌++◌, refl, sym, ap, ◌∙◌}
-use Rattle.std.specs.Prelude.{nat_eq, nat_le, ◌-◌, ◌*◌, ◌/◌}
+use Rattle.std.specs.Prelude.{nat_eq, nat_le, ◌+◌, ◌/◌, ◌%◌}
 use Rattle.std.proofs.lemmas.List.{append_assoc}
-use Rattle.word12.specs.declared.sizes.TheConstants.{FIELD, PAGE}
+use Rattle.word12.specs.declared.sizes.TheConstants.{PAGE}
 use Rattle.pal8_lex.specs.declared.tokens.Pool.{Pool}
 use Rattle.pal8_lex.specs.declared.tokens.Pool.TheVariants.{Own, Zero}
 use Rattle.pal8_pools.specs.Asks.{Ask, asked_of, cell_in, is_of, pool_of, rank}
+use Rattle.pal8_pools.specs.Pooled.{with_punched}
 use Rattle.pal8_grammar.specs.declared.steps.Step.{Step}
 use Rattle.pal8_grammar.specs.declared.steps.Step.TheVariants as step
 use Rattle.pal8_values.specs.Sums.{Known, offset_of, with_plain, with_value}
-use Rattle.pal8_values.specs.Words.{Asked, Evaluation, ask_of, evaluation, full, referred, value_by, with_ask, with_cell, with_close, with_link, with_literal, with_step, with_step_if, with_steps, word_in}
+use Rattle.pal8_values.specs.Words.{Asked, Evaluation, ask_of, evaluation, full, is_torn, page_start, referred, value_by, with_ask, with_cell, with_cell_of, with_close, with_link, with_literal, with_step, with_step_if, with_steps, word_in}
 use Rattle.pal8_values.specs.Laws.{AsksNear, GoesNear, WordsAskNear, is_near}
 use Rattle.pal8_values.specs.declared.sums.Sum.{Sum}
 use Rattle.pal8_values.specs.declared.sums.Spot.{Spot}
 use Rattle.pal8_values.specs.declared.frames.Frame.{Frame}
 use Rattle.pal8_values.specs.declared.faults.ValueFault.{ValueFault}
+use Rattle.pal8_values.specs.declared.faults.ValueFault.TheVariants.{RL}
 
 first_far : (x y z : Bool) → (x && (y || z)) ≡ false → (x && y) ≡ false
 first_far false y z far = refl
@@ -51,31 +53,39 @@ module _ (spot : Spot) where
 
   goes_further : (a b : List Ask) (r : Asked) → AsksNear spot a b → GoesNear spot b r → GoesNear spot a r
   goes_further a b (Err fault) near goes = tt
-  goes_further a b (Ok (value, c)) near goes = goes_on a b c near goes
+  goes_further a b (Ok (value, c, punched)) near goes = goes_on a b c near goes
 
-  ask_near : (pool : Pool) (value : ℕ) (asks : List Ask) → GoesNear spot asks (with_ask (ask_of spot pool value) asks)
-  ask_near pool value asks =
-      by_test (nat_le (rank (pool_of (ask_of spot pool value ∷ asks) (ask_of spot pool value).field (ask_of spot pool value).page) value) 0o177)
+  ask_near : (pool : Pool) (value : ℕ) (asks punched : List Ask) → GoesNear spot asks (with_ask spot pool value asks punched)
+  ask_near pool value asks punched = by_shift (is_torn pool spot)
     where
-      by_test : (test : Bool) → GoesNear spot asks
-          (if test then Ok (cell_in (ask_of spot pool value ∷ asks) (ask_of spot pool value) - FIELD * (ask_of spot pool value).field, ask_of spot pool value ∷ asks)
+      by_room : (test : Bool) → GoesNear spot asks
+          (if test then Ok (
+            page_start pool spot.here + cell_in (ask_of spot pool value ∷ asks) (ask_of spot pool value) % PAGE,
+            ask_of spot pool value ∷ asks,
+            with_punched spot.is_punched (ask_of spot pool value) punched,
+          )
           else Err (full (ask_of spot pool value).page))
-      by_test true = one_near pool value asks
-      by_test false = tt
+      by_room true = one_near pool value asks
+      by_room false = tt
+
+      by_shift : (test : Bool) → GoesNear spot asks (if test then Err RL else with_cell_of spot pool (ask_of spot pool value) asks punched)
+      by_shift true = tt
+      by_shift false =
+          by_room (nat_le (rank (pool_of (ask_of spot pool value ∷ asks) (ask_of spot pool value).field (ask_of spot pool value).page) value) 0o177)
 
   link_near : (operation : ℕ) (asks : List Ask) (r : Asked) → GoesNear spot asks r → GoesNear spot asks (with_link operation r)
   link_near operation asks (Err fault) goes = tt
-  link_near operation asks (Ok (cell, after)) goes = goes
+  link_near operation asks (Ok (cell, after, punched)) goes = goes
 
-  reference_near : (operation : ℕ) (is_indirect : Bool) (offset : Option ℕ) (address : ℕ) (asks : List Ask)
-      → GoesNear spot asks (referred spot operation is_indirect offset address asks)
-  reference_near operation is_indirect (Some offset) address asks = stays asks
-  reference_near operation true None address asks = tt
-  reference_near operation false None address asks = link_near operation asks (with_ask (ask_of spot Own address) asks) (ask_near Own address asks)
+  reference_near : (operation : ℕ) (is_indirect : Bool) (offset : Option ℕ) (address : ℕ) (asks punched : List Ask)
+      → GoesNear spot asks (referred spot operation is_indirect offset address asks punched)
+  reference_near operation is_indirect (Some offset) address asks punched = stays asks
+  reference_near operation true None address asks punched = tt
+  reference_near operation false None address asks punched = link_near operation asks (with_ask spot Own address asks punched) (ask_near Own address asks punched)
 
-  value_near : (is_reference : Bool) (s : Sum) (asks : List Ask) → GoesNear spot asks (value_by spot is_reference s asks)
-  value_near false s asks = stays asks
-  value_near true s asks = reference_near s.operation s.is_indirect (offset_of spot.location s.total) s.total asks
+  value_near : (is_reference : Bool) (s : Sum) (asks punched : List Ask) → GoesNear spot asks (value_by spot is_reference s asks punched)
+  value_near false s asks punched = stays asks
+  value_near true s asks punched = reference_near s.operation s.is_indirect (offset_of spot.here s.total) s.total asks punched
 
   -- ## Steps
 
@@ -87,36 +97,37 @@ module _ (spot : Spot) where
   further a b (Err fault) near goes = tt
   further a b (Ok e) near goes = goes_on a b e.asks near goes
 
-  plain_near : (frames : List Frame) (asks : List Ask) (r : Result Sum ValueFault) → StepsNear asks (evaluation frames asks r)
-  plain_near frames asks (Err fault) = tt
-  plain_near frames asks (Ok s) = stays asks
+  plain_near : (frames : List Frame) (asks punched : List Ask) (r : Result Sum ValueFault) → StepsNear asks (evaluation frames asks punched r)
+  plain_near frames asks punched (Err fault) = tt
+  plain_near frames asks punched (Ok s) = stays asks
 
   cell_near : (frame : Frame) (others : List Frame) (asks : List Ask) (r : Asked) → GoesNear spot asks r → StepsNear asks (with_cell frame others r)
   cell_near frame others asks (Err fault) goes = tt
-  cell_near frame others asks (Ok (cell, after)) goes =
-      further asks after (evaluation others after (with_value cell frame.sum)) goes (plain_near others after (with_value cell frame.sum))
+  cell_near frame others asks (Ok (cell, after, punched)) goes =
+      further asks after (evaluation others after punched (with_value cell frame.sum)) goes (plain_near others after punched (with_value cell frame.sum))
 
   literal_near : (frame : Frame) (others : List Frame) (asks : List Ask) (r : Asked) → GoesNear spot asks r → StepsNear asks (with_literal spot frame others r)
   literal_near frame others asks (Err fault) goes = tt
-  literal_near frame others asks (Ok (value, after)) goes =
-      further asks after (with_cell frame others (with_ask (ask_of spot frame.pool value) after)) goes
-      (cell_near frame others after (with_ask (ask_of spot frame.pool value) after) (ask_near frame.pool value after))
+  literal_near frame others asks (Ok (value, after, punched)) goes =
+      further asks after (with_cell frame others (with_ask spot frame.pool value after punched)) goes
+      (cell_near frame others after (with_ask spot frame.pool value after punched) (ask_near frame.pool value after punched))
 
-  close_near : (frames : List Frame) (s : Sum) (asks : List Ask) → StepsNear asks (with_close spot frames s asks)
-  close_near [] s asks = stays asks
-  close_near (frame ∷ others) s asks = literal_near frame others asks (value_by spot s.is_reference s asks) (value_near s.is_reference s asks)
+  close_near : (frames : List Frame) (s : Sum) (asks punched : List Ask) → StepsNear asks (with_close spot frames s asks punched)
+  close_near [] s asks punched = stays asks
+  close_near (frame ∷ others) s asks punched =
+      literal_near frame others asks (value_by spot s.is_reference s asks punched) (value_near s.is_reference s asks punched)
 
   step_near : (known : Known) (s : Step) (e : Evaluation) → StepsNear e.asks (with_step known spot s e)
-  step_near known (step.Operation word) e = plain_near e.frames e.asks (with_plain known spot.location (step.Operation word) e.sum)
-  step_near known step.Alone e = plain_near e.frames e.asks (with_plain known spot.location step.Alone e.sum)
-  step_near known step.Indirect e = plain_near e.frames e.asks (with_plain known spot.location step.Indirect e.sum)
-  step_near known (step.Name name) e = plain_near e.frames e.asks (with_plain known spot.location (step.Name name) e.sum)
-  step_near known (step.Permanent name value) e = plain_near e.frames e.asks (with_plain known spot.location (step.Permanent name value) e.sum)
-  step_near known (step.Number word) e = plain_near e.frames e.asks (with_plain known spot.location (step.Number word) e.sum)
-  step_near known step.Here e = plain_near e.frames e.asks (with_plain known spot.location step.Here e.sum)
-  step_near known (step.Sign op) e = plain_near e.frames e.asks (with_plain known spot.location (step.Sign op) e.sum)
+  step_near known (step.Operation word) e = plain_near e.frames e.asks e.punched (with_plain known spot (step.Operation word) e.sum)
+  step_near known step.Alone e = plain_near e.frames e.asks e.punched (with_plain known spot step.Alone e.sum)
+  step_near known step.Indirect e = plain_near e.frames e.asks e.punched (with_plain known spot step.Indirect e.sum)
+  step_near known (step.Name name) e = plain_near e.frames e.asks e.punched (with_plain known spot (step.Name name) e.sum)
+  step_near known (step.Permanent name value) e = plain_near e.frames e.asks e.punched (with_plain known spot (step.Permanent name value) e.sum)
+  step_near known (step.Number word) e = plain_near e.frames e.asks e.punched (with_plain known spot (step.Number word) e.sum)
+  step_near known step.Here e = plain_near e.frames e.asks e.punched (with_plain known spot step.Here e.sum)
+  step_near known (step.Sign op) e = plain_near e.frames e.asks e.punched (with_plain known spot (step.Sign op) e.sum)
   step_near known (step.Open pool) e = stays e.asks
-  step_near known step.Close e = close_near e.frames e.sum e.asks
+  step_near known step.Close e = close_near e.frames e.sum e.asks e.punched
 
   step_if_near : (known : Known) (s : Step) (before : List Ask) (r : Result Evaluation ValueFault) → StepsNear before r
       → StepsNear before (with_step_if known spot s r)
@@ -130,7 +141,8 @@ module _ (spot : Spot) where
 
   word_near : (before : List Ask) (r : Result Evaluation ValueFault) → StepsNear before r → GoesNear spot before (word_in spot r)
   word_near before (Err fault) near = tt
-  word_near before (Ok e) near = goes_further before e.asks (value_by spot e.sum.is_reference e.sum e.asks) near (value_near e.sum.is_reference e.sum e.asks)
+  word_near before (Ok e) near =
+      goes_further before e.asks (value_by spot e.sum.is_reference e.sum e.asks e.punched) near (value_near e.sum.is_reference e.sum e.asks e.punched)
 
 pub words_ask_near : WordsAskNear
-words_ask_near known spot steps asks = word_near spot asks _ (steps_near spot known steps asks _ (stays spot asks))
+words_ask_near known spot steps asks punched = word_near spot asks _ (steps_near spot known steps asks _ (stays spot asks))

@@ -13,14 +13,15 @@ use Rattle.pal8_values.specs.declared.frames.Frame.{Frame}
 use Rattle.pal8_values.specs.declared.faults.ValueFault.{ValueFault}
 use Rattle.pal8_values.proofs.FaultLemmas.{behind_one, first_one, keeps_fault}
 
-abbrev at : Sum → List Frame → List Ask → Evaluation
-at sum frames asks = record { sum = sum; frames = frames; asks = asks }
+abbrev at : Sum → List Frame → List Ask → List Ask → Evaluation
+at sum frames asks punched = record { sum = sum; frames = frames; asks = asks; punched = punched }
 
 -- The rest of a word's steps comes to what all of them come to.
 pub record IsOnTheWay (known : Known) (spot : Spot) (whole : Asked) (rest : List Step) (sum : Sum) (frames : List Frame) (table : PoolTable) : Type 0 where
   pub asks : List Ask
-  pub same : word_in spot (with_steps known spot rest (Ok (at sum frames asks))) ≡ whole
-  pub holds : Holds table asks asks
+  pub punched : List Ask
+  pub same : word_in spot (with_steps known spot rest (Ok (at sum frames asks punched))) ≡ whole
+  pub holds : Holds table asks punched
 
 module _ (known : Known) (spot : Spot) where
   steps_stay : (steps : List Step) (e : ValueFault) → with_steps known spot steps (Err e) ≡ Err e
@@ -29,9 +30,9 @@ module _ (known : Known) (spot : Spot) where
 
   module _ (whole : Asked) (rest : List Step) (step : Step) (sum : Sum) (frames frames' : List Frame) (table table' : PoolTable)
       (long : 1 ≤ length rest) (first : step ≡ get_or rest 0 step) (way : IsOnTheWay known spot whole rest sum frames table) where
-    pub fails : (fault : ValueFault) → Takes (with_step known spot step (at sum frames way.asks)) (Err fault) frames' table' → Gives whole (Err fault) table'
+    pub fails : (fault : ValueFault) → Takes (with_step known spot step (at sum frames way.asks way.punched)) (Err fault) frames' table' → Gives whole (Err fault) table'
     fails fault takes =
         subst (λ w. IsFault w fault) way.same
-        (subst (λ l. IsFault (word_in spot (with_steps known spot l (Ok (at sum frames way.asks)))) fault) (sym (first_one rest step long first))
+        (subst (λ l. IsFault (word_in spot (with_steps known spot l (Ok (at sum frames way.asks way.punched)))) fault) (sym (first_one rest step long first))
         (keeps_fault (λ e. word_in spot (with_steps known spot (behind_one rest) e)) (λ e. ap (word_in spot) (steps_stay (behind_one rest) e))
-        (with_step known spot step (at sum frames way.asks)) fault takes))
+        (with_step known spot step (at sum frames way.asks way.punched)) fault takes))

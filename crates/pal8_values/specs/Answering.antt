@@ -4,7 +4,7 @@ use Rattle.pal8_pools.specs.Asks.{Ask}
 use Rattle.pal8_pools.specs.Pooled.{Holds, PoolTable}
 use Rattle.pal8_values.specs.Words.{Asked}
 use Rattle.pal8_values.specs.declared.faults.ValueFault.{ValueFault}
-use Rattle.pal8_values.specs.declared.faults.ValueFault.TheVariants.{UA, PF, DZ, IR, II, PE, ZE, Memory}
+use Rattle.pal8_values.specs.declared.faults.ValueFault.TheVariants.{UA, PF, DZ, IR, II, PE, ZE, RL, Memory}
 
 -- A fault is this one; want of memory may come in its place.
 abbrev pub IsFault : {A : Type 0} → Result A ValueFault → ValueFault → Type 0
@@ -15,6 +15,7 @@ IsFault whole IR = whole ≡ Err IR
 IsFault whole II = whole ≡ Err II
 IsFault whole PE = whole ≡ Err PE
 IsFault whole ZE = whole ≡ Err ZE
+IsFault whole RL = whole ≡ Err RL
 IsFault whole Memory = Unit {0}
 
 -- an answer is this one
@@ -25,8 +26,9 @@ Answers whole (Err fault) = IsFault whole fault
 -- A value was found, and the pools hold what was asked up to it.
 pub record IsAsked (whole : Asked) (value : ℕ) (new : PoolTable) : Type 0 where
   pub asks : List Ask
-  pub is_whole : whole ≡ Ok (value, asks)
-  pub holds : Holds new asks asks
+  pub punched : List Ask
+  pub is_whole : whole ≡ Ok (value, asks, punched)
+  pub holds : Holds new asks punched
 
 -- a value with its asks is answered, or its fault
 abbrev pub Gives : Asked → Result ℕ ValueFault → PoolTable → Type 0

@@ -7,11 +7,11 @@ use Rattle.pal8_values.specs.Sums.{Known}
 use Rattle.pal8_values.specs.Words.{Asked, word_value}
 use Rattle.pal8_values.specs.declared.sums.Spot.{Spot}
 
--- this is the page of a place, or page zero of its field
+-- this is the page of a location, or page zero of its field
 abbrev pub is_near : Spot → ℕ → ℕ → Bool
 is_near spot f p = nat_eq spot.field f && (nat_eq (spot.location / PAGE) p || nat_eq 0 p)
 
--- Nothing was asked but of the page of a place and of page zero of its field.
+-- Nothing was asked but of the page of a location and of page zero of its field.
 pub record AsksNear (spot : Spot) (before after : List Ask) : Type 0 where
   pub more : List Ask
   pub are : after ≡ more ++ before
@@ -19,8 +19,9 @@ pub record AsksNear (spot : Spot) (before after : List Ask) : Type 0 where
 
 abbrev pub GoesNear : Spot → List Ask → Asked → Type 0
 GoesNear spot before (Err fault) = Unit {0}
-GoesNear spot before (Ok (value, after)) = AsksNear spot before after
+GoesNear spot before (Ok (value, after, punched)) = AsksNear spot before after
 
 -- a word asks the pool of its own page and that of page zero alone
 abbrev pub WordsAskNear : Type 0
-WordsAskNear = (known : Known) (spot : Spot) (steps : List Step) (asks : List Ask) → GoesNear spot asks (word_value known spot steps asks)
+WordsAskNear =
+    (known : Known) (spot : Spot) (steps : List Step) (asks punched : List Ask) → GoesNear spot asks (word_value known spot steps asks punched)

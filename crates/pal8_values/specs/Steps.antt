@@ -16,8 +16,9 @@ Pops frames (Some frame) new = frames ≡ frame ∷ new
 -- A step was taken, and the pools hold what was asked up to it.
 pub record IsTaken (whole : Result Evaluation ValueFault) (sum : Sum) (frames : List Frame) (new : PoolTable) : Type 0 where
   pub asks : List Ask
-  pub is_whole : whole ≡ Ok record { sum = sum; frames = frames; asks = asks }
-  pub holds : Holds new asks asks
+  pub punched : List Ask
+  pub is_whole : whole ≡ Ok record { sum = sum; frames = frames; asks = asks; punched = punched }
+  pub holds : Holds new asks punched
 
 -- what a step comes to, or its fault
 abbrev pub Takes : Result Evaluation ValueFault → Result Sum ValueFault → List Frame → PoolTable → Type 0

@@ -1,11 +1,12 @@
 -- The value of terms, from left to right (PAL8, in this project's profile).
-use Rattle.std.specs.Prelude.{ℕ, ◌+◌, ◌-◌, ◌*◌, ◌/◌, ◌%◌, nat_eq, nat_lt, bit_and, bit_or, Bool, true, false, if◌then◌else◌, Option, Some, None, Result, Ok, Err, List, [], ◌∷◌}
+use Rattle.std.specs.Prelude.{ℕ, ◌+◌, ◌-◌, ◌*◌, ◌/◌, ◌%◌, nat_eq, nat_lt, bit_and, bit_or, Bool, true, false, ◌||◌, if◌then◌else◌, Option, Some, None, Result, Ok, Err, List, [], ◌∷◌}
 use Rattle.word12.specs.declared.sizes.TheConstants.{PAGE}
 use Rattle.pal8_lex.specs.declared.tokens.Operator.{Operator}
 use Rattle.pal8_lex.specs.declared.tokens.Operator.TheVariants.{Plus, Minus, Or, And, Times, Divide}
 use Rattle.pal8_grammar.specs.declared.steps.Step.{Step}
 use Rattle.pal8_grammar.specs.declared.steps.Step.TheVariants as step
 use Rattle.pal8_values.specs.declared.sums.Sum.{Sum}
+use Rattle.pal8_values.specs.declared.sums.Spot.{Spot}
 use Rattle.pal8_values.specs.declared.faults.ValueFault.{ValueFault}
 use Rattle.pal8_values.specs.declared.faults.ValueFault.TheVariants.{UA, PF, DZ, IR}
 
@@ -45,9 +46,13 @@ abbrev pub with_known : ℕ → Option ℕ → Sum → Result Sum ValueFault
 with_known name None s = Err (UA name)
 with_known name (Some v) s = with_value v s
 
--- `.` is the place, if that isn't past 7777
-abbrev pub with_place : ℕ → Sum → Result Sum ValueFault
-with_place location s = if nat_lt location 0o10000 then with_value location s else Err PF
+-- what `.` stands for: the place, if neither that nor the location is past 7777
+abbrev pub here_of : Spot → Option ℕ
+here_of spot = if nat_lt 0o7777 spot.location || nat_lt 0o7777 spot.here then None else Some spot.here
+
+abbrev pub with_place : Option ℕ → Sum → Result Sum ValueFault
+with_place None s = Err PF
+with_place (Some place) s = with_value place s
 
 -- no reference began: the name of the operation is the first term, which comes next
 abbrev pub without_operation : Sum → Sum
@@ -59,26 +64,26 @@ known_or value None = value
 known_or value (Some v) = v
 
 -- a step that neither opens nor closes a literal
-abbrev pub with_plain : Known → ℕ → Step → Sum → Result Sum ValueFault
-with_plain known location (step.Operation word) s = Ok record { is_reference = true; operation = word; is_indirect = false; total = s.total; sign = s.sign }
-with_plain known location step.Alone s = Ok (without_operation s)
-with_plain known location step.Indirect s = Ok record s { is_indirect = true }
-with_plain known location (step.Name name) s = with_known name (known name) s
-with_plain known location (step.Permanent name value) s = with_value (known_or value (known name)) s
-with_plain known location (step.Number word) s = with_value word s
-with_plain known location step.Here s = with_place location s
-with_plain known location (step.Sign op) s = Ok record s { sign = op }
-with_plain known location (step.Open pool) s = Ok s
-with_plain known location step.Close s = Ok s
+abbrev pub with_plain : Known → Spot → Step → Sum → Result Sum ValueFault
+with_plain known spot (step.Operation word) s = Ok record { is_reference = true; operation = word; is_indirect = false; total = s.total; sign = s.sign }
+with_plain known spot step.Alone s = Ok (without_operation s)
+with_plain known spot step.Indirect s = Ok record s { is_indirect = true }
+with_plain known spot (step.Name name) s = with_known name (known name) s
+with_plain known spot (step.Permanent name value) s = with_value (known_or value (known name)) s
+with_plain known spot (step.Number word) s = with_value word s
+with_plain known spot step.Here s = with_place (here_of spot) s
+with_plain known spot (step.Sign op) s = Ok record s { sign = op }
+with_plain known spot (step.Open pool) s = Ok s
+with_plain known spot step.Close s = Ok s
 
 -- ## Memory references
 
 -- What stands in a memory reference for an address: below 0200 its offset on page zero; on the page of the place its offset with 0200. No
 -- other address is reached.
 abbrev pub offset_of : ℕ → ℕ → Option ℕ
-offset_of location address =
+offset_of here address =
     if nat_lt address PAGE then Some address
-    else (if nat_eq (address / PAGE) (location / PAGE) then Some (address % PAGE + 0o200) else None)
+    else (if nat_eq (address / PAGE) (here / PAGE) then Some (address % PAGE + 0o200) else None)
 
 -- `I` is 0400
 abbrev pub indirect_bit : Bool → ℕ
@@ -95,23 +100,23 @@ direct_by operation is_indirect None = Err IR
 direct_by operation is_indirect (Some offset) = Ok (reference_word operation is_indirect offset)
 
 abbrev pub direct : ℕ → Bool → Sum → Result ℕ ValueFault
-direct location false s = Ok s.total
-direct location true s = direct_by s.operation s.is_indirect (offset_of location s.total)
+direct here false s = Ok s.total
+direct here true s = direct_by s.operation s.is_indirect (offset_of here s.total)
 
 -- what terms come to: a reference there makes no link
 abbrev pub direct_value : ℕ → Result Sum ValueFault → Result ℕ ValueFault
-direct_value location (Err fault) = Err fault
-direct_value location (Ok s) = direct location s.is_reference s
+direct_value here (Err fault) = Err fault
+direct_value here (Ok s) = direct here s.is_reference s
 
-abbrev pub with_plain_if : Known → ℕ → Step → Result Sum ValueFault → Result Sum ValueFault
-with_plain_if known location step (Err fault) = Err fault
-with_plain_if known location step (Ok s) = with_plain known location step s
+abbrev pub with_plain_if : Known → Spot → Step → Result Sum ValueFault → Result Sum ValueFault
+with_plain_if known spot step (Err fault) = Err fault
+with_plain_if known spot step (Ok s) = with_plain known spot step s
 
 -- steps more, up to the first fault
-abbrev pub with_plains : Known → ℕ → List Step → Result Sum ValueFault → Result Sum ValueFault
-with_plains known location [] s = s
-with_plains known location (step ∷ others) s = with_plains known location others (with_plain_if known location step s)
+abbrev pub with_plains : Known → Spot → List Step → Result Sum ValueFault → Result Sum ValueFault
+with_plains known spot [] s = s
+with_plains known spot (step ∷ others) s = with_plains known spot others (with_plain_if known spot step s)
 
 -- the value of steps at a place, or its first fault from the left
-abbrev pub early_value : Known → ℕ → List Step → Result ℕ ValueFault
-early_value known location steps = direct_value location (with_plains known location steps (Ok empty))
+abbrev pub early_value : Known → Spot → List Step → Result ℕ ValueFault
+early_value known spot steps = direct_value spot.here (with_plains known spot steps (Ok empty))

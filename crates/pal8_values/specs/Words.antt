@@ -1,9 +1,10 @@
 -- The value of a word: its literals and links ask pools for cells (PAL8, in this project's profile).
-use Rattle.std.specs.Prelude.{ℕ, ◌+◌, ◌-◌, ◌*◌, ◌/◌, ◌%◌, nat_eq, nat_le, Bool, true, false, if◌then◌else◌, Option, Some, None, Result, Ok, Err, List, [], ◌∷◌}
-use Rattle.word12.specs.declared.sizes.TheConstants.{FIELD, PAGE}
+use Rattle.std.specs.Prelude.{ℕ, ◌+◌, ◌*◌, ◌/◌, ◌%◌, nat_eq, nat_le, Bool, true, false, ◌&&◌, ◌||◌, not, if◌then◌else◌, Option, Some, None, Result, Ok, Err, List, [], ◌∷◌}
+use Rattle.word12.specs.declared.sizes.TheConstants.{PAGE}
 use Rattle.pal8_lex.specs.declared.tokens.Pool.{Pool}
 use Rattle.pal8_lex.specs.declared.tokens.Pool.TheVariants.{Own, Zero}
 use Rattle.pal8_pools.specs.Asks.{Ask, cell_in, pool_of, rank}
+use Rattle.pal8_pools.specs.Pooled.{with_punched}
 use Rattle.pal8_grammar.specs.declared.steps.Step.{Step}
 use Rattle.pal8_grammar.specs.declared.steps.Step.TheVariants as step
 use Rattle.pal8_values.specs.Sums.{Known, empty, offset_of, reference_word, with_plain, with_value}
@@ -11,29 +12,25 @@ use Rattle.pal8_values.specs.declared.sums.Sum.{Sum}
 use Rattle.pal8_values.specs.declared.sums.Spot.{Spot}
 use Rattle.pal8_values.specs.declared.frames.Frame.{Frame}
 use Rattle.pal8_values.specs.declared.faults.ValueFault.{ValueFault}
-use Rattle.pal8_values.specs.declared.faults.ValueFault.TheVariants.{II, PE, ZE}
+use Rattle.pal8_values.specs.declared.faults.ValueFault.TheVariants.{II, PE, ZE, RL}
 
--- what a word has come to so far: the innermost value, those around it, and all that was asked, the newest first
+-- What a word has come to so far: the innermost value, those around it; all that was asked, and what punched words asked of that, each the
+-- newest first.
 pub record Evaluation : Type 0 where
   pub sum : Sum
   pub frames : List Frame
   pub asks : List Ask
+  pub punched : List Ask
 
--- a value, and what was asked up to it
+-- a value; what was asked up to it, and what punched words asked of that
 abbrev pub Asked : Type 0
-Asked = Result (ℕ × List Ask) ValueFault
+Asked = Result (ℕ × List Ask × List Ask) ValueFault
 
 -- the fault of a page that is full
 abbrev pub full : ℕ → ValueFault
 full page = if nat_eq page 0 then ZE else PE
 
--- the address of the cell that an ask gets after others, if its page has one left
-abbrev pub with_ask : Ask → List Ask → Asked
-with_ask a asks =
-    if nat_le (rank (pool_of (a ∷ asks) a.field a.page) a.value) 0o177 then Ok (cell_in (a ∷ asks) a - FIELD * a.field, a ∷ asks)
-    else Err (full a.page)
-
--- `(` and links ask the page of the place, `[` page zero
+-- `(` and links ask the page of the location, `[` page zero
 abbrev pub page_of : Pool → ℕ → ℕ
 page_of Own location = location / PAGE
 page_of Zero location = 0
@@ -41,57 +38,82 @@ page_of Zero location = 0
 abbrev pub ask_of : Spot → Pool → ℕ → Ask
 ask_of spot pool value = record { field = spot.field; page = page_of pool spot.location; value = value }
 
+-- By the address of a literal its cell is reached where the word runs: on the page of the place, or on page zero.
+abbrev pub page_start : Pool → ℕ → ℕ
+page_start Own here = here / PAGE * PAGE
+page_start Zero here = 0
+
+-- Where the place and the location are apart, but not by whole pages, an offset on the page of the one isn't that on the page of the other. Where
+-- both are on page zero, which is never shifted, nothing is lost.
+abbrev pub is_torn : Pool → Spot → Bool
+is_torn Own spot = (nat_le PAGE spot.location || nat_le PAGE spot.here) && not (nat_eq (spot.location % PAGE) (spot.here % PAGE))
+is_torn Zero spot = false
+
+abbrev pub with_cell_of : Spot → Pool → Ask → List Ask → List Ask → Asked
+with_cell_of spot pool a asks punched =
+    if nat_le (rank (pool_of (a ∷ asks) a.field a.page) a.value) 0o177 then Ok (
+      page_start pool spot.here + cell_in (a ∷ asks) a % PAGE,
+      a ∷ asks,
+      with_punched spot.is_punched a punched,
+    )
+    else Err (full a.page)
+
+-- the address of the cell that an ask gets after others, if its page has one left
+abbrev pub with_ask : Spot → Pool → ℕ → List Ask → List Ask → Asked
+with_ask spot pool value asks punched =
+    if is_torn pool spot then Err RL else with_cell_of spot pool (ask_of spot pool value) asks punched
+
 -- a link reaches its address by the cell that holds it
 abbrev pub with_link : ℕ → Asked → Asked
 with_link operation (Err fault) = Err fault
-with_link operation (Ok (cell, asks)) = Ok (reference_word operation true (cell % PAGE + 0o200), asks)
+with_link operation (Ok (cell, asks, punched)) = Ok (reference_word operation true (cell % PAGE + 0o200), asks, punched)
 
 -- the word of a reference: where its address is out of reach, a link, unless it is indirect
-abbrev pub referred : Spot → ℕ → Bool → Option ℕ → ℕ → List Ask → Asked
-referred spot operation is_indirect (Some offset) address asks = Ok (reference_word operation is_indirect offset, asks)
-referred spot operation true None address asks = Err II
-referred spot operation false None address asks = with_link operation (with_ask (ask_of spot Own address) asks)
+abbrev pub referred : Spot → ℕ → Bool → Option ℕ → ℕ → List Ask → List Ask → Asked
+referred spot operation is_indirect (Some offset) address asks punched = Ok (reference_word operation is_indirect offset, asks, punched)
+referred spot operation true None address asks punched = Err II
+referred spot operation false None address asks punched = with_link operation (with_ask spot Own address asks punched)
 
-abbrev pub value_by : Spot → Bool → Sum → List Ask → Asked
-value_by spot false s asks = Ok (s.total, asks)
-value_by spot true s asks = referred spot s.operation s.is_indirect (offset_of spot.location s.total) s.total asks
+abbrev pub value_by : Spot → Bool → Sum → List Ask → List Ask → Asked
+value_by spot false s asks punched = Ok (s.total, asks, punched)
+value_by spot true s asks punched = referred spot s.operation s.is_indirect (offset_of spot.here s.total) s.total asks punched
 
 -- what a value comes to where it ends
-abbrev pub value_of : Spot → Sum → List Ask → Asked
-value_of spot s asks = value_by spot s.is_reference s asks
+abbrev pub value_of : Spot → Sum → List Ask → List Ask → Asked
+value_of spot s asks punched = value_by spot s.is_reference s asks punched
 
-abbrev pub evaluation : List Frame → List Ask → Result Sum ValueFault → Result Evaluation ValueFault
-evaluation frames asks (Err fault) = Err fault
-evaluation frames asks (Ok s) = Ok record { sum = s; frames = frames; asks = asks }
+abbrev pub evaluation : List Frame → List Ask → List Ask → Result Sum ValueFault → Result Evaluation ValueFault
+evaluation frames asks punched (Err fault) = Err fault
+evaluation frames asks punched (Ok s) = Ok record { sum = s; frames = frames; asks = asks; punched = punched }
 
 -- a literal is a term of what stands around it: the address of its cell
 abbrev pub with_cell : Frame → List Frame → Asked → Result Evaluation ValueFault
 with_cell frame others (Err fault) = Err fault
-with_cell frame others (Ok (cell, asks)) = evaluation others asks (with_value cell frame.sum)
+with_cell frame others (Ok (cell, asks, punched)) = evaluation others asks punched (with_value cell frame.sum)
 
 -- a literal asks for its own value
 abbrev pub with_literal : Spot → Frame → List Frame → Asked → Result Evaluation ValueFault
 with_literal spot frame others (Err fault) = Err fault
-with_literal spot frame others (Ok (value, asks)) = with_cell frame others (with_ask (ask_of spot frame.pool value) asks)
+with_literal spot frame others (Ok (value, asks, punched)) = with_cell frame others (with_ask spot frame.pool value asks punched)
 
 -- the innermost literal ends
-abbrev pub with_close : Spot → List Frame → Sum → List Ask → Result Evaluation ValueFault
-with_close spot [] s asks = Ok record { sum = s; frames = []; asks = asks }
-with_close spot (frame ∷ others) s asks = with_literal spot frame others (value_of spot s asks)
+abbrev pub with_close : Spot → List Frame → Sum → List Ask → List Ask → Result Evaluation ValueFault
+with_close spot [] s asks punched = Ok record { sum = s; frames = []; asks = asks; punched = punched }
+with_close spot (frame ∷ others) s asks punched = with_literal spot frame others (value_of spot s asks punched)
 
 -- one step more
 abbrev pub with_step : Known → Spot → Step → Evaluation → Result Evaluation ValueFault
-with_step known spot (step.Operation word) e = evaluation e.frames e.asks (with_plain known spot.location (step.Operation word) e.sum)
-with_step known spot step.Alone e = evaluation e.frames e.asks (with_plain known spot.location step.Alone e.sum)
-with_step known spot step.Indirect e = evaluation e.frames e.asks (with_plain known spot.location step.Indirect e.sum)
-with_step known spot (step.Name name) e = evaluation e.frames e.asks (with_plain known spot.location (step.Name name) e.sum)
-with_step known spot (step.Permanent name value) e = evaluation e.frames e.asks (with_plain known spot.location (step.Permanent name value) e.sum)
-with_step known spot (step.Number word) e = evaluation e.frames e.asks (with_plain known spot.location (step.Number word) e.sum)
-with_step known spot step.Here e = evaluation e.frames e.asks (with_plain known spot.location step.Here e.sum)
-with_step known spot (step.Sign op) e = evaluation e.frames e.asks (with_plain known spot.location (step.Sign op) e.sum)
+with_step known spot (step.Operation word) e = evaluation e.frames e.asks e.punched (with_plain known spot (step.Operation word) e.sum)
+with_step known spot step.Alone e = evaluation e.frames e.asks e.punched (with_plain known spot step.Alone e.sum)
+with_step known spot step.Indirect e = evaluation e.frames e.asks e.punched (with_plain known spot step.Indirect e.sum)
+with_step known spot (step.Name name) e = evaluation e.frames e.asks e.punched (with_plain known spot (step.Name name) e.sum)
+with_step known spot (step.Permanent name value) e = evaluation e.frames e.asks e.punched (with_plain known spot (step.Permanent name value) e.sum)
+with_step known spot (step.Number word) e = evaluation e.frames e.asks e.punched (with_plain known spot (step.Number word) e.sum)
+with_step known spot step.Here e = evaluation e.frames e.asks e.punched (with_plain known spot step.Here e.sum)
+with_step known spot (step.Sign op) e = evaluation e.frames e.asks e.punched (with_plain known spot (step.Sign op) e.sum)
 with_step known spot (step.Open pool) e =
-    Ok record { sum = empty; frames = record { pool = pool; sum = e.sum } ∷ e.frames; asks = e.asks }
-with_step known spot step.Close e = with_close spot e.frames e.sum e.asks
+    Ok record { sum = empty; frames = record { pool = pool; sum = e.sum } ∷ e.frames; asks = e.asks; punched = e.punched }
+with_step known spot step.Close e = with_close spot e.frames e.sum e.asks e.punched
 
 abbrev pub with_step_if : Known → Spot → Step → Result Evaluation ValueFault → Result Evaluation ValueFault
 with_step_if known spot step (Err fault) = Err fault
@@ -104,9 +126,10 @@ with_steps known spot (step ∷ others) e = with_steps known spot others (with_s
 
 abbrev pub word_in : Spot → Result Evaluation ValueFault → Asked
 word_in spot (Err fault) = Err fault
-word_in spot (Ok e) = value_of spot e.sum e.asks
+word_in spot (Ok e) = value_of spot e.sum e.asks e.punched
 
--- The word of steps at a place, after these asks, and the asks after it: those of its terms from the left, those in a literal before the
--- literal's own, that of a link last. Or its first fault from the left.
-abbrev pub word_value : Known → Spot → List Step → List Ask → Asked
-word_value known spot steps asks = word_in spot (with_steps known spot steps (Ok record { sum = empty; frames = []; asks = asks }))
+-- The word of steps at a place, after these asks, of which those are of punched words, and the asks after it: those of its terms from the left,
+-- those in a literal before the literal's own, that of a link last. Or its first fault from the left.
+abbrev pub word_value : Known → Spot → List Step → List Ask → List Ask → Asked
+word_value known spot steps asks punched =
+    word_in spot (with_steps known spot steps (Ok record { sum = empty; frames = []; asks = asks; punched = punched }))

@@ -28,6 +28,9 @@ pub enum ValueFault {
     /// Page zero has none left.
     #[error("page zero exceeded")]
     ZE,
+    /// A literal of the own page, or a link, where the place and the location are apart by no whole pages.
+    #[error("RELOC by no whole page")]
+    RL,
     #[error("out of memory")]
     Memory,
 }

@@ -10,5 +10,5 @@ mod words;
 
 pub use faults::ValueFault;
 pub use frames::{Frame, Frames};
-pub use sums::{Spot, Sum, early_value};
+pub use sums::{Spot, Sum, early_value, here_of};
 pub use words::word_value;

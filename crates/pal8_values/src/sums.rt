@@ -1,6 +1,6 @@
 ghost use Rattle.std.specs.Prelude.{◌≡◌, ◌<◌, IfSome, false};
 ghost use Rattle.pal8_sym.specs.Symbols.{value_of};
-ghost use Rattle.pal8_values.specs.Sums.{direct, direct_by, early_value, empty, indirect_bit, is_undivided, joined, known_or, offset_of, reference_word, with_known, with_place, with_plain, with_value};
+ghost use Rattle.pal8_values.specs.Sums.{direct, direct_by, early_value, empty, indirect_bit, is_undivided, joined, known_or, offset_of, here_of, reference_word, with_known, with_place, with_plain, with_value};
 ghost use Rattle.pal8_values.specs.Answering.{Answers};
 
 use crate::ValueFault;
@@ -12,11 +12,17 @@ use word12::{PAGE, Word};
 /// The bit of a memory reference that stands for its own page.
 const OWN_PAGE: u16 = 0o200;
 
-/// Where a word stands: a field (0 to 7) and a place in it (0 to 0o10000, which is past 7777).
+/// Where a statement stands.
 #[derive(Clone, Copy)]
 pub struct Spot {
+    /// The field of its words, 0 to 7.
     pub field: u8,
+    /// The address of its first word. From 0o10000 on it is past 7777.
     pub location: u16,
+    /// The place, which is what `.` stands for: where that word runs. Without `RELOC` it is the location.
+    pub here: u16,
+    /// Whether its words go to the tape.
+    pub is_punched: bool,
 }
 
 /// What terms have come to: the address of a memory reference, or an expression.
@@ -104,11 +110,21 @@ fn with_name(symbols: &Symbols, name: Name, sum: Sum) -> Result<Sum, ValueFault>
     }
 }
 
-/// The place more.
-fn with_place(location: u16, sum: Sum) -> Result<Sum, ValueFault>
-    ensures { Answers (with_place location sum) result }
+/// What `.` stands for: the place, if neither that nor the location is past 7777.
+pub fn here_of(spot: Spot) -> Option<Word>
+    ensures { result ≡ here_of spot }
 {
-    match Word::new(location) {
+    if spot.location > 0o7777 {
+        return None;
+    }
+    Word::new(spot.here)
+}
+
+/// The place more.
+fn with_place(spot: Spot, sum: Sum) -> Result<Sum, ValueFault>
+    ensures { Answers (with_place (here_of spot) sum) result }
+{
+    match here_of(spot) {
         Some(place) => with_value(place, sum),
         None => Err(ValueFault::PF),
     }
@@ -125,8 +141,8 @@ fn with_permanent(symbols: &Symbols, name: Name, value: Word, sum: Sum) -> Resul
 }
 
 /// Takes a step that neither opens nor closes a literal.
-pub fn with_plain(symbols: &Symbols, location: u16, step: Step, sum: Sum) -> Result<Sum, ValueFault>
-    ensures { Answers (with_plain (value_of symbols.now) location step sum) result }
+pub fn with_plain(symbols: &Symbols, spot: Spot, step: Step, sum: Sum) -> Result<Sum, ValueFault>
+    ensures { Answers (with_plain (value_of symbols.now) spot step sum) result }
 {
     match step {
         Step::Operation(word) => Ok(Sum {
@@ -148,22 +164,22 @@ pub fn with_plain(symbols: &Symbols, location: u16, step: Step, sum: Sum) -> Res
         Step::Name(name) => with_name(symbols, name, sum),
         Step::Permanent(name, value) => with_permanent(symbols, name, value, sum),
         Step::Number(word) => with_value(word, sum),
-        Step::Here => with_place(location, sum),
+        Step::Here => with_place(spot, sum),
         Step::Sign(sign) => Ok(Sum { sign, ..sum }),
         Step::Open(_) | Step::Close => Ok(sum),
     }
 }
 
 /// What stands in a memory reference at a place for an address, if it can be reached.
-pub fn offset_of(location: u16, address: Word) -> Option<Word>
-    ensures value { result ≡ offset_of location address }
+pub fn offset_of(here: u16, address: Word) -> Option<Word>
+    ensures value { result ≡ offset_of here address }
     ensures range { IfSome result (λ offset. offset < 0o400) }
 {
     let number = address.get();
     if number < PAGE {
         return Some(Word::low(number));
     }
-    if number / PAGE == location / PAGE {
+    if number / PAGE == here / PAGE {
         return Some(Word::low(number % PAGE + OWN_PAGE));
     }
     None
@@ -189,31 +205,31 @@ pub fn reference_word(operation: Word, is_indirect: bool, offset: Word) -> Word
 }
 
 /// The value of terms where no link can be made.
-fn direct(location: u16, sum: Sum) -> Result<Word, ValueFault>
-    ensures { Answers (direct location sum.is_reference sum) result }
+fn direct(here: u16, sum: Sum) -> Result<Word, ValueFault>
+    ensures { Answers (direct here sum.is_reference sum) result }
 {
     if !sum.is_reference {
         return Ok(sum.total);
     }
-    match offset_of(location, sum.total) {
+    match offset_of(here, sum.total) {
         Some(offset) => Ok(reference_word(sum.operation, sum.is_indirect, offset)),
         None => Err(ValueFault::IR),
     }
 }
 
-/// The value of steps without literals at a place (0 to 0o10000, which is past 7777), by the names so far; or its first fault from the
-/// left: UA, PF, DZ, or at last IR. It takes no memory (PAL8, in this project's profile).
-pub fn early_value(symbols: &Symbols, location: u16, steps: &[Step]) -> Result<Word, ValueFault>
-    ensures { Answers (early_value (value_of symbols.now) location steps.now) result }
+/// The value of steps without literals at a place, by the names so far; or its first fault from the left: UA, PF where `.` stands and the
+/// location is past 7777, DZ, or at last IR. It takes no memory (PAL8, in this project's profile).
+pub fn early_value(symbols: &Symbols, spot: Spot, steps: &[Step]) -> Result<Word, ValueFault>
+    ensures { Answers (early_value (value_of symbols.now) spot steps.now) result }
 {
     let mut sum = empty();
     let mut rest = steps;
     while let [step, others @ ..] = rest {
-        sum = match with_plain(symbols, location, *step, sum) {
+        sum = match with_plain(symbols, spot, *step, sum) {
             Ok(next) => next,
             Err(fault) => return Err(fault),
         };
         rest = others;
     }
-    direct(location, sum)
+    direct(spot.here, sum)
 }

@@ -1,8 +1,9 @@
-ghost use Rattle.std.specs.Prelude.{◌≡◌, ◌<◌, false, None, List};
+ghost use Rattle.std.specs.Prelude.{◌≡◌, ◌<◌, ◌≤◌, ◌+◌, ◌*◌, ◌%◌, ℕ, false, None, List};
+ghost use Rattle.word12.specs.declared.sizes.TheConstants.{FIELD, PAGE};
 ghost use Rattle.pal8_sym.specs.Symbols.{value_of as symbol_value};
 ghost use Rattle.pal8_pools.specs.Asks.{Ask};
 ghost use Rattle.pal8_pools.specs.Pooled.{Holds};
-ghost use Rattle.pal8_values.specs.Words.{ask_of, full, page_of, referred, value_of, with_ask, with_close, with_step, word_value};
+ghost use Rattle.pal8_values.specs.Words.{full, is_torn, page_of, page_start, referred, value_of, with_ask, with_close, with_step, word_value};
 ghost use Rattle.pal8_values.specs.Steps.{Takes};
 ghost use Rattle.pal8_values.specs.Answering.{Gives};
 
@@ -15,7 +16,7 @@ use pal8_sym::Symbols;
 use std::alloc::Global;
 use word12::{PAGE, Word};
 
-/// The page whose pool a literal asks at a place.
+/// The page whose pool a literal asks at a location.
 fn page_of(pool: Pool, location: u16) -> u8
     requires { location < 0o10000 }
     ensures page { result ≡ page_of pool location }
@@ -38,6 +39,38 @@ fn full(page: u8) -> ValueFault
     }
 }
 
+/// Whether the page of the place has the cells of a pool at other offsets than its own page.
+fn is_torn(pool: Pool, spot: Spot) -> bool
+    ensures { result ≡ is_torn pool spot }
+{
+    match pool {
+        Pool::Own => {
+            (spot.location >= PAGE || spot.here >= PAGE) && spot.location % PAGE != spot.here % PAGE
+        }
+        Pool::Zero => false,
+    }
+}
+
+/// The first place of the page on which a literal's cell is reached.
+fn page_start(pool: Pool, here: u16) -> u16
+    requires { here < 0o10000 }
+    ensures value { result ≡ page_start pool here }
+    ensures range { result ≤ 0o7600 }
+{
+    match pool {
+        Pool::Own => here / PAGE * PAGE,
+        Pool::Zero => 0,
+    }
+}
+
+/// The address by which a pool's cell is reached from a place.
+fn address_at(pool: Pool, here: u16, address: Word) -> Word
+    requires { here < 0o10000 }
+    ensures { (cell field : ℕ) → FIELD * field + address ≡ cell → result ≡ page_start pool here + cell % PAGE }
+{
+    Word::low(page_start(pool, here) + address.get() % PAGE)
+}
+
 /// Asks a pool for a cell with a value, and gives its address.
 fn ask(
     pools: &mut Pools,
@@ -48,12 +81,16 @@ fn ask(
 ) -> Result<Word, ValueFault>
     requires field { spot.field < 8 }
     requires place { spot.location < 0o10000 }
-    ensures { (asks : List Ask) → Holds pools.old asks asks
-        → Gives (with_ask (ask_of spot pool value) asks) result pools.new }
+    requires here { spot.here < 0o10000 }
+    ensures { (asks punched : List Ask) → Holds pools.old asks punched
+        → Gives (with_ask spot pool value asks punched) result pools.new }
 {
+    if is_torn(pool, spot) {
+        return Err(ValueFault::RL);
+    }
     let page = page_of(pool, spot.location);
-    match pools.ask(alloc, spot.field, page, value, true) {
-        Ok(address) => Ok(address),
+    match pools.ask(alloc, spot.field, page, value, spot.is_punched) {
+        Ok(address) => Ok(address_at(pool, spot.here, address)),
         Err(PoolFault::Full) => Err(full(page)),
         Err(PoolFault::Memory) => Err(ValueFault::Memory),
     }
@@ -69,10 +106,14 @@ fn linked(
 ) -> Result<Word, ValueFault>
     requires field { spot.field < 8 }
     requires place { spot.location < 0o10000 }
-    ensures { (asks : List Ask) → Holds pools.old asks asks
-        → Gives (referred spot operation false None address asks) result pools.new }
+    requires here { spot.here < 0o10000 }
+    ensures { (asks punched : List Ask) → Holds pools.old asks punched
+        → Gives (referred spot operation false None address asks punched) result pools.new }
 {
-    let cell = ask(pools, alloc, spot, Pool::Own, address)?;
+    let cell = match ask(pools, alloc, spot, Pool::Own, address) {
+        Ok(cell) => cell,
+        Err(fault) => return Err(fault),
+    };
     let offset = Word::low(cell.get() % PAGE + 0o200);
     Ok(reference_word(operation, true, offset))
 }
@@ -81,13 +122,14 @@ fn linked(
 fn value_of(pools: &mut Pools, alloc: Global, spot: Spot, sum: Sum) -> Result<Word, ValueFault>
     requires field { spot.field < 8 }
     requires place { spot.location < 0o10000 }
-    ensures { (asks : List Ask) → Holds pools.old asks asks
-        → Gives (value_of spot sum asks) result pools.new }
+    requires here { spot.here < 0o10000 }
+    ensures { (asks punched : List Ask) → Holds pools.old asks punched
+        → Gives (value_of spot sum asks punched) result pools.new }
 {
     if !sum.is_reference {
         return Ok(sum.total);
     }
-    match offset_of(spot.location, sum.total) {
+    match offset_of(spot.here, sum.total) {
         Some(offset) => Ok(reference_word(sum.operation, sum.is_indirect, offset)),
         None => {
             if sum.is_indirect {
@@ -108,14 +150,21 @@ fn close(
 ) -> Result<Sum, ValueFault>
     requires field { spot.field < 8 }
     requires place { spot.location < 0o10000 }
-    ensures { (asks : List Ask) → Holds pools.old asks asks
-        → Takes (with_close spot frames.old sum asks) result frames.new pools.new }
+    requires here { spot.here < 0o10000 }
+    ensures { (asks punched : List Ask) → Holds pools.old asks punched
+        → Takes (with_close spot frames.old sum asks punched) result frames.new pools.new }
 {
     match frames.pop() {
         None => Ok(sum),
         Some(frame) => {
-            let value = value_of(pools, alloc, spot, sum)?;
-            let cell = ask(pools, alloc, spot, frame.pool, value)?;
+            let value = match value_of(pools, alloc, spot, sum) {
+                Ok(value) => value,
+                Err(fault) => return Err(fault),
+            };
+            let cell = match ask(pools, alloc, spot, frame.pool, value) {
+                Ok(cell) => cell,
+                Err(fault) => return Err(fault),
+            };
             with_value(cell, frame.sum)
         }
     }
@@ -133,8 +182,9 @@ fn take(
 ) -> Result<Sum, ValueFault>
     requires field { spot.field < 8 }
     requires place { spot.location < 0o10000 }
-    ensures { (asks : List Ask) → Holds pools.old asks asks
-        → Takes (with_step (symbol_value symbols.now) spot step (record { sum = sum; frames = frames.old; asks = asks })) result frames.new pools.new }
+    requires here { spot.here < 0o10000 }
+    ensures { (asks punched : List Ask) → Holds pools.old asks punched
+        → Takes (with_step (symbol_value symbols.now) spot step (record { sum = sum; frames = frames.old; asks = asks; punched = punched })) result frames.new pools.new }
 {
     let again = step;
     match step {
@@ -144,22 +194,19 @@ fn take(
         }
         Step::Close => close(frames, pools, alloc, spot, sum),
         Step::Operation(_) | Step::Alone | Step::Indirect | Step::Name(_) | Step::Number(_) => {
-            with_plain(symbols, spot.location, again, sum)
+            with_plain(symbols, spot, again, sum)
         }
-        Step::Permanent(_, _) | Step::Here | Step::Sign(_) => with_plain(
-            symbols,
-            spot.location,
-            again,
-            sum,
-        ),
+        Step::Permanent(_, _) | Step::Here | Step::Sign(_) => with_plain(symbols, spot, again, sum),
     }
 }
 
-/// The word of steps at a place (below 0o10000) of a field (0 to 7), by what names stand for. Its literals and links ask pools for their
-/// cells, which hold what was asked before; the asks come in the order of the terms, those in a literal before its own, that of a link last.
+/// The word of steps where one stands, by what names stand for: its location and its place are below 0o10000. Its literals and links ask pools for
+/// their cells, which hold what was asked before; the asks come in the order of the terms, those in a literal before its own, that of a link
+/// last. A word that isn't punched asks, too.
 ///
-/// Its fault is the first from the left: UA, DZ, II, or PE or ZE where a page has no cell left. Memory is taken for the pools, and for
-/// literals within others (PAL8, in this project's profile).
+/// Its fault is the first from the left: UA, DZ, II, RL where an own literal or a link would ask and the place and the location are apart by no
+/// whole pages, or PE or ZE where a page has no cell left. Memory is taken for the pools, and for literals within others (PAL8, in this
+/// project's profile).
 pub fn word_value(
     frames: &mut Frames,
     pools: &mut Pools,
@@ -170,8 +217,9 @@ pub fn word_value(
 ) -> Result<Word, ValueFault>
     requires field { spot.field < 8 }
     requires place { spot.location < 0o10000 }
-    ensures { (asks : List Ask) → Holds pools.old asks asks
-        → Gives (word_value (symbol_value symbols.now) spot steps.now asks) result pools.new }
+    requires here { spot.here < 0o10000 }
+    ensures { (asks punched : List Ask) → Holds pools.old asks punched
+        → Gives (word_value (symbol_value symbols.now) spot steps.now asks punched) result pools.new }
 {
     frames.clear();
     let mut sum = empty();

@@ -7,7 +7,7 @@ use Rattle.pal8_asm.proofs.assembling.push_pool.Given as goal
 
 -- the cells that are left come after those that were put
 abbrev pub invariant-loop-pair : goal.invariant-loop-pair
-invariant-loop-pair l = (asks : List Ask) → Holds l.fn.pools asks asks → IsAdding asks l.fn.pairs.items l.pairs.items (pairs_left l.cells)
+invariant-loop-pair l = (asks punched : List Ask) → Holds l.fn.pools asks punched → IsAdding asks punched l.fn.pairs.items l.pairs.items (pairs_left l.cells)
 
 abbrev pub decreases-loop-pair : goal.decreases-loop-pair
 decreases-loop-pair l = length (pairs_left l.cells)

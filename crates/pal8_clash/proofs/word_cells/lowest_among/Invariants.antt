@@ -8,7 +8,7 @@ use Rattle.pal8_clash.proofs.word_cells.lowest_among.Given as goal
 -- none of the cells so far is a word's and a pool's
 abbrev pub invariant-loop-at : goal.invariant-loop-at
 invariant-loop-at l = record {
-  none : (words : List (ℕ × ℕ)) (asks : List Ask) → AreMarks l.fn.marks words → Holds l.fn.pools asks asks → (c : ℕ) → l.fn.first ≤ c → c < l.at → is_clash words asks c ≡ false;
+  none : (words : List (ℕ × ℕ)) (asks punched : List Ask) → AreMarks l.fn.marks words → Holds l.fn.pools asks punched → (c : ℕ) → l.fn.first ≤ c → c < l.at → is_clash words asks c ≡ false;
   low : l.fn.first ≤ l.at;
 }
 

@@ -5,6 +5,6 @@ use Rattle.pal8_values.proofs.sums.early_value.Goals as goal
 
 pub returns-in-Err : goal.returns-in-Err
 returns-in-Err c =
-    same_fault _ (early_value (value_of c.args.symbols.now) c.args.location c.args.steps.now) c.in-Err.fault c.loop-rest.invariant
-    (plain_fails (value_of c.args.symbols.now) c.args.location c.loop-rest.rest.now c.step-item.result c.loop-rest.sum c.in-Err.fault c.in-len1-up.len_at_least
+    same_fault _ (early_value (value_of c.args.symbols.now) c.args.spot c.args.steps.now) c.in-Err.fault c.loop-rest.invariant
+    (plain_fails (value_of c.args.symbols.now) c.args.spot c.loop-rest.rest.now c.step-item.result c.loop-rest.sum c.in-Err.fault c.in-len1-up.len_at_least
     c.step-item.is c.in-Err.ensures)

@@ -6,7 +6,7 @@ use Rattle.pal8_values.proofs.sums.early_value.Given as goal
 -- the steps that are left come to what all of them come to
 abbrev pub invariant-loop-rest : goal.invariant-loop-rest
 invariant-loop-rest l =
-    direct_value l.location (with_plains (value_of l.symbols) l.location l.rest (Ok l.sum)) ≡ early_value (value_of l.fn.symbols) l.fn.location l.fn.steps
+    direct_value l.spot.here (with_plains (value_of l.symbols) l.spot l.rest (Ok l.sum)) ≡ early_value (value_of l.fn.symbols) l.fn.spot l.fn.steps
 
 abbrev pub decreases-loop-rest : goal.decreases-loop-rest
 decreases-loop-rest l = length l.rest

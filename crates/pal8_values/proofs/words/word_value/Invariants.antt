@@ -9,8 +9,8 @@ use Rattle.pal8_values.proofs.words.word_value.Given as goal
 -- the steps that are left come to what all of them come to
 abbrev pub invariant-loop-rest : goal.invariant-loop-rest
 invariant-loop-rest l =
-    (asks : List Ask) → Holds l.fn.pools asks asks
-    → IsOnTheWay (value_of l.fn.symbols) l.fn.spot (word_value (value_of l.fn.symbols) l.fn.spot l.fn.steps asks) l.rest l.sum l.frames l.pools
+    (asks punched : List Ask) → Holds l.fn.pools asks punched
+    → IsOnTheWay (value_of l.fn.symbols) l.fn.spot (word_value (value_of l.fn.symbols) l.fn.spot l.fn.steps asks punched) l.rest l.sum l.frames l.pools
 
 abbrev pub decreases-loop-rest : goal.decreases-loop-rest
 decreases-loop-rest l = length l.rest

@@ -6,8 +6,8 @@ use Rattle.pal8_asm.proofs.entries.Entries.push_text.Given as goal
 abbrev pub invariant-loop-rest : goal.invariant-loop-rest
 invariant-loop-rest l = record {
   same :
-      with_entries l.place l.field l.at (text_words l.rest) l.self ≡ with_entries l.fn.place l.fn.field l.fn.address (text_words l.fn.string) l.fn.self;
-  range : l.at < 0o10000;
+      with_entries l.place l.at (text_words l.rest) l.self ≡ with_entries l.fn.place l.fn.spot (text_words l.fn.string) l.fn.self;
+  field : l.at.field < 8;
 }
 
 abbrev pub decreases-loop-rest : goal.decreases-loop-rest
