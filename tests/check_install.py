@@ -60,6 +60,7 @@ def faults(room: str) -> Iterator[list[str]]:
     yield [f"the page has no {it}" for it in commands if not re.search(rf"(?m)^\.B pdp8 {it}\b", page) and it != "pdp8"]
     yield [f"the page has no {it}" for it in options if not re.search(rf"(?m)^\.IP .*{it}\b", page)]
     yield ["the sources name no command, or no option"] if len(commands) < 2 or not options else []
+    yield ["the page has 300 lines, or more"] if page.count("\n") >= 300 else []
     if shutil.which("groff"):
         told = ran(["groff", "-man", "-ww", "-z", f"{folder}/share/man/man1/pdp8.1"], room)
         yield [told.stderr] if told.stderr or told.returncode else []

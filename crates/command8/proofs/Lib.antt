@@ -1,5 +1,6 @@
 mod CommandLemmas
 mod WalkLemmas
+mod StopLemmas
 mod LeafLemmas
 mod FoundLemmas
 mod RefusalLemmas
@@ -9,5 +10,4 @@ mod TaskLemmas
 mod EnterLemmas
 mod UseLemmas
 mod EnteredLemmas
-mod AskLemmas
 mod InfoLemmas

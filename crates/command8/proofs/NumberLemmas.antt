@@ -43,9 +43,6 @@ bounded_given low high (Some t) r none some =
 pub none_some : {X : Type 0} (x : X) → None ≡ Some x → ⊥
 none_some x same = cc
 
-pub some_none : {X : Type 0} (x : X) → Some x ≡ None → ⊥
-some_none x same = cc
-
 -- decimal numbers of so many digits are below
 abbrev pub limit : ℕ → ℕ
 limit zero = 1

@@ -1,5 +1,5 @@
 -- Each subcommand of a sound table, as clap builds it: words in which it finds no fault give each argument what the table says of it.
-use Rattle.std.proofs.Common.{◌≡◌, ◌∙◌, ◌||◌, ◌≤◌, ℕ, Bool, cond, codes, true, false, not, refl, sym, ap, arith, subst, true≢false, inl, inr, List, [], ◌∷◌, ◌++◌, map, Option, Some, None, length}
+use Rattle.std.proofs.Common.{◌≡◌, ◌∙◌, ◌||◌, ◌≤◌, ◌⊎◌, ℕ, Bool, cond, codes, true, false, not, refl, sym, ap, arith, subst, true≢false, inl, inr, List, [], ◌∷◌, ◌++◌, map, Option, Some, None, length}
 use Rattle.std.specs.Prelude.{⊤, ◌==◌, find, option_map, unwrap_or}
 use Rattle.std.specs.List.{list_all, list_any}
 use Rattle.std.specs.Str.{bytes_eq}
@@ -7,16 +7,17 @@ use Rattle.std.proofs.lemmas.Bool.Decides.{nat_tests}
 use Rattle.std.proofs.lemmas.Slice.Eq.{bytes_eq-Decides}
 use Rattle.clap.proofs.WalkLemmas.{both}
 use Rattle.clap.specs.Lexer.{usize_max}
-use Rattle.clap.specs.Walk.{Row, Rule, Text, arg_by_id, rows_after}
+use Rattle.clap.specs.Walk.{Row, Rule, Text, action_of, arg_by_id, rows_after}
 use Rattle.clap.specs.Simple.{Shape, filled, filled_from, help_rule, index_after, with_index}
+use Rattle.clap.specs.declared.builder.action.ArgAction.TheVariants.{Append, Set, SetTrue}
 use Rattle.command8.specs.declared.table.Kind.{Kind}
 use Rattle.command8.specs.declared.table.Kind.TheVariants.{Word, Value, Words, Size, Flag, One, Many, Count}
 use Rattle.command8.specs.Tables.{Argument, Entry, are_distinct, kind_rule, leaf_shape, lettered, most_steps, rows_for, rule_for, rules_for}
 use Rattle.command8.specs.TableSteps.{can_be_required, fits, ids_of, is_fit, is_sound}
 use Rattle.command8.specs.FoundSteps.{AllHold, HasSomeWhere, HasWhere, IsTaken}
-use Rattle.command8.proofs.LeafLemmas.{AllParts, Faultless, IsLeaf, IsPart, a_flag, a_help, a_word, an_option, below, fit, has_number, has_word, one_up_to}
+use Rattle.command8.proofs.LeafLemmas.{Faultless, IsLeaf, below, fit, has_number, has_word, one_up_to}
 use Rattle.command8.proofs.RefusalLemmas.{some_values}
-use Rattle.command8.proofs.WalkLemmas.{Fits, TakesSome}
+use Rattle.command8.proofs.WalkLemmas.{AllRules, Fits, TakesSome}
 use Rattle.word12.specs.declared.sizes.TheConstants.{MOST_BLOCKS}
 
 -- ## Names that stand once
@@ -73,48 +74,51 @@ built_rule i id letter kind required = with_index i (filled (lettered letter (re
 some_not_all : (most : ℕ) → fits (Words most) ≡ true → (most == usize_max) ≡ false
 some_not_all most fits = grind (arith, nat_tests)
 
+abbrev ActsAs : Kind → Rule → Type 0
+ActsAs Flag a = action_of a ≡ SetTrue
+ActsAs (Many form) a = action_of a ≡ Append
+ActsAs kind a = TakesSome a
+
+acts_as : (i : ℕ) (id : Text) (letter : Option ℕ) (required : Bool) (kind : Kind) → is_fit kind letter ≡ true
+    → ActsAs kind (built_rule i id letter kind required)
+acts_as i id None required Word fits = (refl, refl, refl)
+acts_as i id None required (Value form) fits = (refl, refl, refl)
+acts_as i id None required (Words most) fits = (rw (some_not_all most fits) refl, refl, rw (some_not_all most fits) refl)
+acts_as i id None required Size fits = (refl, refl, refl)
+acts_as i id (Some letter) required Word fits = absurd (true≢false (sym fits))
+acts_as i id (Some letter) required (Value form) fits = absurd (true≢false (sym fits))
+acts_as i id (Some letter) required (Words most) fits = absurd (true≢false (sym (both _ _ fits).1))
+acts_as i id (Some letter) required Size fits = absurd (true≢false (sym fits))
+acts_as i id letter required Flag fits = refl
+acts_as i id letter required (One form) fits = (refl, refl, refl)
+acts_as i id letter required Count fits = (refl, refl, refl)
+acts_as i id letter required (Many form) fits = refl
+
+takes_or_not : (kind : Kind) (a : Rule) → ActsAs kind a → TakesSome a ⊎ (action_of a ≡ Set → ⊥)
+takes_or_not Flag a acts = inr (λ set. cc)
+takes_or_not (Many form) a acts = inr (λ set. cc)
+takes_or_not kind a acts = inl acts
+
 -- what may be required takes a value at least
-takes_some : (i : ℕ) (id : Text) (letter : Option ℕ) (required : Bool) (kind : Kind) → is_fit kind letter ≡ true → can_be_required kind ≡ true
-    → TakesSome (built_rule i id letter kind required)
-takes_some i id None required Word fits can = (refl, refl)
-takes_some i id None required (Value form) fits can = (refl, refl)
-takes_some i id None required (Words most) fits can = (rw (some_not_all most fits) refl, refl)
-takes_some i id None required Size fits can = (refl, refl)
-takes_some i id (Some letter) required Word fits can = absurd (true≢false (sym fits))
-takes_some i id (Some letter) required (Value form) fits can = absurd (true≢false (sym fits))
-takes_some i id (Some letter) required (Words most) fits can = absurd (true≢false (sym (both _ _ fits).1))
-takes_some i id (Some letter) required Size fits can = absurd (true≢false (sym fits))
-takes_some i id letter required (One form) fits can = (refl, refl)
-takes_some i id letter required Count fits can = (refl, refl)
-takes_some i id letter required Flag fits can = absurd (true≢false (sym can))
-takes_some i id letter required (Many form) fits can = absurd (true≢false (sym can))
+takes_some : (kind : Kind) (a : Rule) → can_be_required kind ≡ true → ActsAs kind a → TakesSome a
+takes_some Flag a can acts = absurd (true≢false (sym can))
+takes_some (Many form) a can acts = absurd (true≢false (sym can))
+takes_some kind a can acts = acts
 
-part_of : (c : List Rule) (i : ℕ) (id : Text) (letter : Option ℕ) (required : Bool) (kind : Kind) → is_fit kind letter ≡ true
-    → arg_by_id c id ≡ Some (built_rule i id letter kind required) → IsPart c (built_rule i id letter kind required)
-part_of c i id None required Word fits own = a_word (record { placed = refl; some = (refl, refl); bare = refl; own = own })
-part_of c i id None required (Value form) fits own = a_word (record { placed = refl; some = (refl, refl); bare = refl; own = own })
-part_of c i id None required (Words most) fits own = a_word (record {
-  placed = refl;
-  some = (rw (some_not_all most fits) refl, refl);
-  bare = rw (some_not_all most fits) refl;
-  own = own;
-})
-part_of c i id None required Size fits own = a_word (record { placed = refl; some = (refl, refl); bare = refl; own = own })
-part_of c i id (Some letter) required Word fits own = absurd (true≢false (sym fits))
-part_of c i id (Some letter) required (Value form) fits own = absurd (true≢false (sym fits))
-part_of c i id (Some letter) required (Words most) fits own = absurd (true≢false (sym (both _ _ fits).1))
-part_of c i id (Some letter) required Size fits own = absurd (true≢false (sym fits))
-part_of c i id letter required Flag fits own = a_flag (record { bare = refl; set = refl; own = own })
-part_of c i id letter required (One form) fits own = an_option (record { takes = refl; how = inl (refl, refl); bare = refl; own = own })
-part_of c i id letter required Count fits own = an_option (record { takes = refl; how = inl (refl, refl); bare = refl; own = own })
-part_of c i id letter required (Many form) fits own = an_option (record { takes = refl; how = inr refl; bare = refl; own = own })
+help_free : action_of (filled help_rule) ≡ Set → ⊥
+help_free set = cc
 
-all_parts : (c : List Rule) (i : ℕ) (rows : List Argument) → list_all (λ row. is_fit row.kind row.letter) rows ≡ true
-    → AllOwn c (filled_from i (rules_for rows ++ help_rule ∷ [])) → AllParts c (filled_from i (rules_for rows ++ help_rule ∷ []))
-all_parts c i [] fits own = (a_help refl, tt)
-all_parts c i (row ∷ rows) fits own =
-    let parts = both _ _ fits in
-    (part_of c i row.id row.letter row.is_required row.kind parts.0 own.0, all_parts c (index_after i (rule_for row)) rows parts.1 own.1)
+all_rules : (c : List Rule) (i : ℕ) (rows : List Argument) → list_all (λ row. is_fit row.kind row.letter) rows ≡ true
+    → AllOwn c (filled_from i (rules_for rows ++ help_rule ∷ [])) → AllRules c (filled_from i (rules_for rows ++ help_rule ∷ []))
+all_rules c i [] fits own = (record { own = own.0; takes = inr help_free }, tt)
+all_rules c i (row ∷ rows) fits own =
+    let parts = both _ _ fits in (
+      record {
+        own = own.0;
+        takes = takes_or_not row.kind (built_rule i row.id row.letter row.kind row.is_required) (acts_as i row.id row.letter row.is_required row.kind parts.0);
+      },
+      all_rules c (index_after i (rule_for row)) rows parts.1 own.1,
+    )
 
 record IsSound (entry : Entry) : Type 0 where
   fits : list_all (λ row. is_fit row.kind row.letter) (rows_for entry.verb) ≡ true
@@ -134,7 +138,7 @@ entry_own entry sound =
 
 pub entry_leaf : (entry : Entry) → is_sound entry ≡ true → IsLeaf (below (leaf_shape entry))
 entry_leaf entry sound = record {
-  parts = all_parts (below (leaf_shape entry)).rules 1 (rows_for entry.verb) (sound_parts entry sound).fits (entry_own entry sound);
+  rules = all_rules (below (leaf_shape entry)).rules 1 (rows_for entry.verb) (sound_parts entry sound).fits (entry_own entry sound);
   negates = refl;
   once = refl;
 }
@@ -151,7 +155,8 @@ row_holds s leaf i id letter required kind fits can own words none =
     where_required : (required : Bool) → (not required || can_be_required kind) ≡ true → arg_by_id s.rules id ≡ Some (built_rule i id letter kind required)
         → HasWhere required id (rows_after s.rules [] words)
     where_required false can own = tt
-    where_required true can own = has_word s leaf (built_rule i id letter kind true) own refl (takes_some i id letter true kind fits can) words none
+    where_required true can own =
+        has_word s leaf (built_rule i id letter kind true) own refl (takes_some kind (built_rule i id letter kind true) can (acts_as i id letter true kind fits)) words none
 
     some_where : (required : Bool) → HasWhere required id (rows_after s.rules [] words) → HasSomeWhere required id (rows_after s.rules [] words)
     some_where true has = some_values id (rows_after s.rules [] words) has

@@ -21,30 +21,21 @@ use Rattle.task8.specs.declared.tasks.Task.{Task}
 use Rattle.command8.specs.CommandSteps.{IsCommand}
 use Rattle.command8.specs.declared.faults.TaskFault.{TaskFault}
 use Rattle.command8.specs.declared.faults.TaskFault.TheVariants.{Words, Memory, Refused}
-use Rattle.command8.specs.Tables.{Entry, leaf_shape, pdp8, rows_for, table}
+use Rattle.command8.specs.Tables.{Entry, entry_named, leaf_shape, pdp8, table}
 use Rattle.command8.specs.TableSteps.{is_sound}
 use Rattle.command8.specs.Tasks.{Answers, Asks, IsFaultOf, IsPastClap, Refuses}
 use Rattle.command8.specs.TaskSteps.{GivesMet, HasMet, IsWhole}
-use Rattle.command8.specs.FoundSteps.{AllHold}
 use Rattle.command8.proofs.LeafLemmas.{above, below}
 use Rattle.command8.proofs.TableLemmas.{entry_holds}
-use Rattle.command8.proofs.WalkLemmas.{IsNoHelp, level_stops, some_eq}
+use Rattle.command8.proofs.StopLemmas.{IsNoHelp, level_stops}
+use Rattle.command8.proofs.WalkLemmas.{some_eq}
 
 -- ## The table
 
-sound : list_all is_sound table ≡ true
+pub sound : list_all is_sound table ≡ true
 sound = refl
 
 -- ## The whole command
-
-no_help : (name : Text) → bytes_eq name (codes "help") ≡ false → (bytes_eq (codes "help") name || false) ≡ true → ⊥
-no_help name not_help is = go (bytes_eq (codes "help") name) refl is
-  where
-    go : (b : Bool) → bytes_eq (codes "help") name ≡ b → (b || false) ≡ true → ⊥
-    go false same is = true≢false (sym is)
-    go true same is =
-        let named : codes "help" ≡ name = (bytes_eq-Decides (codes "help") name).0 same in
-        true≢false (sym ((bytes_eq-Decides name (codes "help")).1 (sym named)) ∙ not_help)
 
 abbrev leaves : List Shape
 leaves = map leaf_shape table
@@ -64,73 +55,67 @@ built_subs subs =
 pub pdp8_subs : (built pdp8).subs ≡ map below leaves ++ below help_shape ∷ []
 pdp8_subs = ap (λ (a : App). (built a).subs) is_on ∙ built_subs leaves
 
--- what is met by a word, of these entries
-abbrev IsMetAs : Text → List Entry → Option (Text × List Row) → Type 0
-IsMetAs word entries None = ⊥
-IsMetAs word entries (Some met) = (met.0 ≡ word) × ((entry : Entry) × (find (λ e. bytes_eq word e.word) entries ≡ Some entry) × AllHold (rows_for entry.verb) met.1)
-
-met_later : (word : Text) (x : Entry) (xs : List Entry) (met : Option (Text × List Row)) → bytes_eq word x.word ≡ false → IsMetAs word xs met → IsMetAs word (x ∷ xs) met
-met_later word x xs None other is = is
-met_later word x xs (Some met) other is = (is.0, (is.1.0, ap (λ b. cond b (Some x) (find (λ e. bytes_eq word e.word) xs)) other ∙ is.1.1, is.1.2))
-
-pub same_false : (a b : Text) → bytes_eq a b ≡ false → bytes_eq b a ≡ false
-same_false a b other = go (bytes_eq b a) refl
+same_way : (a b : Text) → bytes_eq a b ≡ bytes_eq b a
+same_way a b = go (bytes_eq a b) (bytes_eq b a) refl refl
   where
-    go : (c : Bool) → bytes_eq b a ≡ c → bytes_eq b a ≡ false
-    go false is = is
-    go true is =
-        let named : b ≡ a = (bytes_eq-Decides b a).0 is in
-        absurd (true≢false (sym ((bytes_eq-Decides a b).1 (sym named)) ∙ other))
+    go : (x y : Bool) → bytes_eq a b ≡ x → bytes_eq b a ≡ y → x ≡ y
+    go true true one other = refl
+    go false false one other = refl
+    go true false one other = absurd (true≢false (sym ((bytes_eq-Decides b a).1 (sym ((bytes_eq-Decides a b).0 one))) ∙ other))
+    go false true one other = absurd (true≢false (sym ((bytes_eq-Decides a b).1 (sym ((bytes_eq-Decides b a).0 other))) ∙ one))
 
-left_of : (b : Bool) → (b || false) ≡ true → b ≡ true
-left_of true is = refl
-left_of false is = absurd (true≢false (sym is))
+or_false : (b : Bool) → (b || false) ≡ b
+or_false true = refl
+or_false false = refl
 
-left_not : (b : Bool) → (b || false) ≡ false → b ≡ false
-left_not true is = absurd (true≢false is)
-left_not false is = refl
-
-chosen : (word : Text) (words : List Text) (entries : List Entry) → list_all is_sound entries ≡ true → bytes_eq word (codes "help") ≡ false
-    → is_some (option_map (λ s. rows_at s words) (find (λ s. answers_to word (label_of s)) (map below (map leaf_shape entries) ++ below help_shape ∷ []))) ≡ true
-    → option_map_or (λ s. level_fault s [] nothing_held words false []) (find (λ s. answers_to word (label_of s)) (map below (map leaf_shape entries) ++ below help_shape ∷ [])) [] ≡ []
-    → IsMetAs word entries (option_map (λ s. rows_at s words) (find (λ s. answers_to word (label_of s)) (map below (map leaf_shape entries) ++ below help_shape ∷ [])))
-chosen word words [] fits past met none = go (bytes_eq (codes "help") word || false) refl met
+-- a word but `help` names the subcommand of its entry
+pub subs_found : (word : Text) (entries : List Entry) → bytes_eq word (codes "help") ≡ false
+    → find (λ s. answers_to word (label_of s)) (map below (map leaf_shape entries) ++ below help_shape ∷ [])
+    ≡ option_map (λ entry. below (leaf_shape entry)) (find (λ entry. bytes_eq word entry.word) entries)
+subs_found word [] no_help =
+    ap (λ b. cond b (Some (below help_shape)) None) (or_false (bytes_eq (codes "help") word) ∙ (same_way (codes "help") word ∙ no_help))
+subs_found word (x ∷ xs) no_help =
+    ap (λ b. cond b (Some (below (leaf_shape x))) (find (λ s. answers_to word (label_of s)) (map below (map leaf_shape xs) ++ below help_shape ∷ [])))
+    (or_false (bytes_eq x.word word) ∙ same_way x.word word) ∙ go (bytes_eq word x.word) (subs_found word xs no_help)
   where
-    go : (b : Bool) → (bytes_eq (codes "help") word || false) ≡ b → is_some (option_map (λ s. rows_at s words) (cond b (Some (below help_shape)) None)) ≡ true
-        → IsMetAs word [] (option_map (λ s. rows_at s words) (cond b (Some (below help_shape)) None))
-    go true is met = absurd (no_help word past is)
-    go false is met = absurd (true≢false (sym met))
-chosen word words (x ∷ xs) fits past met none =
-    go (λ met none. chosen word words xs (both _ _ fits).1 past met none) (bytes_eq x.word word || false) refl met none
+    go : (b : Bool) → find (λ s. answers_to word (label_of s)) (map below (map leaf_shape xs) ++ below help_shape ∷ [])
+        ≡ option_map (λ entry. below (leaf_shape entry)) (find (λ entry. bytes_eq word entry.word) xs)
+        → cond b (Some (below (leaf_shape x))) (find (λ s. answers_to word (label_of s)) (map below (map leaf_shape xs) ++ below help_shape ∷ []))
+        ≡ option_map (λ entry. below (leaf_shape entry)) (cond b (Some x) (find (λ entry. bytes_eq word entry.word) xs))
+    go true later = refl
+    go false later = later
+
+-- the entry that is found has the name, and is sound where all are
+pub found_entry : (word : Text) (entries : List Entry) (entry : Entry) → list_all is_sound entries ≡ true → find (λ e. bytes_eq word e.word) entries ≡ Some entry
+    → (entry.word ≡ word) × (is_sound entry ≡ true)
+found_entry word [] entry sound is = absurd (cc)
+found_entry word (x ∷ xs) entry sound is = go (λ later. found_entry word xs entry (both _ _ sound).1 later) (bytes_eq word x.word) refl is
   where
-    rest : Option Shape
-    rest = find (λ s. answers_to word (label_of s)) (map below (map leaf_shape xs) ++ below help_shape ∷ [])
-
-    go : (is_some (option_map (λ s. rows_at s words) rest) ≡ true → option_map_or (λ s. level_fault s [] nothing_held words false []) rest [] ≡ []
-        → IsMetAs word xs (option_map (λ s. rows_at s words) rest)) → (b : Bool) → (bytes_eq x.word word || false) ≡ b
-        → is_some (option_map (λ s. rows_at s words) (cond b (Some (below (leaf_shape x))) rest)) ≡ true
-        → option_map_or (λ s. level_fault s [] nothing_held words false []) (cond b (Some (below (leaf_shape x))) rest) [] ≡ []
-        → IsMetAs word (x ∷ xs) (option_map (λ s. rows_at s words) (cond b (Some (below (leaf_shape x))) rest))
-    go later true is met none =
-        let named : x.word ≡ word = (bytes_eq-Decides x.word word).0 (left_of _ is) in (
-          named,
-          (x, ap (λ b. cond b (Some x) (find (λ e. bytes_eq word e.word) xs)) ((bytes_eq-Decides word x.word).1 (sym named)), entry_holds x (both _ _ fits).0 words none),
-        )
-    go later false is met none =
-        met_later word x xs (option_map (λ s. rows_at s words) rest) (same_false x.word word (left_not _ is)) (later met none)
-
-met_as : (word : Text) (met : Option (Text × List Row)) → IsMetAs word table met → HasMet met
-met_as word None is = is
-met_as word (Some met) is = subst (λ (n : Text). IsWhole n met.1) (sym is.0) is.1
+    go : (find (λ e. bytes_eq word e.word) xs ≡ Some entry → (entry.word ≡ word) × (is_sound entry ≡ true)) → (b : Bool) → bytes_eq word x.word ≡ b
+        → cond b (Some x) (find (λ e. bytes_eq word e.word) xs) ≡ Some entry → (entry.word ≡ word) × (is_sound entry ≡ true)
+    go later true same is =
+        let here = some_eq x entry is in
+        (ap (λ (e : Entry). e.word) (sym here) ∙ sym ((bytes_eq-Decides word x.word).0 same), ap is_sound (sym here) ∙ (both _ _ sound).0)
+    go later false other is = later is
 
 entered_whole : (stop : Option (Text × List Text)) → IsNoHelp stop → is_some (entered (built pdp8) stop) ≡ true → entered_fault (built pdp8) stop ≡ []
     → HasMet (entered (built pdp8) stop)
 entered_whole None past met none = absurd (true≢false (sym met))
-entered_whole (Some p) past met none =
-    met_as p.0 _ (subst (λ (s : List Shape). IsMetAs p.0 table (option_map (λ s. rows_at s p.1) (find (λ s. answers_to p.0 (label_of s)) s))) (sym pdp8_subs)
-    (chosen p.0 p.1 table sound past
-    (subst (λ (s : List Shape). is_some (option_map (λ s. rows_at s p.1) (find (λ s. answers_to p.0 (label_of s)) s)) ≡ true) pdp8_subs met)
-    (subst (λ (s : List Shape). option_map_or (λ s. level_fault s [] nothing_held p.1 false []) (find (λ s. answers_to p.0 (label_of s)) s) [] ≡ []) pdp8_subs none)))
+entered_whole (Some p) past met none = subst Fits (sym found) (go (find (λ entry. bytes_eq p.0 entry.word) table) refl) met none
+  where
+    Fits : Option Shape → Type 0
+    Fits o = is_some (option_map (λ s. rows_at s p.1) o) ≡ true → option_map_or (λ s. level_fault s [] nothing_held p.1 false []) o [] ≡ []
+        → HasMet (option_map (λ s. rows_at s p.1) o)
+
+    found : find (λ s. answers_to p.0 (label_of s)) (built pdp8).subs
+        ≡ option_map (λ entry. below (leaf_shape entry)) (find (λ entry. bytes_eq p.0 entry.word) table)
+    found = ap (find (λ s. answers_to p.0 (label_of s))) pdp8_subs ∙ subs_found p.0 table past
+
+    go : (o : Option Entry) → find (λ entry. bytes_eq p.0 entry.word) table ≡ o → Fits (option_map (λ entry. below (leaf_shape entry)) o)
+    go None is = λ met none. absurd (true≢false (sym met))
+    go (Some entry) is = λ met none.
+        let had = found_entry p.0 table entry sound is in
+        (entry, subst (λ (word : Text). entry_named word ≡ Some entry) (sym had.0) is, entry_holds entry had.1 p.1 none)
 
 -- words with no fault ask for a subcommand that has what it needs
 pub task_whole : (words : List Text) → fault_of pdp8 words ≡ [] → HasMet (subcommand_of pdp8 words)

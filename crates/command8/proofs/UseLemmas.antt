@@ -1,28 +1,45 @@
 -- Plain words and long options, as a subcommand takes them one after the other.
-use Rattle.std.proofs.Common.{◌≡◌, ◌∙◌, ◌&&◌, ◌||◌, if◌then◌else◌, ℕ, Bool, cond, true, false, refl, ap, List, [], ◌∷◌, Option, Some, None}
-use Rattle.std.specs.Prelude.{⊤, fold, nat_lt}
+use Rattle.std.proofs.Common.{◌≡◌, ◌∙◌, ◌&&◌, ◌||◌, if◌then◌else◌, ℕ, Bool, cond, true, false, not, refl, ap, sym, List, [], ◌∷◌, Option, Some, None, is_some, true≢false}
+use Rattle.std.specs.Prelude.{⊤, fold, nat_lt, option_and_then, ◌==◌}
 use Rattle.std.specs.List.{list_all}
 use Rattle.std.specs.Option.{option_map_or}
 use Rattle.std.specs.Str.{bytes_eq}
 use Rattle.std.proofs.lemmas.Bool.{ne_eqb}
-use Rattle.clap.specs.Lexer.{long_of, short_of}
-use Rattle.clap.specs.Walk.{Held, Rule, Step, Text, Waiting, Walk}
+use Rattle.std.proofs.lemmas.Slice.Eq.{bytes_eq-Decides}
+use Rattle.clap.proofs.WalkLemmas.{both}
+use Rattle.clap.specs.Lexer.{long_of, long_of_rest, short_of, short_of_rest, strip_byte}
+use Rattle.clap.specs.Walk.{Held, Row, Rule, Step, Text, Waiting, Walk}
 use Rattle.clap.specs.Walk.{idle, option, positional, next, trailing, value}
 use Rattle.clap.specs.Walk.{after_flag, after_step, arg_by_id, arg_by_index, arg_by_long, finished, flag_met, is_multiple, long_met, long_or_other, most_values, next_position, nothing_held, option_met, option_word, pending_count, plain_word, positional_held, pushed, reacted, rows_after, settled, short_or_plain, subcommand_met, subcommand_or_other, takes_values, to_positional, walked, word_met}
 use Rattle.clap.specs.Simple.{Shape}
 use Rattle.clap.specs.Takes.{bundle_passes, default_passes, flag_word_passes, is_valid, level_passes, long_passes, option_passes, other_passes, positional_passes, react_passes, settle_passes, step_passes, walk_passes, word_passes}
-use Rattle.command8.specs.Tasks.{IsPlain}
+use Rattle.command8.specs.Plain.{ArePlain, IsPlain, Use, alone, in_place, with_value, words_of}
 use Rattle.command8.proofs.EnterLemmas.{both_true}
+use Rattle.command8.proofs.NumberLemmas.{none_some}
+use Rattle.command8.proofs.WalkLemmas.{some_eq}
 
 -- the word is no option and no `--`
-pub record IsNoOption (word : Text) : Type 0 where
+record IsNoOption (word : Text) : Type 0 where
   pub no_long : long_of word ≡ None
   pub no_short : short_of word ≡ None
   pub no_dashes : bytes_eq word (45 ∷ 45 ∷ []) ≡ false
 
-pub no_option : (word : Text) → IsPlain word → IsNoOption word
+no_option : (word : Text) → IsPlain word → IsNoOption word
 no_option [] plain = record { no_long = refl; no_short = refl; no_dashes = refl }
-no_option (b ∷ rest) plain = record {
+no_option (b ∷ []) plain = record { no_long = one (b == 45); no_short = short (b == 45); no_dashes = last (b == 45) }
+  where
+    one : (is : Bool) → option_and_then long_of_rest (option_and_then (strip_byte 45) (if is then Some [] else None)) ≡ None
+    one true = refl
+    one false = refl
+
+    short : (is : Bool) → option_and_then short_of_rest (if is then Some [] else None) ≡ None
+    short true = refl
+    short false = refl
+
+    last : (is : Bool) → (is && false) ≡ false
+    last true = refl
+    last false = refl
+no_option (b ∷ other ∷ rest) plain = record {
   no_long = rw (ne_eqb b 45 plain) refl;
   no_short = rw (ne_eqb b 45 plain) refl;
   no_dashes = rw (ne_eqb b 45 plain) refl;
@@ -30,57 +47,30 @@ no_option (b ∷ rest) plain = record {
 
 -- ## What stands in the words
 
--- a value by its place, an option by its long name, and an option with the value behind it
-pub data Use : Type 0 where
-  at_place : Rule → Text → Use
-  by_flag : Rule → Text → Use
-  by_option : Rule → Text → Text → Use
-
-abbrev pub words_of : List Use → List Text
-words_of [] = []
-words_of (at_place a word ∷ rest) = word ∷ words_of rest
-words_of (by_flag a name ∷ rest) = (45 ∷ 45 ∷ name) ∷ words_of rest
-words_of (by_option a name word ∷ rest) = (45 ∷ 45 ∷ name) ∷ word ∷ words_of rest
-
 -- an option waits for its value, and gets it
 abbrev waiting_held : List Rule → Rule → Held → Held
 waiting_held c a h = record (settled c h) { pending = Some (a.id, []) }
 
-abbrev pub option_held : List Rule → Rule → Text → Held → Held
+abbrev option_held : List Rule → Rule → Text → Held → Held
 option_held c a word h = pushed a.id word (waiting_held c a h)
 
--- what is held behind them
-abbrev pub after : List Rule → Held → List Use → Held
-after c h [] = h
-after c h (at_place a word ∷ rest) = after c (positional_held c a word h) rest
-after c h (by_flag a name ∷ rest) = after c (reacted c a [] h) rest
-after c h (by_option a name word ∷ rest) = after c (option_held c a word h) rest
+-- the name is read as it is
+abbrev reads_name : Text → Bool
+reads_name name = option_map_or (λ p. bytes_eq p.0 name && not (is_some p.1)) (long_of (45 ∷ 45 ∷ name)) false
 
--- the name is that of this option
-pub record IsNamed (s : Shape) (a : Rule) (name : Text) (takes : Bool) : Type 0 where
-  pub read : long_of (45 ∷ 45 ∷ name) ≡ Some (name, None)
-  pub found : arg_by_long s.rules name ≡ Some a
-  pub takes_value : takes_values a ≡ takes
+-- the option has all its values
+abbrev is_full : Shape → Rule → Text → Held → Bool
+is_full s a word h = option_map_or (λ b. not (nat_lt (pending_count b (option_held s.rules a word h).pending) (most_values b))) (arg_by_id s.rules a.id) false
 
-pub record IsPlaced (s : Shape) (a : Rule) (position : ℕ) (h : Held) : Type 0 where
-  pub found : arg_by_index s.rules position ≡ Some a
-  pub passes : positional_passes s.rules s.args_override_self a h ≡ true
-  pub no_end : a.trailing_var_arg ≡ false
-
-pub record IsValued (s : Shape) (a : Rule) (word : Text) (h : Held) : Type 0 where
-  pub own : arg_by_id s.rules a.id ≡ Some a
-  pub one : nat_lt (pending_count a (option_held s.rules a word h).pending) (most_values a) ≡ false
-  pub passes : settle_passes s.rules s.args_override_self h ≡ true
-
--- each passes where it stands
-abbrev pub AllPass : Shape → Held → ℕ → List Use → Type 0
-AllPass s h position [] = ⊤
-AllPass s h position (at_place a word ∷ rest) = IsNoOption word × IsPlaced s a position h
-    × AllPass s (positional_held s.rules a word h) (next_position a position) rest
-AllPass s h position (by_flag a name ∷ rest) = IsNamed s a name false × (react_passes s.rules s.args_override_self a [] h ≡ true)
-    × AllPass s (reacted s.rules a [] h) position rest
-AllPass s h position (by_option a name word ∷ rest) = IsNoOption word × IsNamed s a name true × IsValued s a word h
-    × AllPass s (option_held s.rules a word h) position rest
+-- what is held after them, where each passes in its place
+abbrev pub comes : Shape → Held → ℕ → List Use → Option Held
+comes s h position [] = Some h
+comes s h position (in_place id word ∷ rest) = option_and_then (λ a. if positional_passes s.rules s.args_override_self a h && not a.trailing_var_arg
+    then comes s (positional_held s.rules a word h) (next_position a position) rest else None) (arg_by_index s.rules position)
+comes s h position (alone id ∷ rest) = option_and_then (λ a. if reads_name id && (not (takes_values a) && react_passes s.rules s.args_override_self a [] h)
+    then comes s (reacted s.rules a [] h) position rest else None) (arg_by_long s.rules id)
+comes s h position (with_value id word ∷ rest) = option_and_then (λ a. if reads_name id && (takes_values a && (settle_passes s.rules s.args_override_self h && is_full s a word h))
+    then comes s (option_held s.rules a word h) position rest else None) (arg_by_long s.rules id)
 
 -- ## One word
 
@@ -109,6 +99,21 @@ word_goes s waiting word h plain =
 not_dashes : (name : Text) → long_of (45 ∷ 45 ∷ name) ≡ Some (name, None) → bytes_eq (45 ∷ 45 ∷ name) (45 ∷ 45 ∷ []) ≡ false
 not_dashes [] read = absurd (cc)
 not_dashes (x ∷ xs) read = refl
+
+-- the name is that of this option
+record IsNamed (s : Shape) (a : Rule) (name : Text) (takes : Bool) : Type 0 where
+  pub read : long_of (45 ∷ 45 ∷ name) ≡ Some (name, None)
+  pub found : arg_by_long s.rules name ≡ Some a
+  pub takes_value : takes_values a ≡ takes
+
+named_as : (s : Shape) (a : Rule) (name : Text) (takes : Bool) → reads_name name ≡ true → arg_by_long s.rules name ≡ Some a → takes_values a ≡ takes
+    → IsNamed s a name takes
+named_as s a name takes reads found takes_value = record { read = go (long_of (45 ∷ 45 ∷ name)) reads; found = found; takes_value = takes_value }
+  where
+    go : (o : Option (Text × Option Text)) → option_map_or (λ p. bytes_eq p.0 name && not (is_some p.1)) o false ≡ true → o ≡ Some (name, None)
+    go None is = absurd (true≢false (sym is))
+    go (Some (read, None)) is = ap (λ (n : Text). let p : Text × Option Text = (n, None) in Some p) ((bytes_eq-Decides read name).0 (both _ _ is).0)
+    go (Some (read, Some given)) is = absurd (true≢false (sym (both _ _ is).1))
 
 name_read : (s : Shape) (a : Rule) (name : Text) (takes : Bool) (waiting : Waiting) (position : ℕ) (h : Held) → IsNamed s a name takes
     → word_met s.rules [] false waiting position (45 ∷ 45 ∷ name) h
@@ -162,15 +167,15 @@ plain_value c (option id) word h free = absurd free
 plain_value c positional word h free = refl
 
 place_goes : (s : Shape) (a : Rule) (word : Text) (rest : List Text) (h : Held) (waiting : Waiting) (position : ℕ) (last : Held) → IsFree waiting → IsNoOption word
-    → IsPlaced s a position h
+    → arg_by_index s.rules position ≡ Some a → positional_passes s.rules s.args_override_self a h ≡ true → a.trailing_var_arg ≡ false
     → Goes s (positional_held s.rules a word h) (if is_multiple a then positional else idle) (next_position a position) rest last
     → Goes s h waiting position (word ∷ rest) last
-place_goes s a word rest h waiting position last free plain placed goes =
+place_goes s a word rest h waiting position last free plain found passes no_end goes =
     goes_on s h waiting position word rest last (positional_held s.rules a word h) (if is_multiple a then positional else idle) (next_position a position) (h, value)
     (word_read s.rules waiting position word h plain ∙ plain_value s.rules waiting word h free) (word_goes s waiting word h plain)
-    (ap (λ o. option_map_or (λ x. positional_passes s.rules s.args_override_self x h) o false) placed.found ∙ placed.passes)
-    (ap (λ o. to_positional s.rules o word (stands h waiting position) h) placed.found
-    ∙ ap (λ (b : Bool). let w : Walk = record (stands (positional_held s.rules a word h) (if is_multiple a then positional else idle) (next_position a position)) { is_trailing = b } in w) placed.no_end)
+    (ap (λ o. option_map_or (λ x. positional_passes s.rules s.args_override_self x h) o false) found ∙ passes)
+    (ap (λ o. to_positional s.rules o word (stands h waiting position) h) found
+    ∙ ap (λ (b : Bool). let w : Walk = record (stands (positional_held s.rules a word h) (if is_multiple a then positional else idle) (next_position a position)) { is_trailing = b } in w) no_end)
     goes
 
 flag_goes : (s : Shape) (a : Rule) (name : Text) (rest : List Text) (h : Held) (waiting : Waiting) (position : ℕ) (last : Held) → IsNamed s a name false
@@ -180,53 +185,107 @@ flag_goes s a name rest h waiting position last named passes goes =
     goes_on s h waiting position (45 ∷ 45 ∷ name) rest last (reacted s.rules a [] h) idle position (reacted s.rules a [] h, next idle)
     (name_read s a name false waiting position h named) (name_goes s a name false waiting h named passes) refl refl goes
 
+abbrev then_waits : Held → Waiting → Held × Step
+then_waits h waiting = (h, next waiting)
+
 option_goes : (s : Shape) (a : Rule) (name word : Text) (rest : List Text) (h : Held) (waiting : Waiting) (position : ℕ) (last : Held) → IsNoOption word
-    → IsNamed s a name true → IsValued s a word h → Goes s (option_held s.rules a word h) idle position rest last
-    → Goes s h waiting position ((45 ∷ 45 ∷ name) ∷ word ∷ rest) last
-option_goes s a name word rest h waiting position last plain named valued goes =
+    → IsNamed s a name true → settle_passes s.rules s.args_override_self h ≡ true → is_full s a word h ≡ true
+    → Goes s (option_held s.rules a word h) idle position rest last → Goes s h waiting position ((45 ∷ 45 ∷ name) ∷ word ∷ rest) last
+option_goes s a name word rest h waiting position last plain named passes full goes =
     goes_on s h waiting position (45 ∷ 45 ∷ name) (word ∷ rest) last (waiting_held s.rules a h) (option a.id) position (waiting_held s.rules a h, next (option a.id))
-    (name_read s a name true waiting position h named) (name_goes s a name true waiting h named valued.passes) refl refl
+    (name_read s a name true waiting position h named) (name_goes s a name true waiting h named passes) refl refl
     (goes_on s (waiting_held s.rules a h) (option a.id) position word rest last (option_held s.rules a word h) idle position (option_held s.rules a word h, next idle)
-    (word_read s.rules (option a.id) position word (waiting_held s.rules a h) plain ∙ (ap (λ (o : Option Rule).
-    let met : Held × Step = ((option_word o a.id word (waiting_held s.rules a h)).0, next (option_word o a.id word (waiting_held s.rules a h)).1) in met) valued.own
-    ∙ ap (λ (b : Bool). let met : Held × Step = (option_held s.rules a word h, next (if b then option a.id else idle)) in met) valued.one))
+    (word_read s.rules (option a.id) position word (waiting_held s.rules a h) plain ∙ met (arg_by_id s.rules a.id) full)
     (word_goes s (option a.id) word (waiting_held s.rules a h) plain) refl refl goes)
+  where
+    met : (o : Option Rule) → option_map_or (λ b. not (nat_lt (pending_count b (option_held s.rules a word h).pending) (most_values b))) o false ≡ true
+        → then_waits (option_word o a.id word (waiting_held s.rules a h)).0 (option_word o a.id word (waiting_held s.rules a h)).1 ≡ then_waits (option_held s.rules a word h) idle
+    met None is = absurd (true≢false (sym is))
+    met (Some b) is = go (nat_lt (pending_count b (option_held s.rules a word h).pending) (most_values b)) is
+      where
+        go : (more : Bool) → not more ≡ true
+            → then_waits (option_held s.rules a word h) (if more then option a.id else idle) ≡ then_waits (option_held s.rules a word h) idle
+        go true is = absurd (true≢false (sym is))
+        go false is = refl
 
 free_either : (b : Bool) → IsFree (if b then positional else idle)
 free_either true = tt
 free_either false = tt
 
-all_go : (s : Shape) (uses : List Use) (h : Held) (waiting : Waiting) (position : ℕ) → IsFree waiting → AllPass s h position uses
-    → Goes s h waiting position (words_of uses) (after s.rules h uses)
+if_some : {X : Type 0} (b : Bool) (o : Option X) (x : X) → (if b then o else None) ≡ Some x → (b ≡ true) × (o ≡ Some x)
+if_some true o x is = (refl, is)
+if_some false o x is = absurd (none_some x is)
+
+not_true : (b : Bool) → not b ≡ true → b ≡ false
+not_true true is = absurd (true≢false (sym is))
+not_true false is = refl
+
+all_go : (s : Shape) (uses : List Use) (h : Held) (waiting : Waiting) (position : ℕ) (last : Held) → IsFree waiting → ArePlain uses
+    → comes s h position uses ≡ Some last → Goes s h waiting position (words_of uses) last
 unfolding walk_passes
-all_go s [] h waiting position free pass = record { passes = refl; ends = refl }
-all_go s (at_place a word ∷ rest) h waiting position free pass =
-    place_goes s a word (words_of rest) h waiting position (after s.rules (positional_held s.rules a word h) rest) free pass.0 pass.1
-    (all_go s rest (positional_held s.rules a word h) (if is_multiple a then positional else idle) (next_position a position) (free_either (is_multiple a)) pass.2)
-all_go s (by_flag a name ∷ rest) h waiting position free pass =
-    flag_goes s a name (words_of rest) h waiting position (after s.rules (reacted s.rules a [] h) rest) pass.0 pass.1
-    (all_go s rest (reacted s.rules a [] h) idle position tt pass.2)
-all_go s (by_option a name word ∷ rest) h waiting position free pass =
-    option_goes s a name word (words_of rest) h waiting position (after s.rules (option_held s.rules a word h) rest) pass.0 pass.1 pass.2
-    (all_go s rest (option_held s.rules a word h) idle position tt pass.3)
+all_go s [] h waiting position last free plain is = record { passes = refl; ends = some_eq h last is }
+all_go s (in_place id word ∷ rest) h waiting position last free plain is =
+    go (λ a. all_go s rest (positional_held s.rules a word h) (if is_multiple a then positional else idle) (next_position a position) last (free_either (is_multiple a)) plain.1)
+    (arg_by_index s.rules position) refl is
+  where
+    go : ((a : Rule) → comes s (positional_held s.rules a word h) (next_position a position) rest ≡ Some last
+        → Goes s (positional_held s.rules a word h) (if is_multiple a then positional else idle) (next_position a position) (words_of rest) last)
+        → (o : Option Rule) → arg_by_index s.rules position ≡ o
+        → option_and_then (λ a. if positional_passes s.rules s.args_override_self a h && not a.trailing_var_arg
+        then comes s (positional_held s.rules a word h) (next_position a position) rest else None) o ≡ Some last
+        → Goes s h waiting position (word ∷ words_of rest) last
+    go later None found is = absurd (none_some last is)
+    go later (Some a) found is =
+        let had = if_some _ _ last is in
+        let tests = both _ _ had.0 in
+        place_goes s a word (words_of rest) h waiting position last free (no_option word plain.0) found tests.0 (not_true a.trailing_var_arg tests.1) (later a had.1)
+all_go s (alone id ∷ rest) h waiting position last free plain is =
+    go (λ a. all_go s rest (reacted s.rules a [] h) idle position last tt plain) (arg_by_long s.rules id) refl is
+  where
+    go : ((a : Rule) → comes s (reacted s.rules a [] h) position rest ≡ Some last → Goes s (reacted s.rules a [] h) idle position (words_of rest) last)
+        → (o : Option Rule) → arg_by_long s.rules id ≡ o
+        → option_and_then (λ a. if reads_name id && (not (takes_values a) && react_passes s.rules s.args_override_self a [] h)
+        then comes s (reacted s.rules a [] h) position rest else None) o ≡ Some last
+        → Goes s h waiting position ((45 ∷ 45 ∷ id) ∷ words_of rest) last
+    go later None found is = absurd (none_some last is)
+    go later (Some a) found is =
+        let had = if_some _ _ last is in
+        let reads = both _ _ had.0 in
+        let tests = both _ _ reads.1 in
+        flag_goes s a id (words_of rest) h waiting position last (named_as s a id false reads.0 found (not_true (takes_values a) tests.0)) tests.1 (later a had.1)
+all_go s (with_value id word ∷ rest) h waiting position last free plain is =
+    go (λ a. all_go s rest (option_held s.rules a word h) idle position last tt plain.1) (arg_by_long s.rules id) refl is
+  where
+    go : ((a : Rule) → comes s (option_held s.rules a word h) position rest ≡ Some last → Goes s (option_held s.rules a word h) idle position (words_of rest) last)
+        → (o : Option Rule) → arg_by_long s.rules id ≡ o
+        → option_and_then (λ a. if reads_name id && (takes_values a && (settle_passes s.rules s.args_override_self h && is_full s a word h))
+        then comes s (option_held s.rules a word h) position rest else None) o ≡ Some last
+        → Goes s h waiting position ((45 ∷ 45 ∷ id) ∷ word ∷ words_of rest) last
+    go later None found is = absurd (none_some last is)
+    go later (Some a) found is =
+        let had = if_some _ _ last is in
+        let reads = both _ _ had.0 in
+        let takes = both _ _ reads.1 in
+        let tests = both _ _ takes.1 in
+        option_goes s a id word (words_of rest) h waiting position last (no_option word plain.0) (named_as s a id true reads.0 found takes.0) tests.0 tests.1 (later a had.1)
 
 -- ## The subcommand
 
--- the subcommand takes the words
-pub record Takes (s : Shape) (uses : List Use) : Type 0 where
-  pub pass : AllPass s nothing_held 1 uses
-  pub settles : settle_passes s.rules s.args_override_self (after s.rules nothing_held uses) ≡ true
-  pub defaults : list_all default_passes s.rules ≡ true
-  pub valid : is_valid s (finished s.rules (after s.rules nothing_held uses)) false ≡ true
+abbrev pub ends : Shape → Held → Bool
+ends s h = settle_passes s.rules s.args_override_self h && (list_all default_passes s.rules && is_valid s (finished s.rules h) false)
 
-pub level_goes_by : (s : Shape) (uses : List Use) → Takes s uses → level_passes s [] nothing_held (words_of uses) false ≡ true
-level_goes_by s uses takes =
-    let goes = all_go s uses nothing_held idle 1 tt takes.pass in
-    both_true _ _ goes.passes (ap (λ (h : Held). settle_passes s.rules s.args_override_self h
-    && (list_all default_passes s.rules && is_valid s (finished s.rules h) false)) goes.ends
-    ∙ both_true _ _ takes.settles (both_true _ _ takes.defaults takes.valid))
+-- what the subcommand finds in the words, where it takes them
+abbrev pub rows_taken : Shape → List Use → Option (List Row)
+rows_taken s uses = option_and_then (λ h. if ends s h then Some (finished s.rules h) else None) (comes s nothing_held 1 uses)
 
--- and finds this
-pub level_rows : (s : Shape) (uses : List Use) → Takes s uses
-    → rows_after s.rules [] (words_of uses) ≡ finished s.rules (after s.rules nothing_held uses)
-level_rows s uses takes = ap (finished s.rules) (all_go s uses nothing_held idle 1 tt takes.pass).ends
+pub level_taken : (s : Shape) (uses : List Use) (rows : List Row) → ArePlain uses → rows_taken s uses ≡ Some rows
+    → (level_passes s [] nothing_held (words_of uses) false ≡ true) × (rows_after s.rules [] (words_of uses) ≡ rows)
+level_taken s uses rows plain is = go (comes s nothing_held 1 uses) refl is
+  where
+    go : (o : Option Held) → comes s nothing_held 1 uses ≡ o → option_and_then (λ h. if ends s h then Some (finished s.rules h) else None) o ≡ Some rows
+        → (level_passes s [] nothing_held (words_of uses) false ≡ true) × (rows_after s.rules [] (words_of uses) ≡ rows)
+    go None come is = absurd (none_some rows is)
+    go (Some last) come is =
+        let goes = all_go s uses nothing_held idle 1 last tt plain come in
+        let had = if_some _ _ rows is in
+        (both_true _ _ goes.passes (ap (ends s) goes.ends ∙ had.0), ap (finished s.rules) goes.ends ∙ some_eq (finished s.rules last) rows had.1)

@@ -1,12 +1,19 @@
 -- What an argument of the table has found, for private clauses.
-use Rattle.std.specs.Prelude.{◌≡◌, ⊤, ◌≤◌, Bool, true, false, is_some, length, List, [], ◌∷◌, None, Some}
+use Rattle.std.specs.Prelude.{◌≡◌, ⊤, ◌≤◌, Bool, true, false, is_some, length, List, [], ◌∷◌, Option, None, Some}
+use Rattle.std.specs.Borrow.{Bor}
+use Rattle.std.specs.Option.{option_map_or}
 use Rattle.clap.specs.Words.{Row, Text, first_of, one_of, IsUnsignedIn}
 use Rattle.word12.specs.declared.sizes.TheConstants.{MOST_BLOCKS}
 use Rattle.command8.specs.declared.table.Form.{Form}
 use Rattle.command8.specs.declared.table.Kind.{Kind}
 use Rattle.command8.specs.declared.table.Kind.TheVariants.{Words, Size, Count}
-use Rattle.command8.specs.Found.{first_not, form_of, values_of}
+use Rattle.command8.specs.Found.{first_not, form_of, passes, values_of}
 use Rattle.command8.specs.Tables.{Argument, most_steps}
+
+-- what is found of a text is this
+abbrev pub IsText : Option (Bor Text) → Option Text → Type 0
+IsText None given = given ≡ None
+IsText (Some text) given = given ≡ Some text.now
 
 -- an argument has a value
 abbrev pub Has : Text → List Row → Type 0
@@ -40,6 +47,10 @@ AllHold (row ∷ rows) values = Holds row values × AllHold rows values
 abbrev pub IsWell : Form → Text → List Row → Type 0
 IsWell form id values = first_not form (values_of id values) ≡ None
 
+-- the first of them is
+abbrev pub IsFirst : Form → Text → List Row → Type 0
+IsFirst form id values = option_map_or (passes form) (first_of id values) true ≡ true
+
 abbrev pub AllWell : List Argument → List Row → Type 0
 AllWell [] values = ⊤
-AllWell (row ∷ rows) values = IsWell (form_of row.kind) row.id values × AllWell rows values
+AllWell (row ∷ rows) values = IsWell (form_of row.kind) row.id values × IsFirst (form_of row.kind) row.id values × AllWell rows values

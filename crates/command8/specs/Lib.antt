@@ -6,3 +6,4 @@ pub mod FoundSteps
 pub mod Refusals
 pub mod Tasks
 pub mod TaskSteps
+pub mod Plain

@@ -2,7 +2,7 @@
 ghost use Rattle.std.specs.Prelude.{◌≡◌, ◌≤◌, codes, option_and_then, IfOk, Some};
 ghost use Rattle.clap.specs.Words.{first_of, found_of, rows_of};
 ghost use Rattle.command8.specs.Found as spec;
-ghost use Rattle.command8.specs.FoundSteps.{Has, IsWell};
+ghost use Rattle.command8.specs.FoundSteps.{Has, IsFirst};
 ghost use Rattle.command8.specs.Tasks as tasks;
 ghost use Rattle.command8.specs.TaskSteps.{IsAskedBy, Needs};
 ghost use Rattle.command8.specs.declared.table.Form.TheVariants as form;
@@ -99,7 +99,7 @@ pub fn scan(alloc: Global, found: &ArgMatches<'_>) -> Result<Task, AllocError>
 /// The block of the word.
 fn block_given(found: &ArgMatches<'_>) -> usize
     requires given { Has (codes "BLOCK") (rows_of (found_of found.now)) }
-    requires well { IsWell form.Block (codes "BLOCK") (rows_of (found_of found.now)) }
+    requires first { IsFirst form.Block (codes "BLOCK") (rows_of (found_of found.now)) }
     ensures { option_and_then spec.place_of (first_of (codes "BLOCK") (rows_of (found_of found.now))) ≡ Some result }
 {
     number_of(text_given(found, "BLOCK").as_bytes(), 0, MOST_BLOCKS)
@@ -108,7 +108,7 @@ fn block_given(found: &ArgMatches<'_>) -> usize
 /// The number of the word in its block.
 fn number_given(found: &ArgMatches<'_>) -> usize
     requires given { Has (codes "WORD") (rows_of (found_of found.now)) }
-    requires well { IsWell form.Index (codes "WORD") (rows_of (found_of found.now)) }
+    requires first { IsFirst form.Index (codes "WORD") (rows_of (found_of found.now)) }
     ensures value { option_and_then (spec.number_in 0 0o377) (first_of (codes "WORD") (rows_of (found_of found.now))) ≡ Some result }
     ensures range { result ≤ 0o377 }
 {
@@ -118,7 +118,7 @@ fn number_given(found: &ArgMatches<'_>) -> usize
 /// The word that stands there.
 fn old_given(found: &ArgMatches<'_>) -> u16
     requires given { Has (codes "OLD") (rows_of (found_of found.now)) }
-    requires well { IsWell form.Bits (codes "OLD") (rows_of (found_of found.now)) }
+    requires first { IsFirst form.Bits (codes "OLD") (rows_of (found_of found.now)) }
     ensures { option_and_then spec.bits_of (first_of (codes "OLD") (rows_of (found_of found.now))) ≡ Some result }
 {
     match bits_in(text_given(found, "OLD").as_bytes()) {
@@ -130,7 +130,7 @@ fn old_given(found: &ArgMatches<'_>) -> u16
 /// The word that is put there.
 fn new_given(found: &ArgMatches<'_>) -> Word
     requires given { Has (codes "NEW") (rows_of (found_of found.now)) }
-    requires well { IsWell form.Octal (codes "NEW") (rows_of (found_of found.now)) }
+    requires first { IsFirst form.Octal (codes "NEW") (rows_of (found_of found.now)) }
     ensures { option_and_then spec.word_of (first_of (codes "NEW") (rows_of (found_of found.now))) ≡ Some result }
 {
     match word_in(text_given(found, "NEW").as_bytes()) {

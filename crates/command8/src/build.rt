@@ -1,7 +1,7 @@
 //! What `clap` makes of the table: one loop over the arguments of a subcommand, one over the subcommands.
-ghost use Rattle.std.specs.Prelude.{◌≡◌, ◌<◌, true, codes, map, IfOk, None};
+ghost use Rattle.std.specs.Prelude.{◌≡◌, ◌<◌, true, codes, map, None};
 ghost use Rattle.std.specs.List.{list_all};
-ghost use Rattle.clap.specs.Words.{new_app, new_rule};
+ghost use Rattle.clap.specs.Words.{new_app};
 ghost use Rattle.command8.specs.CommandSteps.{IsArgument, IsCommand, IsDraft};
 ghost use Rattle.command8.specs.Tables.{bare_app, kind_rule, leaf_app, lettered, pdp8, rule_for};
 ghost use Rattle.command8.specs.TableSteps.{entry_of, fits, is_fit, is_sound, row_of, option_rule, options_rule};

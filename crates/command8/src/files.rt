@@ -2,10 +2,10 @@
 ghost use Rattle.std.specs.Prelude.{◌≡◌, ◌≤◌, codes, false, true, if◌then◌else◌, is_some, IfOk, Some};
 ghost use Rattle.clap.specs.Words.{found_of, rows_of};
 ghost use Rattle.command8.specs.Found.{has, is_set, number_in};
-ghost use Rattle.command8.specs.FoundSteps.{Has, IsWell};
+ghost use Rattle.command8.specs.FoundSteps.{Has, IsFirst};
 ghost use Rattle.command8.specs.Refusals as refusals;
 ghost use Rattle.command8.specs.Tables.{rows_for};
-ghost use Rattle.command8.specs.TableSteps.{has_text, kind_at, takes_block, takes_text, takes_texts};
+ghost use Rattle.command8.specs.TableSteps.{has_text, kind_at, takes_block, takes_texts};
 ghost use Rattle.command8.specs.Tasks.{AreTexts, IsFile};
 ghost use Rattle.command8.specs.Tasks as spec;
 ghost use Rattle.command8.specs.TaskSteps.{IsAskedBy, Needs};
@@ -230,7 +230,7 @@ pub fn copy(alloc: Global, found: &ArgMatches<'_>) -> Result<Task, AllocError>
 fn file_of(alloc: Global, found: &ArgMatches<'_>, verb: Verb) -> Result<FileForm, AllocError>
     requires at { takes_block (kind_at (codes "at") (rows_for verb)) ≡ true }
     requires name { has_text (kind_at (codes "NAME") (rows_for verb)) ≡ true }
-    requires well { IsWell form.Block (codes "at") (rows_of (found_of found.now)) }
+    requires first { IsFirst form.Block (codes "at") (rows_of (found_of found.now)) }
     requires given { has (codes "at") (rows_of (found_of found.now)) ≡ false
         → Has (codes "NAME") (rows_of (found_of found.now)) }
     ensures { IfOk result (IsFile (rows_of (found_of found.now))) }

@@ -3,7 +3,7 @@ ghost use Rattle.std.specs.Prelude.{◌≡◌, ◌≤◌, [], codes, true, map, 
 ghost use Rattle.clap.specs.Words.{first_of, found_of, one_of, rows_of};
 ghost use Rattle.word12.specs.declared.sizes.TheConstants.{MOST_BLOCKS};
 ghost use Rattle.command8.specs.Found.{IsReadAs, is_limit, number_of, place_of};
-ghost use Rattle.command8.specs.FoundSteps.{Has, IsTaken, IsWell};
+ghost use Rattle.command8.specs.FoundSteps.{Has, IsFirst, IsTaken, IsText};
 ghost use Rattle.command8.specs.Tables.{rows_for};
 ghost use Rattle.command8.specs.TableSteps.{has_text, kind_at, takes_block, takes_text, takes_texts};
 ghost use Rattle.command8.specs.declared.table.Form.TheVariants as form;
@@ -19,7 +19,8 @@ use word12::{Cell, MOST_BLOCKS, Word};
 
 /// The value of an argument, if it was given.
 pub fn text_of<'a>(found: &ArgMatches<'a>, id: &str) -> Option<&'a str>
-    ensures { option_map (λ text. text.now) result ≡ first_of id.now (rows_of (found_of found.now)) }
+    ensures text { IsText result (first_of id.now (rows_of (found_of found.now))) }
+    ensures value { option_map (λ text. text.now) result ≡ first_of id.now (rows_of (found_of found.now)) }
 {
     found.get_str(id)
 }
@@ -96,10 +97,8 @@ pub fn value_of(
     requires given { Has id.now (rows_of (found_of found.now)) }
     ensures { IfOk result (λ text. first_of id.now (rows_of (found_of found.now)) ≡ Some text.bytes.items) }
 {
-    match text_of(found, id) {
-        Some(text) => String::from_str(alloc, text),
-        None => unreachable!(),
-    }
+    let text = String::from_str(alloc, text_given(found, id))?;
+    Ok(text)
 }
 
 /// A copy of the text of an argument, if it was given.
@@ -133,10 +132,8 @@ pub fn name_of(
     requires given { Has id.now (rows_of (found_of found.now)) }
     ensures { IfOk result (λ text. spec.name_in id.now (rows_of (found_of found.now)) ≡ Some text.bytes.items) }
 {
-    match text_of(found, id) {
-        Some(text) => text.to_ascii_uppercase(alloc),
-        None => unreachable!(),
-    }
+    let text = text_given(found, id).to_ascii_uppercase(alloc)?;
+    Ok(text)
 }
 
 /// The name that an argument gives, in capital letters, if it was given.
@@ -224,10 +221,8 @@ pub fn first_value_of(
     requires given { Has id.now (rows_of (found_of found.now)) }
     ensures { IfOk result (λ text. first_of id.now (rows_of (found_of found.now)) ≡ Some text.bytes.items) }
 {
-    match text_of(found, id) {
-        Some(text) => String::from_str(alloc, text),
-        None => unreachable!(),
-    }
+    let text = String::from_str(alloc, text_given(found, id))?;
+    Ok(text)
 }
 
 /// The number of an option, from 1 up, if it was given.
@@ -275,7 +270,7 @@ pub fn octal_of(found: &ArgMatches<'_>, _verb: Verb, id: &str) -> Option<Word>
 /// The block of an option, the first, if it was given.
 pub fn block_of(found: &ArgMatches<'_>, _verb: Verb, id: &str) -> Option<usize>
     requires kind { takes_block (kind_at id.now (rows_for _verb)) ≡ true }
-    requires well { IsWell form.Block id.now (rows_of (found_of found.now)) }
+    requires first { IsFirst form.Block id.now (rows_of (found_of found.now)) }
     ensures { option_map place_of (first_of id.now (rows_of (found_of found.now)))
         ≡ option_map (λ place. Some place) result }
 {
@@ -313,7 +308,7 @@ pub fn year_of(found: &ArgMatches<'_>, _verb: Verb) -> Option<usize>
 /// The word of a date, if it was given.
 pub fn date_of(found: &ArgMatches<'_>, _verb: Verb) -> Option<Word>
     requires kind { kind_at (codes "date") (rows_for _verb) ≡ Some (kind.One form.Date) }
-    requires well { IsWell form.Date (codes "date") (rows_of (found_of found.now)) }
+    requires first { IsFirst form.Date (codes "date") (rows_of (found_of found.now)) }
     ensures { option_map spec.date_word (first_of (codes "date") (rows_of (found_of found.now)))
         ≡ option_map (λ word. Some word) result }
 {

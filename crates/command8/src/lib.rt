@@ -20,7 +20,7 @@ mod texts;
 mod volumes;
 
 pub use faults::TaskFault;
-pub use laws::{excluded_arguments, letters, plain_words};
+pub use laws::{excluded_arguments, letters, options, plain_words};
 pub use refusals::{Refusal, What};
 pub use table::{Argument, ArgumentOf, COMMANDS, Entry, EntryOf, Form, Kind, PAIRS, Pair, Verb};
 pub use tasks::task;

@@ -2,7 +2,7 @@
 ghost use Rattle.std.specs.Prelude.{◌≡◌, ◌++◌, ◌∷◌, [], codes, map, option_map, IfOk, None, OnOk, Some};
 ghost use Rattle.clap.specs.Words.{found_of, rows_of};
 ghost use Rattle.command8.specs.Found.{cell_of, first_not, place_of, word_of};
-ghost use Rattle.command8.specs.FoundSteps.{IsWell};
+ghost use Rattle.command8.specs.FoundSteps.{IsFirst, IsWell};
 ghost use Rattle.command8.specs.Found as spec;
 ghost use Rattle.command8.specs.Tables.{rows_for};
 ghost use Rattle.command8.specs.TableSteps.{kind_at};
@@ -104,7 +104,7 @@ pub fn info_of(
     requires kind { kind_at (codes "info") (rows_for verb) ≡ Some (kind.Many form.Octal) }
     requires well { IsWell form.Octal (codes "info") (rows_of (found_of found.now)) }
     requires date { kind_at (codes "date") (rows_for verb) ≡ Some (kind.One form.Date) }
-    requires well_date { IsWell form.Date (codes "date") (rows_of (found_of found.now)) }
+    requires first_date { IsFirst form.Date (codes "date") (rows_of (found_of found.now)) }
     ensures { IfOk result (λ info.
         IsInfo (rows_of (found_of found.now)) (option_map (λ words. words.items) info)) }
 {

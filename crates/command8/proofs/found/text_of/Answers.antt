@@ -1,7 +1,18 @@
-use Rattle.std.proofs.Common.{◌∙◌}
+use Rattle.std.proofs.Common.{◌≡◌, ◌∙◌, option_map, sym, Option, None, Some}
+use Rattle.std.specs.Borrow.{Bor}
 use Rattle.clap.proofs.WalkLemmas.{first_value-rows}
-use Rattle.clap.specs.Words.{found_of}
+use Rattle.clap.specs.Words.{Text, first_of, found_of, rows_of}
+use Rattle.command8.specs.FoundSteps.{IsText}
 use Rattle.command8.proofs.found.text_of.Goals as goal
 
-pub returns : goal.returns
-returns c = c.get_str.ensures ∙ first_value-rows (found_of c.args.found.now) c.args.id.now
+text_is : (text : Option (Bor Text)) (given : Option Text) → option_map (λ text. text.now) text ≡ given → IsText text given
+text_is None given is = sym is
+text_is (Some text) given is = sym is
+
+pub returns-clause-value : goal.returns-clause-value
+returns-clause-value c = c.get_str.ensures ∙ first_value-rows (found_of c.args.found.now) c.args.id.now
+
+pub returns-clause-text : goal.returns-clause-text
+returns-clause-text c =
+    text_is c.get_str.result (first_of c.args.id.now (rows_of (found_of c.args.found.now)))
+    (c.get_str.ensures ∙ first_value-rows (found_of c.args.found.now) c.args.id.now)
