@@ -30,7 +30,7 @@ SECONDS = {
     "char_pack": 70, "pal_lex": 150, "pal_sym": 65, "pal_asm": 160, "pal_blocks": 55, "pal_notes": 60, "pal_names": 60, "pal_list": 140,
     "trace8": 65, "profile8": 70, "assemble8": 240, "source_listing": 120, "terminal8": 90, "host8": 80, "disk8": 60, "volume_image": 85,
     "os8_dir": 160, "os8_files": 180, "script8": 170, "archive8": 220, "many8": 130, "survey8": 100, "jobs8": 150, "session8": 300,
-    "task8": 40, "command8": 500, "report8": 170, "outcome": 100, "image_file8": 150, "many_host8": 190, "tape_host8": 200,
+    "task8": 40, "command8": 500, "report8": 170, "outcome": 100, "image_file8": 150, "tape_host8": 200,
     "monitor8": 150, "pdp8": 140,
 }  # fmt: skip
 # The memory that a job of the prover may take, in kB.

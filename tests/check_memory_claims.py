@@ -30,6 +30,9 @@ PLACES: dict[str, dict[str, tuple[int, str]]] = {
     "volume_index/src/kinds.rt": {
         "kind_of_words": (1, "`kind_of`'s own, in the arm of its pattern"),
     },
+    "many_commands/src/wishes.rt": {
+        "add_word": (1, "`chosen`'s own, in the arm of its pattern"),
+    },
     "many8/src/putting.rt": {
         "put_all": (1, "a session's own, on a line behind its pattern"),
     },

@@ -1,8 +1,10 @@
 pub mod CountLemmas
 pub mod WorkLemmas
 pub mod NameLemmas
+pub mod WishLemmas
 pub mod Keeping
 pub mod Looking
 pub mod Refusing
 pub mod PuttingMany
 pub mod Sounding
+pub mod GettingMany

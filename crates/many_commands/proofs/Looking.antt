@@ -90,7 +90,7 @@ tells-done-never false done all old new p = same old new p
 tells-done-never true done all old new (inl p) = same _ new p
 tells-done-never true done all old new (inr p) = same _ new p.1
 
-progress-never : (is_told : Bool) (done all : ℕ) → NeverChanges (TellsProgress is_told done all)
+pub progress-never : (is_told : Bool) (done all : ℕ) → NeverChanges (TellsProgress is_told done all)
 progress-never is_told done all old result new p = tells-done-never is_told done all old new p.1
 
 next-never : (form : CheckForm) (is_told : Bool) (done all : ℕ) (file : List ℕ) → NeverChanges (ChecksNext form is_told done all file)
@@ -105,12 +105,12 @@ each-never form is_told done all refused (file ∷ files) =
     then-never (ChecksNext form is_told done all file) (λ is_sound. ChecksEach form is_told (done + 1) all (with_refusal is_sound refused) files) (next-never form is_told done all file)
     (λ is_sound. each-never form is_told (done + 1) all (with_refusal is_sound refused) files)
 
-begins-never : (is_told : Bool) (old new : List Event) → BeginsProgress is_told old new → ChangesNothing old new
+pub begins-never : (is_told : Bool) (old new : List Event) → BeginsProgress is_told old new → ChangesNothing old new
 begins-never true old new p = same _ new p
 begins-never false old new (inl p) = same _ new p
 begins-never false old new (inr p) = same _ new p
 
-ends-never : (is_told : Bool) (old new : List Event) → EndsProgress is_told old new → ChangesNothing old new
+pub ends-never : (is_told : Bool) (old new : List Event) → EndsProgress is_told old new → ChangesNothing old new
 ends-never false old new p = same old new p
 ends-never true old new (inl p) = same old new p
 ends-never true old new (inr p) = same _ new p.1

@@ -14,11 +14,11 @@ use Rattle.many_commands.specs.Checking.{IsImageOf}
 use Rattle.many_commands.specs.NameSteps.{KnowsNames, has_key}
 use Rattle.many_commands.specs.PuttingMany.{IsNewFile, IsNoName, LooksWhole, ReadsNext, RefusesName, RefusesPath, has_name}
 
-or-assoc : (a b c : Bool) → (a || (b || c)) ≡ ((a || b) || c)
+pub or-assoc : (a b c : Bool) → (a || (b || c)) ≡ ((a || b) || c)
 or-assoc true b c = refl
 or-assoc false b c = refl
 
-or-false : (a : Bool) → (a || false) ≡ a
+pub or-false : (a : Bool) → (a || false) ≡ a
 or-false true = refl
 or-false false = refl
 

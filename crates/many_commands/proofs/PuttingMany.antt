@@ -25,7 +25,7 @@ tells-list : (list : Option (List ℕ)) (old new : List Event) → TellsBadList 
 tells-list None old new p = same old new p
 tells-list (Some list) old new p = told p.0 _ old new p.1
 
-lists-never : (texts : TextsForm) → NeverChanges (TakesLists texts)
+pub lists-never : (texts : TextsForm) → NeverChanges (TakesLists texts)
 lists-never texts old (Ok it) new p = same old new p.1
 lists-never texts old (Err ending) new (inl (is, place, first, p)) = tells-list (slice_get (lists_of texts) place) old new p
 lists-never texts old (Err ending) new (inr p) = same old new p.1

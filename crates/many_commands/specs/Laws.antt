@@ -3,11 +3,13 @@ use Rattle.std.specs.Prelude.{◌≡◌, ℕ, Bool, true, false, Option, Result,
 use Rattle.std.specs.Global.{Vec}
 use Rattle.hosts.specs.Event.{Event, look_call}
 use Rattle.hosts.specs.Place.{about}
+use Rattle.hosts.specs.Saving.{replacements}
 use Rattle.outcome.specs.declared.endings.Ending.{Ending}
 use Rattle.outcome.specs.declared.endings.Ending.TheVariants.{Line, Fault, Failure, Busy, NotWritten, FullOutput, NoReader, Misuse}
 use Rattle.disk8.specs.declared.layouts.Layout.{Layout}
 use Rattle.volume_commands.specs.Reading.{FindsVolume}
 use Rattle.many_commands.specs.Checking.{Reports}
+use Rattle.many_commands.specs.GettingMany.{path_in}
 use Rattle.many_commands.specs.declared.reports.Report.{Report}
 
 -- A command is refused: by its words, or by what it reads. The other endings come of a file that can't be written, and of standard output.
@@ -32,6 +34,22 @@ NeverChanges {A} command = (old : List Event) (result : Result A Ending) (new : 
 -- a command that is refused has changed no file
 abbrev pub LeavesFiles : {A : Type 0} → (List Event → Result A Ending → List Event → Type 0) → Type 0
 LeavesFiles command = (old : List Event) (ending : Ending) (new : List Event) → command old (Err ending) new → is_refusal ending ≡ true → ChangesNothing old new
+
+-- ## Folders
+
+-- a path is one of a folder's
+abbrev pub IsIn : List ℕ → List ℕ → Type 0
+IsIn folder path = (name : List ℕ) × (path ≡ path_in folder name)
+
+-- a command changes no path but those of a folder, in whichever way it ends
+abbrev pub ChangesIn : {A : Type 0} → List ℕ → (List Event → Result A Ending → List Event → Type 0) → Type 0
+ChangesIn {A} folder command = (old : List Event) (result : Result A Ending) (new : List Event) → command old result new
+    → (path : List ℕ) → (IsIn folder path → ⊥) → about path new ≡ about path old
+
+-- no file takes a path that another may have had, in whichever way a command ends
+abbrev pub NeverReplaces : {A : Type 0} → (List Event → Result A Ending → List Event → Type 0) → Type 0
+NeverReplaces {A} command = (old : List Event) (result : Result A Ending) (new : List Event) → command old result new
+    → (path : List ℕ) → replacements (about path new) ≡ replacements (about path old)
 
 -- ## Images that are sound
 

@@ -1,6 +1,8 @@
 -- Which of several files are texts.
 use Rattle.std.specs.Prelude.{◌≡◌, ◌⊎◌, ℕ, Bool, if◌then◌else◌, Option, None, Some, Result, Ok, Err, List, ◌∷◌, map, slice_get}
 use Rattle.hosts.specs.Event.{Event, tell_call}
+use Rattle.char_pack.specs.declared.forms.GetForm.{GetForm}
+use Rattle.char_pack.specs.declared.forms.GetForm.TheVariants as get_as
 use Rattle.char_pack.specs.declared.forms.PutForm.{PutForm}
 use Rattle.char_pack.specs.declared.forms.PutForm.TheVariants as put_as
 use Rattle.script8.specs.declared.faults.SessionFault.TheVariants.{Memory}
@@ -33,3 +35,7 @@ TakesLists texts old (Err ending) new = ((ending ≡ Misuse) × (place : ℕ) ×
 -- what a file of the host is put as
 abbrev pub put_form : TextsForm → ℕ → PutForm
 put_form texts name = if is_one_of texts name then put_as.Text else put_as.Frames
+
+-- what is given of a file of the volume
+abbrev pub get_form : TextsForm → ℕ → GetForm
+get_form texts name = if is_one_of texts name then get_as.Text else get_as.Frames

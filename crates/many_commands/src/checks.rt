@@ -65,7 +65,7 @@ fn print_report<H: Host>(host: &mut H, report: &Report) -> Result<(), Ending>
 }
 
 /// How a command ends where all is sound, or not.
-fn end_sound(is_sound: bool) -> Result<(), Ending>
+pub(crate) fn end_sound(is_sound: bool) -> Result<(), Ending>
     ensures { EndsSound is_sound result }
 {
     if is_sound {

@@ -1,5 +1,5 @@
 //! What the commands on volumes leave as it was, and what a check that ends well says, as laws.
-ghost use Rattle.std.specs.Prelude.{ℕ, List, Ok, map};
+ghost use Rattle.std.specs.Prelude.{◌≡◌, ℕ, List, Ok, false, map};
 ghost use Rattle.hosts.specs.Event.{Event};
 ghost use Rattle.hosts.specs.Streams.{read};
 ghost use Rattle.archive8.specs.Asking.{Wanted};
@@ -11,6 +11,7 @@ ghost use Rattle.task8.specs.declared.forms.CheckForm.{CheckForm as Check};
 ghost use Rattle.task8.specs.declared.forms.CopyForm.{CopyForm as Copy};
 ghost use Rattle.task8.specs.declared.forms.DeleteForm.{DeleteForm as Delete};
 ghost use Rattle.task8.specs.declared.forms.FileForm.{FileForm as File};
+ghost use Rattle.task8.specs.declared.forms.GetManyForm.{GetManyForm as GetMany};
 ghost use Rattle.task8.specs.declared.forms.ImageForm.{ImageForm as Image};
 ghost use Rattle.task8.specs.declared.forms.PutManyForm.{PutManyForm as PutMany};
 ghost use Rattle.task8.specs.declared.forms.PutOneForm.{PutOneForm as PutOne};
@@ -21,7 +22,8 @@ ghost use Rattle.volume_commands.specs.Putting.{Puts};
 ghost use Rattle.volume_commands.specs.Showing.{Shows, wanted_file};
 ghost use Rattle.volume_commands.specs.ShowingParts.{ShowsBlocks, ShowsTape};
 ghost use Rattle.many_commands.specs.Checking.{ChecksImages};
-ghost use Rattle.many_commands.specs.Laws.{AreSound, LeavesFiles, NeverChanges};
+ghost use Rattle.many_commands.specs.GettingMany.{GetsMany};
+ghost use Rattle.many_commands.specs.Laws.{AreSound, ChangesIn, LeavesFiles, NeverChanges, NeverReplaces};
 ghost use Rattle.many_commands.specs.PuttingMany.{PutsMany};
 
 /// A command that shows what images have changes no file, in whichever way it ends.
@@ -41,6 +43,13 @@ pub fn refused_changes()
     ensures copies { (form : Copy) → LeavesFiles (Copies form) }
     ensures renames { (wanted : Wanted) (other : List ℕ) (form : Image) → LeavesFiles (Renames wanted other form) }
     ensures squeezes { (form : Image) → LeavesFiles (Squeezes form) }
+{}
+
+/// A command that gets several files to a folder changes no path but those of the folder, and replaces no file there unless that is asked
+/// for: what was there before is as it was. So no image changes.
+pub fn gotten_files()
+    ensures folder { (form : GetMany) → ChangesIn form.folder.bytes.items (GetsMany form) }
+    ensures older { (form : GetMany) → form.is_forced ≡ false → NeverReplaces (GetsMany form) }
 {}
 
 /// Where a check ends well, each image file was read whole, in its order and nothing else, and each image is sound.

@@ -3,6 +3,8 @@
 #![tactic(auto)]
 
 mod checks;
+mod getting;
+mod giving;
 mod host_files;
 mod images;
 pub mod laws;
@@ -10,7 +12,10 @@ mod progress;
 mod putting;
 mod reports;
 mod texts;
+mod wishes;
 
 pub use checks::check_images;
+pub use getting::get_files;
 pub use putting::put_files;
 pub use reports::Report;
+pub use wishes::Wish;

@@ -3,7 +3,7 @@ ghost use Rattle.std.specs.Prelude.{◌≡◌, map, slice_get, OnOk, OnErr};
 ghost use Rattle.many_commands.specs.Texts as spec;
 ghost use Rattle.many_commands.specs.Texts.{TakesLists, TellsBadList};
 
-use archive8::PutForm;
+use archive8::{GetForm, PutForm};
 use hosts::Host;
 use many8::{bad_extensions, is_text};
 use os8_dir::Name;
@@ -64,4 +64,14 @@ pub(crate) fn put_form(texts: &TextsForm, name: Name) -> PutForm
         return PutForm::Text;
     }
     PutForm::Frames
+}
+
+/// What is given of a file of the volume.
+pub(crate) fn get_form(texts: &TextsForm, name: Name) -> GetForm
+    ensures { result ≡ spec.get_form texts.now name }
+{
+    if is_one_of(texts, name) {
+        return GetForm::Text;
+    }
+    GetForm::Frames
 }

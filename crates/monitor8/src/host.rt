@@ -7,8 +7,7 @@ use command8::{TaskFault, task};
 use hosts::Host;
 use image_file8::{tell_bad_argument, texts_of};
 use index_commands::index_images;
-use many_commands::{check_images, put_files};
-use many_host8::get_files;
+use many_commands::{check_images, get_files, put_files};
 use outcome::{Content, Ending, ending_of_output, gives_data, no_memory_line};
 use salvage_commands::{rescue_image, scan_blocks};
 use script8::SessionFault;
@@ -100,7 +99,7 @@ where
         Task::ListLong(image, year) => list_dates(host, alloc, &image, year),
         Task::Get(image, file, form) => get_file(host, alloc, &image, file, form),
         Task::GetBin(image, file) => get_bin(host, alloc, &image, file),
-        Task::GetMany(form) => get_files(rt, &form),
+        Task::GetMany(form) => get_files(host, alloc, &form),
         Task::GetBlocks(form) => get_blocks(host, alloc, &form),
         Task::Put(form) => wait_for_image!(rt, form.image.wait, put_file(host, alloc, &form)),
         Task::PutMany(form) => wait_for_image!(rt, form.image.wait, put_files(host, alloc, &form)),

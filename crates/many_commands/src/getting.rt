@@ -1,0 +1,226 @@
+//! The command that writes several files of the volume in an image file to a folder of the host, each whole or not at all.
+ghost use Rattle.std.specs.Prelude.{◌≡◌, ◌⊎◌, ◌<◌, ◌&&◌, ◌++◌, codes, decimal, false, length, map, slice_get, true, IfOk};
+ghost use Rattle.many8.specs.Opened.{OpensVolume};
+ghost use Rattle.script8.specs.Replies.{fault_line};
+ghost use Rattle.os8_dir.specs.declared.file_faults.FileFault.TheVariants.{NotFound};
+ghost use Rattle.outcome.specs.declared.endings.Ending.TheVariants.{Line, Fault};
+ghost use Rattle.report8.specs.declared.programs.ProgramLine.TheVariants.{HostWrite};
+ghost use Rattle.script8.specs.declared.faults.SessionFault.TheVariants as session;
+ghost use Rattle.volume_commands.specs.Answers.{Answers};
+ghost use Rattle.many_commands.specs.Checking.{named_lines};
+ghost use Rattle.volume_commands.specs.Work.{Then};
+ghost use Rattle.many_commands.specs.Progressing.{TellsProgress, WithProgress};
+ghost use Rattle.many_commands.specs.GettingMany as spec;
+ghost use Rattle.many_commands.specs.GettingMany.{AreFilesOn, GetsMany, GivesAsked, GivesEach, GivesFile, GivesWish, MakesFolder, PrintsAnswer, RefusesWord};
+
+use crate::checks::end_sound;
+use crate::giving::{give_file, refuse};
+use crate::progress::Progress;
+use crate::texts::take_lists;
+use crate::wishes::{Wish, wishes_of};
+use hosts::{Host, HostFault};
+use many8::{OpenVolume, VolumeFile, open};
+use os8_dir::FileFault;
+use outcome::Ending;
+use report8::ProgramLine;
+use script8::SessionFault;
+use std::alloc::{AllocError, Global};
+use task8::GetManyForm;
+use volume_commands::{look_at, refuse_image};
+
+/// Writes files of the volume in an image file to a folder, and tells of each. The image file doesn't change.
+pub fn get_files<H: Host>(host: &mut H, alloc: Global, form: &GetManyForm) -> Result<(), Ending>
+    ensures { GetsMany form.now (H.history host.old) result (H.history host.new) }
+{
+    take_lists(host, alloc, &form.texts)?;
+    let image = look_at(host, alloc, &form.image)?;
+    let volume = volume_in(host, alloc, &image)?;
+    give_asked(host, alloc, form, &volume)
+}
+
+/// The volume in an image. Where it is refused, what may help is printed.
+fn volume_in<H: Host>(host: &mut H, alloc: Global, image: &[u8]) -> Result<OpenVolume, Ending>
+    ensures { Answers (OpensVolume image.now) (length image.now) (H.history host.old) result (H.history host.new) }
+{
+    match open(alloc, image) {
+        Ok(volume) => Ok(volume),
+        Err(fault) => Err(refuse_image(host, image.len(), fault)),
+    }
+}
+
+/// Gives the files of a volume that are asked for.
+fn give_asked<H: Host>(
+    host: &mut H,
+    alloc: Global,
+    form: &GetManyForm,
+    volume: &OpenVolume,
+) -> Result<(), Ending>
+    ensures { GivesAsked form.now volume.now (H.history host.old) result (H.history host.new) }
+{
+    let files = files_on(alloc, volume)?;
+    let wishes = wishes_of(alloc, form, &files)?;
+    make_folder(host, form.folder.as_str())?;
+    let are_there = give_all(host, alloc, form, volume, files.len(), &wishes)?;
+    end_sound(are_there)
+}
+
+fn files_on(alloc: Global, volume: &OpenVolume) -> Result<Vec<VolumeFile>, Ending>
+    ensures { AreFilesOn volume.now result }
+{
+    let files = volume.files(alloc)?;
+    Ok(files)
+}
+
+/// Makes a folder, unless there is one of its name.
+fn make_folder<H: Host>(host: &mut H, folder: &str) -> Result<(), Ending>
+    ensures { MakesFolder folder.now (H.history host.old) result (H.history host.new) }
+{
+    match host.make_folder(folder) {
+        Ok(()) => Ok(()),
+        Err(fault) => Err(ending_of_folder(fault)),
+    }
+}
+
+/// How the command ends whose folder is not made (this project's profile).
+fn ending_of_folder(fault: HostFault) -> Ending
+    ensures { (result ≡ Line HostWrite) ⊎ (result ≡ Fault session.Memory) }
+{
+    match fault {
+        HostFault::Memory => Ending::Fault(SessionFault::Memory),
+        HostFault::Busy | HostFault::Absent | HostFault::Unwritable | HostFault::Failed => {
+            Ending::Line(ProgramLine::HostWrite)
+        }
+    }
+}
+
+/// Gives what is asked for, with what is told of the progress, and answers whether all is there.
+fn give_all<H: Host>(
+    host: &mut H,
+    alloc: Global,
+    form: &GetManyForm,
+    volume: &OpenVolume,
+    all: usize,
+    wishes: &[Wish],
+) -> Result<bool, Ending>
+    ensures { WithProgress (λ is_told. GivesEach form.now volume.now is_told all 0 true wishes.now) (H.history host.old) result (H.history host.new) }
+{
+    let mut progress = Progress::begin(host, all);
+    let are_there = give_each(host, alloc, form, volume, wishes, &mut progress);
+    progress.end(host);
+    are_there
+}
+
+/// Gives what is asked for in its order, and answers whether all is there.
+fn give_each<H: Host>(
+    host: &mut H,
+    alloc: Global,
+    form: &GetManyForm,
+    volume: &OpenVolume,
+    wishes: &[Wish],
+    progress: &mut Progress,
+) -> Result<bool, Ending>
+    ensures gives { GivesEach form.now volume.now progress.old.is_told progress.old.all 0 true wishes.now (H.history host.old) result (H.history host.new) }
+    ensures told { progress.new.is_told ≡ progress.old.is_told }
+{
+    let mut done: usize = 0;
+    let mut are_there = true;
+    let mut rest = wishes;
+    while let [wish, others @ ..] = rest {
+        let is_there = give_wish(host, alloc, form, volume, wish, progress, done)?;
+        are_there = both(are_there, is_there);
+        done = done_with(wish, done);
+        rest = others;
+    }
+    Ok(are_there)
+}
+
+fn both(one: bool, other: bool) -> bool
+    ensures { result ≡ (one && other) }
+{
+    one && other
+}
+
+/// How many files are done with this.
+fn done_with(wish: &Wish, done: usize) -> usize
+    requires { done < 0xffff_ffff_ffff_ffff }
+    ensures { result ≡ spec.done_with wish.now done }
+{
+    match wish {
+        Wish::File(_) => done + 1,
+        Wish::BadWord(_) => done,
+        Wish::NotFound(_) => done,
+        Wish::Block(_) => done,
+    }
+}
+
+/// Gives what is asked for, where so many files are done, and answers whether it is there.
+fn give_wish<H: Host>(
+    host: &mut H,
+    alloc: Global,
+    form: &GetManyForm,
+    volume: &OpenVolume,
+    wish: &Wish,
+    progress: &mut Progress,
+    done: usize,
+) -> Result<bool, Ending>
+    requires { done < 0xffff_ffff_ffff_ffff }
+    ensures gives { GivesWish form.now volume.now progress.old.is_told progress.old.all done wish.now (H.history host.old) result (H.history host.new) }
+    ensures told { progress.new.is_told ≡ progress.old.is_told }
+    ensures all { progress.new.all ≡ progress.old.all }
+{
+    match wish {
+        Wish::File(file) => give_next(host, alloc, form, volume, file, progress, done + 1),
+        Wish::BadWord(place) => refuse_word(host, alloc, &form.names, *place, FileFault::BadName),
+        Wish::NotFound(place) => refuse_word(host, alloc, &form.names, *place, FileFault::NotFound),
+        Wish::Block(block) => refuse_block(host, alloc, *block),
+    }
+}
+
+/// Gives a file, and tells before that which of all it is.
+fn give_next<H: Host>(
+    host: &mut H,
+    alloc: Global,
+    form: &GetManyForm,
+    volume: &OpenVolume,
+    file: &VolumeFile,
+    progress: &mut Progress,
+    done: usize,
+) -> Result<bool, Ending>
+    ensures gives { Then (TellsProgress progress.old.is_told done progress.old.all) (λ it. GivesFile form.now volume.now file.now) (H.history host.old) result (H.history host.new) }
+    ensures told { progress.new.is_told ≡ progress.old.is_told }
+    ensures all { progress.new.all ≡ progress.old.all }
+{
+    progress.tell(host, done);
+    give_file(host, alloc, form, volume, file)
+}
+
+/// Prints that the word at a place is refused.
+fn refuse_word<H: Host>(
+    host: &mut H,
+    alloc: Global,
+    words: &[String],
+    place: usize,
+    why: FileFault,
+) -> Result<bool, Ending>
+    ensures { RefusesWord (slice_get (map (λ word. word.bytes.items) words.now) place) why (H.history host.old) result (H.history host.new) }
+{
+    match words.get(place) {
+        None => Ok(false),
+        Some(word) => refuse(host, alloc, word.as_str(), why),
+    }
+}
+
+/// The option that asks for a file by its first block.
+fn block_word(alloc: Global, block: usize) -> Result<String, AllocError>
+    ensures { IfOk result (λ word. word.bytes.items ≡ codes "--at " ++ decimal block) }
+{
+    format!(in alloc; "--at {block}")
+}
+
+/// Prints that no file begins at a block.
+fn refuse_block<H: Host>(host: &mut H, alloc: Global, block: usize) -> Result<bool, Ending>
+    ensures { PrintsAnswer false (named_lines (codes "--at " ++ decimal block) (fault_line (session.File NotFound))) (H.history host.old) result (H.history host.new) }
+{
+    let word = block_word(alloc, block)?;
+    refuse(host, alloc, word.as_str(), FileFault::NotFound)
+}

@@ -1,0 +1,221 @@
+//! A file of a volume that is laid into a folder of the host, and what is printed of it.
+ghost use Rattle.std.specs.Prelude.{◌≡◌, false, true};
+ghost use Rattle.report8.specs.Program.{program_line};
+ghost use Rattle.report8.specs.declared.programs.ProgramLine.TheVariants.{Got};
+ghost use Rattle.script8.specs.Replies.{fault_line};
+ghost use Rattle.script8.specs.declared.faults.SessionFault.TheVariants.{File};
+ghost use Rattle.volume_commands.specs.Answers.{AreLines};
+ghost use Rattle.many_commands.specs.Checking.{named_lines};
+ghost use Rattle.many_commands.specs.GettingMany as spec;
+ghost use Rattle.many_commands.specs.GettingMany.{GivesFile, IsPath, LaysAndTells, LaysFile, PrintsAnswer, TakesFile, IsHostName, TellsLaid};
+
+use crate::checks::named_lines;
+use crate::texts::get_form;
+use archive8::GetForm;
+use hosts::{Host, HostFault, lay};
+use many8::{OpenVolume, VolumeFile, host_name};
+use os8_dir::FileFault;
+use outcome::Ending;
+use report8::{ProgramLine, put_program};
+use script8::{SessionFault, put_reply};
+use std::alloc::Global;
+use task8::GetManyForm;
+use volume_commands::print;
+
+/// Writes a file of a volume to the folder and tells of it, and answers whether it is there.
+pub(crate) fn give_file<H: Host>(
+    host: &mut H,
+    alloc: Global,
+    form: &GetManyForm,
+    volume: &OpenVolume,
+    file: &VolumeFile,
+) -> Result<bool, Ending>
+    ensures { GivesFile form.now volume.now file.now (H.history host.old) result (H.history host.new) }
+{
+    let bytes = take_file(alloc, volume, file, get_form(&form.texts, file.name))?;
+    let name = name_of(alloc, file)?;
+    let path = path_in(alloc, form.folder.as_str(), name.as_str())?;
+    lay_and_tell(
+        host,
+        alloc,
+        form,
+        file,
+        name.as_str(),
+        path.as_str(),
+        &bytes,
+    )
+}
+
+/// What a file has on the volume.
+fn take_file(
+    alloc: Global,
+    volume: &OpenVolume,
+    file: &VolumeFile,
+    how: GetForm,
+) -> Result<Vec<u8>, Ending>
+    ensures { TakesFile volume.now file.now how result }
+{
+    match volume.get(alloc, file, how) {
+        Ok(bytes) => Ok(bytes),
+        Err(fault) => Err(Ending::Fault(fault)),
+    }
+}
+
+/// The name that it has on the host.
+fn name_of(alloc: Global, file: &VolumeFile) -> Result<String, Ending>
+    ensures { IsHostName file.now result }
+{
+    let name = host_name(alloc, file)?;
+    Ok(name)
+}
+
+/// The path of a file of this name in a folder.
+fn path_in(alloc: Global, folder: &str, name: &str) -> Result<String, Ending>
+    ensures { IsPath folder.now name.now result }
+{
+    let slash = slash_after(folder);
+    let path = format!(in alloc; "{folder}{slash}{name}")?;
+    Ok(path)
+}
+
+/// The slash that is needed after a folder.
+fn slash_after(folder: &str) -> &'static str
+    ensures { result.now ≡ spec.slash_after folder.now }
+{
+    if needs_slash(folder.as_bytes()) {
+        return "/";
+    }
+    ""
+}
+
+/// Whether these characters end with another one than a slash.
+fn needs_slash(folder: &[u8]) -> bool
+    ensures { result ≡ spec.needs_slash_after false folder.now }
+{
+    let mut needs = false;
+    let mut rest = folder;
+    while let [character, others @ ..] = rest {
+        needs = *character != b'/';
+        rest = others;
+    }
+    needs
+}
+
+/// Lays a file of these bytes, and only then prints its line, or why it is not there.
+fn lay_and_tell<H: Host>(
+    host: &mut H,
+    alloc: Global,
+    form: &GetManyForm,
+    file: &VolumeFile,
+    name: &str,
+    path: &str,
+    bytes: &[u8],
+) -> Result<bool, Ending>
+    ensures { LaysAndTells form.now file.now name.now path.now bytes.now (H.history host.old) result (H.history host.new) }
+{
+    let done = lay_file(host, alloc, path, bytes, form.is_forced);
+    tell_laid(host, alloc, file, name, done)
+}
+
+/// Has the file of a path hold these bytes.
+fn lay_file<H: Host>(
+    host: &mut H,
+    alloc: Global,
+    path: &str,
+    bytes: &[u8],
+    is_forced: bool,
+) -> Result<(), HostFault>
+    ensures { LaysFile path.now bytes.now is_forced (H.history host.old) result (H.history host.new) }
+{
+    match lay(host, alloc, path, bytes, is_forced) {
+        Ok(()) => Ok(()),
+        Err(fault) => Err(fault),
+    }
+}
+
+/// Prints the line of a file that is laid; of one that is not its name, and why.
+fn tell_laid<H: Host>(
+    host: &mut H,
+    alloc: Global,
+    file: &VolumeFile,
+    name: &str,
+    done: Result<(), HostFault>,
+) -> Result<bool, Ending>
+    ensures { TellsLaid file.now name.now done (H.history host.old) result (H.history host.new) }
+{
+    match done {
+        Ok(()) => print_got(host, alloc, file),
+        Err(fault) => match fault {
+            HostFault::Busy => print_line_of(host, alloc, name, &ProgramLine::HostExists),
+            HostFault::Memory => Err(Ending::Fault(SessionFault::Memory)),
+            HostFault::Absent => print_line_of(host, alloc, name, &ProgramLine::HostWrite),
+            HostFault::Unwritable => print_line_of(host, alloc, name, &ProgramLine::HostWrite),
+            HostFault::Failed => print_line_of(host, alloc, name, &ProgramLine::HostWrite),
+        },
+    }
+}
+
+/// Prints the line of a file that is there.
+fn print_got<H: Host>(host: &mut H, alloc: Global, file: &VolumeFile) -> Result<bool, Ending>
+    ensures { PrintsAnswer true (program_line (Got file.now.name file.now.blocks)) (H.history host.old) result (H.history host.new) }
+{
+    let text = line_text(alloc, &ProgramLine::Got(file.name, file.blocks))?;
+    print(host, &text)?;
+    Ok(true)
+}
+
+/// Prints a line after the name of a file that is not there.
+fn print_line_of<H: Host>(
+    host: &mut H,
+    alloc: Global,
+    name: &str,
+    line: &ProgramLine,
+) -> Result<bool, Ending>
+    ensures { PrintsAnswer false (named_lines name.now (program_line line.now)) (H.history host.old) result (H.history host.new) }
+{
+    let text = line_text(alloc, line)?;
+    print_refused(host, alloc, name, &text)
+}
+
+fn line_text(alloc: Global, line: &ProgramLine) -> Result<Vec<u8>, Ending>
+    ensures { AreLines (program_line line.now) result }
+{
+    let mut text = Vec::new(alloc);
+    put_program(line, &mut text)?;
+    Ok(text)
+}
+
+/// Prints that a word is refused.
+pub(crate) fn refuse<H: Host>(
+    host: &mut H,
+    alloc: Global,
+    word: &str,
+    why: FileFault,
+) -> Result<bool, Ending>
+    ensures { PrintsAnswer false (named_lines word.now (fault_line (File why))) (H.history host.old) result (H.history host.new) }
+{
+    let text = fault_text(alloc, why)?;
+    print_refused(host, alloc, word, &text)
+}
+
+fn fault_text(alloc: Global, why: FileFault) -> Result<Vec<u8>, Ending>
+    ensures { AreLines (fault_line (File why)) result }
+{
+    let mut text = Vec::new(alloc);
+    put_reply(None, &Err(SessionFault::File(why)), &mut text)?;
+    Ok(text)
+}
+
+/// Prints lines of what is not there after what it is about.
+fn print_refused<H: Host>(
+    host: &mut H,
+    alloc: Global,
+    name: &str,
+    text: &[u8],
+) -> Result<bool, Ending>
+    ensures { PrintsAnswer false (named_lines name.now text.now) (H.history host.old) result (H.history host.new) }
+{
+    let lines = named_lines(alloc, name, text)?;
+    print(host, &lines)?;
+    Ok(false)
+}

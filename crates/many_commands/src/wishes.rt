@@ -1,0 +1,218 @@
+//! Which files of a volume the words of a command ask for.
+ghost use Rattle.std.specs.Prelude.{◌≡◌, ◌++◌, ◌∷◌, ◌||◌, ℕ, [], map, nat_eq, not, true, IfOk, OnOk};
+ghost use Rattle.many_commands.specs.NameSteps.{KnowsPlaces, has_key};
+ghost use Rattle.many_commands.specs.declared.wishes.Wish.TheVariants.{File};
+ghost use Rattle.many_commands.specs.Wishing as spec;
+ghost use Rattle.many_commands.specs.Wishing.{AreWishes, asked_all, asked_at, asked_by, asked_by_words, with_wish};
+
+use many8::{ChoiceFault, VolumeFile, at_place, chosen};
+use outcome::Ending;
+use std::alloc::{AllocError, Global};
+use std::collections::BTreeSet;
+use task8::GetManyForm;
+
+/// What is asked for.
+#[derive(Clone, Copy)]
+pub enum Wish {
+    /// This file of the volume.
+    File(VolumeFile),
+
+    /// No file: the word of this place among those given, counted from 0, is neither a name nor a pattern.
+    BadWord(usize),
+
+    /// No file: none is like the word of this place.
+    NotFound(usize),
+
+    /// No file: none begins at this block.
+    Block(usize),
+}
+
+/// What the words of a command ask for of these files, each file once.
+pub(crate) fn wishes_of(
+    alloc: Global,
+    form: &GetManyForm,
+    files: &[VolumeFile],
+) -> Result<Vec<Wish>, Ending>
+    ensures { AreWishes form.now files.now result }
+{
+    let asked = asked_of(alloc, form, files)?;
+    let wishes = once_each(alloc, &asked)?;
+    Ok(wishes)
+}
+
+/// What the words ask for, one after another.
+fn asked_of(
+    alloc: Global,
+    form: &GetManyForm,
+    files: &[VolumeFile],
+) -> Result<Vec<Wish>, AllocError>
+    ensures { IfOk result (λ wishes. wishes.items ≡ spec.asked form.now files.now) }
+{
+    let mut wishes = Vec::new(alloc);
+    add_all(form.is_all, files, &mut wishes)?;
+    add_words(alloc, files, &form.names, &mut wishes)?;
+    add_blocks(files, &form.places, &mut wishes)?;
+    Ok(wishes)
+}
+
+fn add(wishes: &mut Vec<Wish>, wish: Wish) -> Result<(), AllocError>
+    ensures { OnOk result (wishes.new.items ≡ wishes.old.items ++ wish ∷ []) }
+{
+    wishes.push(wish)?;
+    Ok(())
+}
+
+/// Adds all files, if these are asked for.
+fn add_all(is_all: bool, files: &[VolumeFile], wishes: &mut Vec<Wish>) -> Result<(), AllocError>
+    ensures { OnOk result (wishes.new.items ≡ wishes.old.items ++ asked_all is_all files.now) }
+{
+    if is_all {
+        return add_files(files, wishes);
+    }
+    Ok(())
+}
+
+fn add_files(files: &[VolumeFile], wishes: &mut Vec<Wish>) -> Result<(), AllocError>
+    ensures { OnOk result (wishes.new.items ≡ wishes.old.items ++ asked_all true files.now) }
+{
+    let mut rest = files;
+    while let [file, others @ ..] = rest {
+        add(wishes, Wish::File(*file))?;
+        rest = others;
+    }
+    Ok(())
+}
+
+/// Adds what words ask for.
+fn add_words(
+    alloc: Global,
+    files: &[VolumeFile],
+    words: &[String],
+    wishes: &mut Vec<Wish>,
+) -> Result<(), AllocError>
+    ensures { OnOk result (wishes.new.items ≡ wishes.old.items ++ asked_by_words files.now 0 (map (λ word. word.bytes.items) words.now)) }
+{
+    let mut place: usize = 0;
+    let mut rest = words;
+    while let [word, others @ ..] = rest {
+        add_word(alloc, files, place, word.as_bytes(), wishes)?;
+        place += 1;
+        rest = others;
+    }
+    Ok(())
+}
+
+/// Adds what the word at a place asks for.
+fn add_word(
+    alloc: Global,
+    files: &[VolumeFile],
+    place: usize,
+    word: &[u8],
+    wishes: &mut Vec<Wish>,
+) -> Result<(), AllocError>
+    ensures { OnOk result (wishes.new.items ≡ wishes.old.items ++ asked_by files.now place word.now) }
+{
+    match chosen(alloc, files, word) {
+        Ok(found) => {
+            add_files(&found, wishes)?;
+            Ok(())
+        }
+        Err(fault) => match fault {
+            ChoiceFault::Memory => Err(AllocError),
+            ChoiceFault::BadName => {
+                add(wishes, Wish::BadWord(place))?;
+                Ok(())
+            }
+            ChoiceFault::NotFound => {
+                add(wishes, Wish::NotFound(place))?;
+                Ok(())
+            }
+        },
+    }
+}
+
+/// Adds the files that begin at these blocks.
+fn add_blocks(
+    files: &[VolumeFile],
+    blocks: &[usize],
+    wishes: &mut Vec<Wish>,
+) -> Result<(), AllocError>
+    ensures { OnOk result (wishes.new.items ≡ wishes.old.items ++ map (asked_at files.now) blocks.now) }
+{
+    let mut rest = blocks;
+    while let [block, others @ ..] = rest {
+        add(wishes, wish_at(files, *block))?;
+        rest = others;
+    }
+    Ok(())
+}
+
+/// The file that begins at a block, if one does.
+fn wish_at(files: &[VolumeFile], block: usize) -> Wish
+    ensures { result ≡ asked_at files.now block }
+{
+    match at_place(files, block) {
+        Some(file) => Wish::File(file),
+        None => Wish::Block(block),
+    }
+}
+
+/// The same, each file where it is asked for first.
+fn once_each(alloc: Global, asked: &[Wish]) -> Result<Vec<Wish>, AllocError>
+    ensures { IfOk result (λ wishes. wishes.items ≡ spec.once [] asked.now) }
+{
+    let mut wishes = Vec::new(alloc);
+    let mut places = BTreeSet::new(alloc);
+    let mut rest = asked;
+    while let [wish, others @ ..] = rest {
+        add_new(&mut places, &mut wishes, *wish)?;
+        rest = others;
+    }
+    Ok(wishes)
+}
+
+/// Adds what is asked for, unless it is a file that is among them. The set has the first blocks of these.
+fn add_new(places: &mut BTreeSet<u64>, wishes: &mut Vec<Wish>, wish: Wish) -> Result<(), AllocError>
+    ensures wishes { KnowsPlaces places.old wishes.old.items → OnOk result (wishes.new.items ≡ with_wish wishes.old.items wish) }
+    ensures places { KnowsPlaces places.old wishes.old.items → OnOk result (KnowsPlaces places.new wishes.new.items) }
+{
+    match wish {
+        Wish::File(file) => add_file(places, wishes, file),
+        Wish::BadWord(place) => {
+            add(wishes, Wish::BadWord(place))?;
+            Ok(())
+        }
+        Wish::NotFound(place) => {
+            add(wishes, Wish::NotFound(place))?;
+            Ok(())
+        }
+        Wish::Block(block) => {
+            add(wishes, Wish::Block(block))?;
+            Ok(())
+        }
+    }
+}
+
+/// Adds a file, unless it is among them.
+fn add_file(
+    places: &mut BTreeSet<u64>,
+    wishes: &mut Vec<Wish>,
+    file: VolumeFile,
+) -> Result<(), AllocError>
+    ensures wishes { KnowsPlaces places.old wishes.old.items → OnOk result (wishes.new.items ≡ with_wish wishes.old.items (File file)) }
+    ensures places { KnowsPlaces places.old wishes.old.items → OnOk result (KnowsPlaces places.new wishes.new.items) }
+{
+    if add_place(places, file.place)? {
+        add(wishes, Wish::File(file))?;
+    }
+    Ok(())
+}
+
+/// Adds a block to those that are known, and answers whether it is new.
+fn add_place(places: &mut BTreeSet<u64>, place: usize) -> Result<bool, AllocError>
+    ensures new { IfOk result (λ new. new ≡ not (has_key places.old place)) }
+    ensures more { IfOk result (λ new. (q : ℕ) → has_key places.new q ≡ (has_key places.old q || nat_eq place q)) }
+{
+    let new = places.insert(place as u64)?;
+    Ok(new)
+}
