@@ -1,0 +1,2 @@
+pub mod Margins
+pub mod Volumes
