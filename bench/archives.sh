@@ -3,7 +3,7 @@
 # source; puts and gets a file of 1,500 blocks, and prints the seconds that each command takes on a volume of 4095 blocks. Then puts and
 # gets 240 files at once, and checks 1,000 images of 3248 blocks, one program after the other, one program for all and four side by side,
 # each beside cp or cat of the same bytes; and writes the index of 2,000 and of 10,000 images of 400 blocks, by one program and by four side
-# by side, beside cat, with the most memory that one took. Takes palbart from Debian's packages where it is missing.
+# by side, beside cat and md5sum, with the most memory that one took. Takes palbart from Debian's packages where it is missing.
 set -eu
 top=$(cd "$(dirname "${BASH_SOURCE[0]}")/.." && pwd)
 . "$top/bench/seconds.sh"
@@ -69,8 +69,9 @@ names=(images/*)
 index_images() { "$program" index "${names[@]:0:$1}" >lines; }
 index_beside() { printf '%s\0' "${names[@]:0:$1}" | xargs -0 -P 4 -n 100 "$program" index >lines-beside; }
 cat_images() { cat "${names[@]:0:$1}" >/dev/null; }
+md5_images() { md5sum "${names[@]:0:$1}" >/dev/null; }
 for count in 2000 10000; do
-    for command in index_images index_beside cat_images; do
+    for command in index_images index_beside cat_images md5_images; do
         printf '%s of %s images: %.3f seconds\n' "$command" "$count" "$(seconds "$command" "$count")"
     done
     cmp <(sort lines) <(sort lines-beside)

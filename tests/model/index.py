@@ -167,7 +167,7 @@ def lines_of(name: str, part: Part, volume: Volume, year: Optional[int]) -> list
 
 def volume_of(image: bytes) -> Optional[Volume]:
     """The volume of an image, if it is sound."""
-    if len(image) % BLOCK or not 8 <= len(image) // BLOCK <= 4095 or any(word > 0o7777 for word in words_of_image(image)):
+    if len(image) % BLOCK or not 8 <= len(image) // BLOCK <= 4095 or max(words_of_image(image)) > 0o7777:
         return None
     try:
         return read_volume(image)

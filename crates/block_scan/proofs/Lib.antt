@@ -1,3 +1,4 @@
 mod PassageLemmas
 mod PieceLemmas
 mod FoundLemmas
+mod ProgramLemmas

@@ -1,10 +1,14 @@
 -- What holds of the texts that are found.
-use Rattle.std.specs.Prelude.{◌≡◌, ◌⊎◌, ℕ, ◌+◌, ◌≤◌, Bool, true, false, List, [], ◌∷◌, ◌++◌, length, take, drop}
+use Rattle.std.specs.Prelude.{◌≡◌, ◌⊎◌, ℕ, ◌+◌, ◌/◌, ◌<◌, ◌≤◌, Bool, true, false, List, [], ◌∷◌, ◌++◌, length, take, drop}
 use Rattle.os8_dir.specs.Files.{joined}
 use Rattle.file_kind.specs.Texts.{is_text}
+use Rattle.word12.specs.declared.sizes.TheConstants.{BLOCK}
 use Rattle.block_scan.specs.Passages.{passage}
+use Rattle.block_scan.specs.Programs.{AreProgramsOf, Heads, frames_from, is_blank, words_from}
 use Rattle.block_scan.specs.Pieces.{texts_from}
 use Rattle.block_scan.specs.declared.passages.Passage.TheVariants.{Goes, Ends}
+use Rattle.block_scan.specs.declared.kinds.ProgramKind.{ProgramKind}
+use Rattle.block_scan.specs.declared.programs.Program.{Program}
 use Rattle.block_scan.specs.declared.texts.TextPiece.{TextPiece}
 
 -- frames among which a text ends are a text
@@ -38,3 +42,28 @@ Covers (piece ∷ pieces) place end = ((piece.place ≤ place) × (piece.place +
 abbrev pub EachTextIsFound : Type 0
 EachTextIsFound = (before text behind : List (List ℕ)) → IsWhole false text
     → Covers (texts_from (record { first = 0; seen = false }) 0 (before ++ (text ++ behind))) (length before) (length before + length text)
+
+-- where so many blocks at the head are a program, any more are one of the same kind
+abbrev pub EachProgramGoesOn : Type 0
+EachProgramGoesOn = (kind : ProgramKind) (words all : List ℕ) (few many : ℕ) → few ≤ many → Heads kind words all few → Heads kind words all many
+
+-- each program is one where it is told
+abbrev pub ArePrograms : List ℕ → List Program → Type 0
+ArePrograms words [] = Unit {0}
+ArePrograms words (program ∷ programs) =
+    Heads program.kind (words_from words program.place) (frames_from words program.place) program.size × ArePrograms words programs
+
+-- one of the programs has this block
+abbrev pub HasBlock : List Program → ℕ → Type 0
+HasBlock [] place = ⊥
+HasBlock (program ∷ programs) place = ((program.place ≤ place) × (place < program.place + program.size)) ⊎ HasBlock programs place
+
+-- what is told as the programs of a volume is there: each can be read as one
+abbrev pub EachProgramIsOne : Type 0
+EachProgramIsOne = (words : List ℕ) (programs : List Program) → AreProgramsOf words programs → ArePrograms words programs
+
+-- each whole program that begins at a block, with more than leader there, and lies in one piece, begins with one that is told, or inside it
+abbrev pub EachProgramIsFound : Type 0
+EachProgramIsFound = (words : List ℕ) (programs : List Program) (kind : ProgramKind) (place size : ℕ) → AreProgramsOf words programs
+    → place + size ≤ length words / BLOCK → 0 < size → is_blank (frames_from words place) ≡ false
+    → Heads kind (words_from words place) (frames_from words place) size → HasBlock programs place

@@ -1,3 +1,4 @@
 pub mod Laws
 pub mod Passages
 pub mod Pieces
+pub mod Programs

@@ -1,5 +1,7 @@
-//! What holds of the texts that are found.
-ghost use Rattle.block_scan.specs.Laws.{EachPieceIsText, EachTextIsFound, PassageIsText};
+//! What holds of the texts and of the programs that are found.
+ghost use Rattle.block_scan.specs.Laws.{EachPieceIsText, EachProgramGoesOn, EachProgramIsFound, EachProgramIsOne, EachTextIsFound, PassageIsText};
+
+use bin_tape::laws::longer_tape;
 
 /// A law: frames among which a text ends, with a graphic character, are a text as `file_kind` has it.
 pub fn ended_texts()
@@ -15,4 +17,22 @@ pub fn pieces_are_texts()
 /// begins where it begins, or before it, where blocks that a text may go through lie directly before it.
 pub fn texts_are_found()
     ensures { EachTextIsFound }
+{}
+
+/// A law: a program with more blocks behind it is one of the same kind.
+pub fn longer_programs()
+    ensures { EachProgramGoesOn }
+{
+    longer_tape();
+}
+
+/// A law: each program that is told as one of a volume can be read there as what it is told to be.
+pub fn programs_are_there()
+    ensures { EachProgramIsOne }
+{}
+
+/// A law: each whole program of a volume that begins at a block with more than leader, and lies in one piece, is found: it begins with one
+/// that is told, or inside it.
+pub fn programs_are_found()
+    ensures { EachProgramIsFound }
 {}

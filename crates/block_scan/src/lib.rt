@@ -1,11 +1,15 @@
-//! What the blocks of a volume hold by their content alone, where no directory tells: whole texts.
+//! What the blocks of a volume hold by their content alone, where no directory tells: whole texts, and programs.
 //!
 //! A block is its frames, three for each two of its words.
 #![tactic(auto)]
 
+mod kinds;
 pub mod laws;
 mod passages;
+mod programs;
 mod texts;
 
+pub use kinds::ProgramKind;
 pub use passages::{Passage, passage_of};
+pub use programs::{Program, programs_in};
 pub use texts::{TextPiece, texts_in};

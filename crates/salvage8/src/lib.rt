@@ -6,9 +6,13 @@
 
 pub mod laws;
 mod lines;
+mod pieces;
 mod salvages;
+mod scan_lines;
 mod scans;
 mod words;
 
+pub use pieces::{Piece, PieceKind, form_of, piece_name};
 pub use salvages::{Salvage, salvage_image};
-pub use scans::{MOST_SHOWN, scan_image};
+pub use scan_lines::MOST_SHOWN;
+pub use scans::{Scan, scan_image};

@@ -1,1 +1,2 @@
 pub mod Rescuing
+pub mod ScanningBlocks

@@ -8,4 +8,4 @@ mod rescues;
 mod scans;
 
 pub use rescues::rescue_image;
-pub use scans::scan_blocks;
+pub use scans::{scan_blocks, scan_into};

@@ -1,8 +1,11 @@
-use Rattle.std.proofs.Common.{rules, inl, inr}
+use Rattle.std.proofs.Common.{rules, inl, inr, refl}
 use Rattle.salvage_commands.proofs.scans.scan_blocks.Goals as goal
 
-pub returns-in_err-text : goal.returns-in_err-text
-returns-in_err-text g c = inr (record { given = c.in_ok-image.image; between = g.H.Host.history c.look_at.new.host; done = c.in_ok-image.ensures.looks; after = inl (search rules) })
+pub returns-in_err-scan : goal.returns-in_err-scan
+returns-in_err-scan g c = inr (record { given = c.in_ok-image.image; between = g.H.Host.history c.look_at.new.host; done = c.in_ok-image.ensures.looks; after = inl (search rules) })
+
+pub returns-in_err-lines : goal.returns-in_err-lines
+returns-in_err-lines g c = inr (record { given = c.in_ok-image.image; between = g.H.Host.history c.look_at.new.host; done = c.in_ok-image.ensures.looks; after = inr (record { given = c.in_ok-scan.scan; between = g.H.Host.history c.scan_of.new.host; done = search rules; after = inl (search rules) }) })
 
 pub returns : goal.returns
-returns g c = inr (record { given = c.in_ok-image.image; between = g.H.Host.history c.look_at.new.host; done = c.in_ok-image.ensures.looks; after = inr (record { given = c.in_ok-text.text; between = g.H.Host.history c.lines_of_blocks.new.host; done = search rules; after = rw c.deref-2.ensures.value at c.print.ensures }) })
+returns g c = inr (record { given = c.in_ok-image.image; between = g.H.Host.history c.look_at.new.host; done = c.in_ok-image.ensures.looks; after = inr (record { given = c.in_ok-scan.scan; between = g.H.Host.history c.scan_of.new.host; done = search rules; after = inr (record { given = c.in_ok-lines.lines; between = g.H.Host.history c.scan_of.new.host; done = (c.in_ok-lines.ensures, refl); after = rw c.deref-2.ensures.value at c.print.ensures }) }) })

@@ -1,6 +1,6 @@
 use Rattle.std.proofs.Common.{◌≡◌, ◌++◌, length}
 use Rattle.salvage8.specs.Scanning.{characters_in}
-use Rattle.salvage8.proofs.scans.put_characters.Given as goal
+use Rattle.salvage8.proofs.scan_lines.put_characters.Given as goal
 
 abbrev pub invariant-loop-rest : goal.invariant-loop-rest
 invariant-loop-rest l = l.out.items ++ characters_in l.rest ≡ l.fn.out.items ++ characters_in l.fn.frames

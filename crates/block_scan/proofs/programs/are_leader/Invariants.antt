@@ -1,9 +1,9 @@
 use Rattle.std.proofs.Common.{◌≡◌, length}
-use Rattle.salvage8.specs.Scanning.{from_graphic}
-use Rattle.salvage8.proofs.scans.from_graphic.Given as goal
+use Rattle.block_scan.specs.Programs.{are_leader}
+use Rattle.block_scan.proofs.programs.are_leader.Given as goal
 
 abbrev pub invariant-loop-rest : goal.invariant-loop-rest
-invariant-loop-rest l = from_graphic l.rest ≡ from_graphic l.fn.frames
+invariant-loop-rest l = are_leader l.rest ≡ are_leader l.fn.frames
 
 abbrev pub decreases-loop-rest : goal.decreases-loop-rest
 decreases-loop-rest l = length l.rest
