@@ -290,7 +290,7 @@ told_scan rows = (first_of (codes "IMAGE") rows, layout_of (codes "volume") (cod
 
 pub asks_scan : (image : Text) (layout : Option Layout) (rows : List Row) → told_scan rows ≡ (Some image, layout) → (task : Task)
     → Seen verb.Scan task → AsksFor verb.Scan rows task → IsScanOf image layout task
-asks_scan image layout rows is task (a_scan own) asks = image_is image layout rows own (ap (λ p. p.0) is) (ap (λ p. p.1) is) asks.1
+asks_scan image layout rows is task (a_scan own) asks = image_is image layout rows own.image (ap (λ p. p.0) is) (ap (λ p. p.1) is) asks.1.0
 
 -- the image, where it lies, when it is written, and whether refusals are faults
 abbrev told_run : List Row → Option Text × Option Layout × Saving × Bool × ℕ
