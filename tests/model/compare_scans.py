@@ -1,8 +1,8 @@
 #!/usr/bin/env python3
 """compare_scans.py [--program FILE] [--volumes N] [--seed S]: makes N random volumes without a directory, 400 where nothing is said: whole
 texts, core images, BIN and RIM tapes of one block and of several, parts of them, leader, zeros and blocks of any words, in any order. It
-compares what `scan` prints of each with a plain reader that is written from the definitions alone. The same number is the same volumes each
-time. The last line is 'N passed, M failed'.
+compares what `scan` prints of each with a plain reader that is written from the definitions alone, and the files that `scan --into` writes
+with what `get --blocks` gives of the same blocks. The same number is the same volumes each time. The last line is 'N passed, M failed'.
 """
 import argparse
 import os
@@ -20,6 +20,7 @@ from tests.model.tape import tape_of
 from tests.model.words import BLOCK_FRAMES, BLOCK_WORDS, packed, stored_text
 
 SHOWN = 3
+ENDS: dict[str, tuple[str, list[str]]] = {"TEXT": ("txt", ["--text"]), "CORE": ("core", []), "BIN": ("bin", []), "RIM": ("rim", [])}
 
 
 def text_words(random: Random) -> list[int]:
@@ -89,6 +90,20 @@ def fault_of(program: str, folder: str, words: list[int]) -> str:
     printed = run(program, folder, ["scan", "V"])
     if printed != ("".join(f"{line}\n" for line in wanted).encode(), 0):
         return f"printed are {printed} in place of {wanted}"
+    os.mkdir(f"{folder}/into")
+    if run(program, folder, ["scan", "V", "--into", "into"]) != printed:
+        return "with --into the lines differ"
+    names = set[str]()
+    for kind, place, size in (line.split()[:3] for line in wanted):
+        end, more = ENDS[kind]
+        names.add(f"block-{int(place):04}.{end}")
+        with open(f"{folder}/into/block-{int(place):04}.{end}", "rb") as file:
+            if run(program, folder, ["get", "V", "--blocks", place, size, *more]) != (file.read(), 0):
+                return f"the file of block {place} differs"
+    if set(os.listdir(f"{folder}/into")) != names:
+        return f"the files are {os.listdir(f'{folder}/into')}"
+    if names and run(program, folder, ["scan", "V", "--into", "into"]) != (b"? HOST EXISTS\n", 1):
+        return "files that are there are not refused"
     return ""
 
 

@@ -15,6 +15,7 @@ use Rattle.task8.specs.declared.archives.IndexForm.{IndexForm}
 use Rattle.task8.specs.declared.archives.LineForm.{LineForm}
 use Rattle.task8.specs.declared.archives.LineForm.TheVariants.{Columns, Json}
 use Rattle.task8.specs.declared.archives.RescueForm.{RescueForm}
+use Rattle.task8.specs.declared.archives.ScanForm.{ScanForm}
 use Rattle.task8.specs.declared.forms.BlocksForm.{BlocksForm}
 use Rattle.task8.specs.declared.forms.CheckForm.{CheckForm}
 use Rattle.task8.specs.declared.forms.CopyForm.{CopyForm}
@@ -256,6 +257,10 @@ IsIndexForm values form = (values_of (codes "IMAGE") values ≡ map (λ image. i
 abbrev pub IsRescueForm : List Row → RescueForm → Type 0
 IsRescueForm values form = IsSeen values form.image × (first_of (codes "NEW") values ≡ Some form.new.bytes.items)
 
+-- blocks are scanned so
+abbrev pub IsScanForm : List Row → ScanForm → Type 0
+IsScanForm values form = IsSeen values form.image × (first_of (codes "into") values ≡ option_map (λ folder. folder.bytes.items) form.into)
+
 -- ## The task
 
 -- one file is to be got
@@ -295,7 +300,7 @@ AsksFor which values (Dump form) = (which ≡ verb.Dump) × IsBlockSpan values f
 AsksFor which values (Patch form) = (which ≡ verb.Patch) × IsPatchForm values form
 AsksFor which values (Index form) = (which ≡ verb.Index) × IsIndexForm values form
 AsksFor which values (Rescue form) = (which ≡ verb.Rescue) × IsRescueForm values form
-AsksFor which values (Scan image) = (which ≡ verb.Scan) × IsSeen values image
+AsksFor which values (Scan form) = (which ≡ verb.Scan) × IsScanForm values form
 AsksFor which values (Assemble form) = (which ≡ verb.Assemble) × IsAssembleForm values form
 AsksFor which values (Teletype form) = (which ≡ verb.Teletype) × IsTeletypeForm values form
 AsksFor which values (Trace form) = (which ≡ verb.Trace) × IsTraceForm values form

@@ -17,7 +17,7 @@ use crate::table::Verb;
 use crate::volumes::{changed_image, image_of};
 use clap::ArgMatches;
 use std::alloc::{AllocError, Global};
-use task8::{BlockSpan, IndexForm, LineForm, PatchForm, RescueForm, Task};
+use task8::{BlockSpan, IndexForm, LineForm, PatchForm, RescueForm, ScanForm, Task};
 use word12::{MOST_BLOCKS, Word};
 
 /// The blocks that are to be shown.
@@ -93,7 +93,8 @@ pub fn scan(alloc: Global, found: &ArgMatches<'_>) -> Result<Task, AllocError>
     ensures { IfOk result (IsAskedBy verb.Scan (rows_of (found_of found.now))) }
 {
     let image = image_of(alloc, found, Verb::Scan)?;
-    Ok(Task::Scan(image))
+    let into = value_if_given(alloc, found, Verb::Scan, "into")?;
+    Ok(Task::Scan(ScanForm { image, into }))
 }
 
 /// The block of the word.

@@ -428,6 +428,7 @@ pub const RESCUE: &[Argument] = rows! {
 
 pub const SCAN: &[Argument] = rows! {
     "IMAGE" must Kind::Word, "", "The file that holds the volume";
+    "into" option Kind::One(Form::Text), "FOLDER", "Write each piece to a file of FOLDER too, named by its block and what it is";
     "volume" 'v' option Kind::One(Form::Volume), "N", "The volume of an RK05 disk, 1 or 2, where IMAGE is the file of one";
     "dectape" flag Kind::Flag, "", "IMAGE is the file of a DECtape, of 129 words a block";
 };

@@ -37,7 +37,7 @@ Damaged volumes:
   dump      Show the words of a volume's blocks
   patch     Put a word of an image in place of another
   rescue    Write a new volume with the files that a damaged one still has
-  scan      List the texts that the blocks of a volume hold, whatever its directory says
+  scan      List the texts and programs that the blocks of a volume hold, by their content
 
 Help:
   help      Print this message, or the help of a command
@@ -99,7 +99,7 @@ pub fn about_of(verb: Verb) -> &'static str {
         Verb::Index => "List the files of many volumes, with what each holds",
         Verb::Rescue => "Write a new volume with the files that a damaged one still has",
         Verb::Scan =>
-            "List the texts that the blocks of a volume hold, whatever its directory says",
+            "List the texts and programs that the blocks of a volume hold, by their content",
     }
 }
 
@@ -170,7 +170,7 @@ pub fn long_about_of(verb: Verb) -> &'static str {
             "Writes a new OS/8 volume to the file NEW, with each file that is still found on the damaged volume in{n}the file IMAGE, in their order, with their words, information words, dates and names, and prints what{n}is lost, and why. IMAGE is not written."
         }
         Verb::Scan => {
-            "Prints the whole texts that the blocks of the OS/8 volume in the file IMAGE hold, by their content{n}alone, whatever its directory says: the first block, how many there are, and the text's first line.{n}The image is not written."
+            "Prints what the blocks of the OS/8 volume in the file IMAGE hold, by their content alone, whatever its{n}directory says: the whole texts, with the first line of each, and then the core images, BIN tapes and{n}RIM tapes, each with its first block and how many there are. With --into each is also written to a{n}new file of FOLDER. The image is not written."
         }
     }
 }
@@ -228,6 +228,6 @@ pub fn examples_of(verb: Verb) -> &'static str {
         Verb::Rescue => {
             "Examples:\n  pdp8 rescue damaged.img new.img\n  pdp8 rescue damaged.rk05 new.img -v 2"
         }
-        Verb::Scan => "Examples:\n  pdp8 scan damaged.img\n  pdp8 scan disk.rk05 --volume 2",
+        Verb::Scan => "Examples:\n  pdp8 scan damaged.img\n  pdp8 scan damaged.img --into found",
     }
 }

@@ -9,7 +9,7 @@ use image_file8::{tell_bad_argument, texts_of};
 use index_commands::index_images;
 use many_commands::{check_images, get_files, put_files};
 use outcome::{Content, Ending, ending_of_output, gives_data, no_memory_line};
-use salvage_commands::{rescue_image, scan_blocks};
+use salvage_commands::{rescue_image, scan_blocks, scan_into};
 use script8::SessionFault;
 use std::alloc::{AllocError, Global};
 use std::env::{self, Env};
@@ -22,7 +22,7 @@ use system::System;
 use tape_host8::{
     assemble_files, list_tape, profile_tape, run_teletype, trace_tape, write_rim, write_source,
 };
-use task8::{IndexForm, LineForm, Task};
+use task8::{IndexForm, LineForm, ScanForm, Task};
 use volume_commands::{
     Rooms, asked_of, copy_file, create_image, create_tape, delete_files, end, get_bin, get_blocks,
     get_file, list_files, put_file, rename_file, squeeze_files,
@@ -118,7 +118,7 @@ where
         Task::Squeeze(image) => wait_for_image!(rt, image.wait, squeeze_files(host, alloc, &image)),
         Task::Check(form) => check_images(host, alloc, &form),
         Task::Rescue(form) => rescue_image(host, alloc, &form.image, form.new.as_str()),
-        Task::Scan(image) => scan_blocks(host, alloc, &image),
+        Task::Scan(form) => scan(host, alloc, form),
         Task::Dump(form) => dump_blocks(host, alloc, &form.image, form.span, form.is_sixbit),
         Task::Index(form) => list_index(host, alloc, form),
         Task::Patch(form) => {
@@ -154,6 +154,15 @@ fn list_index<H: Host>(host: &mut H, alloc: Global, form: IndexForm) -> Result<(
         year,
     };
     index_images(host, alloc, &style, &images, layout)
+}
+
+/// Lists what the blocks of a volume hold, and writes it to a folder where one is given.
+fn scan<H: Host>(host: &mut H, alloc: Global, form: ScanForm) -> Result<(), Ending> {
+    let ScanForm { image, into } = form;
+    match into {
+        Some(folder) => scan_into(host, alloc, &image, folder.as_str()),
+        None => scan_blocks(host, alloc, &image),
+    }
 }
 
 /// The pattern that is given, or else the one that fits each name.

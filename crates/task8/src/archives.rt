@@ -71,3 +71,12 @@ pub struct RescueForm {
     /// The file of the host that gets the new volume.
     pub new: String,
 }
+
+/// Which volume's blocks are scanned, and where what they hold is written to.
+#[derive(Drop)]
+pub struct ScanForm {
+    pub image: ImageForm,
+
+    /// The folder of the host that gets a file of each piece, if they are to be written.
+    pub into: Option<String>,
+}

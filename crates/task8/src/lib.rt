@@ -5,7 +5,7 @@ mod archives;
 mod forms;
 mod tasks;
 
-pub use archives::{BlockSpan, IndexForm, LineForm, PatchForm, RescueForm};
+pub use archives::{BlockSpan, IndexForm, LineForm, PatchForm, RescueForm, ScanForm};
 pub use forms::{
     BlocksForm, CheckForm, CopyForm, CreateForm, DeleteForm, FileForm, GetManyForm, ImageForm,
     PutManyForm, PutOneForm, TapeForm, TextsForm,

@@ -1,5 +1,5 @@
 //! The tasks, and the forms of those that run scripts, sources and tapes.
-use crate::archives::{BlockSpan, IndexForm, PatchForm, RescueForm};
+use crate::archives::{BlockSpan, IndexForm, PatchForm, RescueForm, ScanForm};
 use crate::forms::{
     BlocksForm, CheckForm, CopyForm, CreateForm, DeleteForm, FileForm, GetManyForm, ImageForm,
     PutManyForm, PutOneForm, TapeForm,
@@ -190,7 +190,7 @@ pub enum Task {
     Rescue(RescueForm),
 
     /// List what the blocks of a volume hold, by content alone.
-    Scan(ImageForm),
+    Scan(ScanForm),
 
     /// Assemble sources to a BIN tape.
     Assemble(AssembleForm),
