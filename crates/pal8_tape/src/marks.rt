@@ -68,7 +68,7 @@ fn is_number_fault(code: &Code) -> bool
         Code::NU => true,
         Code::IC | Code::SY | Code::UA(_) | Code::DT | Code::RD | Code::IR | Code::II => false,
         Code::FD | Code::PG | Code::PF | Code::DZ | Code::PE | Code::ZE | Code::PH => false,
-        Code::NE | Code::NW | Code::PageClash(_) | Code::ZeroClash(_) => false,
+        Code::RL | Code::NE | Code::NW | Code::PageClash(_) | Code::ZeroClash(_) => false,
     }
 }
 
@@ -79,7 +79,7 @@ fn is_redefinition(code: &Code) -> bool
         Code::RD => true,
         Code::IC | Code::SY | Code::NU | Code::UA(_) | Code::DT | Code::IR | Code::II => false,
         Code::FD | Code::PG | Code::PF | Code::DZ | Code::PE | Code::ZE | Code::PH => false,
-        Code::NE | Code::NW | Code::PageClash(_) | Code::ZeroClash(_) => false,
+        Code::RL | Code::NE | Code::NW | Code::PageClash(_) | Code::ZeroClash(_) => false,
     }
 }
 
