@@ -231,7 +231,7 @@ export class Machine {
         return this.isLoaded && registers ? { ...registers, if: String(address >> 12), df: String(address >> 12), pc: octal(address & 0o7777, 4) } : registers;
     }
 
-    // The cell behind one, in its field.
+    // The cell after one, in its field.
     /** @param {number} cell */
     #next(cell) { return (cell & 0o70000) + ((cell + 1) & 0o7777); }
 
