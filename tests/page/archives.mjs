@@ -15,7 +15,13 @@ async function opens(page, name, wanted = name) {
     await pane(page, 'files');
     await page.give('#image', file(name));
     await page.until(`document.getElementById('volume').value === '${wanted}'`);
-    await page.until(`!geivottu.programs.isAsked`);
+    await rests(page);
+}
+
+// The page has asked the program nothing for half a second, so that all of the volume is shown, and nothing moves any more.
+async function rests(page) {
+    await page.look(`window.askedAt = performance.now()`);
+    await page.until(`(() => { if (geivottu.programs.isAsked) window.askedAt = performance.now(); return performance.now() - window.askedAt > 500; })()`);
 }
 
 // A volume of the host with these texts and frames.
@@ -222,7 +228,7 @@ await run('archives', {
         await isTold(page, 'rescued', 'RESCUED 2');
         same('? DIRECTORY 1 BAD LINK 1\nRESCUED 2\n', await page.text('rescued'), 'the lines of rescue');
         const texts = plain(native(['scan', 'V']));
-        same('TEXT 7 1 HELLO\nTEXT 9 1 THE LAST\n', texts, 'the lines of scan');
+        same('TEXT 7 1 HELLO\nTEXT 9 1 THE LAST\nBIN 8 1\n', texts, 'the lines of scan');
         await isTold(page, 'texts-told', '2 texts');
         await page.until(`geivottu.files.blocks.all[9].of === 'a text: THE LAST'`);
         same('file', await page.look(`geivottu.files.blocks.all[7].kind`), 'a file in the picture');
