@@ -52,6 +52,7 @@ await run('undone', {
         const one = await withOne(page, url);
         await page.click('button[aria-label="ONE.TX delete"]');
         await isTold(page, 'files-status', 'DELETED');
+        await page.look('geivottu.store.settled()');
         await undo(page, 'Undone');
         await page.look('geivottu.store.settled()');
         await page.go(`${url}?again`);
