@@ -124,22 +124,28 @@ def fault_of(program: str, folder: str, names: list[str], year: int | None) -> s
     return "" if status == (1 if refused else 0) else f"the status is {status}"
 
 
-def main() -> int:
-    words = argparse.ArgumentParser(description=__doc__, formatter_class=argparse.RawDescriptionHelpFormatter)
+def program_and_seeds(about: str | None, what: str, count: int) -> tuple[str, range]:
+    """The program that the command line names, and the number of each case: `count` of `what`, where nothing is said."""
+    words = argparse.ArgumentParser(description=about, formatter_class=argparse.RawDescriptionHelpFormatter)
     words.add_argument("--program", default=f"{TOP}/crates/pdp8/out/pdp8")
-    words.add_argument("--images", type=int, default=2000)
+    words.add_argument(f"--{what}", dest="count", type=int, default=count)
     words.add_argument("--seed", type=int, default=1)
     given = words.parse_args()
     program = os.path.abspath(given.program)
     if not os.path.isfile(program):
-        sys.exit(f"compare_indexes: there is no program {program}: ./prove builds it")
+        sys.exit(f"{words.prog}: there is no program {program}: ./prove builds it")
+    return program, range(given.seed, given.seed + given.count)
+
+
+def main() -> int:
+    program, seeds = program_and_seeds(__doc__, "images", 2000)
     faults = list[str]()
     tests = 0
-    for first in range(given.seed, given.seed + given.images, AT_ONCE):
+    for first in range(0, len(seeds), AT_ONCE):
         with tempfile.TemporaryDirectory() as folder:
-            seeds = range(first, min(first + AT_ONCE, given.seed + given.images))
-            names = [f"i{seed}" for seed in seeds]
-            for seed in seeds:
+            some_seeds = seeds[first : first + AT_ONCE]
+            names = [f"i{seed}" for seed in some_seeds]
+            for seed in some_seeds:
                 with open(f"{folder}/i{seed}", "wb") as file:
                     file.write(random_file(Random(seed)))
             for some, year in [(names, None), *(([name], 1990) for name in names[::ALONE])]:

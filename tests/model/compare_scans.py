@@ -4,7 +4,6 @@ texts, core images, BIN and RIM tapes of one block and of several, parts of them
 compares what `scan` prints of each with a plain reader that is written from the definitions alone, and the files that `scan --into` writes
 with what `get --blocks` gives of the same blocks. The same number is the same volumes each time. The last line is 'N passed, M failed'.
 """
-import argparse
 import os
 import subprocess
 import sys
@@ -14,7 +13,7 @@ from random import Random
 sys.dont_write_bytecode = True
 TOP = os.path.dirname(os.path.dirname(os.path.dirname(os.path.abspath(__file__))))
 sys.path.insert(0, TOP)
-from tests.model.compare_indexes import core_words, rim_frames
+from tests.model.compare_indexes import core_words, program_and_seeds, rim_frames
 from tests.model.scan import scanned
 from tests.model.tape import tape_of
 from tests.model.words import BLOCK_FRAMES, BLOCK_WORDS, packed, stored_text
@@ -108,22 +107,15 @@ def fault_of(program: str, folder: str, words: list[int]) -> str:
 
 
 def main() -> int:
-    words = argparse.ArgumentParser(description=__doc__, formatter_class=argparse.RawDescriptionHelpFormatter)
-    words.add_argument("--program", default=f"{TOP}/crates/pdp8/out/pdp8")
-    words.add_argument("--volumes", type=int, default=400)
-    words.add_argument("--seed", type=int, default=1)
-    given = words.parse_args()
-    program = os.path.abspath(given.program)
-    if not os.path.isfile(program):
-        sys.exit(f"compare_scans: there is no program {program}: ./prove builds it")
+    program, seeds = program_and_seeds(__doc__, "volumes", 400)
     faults = list[str]()
-    for seed in range(given.seed, given.seed + given.volumes):
+    for seed in seeds:
         with tempfile.TemporaryDirectory() as folder:
             fault = fault_of(program, folder, random_words(Random(seed)))
             faults += [f"{seed}: {fault}"] if fault else []
     for fault in faults[:SHOWN]:
         print(fault)
-    print(f"{given.volumes - len(faults)} passed, {len(faults)} failed")
+    print(f"{len(seeds) - len(faults)} passed, {len(faults)} failed")
     return 1 if faults else 0
 
 

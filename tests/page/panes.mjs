@@ -365,7 +365,7 @@ test('a machine that goes for ever is stopped by its key, at 60 pictures a secon
     await page.choose('#speed', 'full');
     await page.click('#key-start');
     // quicker than the machine itself
-    await page.until(`/million|[4-9][0-9]{2} thousand/.test(document.getElementById('rate').textContent)`);
+    await page.until(`document.getElementById('rate').textContent.includes('million')`);
     const pictures = await page.look(`new Promise(go => { let count = 0; const end = performance.now() + 1000;
         const next = now => { count++; now < end ? requestAnimationFrame(next) : go(count); }; requestAnimationFrame(next); })`);
     step = `${pictures} pictures in a second, ${await page.text('rate')}`;
