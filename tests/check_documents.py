@@ -24,7 +24,7 @@ WORD = re.compile(r"\w")
 CAMEL = re.compile(r"[A-Z][a-z\d]+(?:[A-Z][a-z\d]*)+\b")
 COMMENT = re.compile(r"(?m)^[ \t]*(?:///?|--)[ \t]+(\S+)")
 # Sources whose comments begin so. They are mended when their crates change next.
-NOT_YET = {"crates/flow8/src/flows.rt"}
+NOT_YET: set[str] = set()
 
 
 def documents() -> list[str]:

@@ -6,8 +6,8 @@ use Rattle.bin_tape.specs.Tape.{IsOpen}
 use Rattle.bin_tape.specs.declared.faults.TapeFault.{TapeFault}
 use Rattle.bin_tape.specs.declared.faults.TapeFault.TheVariants.{BadFrame, NoOrigin, CheckSum, NoTrailer, Memory}
 
--- A frame that can't come next, and is no other fault: no second frame of a pair, a frame of no listed form, or a
--- trailer that doesn't follow a word directly.
+-- A frame that can't come next, and is no other fault. It isn't the second frame of a pair that was begun, or
+-- it has no listed form, or it is a trailer that doesn't follow a word directly.
 abbrev pub IsOutOfPlace : List Item → List ℕ → ℕ → Type 0
 IsOutOfPlace items [] frame =
     ((0o200 < frame) × ((frame < 0o300) ⊎ (0 < frame % 8)))
@@ -22,7 +22,7 @@ IsWrongSum (Leader f ∷ older) found computed = ⊥
 IsWrongSum (Field n ∷ older) found computed = ⊥
 IsWrongSum (Origin high low ∷ older) found computed = ⊥
 
--- the fault of a frame, at a place, that comes behind these items and perhaps a first frame of a pair
+-- the fault of a frame, at a place, that comes after these items and perhaps a first frame of a pair
 abbrev pub IsRefused : List Item → List ℕ → ℕ → ℕ → TapeFault → Type 0
 IsRefused items part frame place (BadFrame at) = (at ≡ place) × IsOutOfPlace items part frame
 IsRefused items part frame place NoOrigin = (part ≡ []) × (has_origin items ≡ false) × (0 < frame) × (frame < 0o100)
@@ -30,7 +30,7 @@ IsRefused items part frame place (CheckSum found computed) = (part ≡ []) × (f
 IsRefused items part frame place NoTrailer = ⊥
 IsRefused items part frame place Memory = ⊥
 
--- the place of a frame that so many frames stand before, as far as a number of 64 bits goes
+-- the place of a frame with so many frames before it, as far as a number of 64 bits goes
 abbrev pub place_after : List ℕ → ℕ
 place_after frames = min (length frames) 18446744073709551615
 
@@ -47,7 +47,7 @@ pub record RefusesFrame (frames : List ℕ) (fault : TapeFault) : Type 0 where
   pub is_open : IsOpen (heeded before) items part
   pub refused : IsRefused items part frame (place_after before) fault
 
--- The fault of frames that are no tape: that of the frame which closes what was open, or that nothing did.
+-- The fault of frames that are no tape: that of the frame which closes what was open, or that no frame did so.
 abbrev pub IsFault : List ℕ → TapeFault → Type 0
 IsFault frames NoTrailer = (items : List Item) × (part : List ℕ) × IsOpen (heeded frames) items part
 IsFault frames (BadFrame at) = RefusesFrame frames (BadFrame at)

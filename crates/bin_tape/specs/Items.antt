@@ -62,7 +62,7 @@ address_after (Word high low ∷ older) = (address_after older + 1) % 0o10000
 address_after (Leader f ∷ older) = address_after older
 address_after (Field n ∷ older) = address_after older
 
--- the cell of a word that comes behind these items
+-- the cell of a word that comes after these items
 abbrev pub cell_after : List Item → ℕ
 cell_after items = FIELD * field_after items + address_after items
 
@@ -74,7 +74,7 @@ frame_sum (Word high low ∷ older) = frame_sum older + (high + low)
 frame_sum (Leader f ∷ older) = frame_sum older
 frame_sum (Field n ∷ older) = frame_sum older
 
--- what the check sum behind these items has to be
+-- what the check sum after these items has to be
 abbrev pub check_sum : List Item → ℕ
 check_sum items = frame_sum items % 0o10000
 

@@ -1,4 +1,4 @@
--- What the laws of BIN tapes speak of.
+-- What the laws of BIN tapes use.
 use Rattle.std.specs.Prelude.{ℕ, List, ◌++◌}
 use Rattle.bin_tape.specs.Frames.{heeded}
 use Rattle.bin_tape.specs.Items.{Item}

@@ -1,4 +1,4 @@
--- What reading a tape into a map comes to on the way, for private clauses.
+-- The steps of reading a tape into a map, for private clauses.
 use Rattle.std.specs.Prelude.{◌≡◌, ℕ, ◌<◌, ◌%◌, slice_index_or, true, Option, None, List, [], ◌++◌}
 use Rattle.word12.specs.declared.sizes.TheConstants.{CORE}
 use Rattle.bin_tape.specs.Frames.{heeded, ignore_count}
@@ -23,8 +23,8 @@ pub record HasReadTo (frames rest : List ℕ) (reader : Progress) (words : List 
   pub read : HasRead reader before out
   pub holds : HoldsWords words out
 
--- Of these frames all but the rest are whole items, an origin among them, in no stretch that is ignored; the prefix keeps
--- what they come to, and each cell has its last word but for the newest of all.
+-- Of these frames all but the rest are whole items, an origin among them, in no stretch that is ignored. The prefix is
+-- that of these items. Each cell has its last word among the words before the newest one.
 pub record ReadsTo (frames rest : List ℕ) (prefix : Prefix) (words : List (Option ℕ)) : Type 0 where
   pub before : List ℕ
   pub split : frames ≡ before ++ rest

@@ -19,7 +19,7 @@ abbrev pub part_of : Option ℕ → List ℕ
 part_of None = []
 part_of (Some p) = p ∷ []
 
--- the prefix keeps what these items, and perhaps a first frame of a pair, come to
+-- the prefix is that of these items, and perhaps of a first frame of a pair
 pub record ReadsItems (prefix : Prefix) (items : List Item) (part : List ℕ) : Type 0 where
   pub next : prefix.next ≡ cell_after items
   pub sum : prefix.sum ≡ check_sum items
@@ -30,7 +30,7 @@ pub record ReadsItems (prefix : Prefix) (items : List Item) (part : List ℕ) : 
   pub is_prefix : IsPrefix items
   pub begun : IsPart items part
 
--- the prefix keeps what these frames come to, behind which these words were handed out
+-- the prefix is that of these frames, after which these words were handed out
 pub record KeepsFrames (prefix : Prefix) (kept_frames : List ℕ) (out : List (ℕ × ℕ)) : Type 0 where
   pub items : List Item
   pub part : List ℕ

@@ -1,4 +1,4 @@
--- What the small steps of a reader come to, for private clauses.
+-- What the small steps of a reader give, for private clauses.
 use Rattle.std.specs.Prelude.{◌≡◌, ℕ, Result, Ok, Err, List, [], ◌∷◌, ◌++◌}
 use Rattle.bin_tape.specs.Items.{Item, spelled, words_but_last}
 use Rattle.bin_tape.specs.Fault.{IsRefused}
@@ -10,13 +10,13 @@ use Rattle.bin_tape.specs.declared.readers.Tape.{Tape}
 use Rattle.bin_tape.specs.declared.readers.Tape.TheVariants.{Nothing, Word, End}
 use Rattle.bin_tape.specs.PrefixSteps.{EndsTape}
 
--- the reader goes on behind these heeded frames, and has handed out these words
+-- the reader goes on after these heeded frames, and has handed out these words
 abbrev pub IsReading : State → List ℕ → List (ℕ × ℕ) → Type 0
 IsReading (Reading prefix) kept_frames out = KeepsFrames prefix kept_frames out
 IsReading Ended kept_frames out = ⊥
 IsReading (Failed fault) kept_frames out = ⊥
 
--- what one more heeded frame is answered, and the state behind it
+-- the answer for one more heeded frame, and the state after it
 abbrev pub AnswersFrame : List Item → List ℕ → ℕ → ℕ → Result Tape TapeFault → State → Type 0
 AnswersFrame items part frame place (Ok Nothing) state = IsReading state (spelled items ++ part ++ frame ∷ []) (words_but_last items)
 AnswersFrame items part frame place (Ok (Word cell word)) state = IsReading state (spelled items ++ part ++ frame ∷ []) (words_but_last items ++ (cell, word) ∷ [])

@@ -1,4 +1,4 @@
--- What a reader was given and has handed out, and what it answers to one more frame.
+-- What a reader was given and has handed out, and its answer for one more frame.
 use Rattle.std.specs.Prelude.{◌≡◌, ℕ, ◌%◌, nat_eq, Bool, Result, Ok, Err, option_to_list, List, [], ◌∷◌, ◌++◌, ◌⊎◌}
 use Rattle.bin_tape.specs.Frames.{heeded, ignore_count}
 use Rattle.bin_tape.specs.Items.{Item, words_of, words_but_last}
@@ -46,8 +46,9 @@ abbrev pub words_in : Result Tape TapeFault → List (ℕ × ℕ)
 words_in (Ok tape) = option_to_list (word_in tape)
 words_in (Err fault) = []
 
--- What one more frame is answered, behind these frames and the words handed out: a word where a later one shows that
--- it is no check sum, the end where the frames become a tape, and for good the fault of a frame that is refused.
+-- The answer for one more frame, after these frames and the words handed out. It is a word where a later one shows
+-- that it is no check sum, and the end where the frames become a tape. For a frame that is refused it is the
+-- fault, for good.
 abbrev pub Answers : List ℕ → List (ℕ × ℕ) → ℕ → Result Tape TapeFault → Type 0
 Answers frames out frame (Ok Nothing) = IsWhole frames out ⊎ IsGoing (frames ++ frame ∷ []) out
 Answers frames out frame (Ok (Word cell word)) = IsGoing (frames ++ frame ∷ []) (out ++ (cell, word) ∷ [])

@@ -3,7 +3,7 @@ use Rattle.std.specs.Prelude.{◌≡◌, ℕ, ◌+◌, ◌*◌, ◌<◌, ◌≤�
 use Rattle.bin_tape.specs.Frames.{heeded}
 use Rattle.bin_tape.specs.Items.{Item, Word, spelled, has_origin, IsPrefix, check_sum}
 
--- nothing, or the first frame of an origin or, behind an origin, of a word
+-- nothing, or the first frame of an origin or, after an origin, of a word
 abbrev pub IsPart : List Item → List ℕ → Type 0
 IsPart items [] = Unit {0}
 IsPart items (p ∷ []) = (p < 0o200) × ((0o100 ≤ p) ⊎ (has_origin items ≡ true))
@@ -15,7 +15,7 @@ pub record IsOpen (kept_frames : List ℕ) (items : List Item) (part : List ℕ)
   pub is_prefix : IsPrefix items
   pub begun : IsPart items part
 
--- The frames are a tape of these items: behind them come the check sum, a trailer frame, and anything.
+-- The frames are a tape of these items: after them come the check sum, a trailer frame, and anything.
 pub record IsTape (frames : List ℕ) (items : List Item) : Type 0 where
   pub high : ℕ
   pub low : ℕ

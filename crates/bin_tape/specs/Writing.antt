@@ -10,13 +10,13 @@ word_item word = Word (word / 0o100) (word % 0o100)
 abbrev pub origin_item : ℕ → Item
 origin_item address = Origin (address / 0o100) (address % 0o100)
 
--- the field that words go to behind a word for this cell, or behind none
+-- the field that words go to after a word for this cell, or after none
 abbrev pub field_behind : Option ℕ → ℕ
 field_behind None = 0
 field_behind (Some before) = before / FIELD
 
--- Whether a word for the cell needs no origin behind a word for the cell before: it has the next address of the same
--- field. Nothing is next behind address 7777, nor behind no word.
+-- Whether a word for the cell needs no origin after a word for the cell before: it has the next address of the same
+-- field. Nothing is next after address 7777, nor after no word.
 abbrev pub is_next : Option ℕ → ℕ → Bool
 is_next None cell = false
 is_next (Some before) cell = nat_eq (cell / FIELD) (before / FIELD) && nat_eq (cell % FIELD) (before % FIELD + 1)
@@ -29,7 +29,7 @@ with_field before cell items = if nat_eq (cell / FIELD) (field_behind before) th
 abbrev pub with_origin : Option ℕ → ℕ → List Item → List Item
 with_origin before cell items = if is_next before cell then items else origin_item (cell % FIELD) ∷ items
 
--- the items, and those of one more cell and word behind the cell before
+-- the items, and those of one more cell and word after the cell before
 abbrev pub with_pair : Option ℕ → ℕ → ℕ → List Item → List Item
 with_pair before cell word items = word_item word ∷ with_origin before cell (with_field before cell items)
 
@@ -41,7 +41,7 @@ newest_cell (pair ∷ older) = Some pair.0
 abbrev pub leader : List Item
 leader = replicate 16 (Leader 0o200)
 
--- The items of these cells and words, both newest first: a leader, and what each pair adds behind the pair before it.
+-- The items of these cells and words, both newest first: a leader, and what each pair adds after the pair before it.
 abbrev pub items_of : List (ℕ × ℕ) → List Item
 items_of [] = leader
 items_of (pair ∷ older) = with_pair (newest_cell older) pair.0 pair.1 (items_of older)

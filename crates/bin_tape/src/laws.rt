@@ -57,7 +57,7 @@ pub fn handed_words()
         → HasRead reader frames out → IsOpen (heeded frames) items part → out ≡ words_but_last items }
 {}
 
-/// What is written for words with their cells is a tape of these words, whatever frames follow it; each cell has the
+/// What is written for words with their cells is a tape of these words, whatever frames follow it. Each cell has the
 /// word of the last pair there, and a cell that no pair names has none.
 pub fn written_tape()
     ensures { (pairs : List (ℕ × ℕ)) (rest : List ℕ) → ArePairs pairs → 0 < length pairs

@@ -25,7 +25,7 @@ impl Model for TapeMap {
 }
 
 impl TapeMap {
-    /// Reads a tape, up to its trailer. The answer is the fault of the frame that is refused first where there is one.
+    /// Reads a tape, up to its trailer. Where a frame is refused, the answer is the fault of the first such frame.
     ///
     /// Memory is taken once, for the words of core, however long the tape is.
     pub fn read(alloc: Global, frames: &[u8]) -> Result<TapeMap, TapeFault>

@@ -15,7 +15,7 @@ use word12::{Cell, Word};
 /// What a reader keeps of the heeded frames so far.
 #[derive(Clone, Copy)]
 pub struct Prefix {
-    /// The cell of a word that comes next.
+    /// The cell of the next word.
     next: Cell,
     /// The origin and word frames, added up.
     sum: Word,
@@ -36,7 +36,7 @@ pub struct LastWord {
     sum: Word,
 }
 
-/// What a heeded frame comes to.
+/// What a heeded frame gives.
 pub enum Taken {
     More(Prefix),
     /// The same, and the word before the newest one is no check sum.
@@ -178,7 +178,7 @@ impl Prefix {
         }
     }
 
-    /// Takes a trailer frame, behind an origin.
+    /// Takes a trailer frame, after an origin.
     fn take_trailer(self, place: u64) -> Result<Taken, TapeFault>
         requires first { self.first ≡ None }
         requires origin { self.has_origin ≡ true }

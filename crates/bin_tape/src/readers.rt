@@ -91,8 +91,8 @@ impl TapeReader {
 
     /// Takes the next frame. A word is handed out once a later word shows that it is no check sum.
     ///
-    /// The frame that closes what may be a tape is answered its fault, and each later frame the same; after the end
-    /// each frame is answered `Nothing`.
+    /// For the frame that closes what may be a tape the answer is its fault, and for each later frame the same. After the end
+    /// the answer for each frame is `Nothing`.
     pub fn push(&mut self, frame: u8) -> Result<Tape, TapeFault>
         ensures read { (frames : List ℕ) (out : List (ℕ × ℕ)) → HasRead self.old frames out
             → HasRead self.new (frames ++ frame ∷ []) (out ++ words_in result) }
@@ -175,7 +175,7 @@ impl TapeReader {
         !self.ignoring
     }
 
-    /// Takes a heeded frame behind a prefix.
+    /// Takes a heeded frame after a prefix.
     fn take(&mut self, prefix: Prefix, frame: u8, place: u64) -> Result<Tape, TapeFault>
         requires { frame ≢ 0o377 }
         ensures comes { (items : List Item) (part : List ℕ) → ReadsItems prefix items part

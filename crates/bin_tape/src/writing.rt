@@ -14,9 +14,9 @@ const LEADER: [u8; 16] = [0o200; 16];
 
 /// The frames of a tape that gives these cells these words, one after the other.
 ///
-/// They are 16 leader frames; for each pair a field setting where the field changes, which is 0 at first, an origin
-/// where the pair is the first or isn't at the next address of the same field, and the word; the check sum; and 16
-/// trailer frames. Memory is taken once, for five frames a pair.
+/// They are 16 leader frames, the frames of each pair, the check sum, and 16 trailer frames. A pair has a field
+/// setting where the field changes, which is 0 at first. It has an origin where it is the first or isn't at the
+/// next address of the same field. Then it has its word. Memory is taken once, for five frames a pair.
 pub fn tape_of(alloc: Global, pairs: &[(Cell, Word)]) -> Result<Vec<u8>, AllocError>
     requires { 0 < length pairs.now }
     ensures tape { IfOk result (λ frames. frames.items ≡ tape_of pairs.now) }
@@ -65,7 +65,7 @@ impl Writer {
         })
     }
 
-    /// Puts a cell's word behind a word for the cell before.
+    /// Puts a cell's word after a word for the cell before.
     fn put_pair(&mut self, before: Option<Cell>, cell: Cell, word: Word) -> Result<(), AllocError>
         ensures put { (items : List Item) → HoldsFrames self.old.frames.items self.old.sum items
             → OnOk result (HoldsFrames self.new.frames.items self.new.sum
@@ -124,7 +124,7 @@ impl Writer {
         Ok(())
     }
 
-    /// The whole tape: the check sum and the trailer behind what there is.
+    /// The whole tape: the check sum and the trailer come after what there is.
     fn finish(mut self) -> Result<Vec<u8>, AllocError>
         ensures { (items : List Item) → HoldsFrames self.frames.items self.sum items
             → IfOk result (λ frames. frames.items ≡ tape_with items) }
@@ -136,7 +136,7 @@ impl Writer {
     }
 }
 
-/// The field that words go to behind a word for this cell, or behind none.
+/// The field that words go to after a word for this cell, or after none.
 fn field_behind(before: Option<Cell>) -> u8
     ensures { result ≡ field_behind before }
 {
@@ -146,7 +146,7 @@ fn field_behind(before: Option<Cell>) -> u8
     }
 }
 
-/// Whether a word for the cell needs no origin behind a word for the cell before.
+/// Whether a word for the cell needs no origin after a word for the cell before.
 fn is_next(before: Option<Cell>, cell: Cell) -> bool
     ensures { result ≡ is_next before cell }
 {

@@ -26,7 +26,7 @@ packed (a ∷ b ∷ c ∷ bytes) = group a b c ++ packed bytes
 abbrev pub group_count : ℕ → ℕ
 group_count n = (n + 2) / 3
 
--- the words are the shortest even list of words whose frames begin with the bytes, and the frames behind are zeros
+-- the words are the shortest even list of words whose frames begin with the bytes, and the frames after these are zeros
 pub record IsPacking (bytes words : List ℕ) : Type 0 where
   pub even : length words % 2 ≡ 0
   pub reads_back : frames words ≡ bytes ++ replicate (3 * group_count (length bytes) - length bytes) 0
@@ -50,7 +50,7 @@ abbrev pub packed_blocks : List ℕ → List ℕ
 packed_blocks bytes =
     packed bytes ++ replicate (block_words * block_count (length bytes) - 2 * group_count (length bytes)) 0
 
--- the words are the fewest whole blocks whose frames begin with the bytes, and the frames behind are zeros
+-- the words are the fewest whole blocks whose frames begin with the bytes, and the frames after these are zeros
 pub record IsBlockPacking (bytes words : List ℕ) : Type 0 where
   pub whole : length words ≡ BLOCK * block_count (length bytes)
   pub reads_back : frames words ≡ bytes ++ replicate (block_frames * block_count (length bytes) - length bytes) 0

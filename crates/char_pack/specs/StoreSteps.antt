@@ -11,7 +11,7 @@ held_bytes Nothing = []
 held_bytes (One first) = first ∷ []
 held_bytes (Two first second) = first ∷ second ∷ []
 
--- the words of what is held, of a host text behind it, and of control Z
+-- the words of what is held, of a host text after it, and of control Z
 abbrev pub packed_text : Held → List ℕ → List ℕ
 packed_text held host = packed (held_bytes held ++ text_frames (host_text host))
 

@@ -17,13 +17,13 @@ pub fn packed_frames()
         → packed (frames words) ≡ words }
 {}
 
-/// The frames of an even list of words and of others behind it are those of both, so a file is read block by block.
+/// The frames of an even list of words, and those of others after it, are the frames of both. So a file is read block by block.
 pub fn joined_frames()
     ensures { (words others : List ℕ) → length words % 2 ≡ 0
         → frames (words ++ others) ≡ frames words ++ frames others }
 {}
 
-/// A text goes on in the frames behind it exactly where no control Z has come.
+/// A text goes on in the frames after it exactly where no control Z has come.
 pub fn joined_text()
     ensures characters { (frames others : List ℕ)
         → characters (frames ++ others) ≡ characters frames ++

@@ -9,7 +9,7 @@ use word12::{BLOCK, Word};
 /// The frames of a block, three for each two of its words (OS/8 Software Support Manual).
 pub const BLOCK_FRAMES: usize = 384;
 
-/// The words of bytes, three in two words, zeros behind the last byte (OS/8 Software Support Manual).
+/// The words of bytes, three in two words, zeros after the last byte (OS/8 Software Support Manual).
 ///
 /// They are the shortest even list of words whose frames begin with the bytes.
 pub fn pack(alloc: Global, bytes: &[u8]) -> Result<Vec<Word>, PackFault>
@@ -22,7 +22,7 @@ pub fn pack(alloc: Global, bytes: &[u8]) -> Result<Vec<Word>, PackFault>
     Ok(words)
 }
 
-/// The words of bytes in whole blocks of 256 words, zeros behind the last byte (OS/8 Software Support Manual).
+/// The words of bytes in whole blocks of 256 words, zeros after the last byte (OS/8 Software Support Manual).
 ///
 /// They are the fewest blocks whose frames begin with the bytes, none for no byte.
 pub fn pack_blocks(alloc: Global, bytes: &[u8]) -> Result<Vec<Word>, AllocError>

@@ -85,7 +85,7 @@ fn stored_words(alloc: Global, host: &[u8]) -> Result<Vec<Word>, AllocError>
     Ok(words)
 }
 
-/// The first frames of a group that has not yet three.
+/// The first frames of a group that does not have three yet.
 #[derive(Clone, Copy)]
 enum Held {
     Nothing,
@@ -93,7 +93,7 @@ enum Held {
     Two(u8, u8),
 }
 
-/// Appends the words of the frames of a host text, and of the control Z behind them.
+/// Appends the words of the frames of a host text, and of the control Z after them.
 fn push_text(words: &mut Vec<Word>, host: &[u8]) -> Result<(), AllocError>
     requires { spec.is_storable host.now ≡ true }
     ensures { OnOk result (words.new.items ≡ words.old.items
@@ -108,8 +108,8 @@ fn push_text(words: &mut Vec<Word>, host: &[u8]) -> Result<(), AllocError>
     push_end(words, held)
 }
 
-/// Appends the words of groups of plain characters from the beginning of a host text where no frame is held, and answers what
-/// is left of it.
+/// Appends the words of groups of plain characters from the beginning of a host text where no frame is held. The answer is
+/// what is left of it.
 fn push_run<'a>(words: &mut Vec<Word>, held: Held, host: &'a [u8]) -> Result<&'a [u8], AllocError>
     requires { spec.is_storable host.now ≡ true }
     ensures words { IfOk result (λ left. words.new.items ++ packed_text held left.now ≡ words.old.items
@@ -123,7 +123,7 @@ fn push_run<'a>(words: &mut Vec<Word>, held: Held, host: &'a [u8]) -> Result<&'a
     }
 }
 
-/// Appends the words of groups of plain characters from the beginning of a host text, and answers what is left of it.
+/// Appends the words of groups of plain characters from the beginning of a host text. The answer is what is left of it.
 fn push_groups<'a>(words: &mut Vec<Word>, host: &'a [u8]) -> Result<&'a [u8], AllocError>
     requires { spec.is_storable host.now ≡ true }
     ensures words { IfOk result (λ left. words.new.items ++ packed_text Nothing left.now ≡ words.old.items
@@ -150,7 +150,7 @@ fn is_plain(byte: u8) -> bool
     byte != CR && byte != LF
 }
 
-/// Appends the characters of a host byte behind what is held, each with its top bit set, and answers what is held then.
+/// Appends the characters of a host byte after what is held, each with its top bit set. The answer is what is held then.
 fn put_byte(words: &mut Vec<Word>, held: Held, byte: u8) -> Result<Held, AllocError>
     requires { spec.may_stand byte ≡ true }
     ensures { IfOk result (λ next. (later : List ℕ) → words.new.items ++ packed (held_bytes next ++ later)
@@ -167,7 +167,7 @@ fn put_byte(words: &mut Vec<Word>, held: Held, byte: u8) -> Result<Held, AllocEr
     }
 }
 
-/// Appends a frame behind what is held, and answers what is held then.
+/// Appends a frame after what is held. The answer is what is held then.
 #[inline(always)]
 fn put_frame(words: &mut Vec<Word>, held: Held, frame: u8) -> Result<Held, AllocError>
     ensures { IfOk result (λ next. (later : List ℕ) → words.new.items ++ packed (held_bytes next ++ later)
@@ -183,7 +183,7 @@ fn put_frame(words: &mut Vec<Word>, held: Held, frame: u8) -> Result<Held, Alloc
     }
 }
 
-/// Appends control Z behind what is held, and fills its group with zeros.
+/// Appends control Z after what is held, and fills its group with zeros.
 fn push_end(words: &mut Vec<Word>, held: Held) -> Result<(), AllocError>
     ensures { OnOk result (words.new.items ≡ words.old.items ++ packed (held_bytes held ++ 154 ∷ [])) }
 {

@@ -6,19 +6,19 @@ use Rattle.core_image.specs.Image.{HasHead, IsCount, IsStart, IsImage, count_of}
 use Rattle.core_image.specs.declared.faults.CoreFault.{CoreFault}
 use Rattle.core_image.specs.declared.faults.CoreFault.TheVariants.{BadWord, TooShort, Memory}
 
--- word 0 is no number of segments, or word 1, behind one, is no 62N3
+-- word 0 gives no number of segments; or it does, and word 1 is no 62N3
 abbrev pub IsBadHead : List ℕ → ℕ → Type 0
 IsBadHead words place = (BLOCK ≤ length words)
     × (((place ≡ 0) × (slice_index words 0 < 0o7602))
     ⊎ ((place ≡ 1) × IsCount (slice_index words 0) × (IsStart (slice_index words 1) → ⊥)))
 
--- the control block tells of one more segment behind these
+-- the control block lists one more segment after these
 pub record HasMore (words : List ℕ) (older : List (ℕ × ℕ)) : Type 0 where
   pub head : HasHead words
   pub are : AreSegments words older
   pub more : length older < count_of words
 
--- of a segment the first word or, behind one that is so, the second is not so
+-- the first word of a segment is not so, or it is so and the second is not
 pub record IsBadSegment (words : List ℕ) (place : ℕ) : Type 0 where
   pub older : List (ℕ × ℕ)
   pub has_more : HasMore words older
@@ -41,8 +41,8 @@ pub record IsSomeImage (words : List ℕ) : Type 0 where
   pub status : ℕ
   pub is_image : IsImage words pairs start status
 
--- The fault of words that are none: the first word of the control block that is not so, with its place, or that the file ends before
--- the control block or the words of a segment. Memory runs out only for the words of an image.
+-- The fault of words that are no core image. It is the first word of the control block that is not so, with its place. Or it is
+-- that the file ends before the control block or the words of a segment. Memory runs out only for the words of an image.
 abbrev pub IsFault : List ℕ → CoreFault → Type 0
 IsFault words (BadWord place word) = (word ≡ slice_index words place) × (IsBadHead words place ⊎ IsBadSegment words place)
 IsFault words TooShort = (length words < BLOCK) ⊎ EndsEarly words

@@ -20,8 +20,8 @@ pub record HasHead (words : List ℕ) : Type 0 where
   pub count : IsCount (slice_index words 0)
   pub start : IsStart (slice_index words 1)
 
--- The words are a core image. It gives these cells these words, in the order of the file; its program starts at a cell, by the field of
--- word 1 and the address that is word 2, and word 3 is its job status word. What stands behind the last segment means nothing.
+-- The words are a core image. It gives these cells these words, in the order of the file. Its program starts at a cell, by the field of
+-- word 1 and the address that is word 2. Word 3 is its job status word. What stands after the last segment means nothing.
 pub record IsImage (words : List ℕ) (pairs : List (ℕ × ℕ)) (start status : ℕ) : Type 0 where
   pub head : HasHead words
   pub segments : List (ℕ × ℕ)

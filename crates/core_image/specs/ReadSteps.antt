@@ -1,4 +1,4 @@
--- What reading a core image comes to on the way, for private clauses.
+-- The steps of reading a core image, for private clauses.
 use Rattle.std.specs.Prelude.{◌≡◌, ℕ, ◌+◌, ◌*◌, ◌≤◌, length, Result, Ok, Err, List, ◌∷◌}
 use Rattle.core_image.specs.Segments.{AreSegments, blocks_in, pairs_in}
 use Rattle.core_image.specs.Image.{HasHead}
@@ -23,7 +23,7 @@ pub record HasKept (words : List ℕ) (number block : ℕ) (pairs : List (ℕ ×
   pub read : HasReadTo words number block older
   pub pairs_are : pairs ≡ pairs_in words older
 
--- what one more segment behind these comes to
+-- what one more segment after these gives
 abbrev pub TellsSegment : List ℕ → List (ℕ × ℕ) → Result (ℕ × ℕ) CoreFault → Type 0
 TellsSegment words older (Ok segment) = AreSegments words (segment ∷ older)
 TellsSegment words older (Err fault) = IsFault words fault

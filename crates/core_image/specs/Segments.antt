@@ -1,4 +1,4 @@
--- The segments of a core image, as its control block tells them (this project's reading of the OS/8 Software Support Manual). Each is the
+-- The segments of a core image, as its control block lists them (this project's reading of the OS/8 Software Support Manual). Each is the
 -- two words of it in the block, and a list of them has the newest first.
 use Rattle.std.specs.Prelude.{◌≡◌, ℕ, ◌+◌, ◌*◌, ◌/◌, ◌%◌, ◌<◌, ◌≤◌, nat_eq, if◌then◌else◌, length, slice_index, take, drop, List, [], ◌∷◌, ◌++◌}
 use Rattle.word12.specs.declared.sizes.TheConstants.{BLOCK, FIELD, PAGE}
@@ -36,12 +36,12 @@ abbrev pub pairs_of : List ℕ → ℕ → ℕ × ℕ → List (ℕ × ℕ)
 pairs_of words block segment =
     numbered (FIELD * field_of segment.1 + segment.0) (take (PAGE * pages_of segment.1) (drop (BLOCK * block) words))
 
--- the cells of all segments with their words, in the order of the file: behind the control block the segments one by one
+-- the cells of all segments with their words, in the order of the file: after the control block the segments one by one
 abbrev pub pairs_in : List ℕ → List (ℕ × ℕ) → List (ℕ × ℕ)
 pairs_in words [] = []
 pairs_in words (segment ∷ older) = pairs_in words older ++ pairs_of words (1 + blocks_in older) segment
 
--- The words of a file tell these segments first, from word 4 of the control block on, and the words of each are there.
+-- The first segments that the control block lists, from its word 4 on, are these, and the words of each are in the file.
 abbrev pub AreSegments : List ℕ → List (ℕ × ℕ) → Type 0
 AreSegments words [] = Unit {0}
 AreSegments words (segment ∷ older) =

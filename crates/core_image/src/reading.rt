@@ -23,8 +23,8 @@ pub struct CoreImage {
     pub status: Word,
 }
 
-/// Reads the words of a file as a core image (this project's reading of the OS/8 Software Support Manual). What stands behind the last
-/// segment means nothing. The answer is the fault of the word that is refused first where there is one.
+/// Reads the words of a file as a core image (this project's reading of the OS/8 Software Support Manual). What stands after the last
+/// segment means nothing. Where a word is refused, the answer is the fault of the first such word.
 ///
 /// No memory is asked for before the words are known to be an image.
 pub fn read(alloc: Global, words: &[Word]) -> Result<CoreImage, CoreFault>
@@ -80,7 +80,7 @@ fn pairs_of(alloc: Global, words: &[Word], count: usize) -> Result<Vec<(Cell, Wo
     Ok(pairs)
 }
 
-/// Puts words for the cells from one on behind the others.
+/// Puts words for the cells from one on after the others.
 fn put_words(pairs: &mut Vec<(Cell, Word)>, first: Cell, words: &[Word]) -> Result<(), AllocError>
     requires { first + length words.now ≤ CORE }
     ensures { OnOk result (pairs.new.items ≡ pairs.old.items ++ numbered first words.now) }

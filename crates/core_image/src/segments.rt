@@ -1,4 +1,4 @@
-//! The segments that the control block tells of.
+//! The segments that the control block lists.
 ghost use Rattle.std.specs.Prelude.{◌≡◌, ◌≢◌, ℕ, ◌+◌, ◌*◌, ◌-◌, ◌<◌, ◌≤◌, length, slice_index, List, MatchResult, IfOk, true, ◌↔◌};
 ghost use Rattle.word12.specs.declared.sizes.TheConstants.{BLOCK};
 ghost use Rattle.core_image.specs.Segments.{IsControl, blocks_of, field_of, pages_of};
@@ -12,7 +12,7 @@ use word12::{BLOCK, Cell, FIELD, PAGE, Word};
 /// Minus the greatest number of segments that a block has room for, 126.
 const MOST: u16 = 0o7602;
 
-/// How many segments the control block tells of, 1 to 126.
+/// How many segments the control block lists, 1 to 126.
 pub fn segment_count(words: &[Word]) -> Result<usize, CoreFault>
     ensures { MatchResult result
         (λ count. HasHead words.now × (count ≡ count_of words.now) × (0 < count) × (count ≤ 126))

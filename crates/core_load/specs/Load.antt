@@ -47,7 +47,7 @@ IsFed loader frames = HasRead loader.reader frames loader.words
 abbrev pub IsFine : List ℕ → Type 0
 IsFine frames = ((items : List Item) × IsTape frames items) ⊎ ((items : List Item) × (part : List ℕ) × IsOpen (heeded frames) items part)
 
--- What further frames do to a loader that was given some: a fault is told by the first frame that is refused; memory
+-- What further frames do to a loader that was given some. A fault is that of the first frame that is refused. Memory
 -- runs out only where a word is handed out, and then nothing is taken.
 abbrev pub FeedsFrames : List ℕ → List ℕ → Loading → Loading → Result (Unit {0}) TapeFault → Type 0
 FeedsFrames frames more old new (Ok nothing) = IsFed new (frames ++ more) × IsFine (frames ++ more)

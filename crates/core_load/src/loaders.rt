@@ -44,7 +44,7 @@ impl Loader {
         }
     }
 
-    /// Takes the next frame. Memory is taken, and can run out, only where the frame shows a word to be no check sum; then
+    /// Takes the next frame. Memory is taken, and can run out, only where the frame shows a word to be no check sum. Then
     /// nothing is taken of the frame. Another fault is answered for good.
     pub fn push(&mut self, frame: u8) -> Result<(), TapeFault>
         ensures { (frames : List ℕ) → IsFed self.old frames

@@ -1,4 +1,4 @@
--- What an instruction is told by (Small Computer Handbook). A bit is called by what it is worth.
+-- What an instruction is known by (Small Computer Handbook). A bit is called by what it is worth.
 use Rattle.std.specs.Prelude.{ℕ, ◌/◌, ◌%◌, Bool, nat_eq, if◌then◌else◌}
 use Rattle.word12.specs.declared.sizes.TheConstants.{PAGE}
 use Rattle.tty8.specs.Bits.{has}

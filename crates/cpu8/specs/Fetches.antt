@@ -15,7 +15,7 @@ is_fetch (Ran printed) = true
 is_fetch Halted = true
 is_fetch (Unassigned word) = true
 
--- whether the step behind the first m fetches the word of a cell
+-- whether the step after the first m fetches the word of a cell
 abbrev pub fetches : ℕ → State → ℕ → Bool
 fetches m s cell = is_fetch (answer true m s) && nat_eq (next_cell (after true m s)) cell
 

@@ -1,4 +1,4 @@
--- Steps of the machine up to a stop (this project's profile). Breaks are a list that tells of each cell, by its number,
+-- Steps of the machine up to a stop (this project's profile). Breaks are a list that says for each cell, by its number,
 -- whether it has one; a cell past its end has none.
 use Rattle.std.specs.Prelude.{◌≡◌, ℕ, zero, suc, ◌<◌, ◌≤◌, Bool, false, ◌&&◌, if◌then◌else◌, List, [], ◌∷◌, ◌++◌, slice_index_or, Option, Some, None, IsSome, unwrap_or}
 use Rattle.cpu8.specs.State.{State, next_cell, printer_done}
@@ -20,7 +20,7 @@ unfoldable pub after : Bool → ℕ → State → State
 after quick zero s = s
 after quick (suc k) s = (printing_step quick (after quick k s)).0
 
--- what the step behind the first k did
+-- what the step after the first k did
 abbrev pub answer : Bool → ℕ → State → Stepped
 answer quick k s = (printing_step quick (after quick k s)).1
 
@@ -28,7 +28,7 @@ answer quick k s = (printing_step quick (after quick k s)).1
 abbrev pub break_ahead : List Bool → State → Option Why
 break_ahead breaks s = if is_break breaks (next_cell s) then Some Why.Break else None
 
--- why to stop behind a step that did this and left this state: a HLT and an unassigned word come before a break
+-- why to stop after a step that did this and left this state: a HLT and an unassigned word come before a break
 abbrev pub reason : List Bool → Stepped → State → Option Why
 reason breaks Halted s = Some Why.Halt
 reason breaks (Unassigned word) s = Some Why.Unassigned

@@ -81,8 +81,8 @@ runs_on Halted = false
 runs_on (Unassigned word) = false
 
 -- A subroutine is called, in the field of the instruction buffer, and later there is an indirect JMP there through its
--- first word, which is still what the JMS left there and is no auto-index, with the caller's field in the instruction
--- buffer.
+-- first word. That word is still what the JMS left there, and is no auto-index. The caller's field is in the
+-- instruction buffer.
 pub record IsCallAndReturn (call back : State) : Type 0 where
   pub calls : IsNext Jms call
   pub first_word : place call.instruction_buffer (effective_address call (fetched call)) < length call.core
@@ -93,8 +93,8 @@ pub record IsCallAndReturn (call back : State) : Type 0 where
   pub no_auto_index : is_auto_index back (fetched back) ≡ false
   pub kept : slice_index back.core (pointer_place back (fetched back)) ≡ slice_index (step call).0.core (pointer_place back (fetched back))
 
--- A program is interrupted, and later, in field 0 with no request granted, RMF and JMP I 0 come next, with cell 0
--- and the save field still what the interrupt left there.
+-- A program is interrupted, and later, in field 0 with no request granted, RMF and JMP I 0 come next. Cell 0 and the
+-- save field are still what the interrupt left there.
 pub record IsInterruptAndReturn (program back : State) : Type 0 where
   pub running : program.running ≡ true
   pub granted : grants_interrupt program ≡ true

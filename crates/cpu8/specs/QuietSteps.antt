@@ -17,7 +17,7 @@ is_quiet quick s = s.running && (not (s.interrupts_on && is_requesting s.teletyp
 abbrev pub is_settled : State → Bool
 is_settled s = nat_eq s.instruction_buffer s.instruction_field && (not s.waiting && not s.held_off)
 
--- what decides of the quiet stays, and the field of instructions does where none waits for a jump
+-- what decides whether the machine is quiet stays, and the field of instructions does where none waits for a jump
 pub record Stays (old new : State) : Type 0 where
   pub running : new.running ≡ old.running
   pub interrupts_on : new.interrupts_on ≡ old.interrupts_on
@@ -56,11 +56,11 @@ DoneOrNot false old w done new = DoesOrNot old w done new
 abbrev pub IsUnbroken : List Bool → ℕ → Type 0
 IsUnbroken breaks field = (address : ℕ) → address < 0o10000 → is_break breaks (place field address) ≡ false
 
--- fields that are told to have no break have none
+-- fields that are given as having no break have none
 abbrev pub AreUnbroken : List Bool → List Bool → Type 0
 AreUnbroken breaks fields = (field : ℕ) → slice_index_or fields field false ≡ true → IsUnbroken breaks field
 
--- breaks tell of each cell where they are minded, and else of none in this field
+-- where breaks are minded they say for each cell whether it has one; else this field has none
 abbrev pub AreMinded : List Bool → ℕ → Bool → Type 0
 AreMinded breaks field true = CORE ≤ length breaks
 AreMinded breaks field false = IsUnbroken breaks field

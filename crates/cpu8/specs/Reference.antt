@@ -82,7 +82,7 @@ jmp_row s w = record (referred s w) {
   held_off = false;
 }
 
--- JMS stores PC at the effective address in the new field, and goes on behind it
+-- JMS stores PC at the effective address in the new field, and goes on after it
 abbrev pub jms_row : State → ℕ → State
 jms_row s w = record (jmp_row s w) {
   core = slice_set (indexed s w) (place s.instruction_buffer (effective_address s w)) ((s.pc + 1) % 0o10000);

@@ -10,7 +10,7 @@ bits (suc k) n = n / 2 ^ k % 2 ∷ bits k n
 unfoldable pub thirteen_bits : ℕ → List ℕ
 thirteen_bits n = bits 13 n
 
--- the number that a list of bits is behind the number before it
+-- the number that a list of bits spells after those of a number before them
 abbrev pub number_after : ℕ → List ℕ → ℕ
 number_after n [] = n
 number_after n (b ∷ bs) = number_after (2 * n + b) bs

@@ -92,7 +92,7 @@ key_struck s character = record s { teletype = struck s.teletype character }
 abbrev pub printer_done : State → State
 printer_done s = record s { teletype = finished s.teletype }
 
--- Whether an interrupt request is granted, so that an interrupt comes in place of the next instruction: interrupts are on,
--- the instruction after ION is done, no CIF or RMF waits for its jump, and a flag of the Teletype requests one.
+-- Whether an interrupt request is granted, by which an interrupt comes in place of the next instruction. Interrupts are
+-- on, the instruction after ION is done, no CIF or RMF waits for its jump, and a flag of the Teletype requests one.
 abbrev pub grants_interrupt : State → Bool
 grants_interrupt s = s.interrupts_on && (not s.waiting && (not s.held_off && is_requesting s.teletype))

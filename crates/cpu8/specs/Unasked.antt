@@ -15,8 +15,8 @@ is_ksf word = nat_eq (word / 0o10) 0o603 && has word 1
 abbrev pub finds_no_key : State → Bool
 finds_no_key s = not s.teletype.keyboard_flag && is_ksf (fetched s)
 
--- The step behind the first m does an instruction that prints nothing, goes on and is no KSF that finds the keyboard flag clear;
--- interrupts are as at first, on or off.
+-- The step after the first m does an instruction that prints nothing, goes on and is no KSF that finds the keyboard flag clear.
+-- Interrupts are as at first, on or off.
 pub record IsUnasked (s : State) (m : ℕ) : Type 0 where
   pub answer : answer true m s ≡ Ran None
   pub finds : finds_no_key (after true m s) ≡ false

@@ -1,4 +1,4 @@
-//! What an instruction is told by (Small Computer Handbook).
+//! What an instruction is known by (Small Computer Handbook).
 
 ghost use Rattle.std.specs.Prelude.{◌≡◌, ◌<◌, ◌%◌};
 ghost use Rattle.word12.specs.declared.sizes.TheConstants.{PAGE};

@@ -41,13 +41,13 @@ pub fn negation()
     ensures { (s : State) → HasLinkAndAc s → (after cia s).ac ≡ (0o10000 - s.ac) % 0o10000 }
 {}
 
-/// Bit 0010 of group 2 turns the skip round: with it a word skips where it doesn't without.
+/// Bit 0010 of group 2 reverses the skip: with it a word skips where it doesn't without it.
 pub fn reversed_skip()
     ensures skips { (word : ℕ) (s : State) → IsTest word → SkipsNot word s → Skips (0o10 + word) s }
     ensures skips_not { (word : ℕ) (s : State) → IsTest word → Skips word s → SkipsNot (0o10 + word) s }
 {}
 
-/// TSF behind TLS doesn't skip until the printer is done, and skips then.
+/// TSF after TLS doesn't skip until the printer is done, and skips then.
 pub fn printing()
     ensures before { (s : State) → IsNextWord tls s → IsNextWord tsf (step s).0
         → (step (step s).0).0.pc ≡ ((step s).0.pc + 1) % 0o10000 }
@@ -69,7 +69,7 @@ pub fn interrupt_return()
         → Resumes program (step (step back).0).0 }
 {}
 
-/// The step behind an ION that found interrupts off is never an interrupt. The one behind that is one where interrupts are
+/// The step after an ION that found interrupts off is never an interrupt. The one after that is one where interrupts are
 /// on then, not held off, and requested.
 pub fn ion_delay()
     ensures not_at_once { (s : State) → IsIon s → (step (step s).0).1 ≢ Interrupted }

@@ -40,9 +40,9 @@ impl Machine {
         }
     }
 
-    /// Starts the machine at a cell: AC, L, the flags, busy, the save field, waiting and holding off become 0, interrupts
-    /// go off, PC is the cell's address, and the three fields are its field. Core, the keyboard's buffer and the switches
-    /// stay (this project's profile).
+    /// Starts the machine at a cell. AC, L, the flags, busy, the save field, waiting and holding off become 0, and
+    /// interrupts go off. PC is the cell's address, and the three fields are its field. Core, the keyboard's buffer and
+    /// the switches stay (this project's profile).
     pub fn start(&mut self, cell: Cell)
         ensures { self.new ≡ started self.old cell }
     {
@@ -57,8 +57,7 @@ impl Machine {
         self.processor.teletype.key(character);
     }
 
-    /// The printer ends a character: where it is busy it is so no more, and the printer flag is set. Else nothing
-    /// changes.
+    /// The printer ends a character: where it is busy it no longer is, and the printer flag is set. Else nothing changes.
     pub fn done(&mut self)
         ensures { self.new ≡ printer_done self.old }
     {

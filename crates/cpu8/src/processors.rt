@@ -153,7 +153,8 @@ impl Processor {
         self.interrupts_on && !self.waiting && !self.held_off && self.teletype.requests()
     }
 
-    /// An interrupt: PC goes to cell 0 of field 0, and the program goes on behind it with interrupts off.
+    /// An interrupt: PC is stored in cell 0 of field 0, and the program goes on at the cell after it with interrupts
+    /// off.
     #[inline(always)]
     fn interrupt(&mut self, core: &mut Core)
         ensures { with_core self.new core.new ≡ interrupted (with_core self.old core.old) }

@@ -1,4 +1,4 @@
--- The breaks of a debugger, as the list that tells of each cell, by its number, whether it has one.
+-- The breaks of a debugger, as the list that says for each cell, by its number, whether it has one.
 use Rattle.std.specs.Prelude.{◌≡◌, ℕ, ◌+◌, ◌≤◌, Bool, true, false, if◌then◌else◌, List, [], ◌∷◌, replicate, slice_set, Result, Ok, Err}
 use Rattle.cpu8.specs.Go.{is_break}
 use Rattle.debug8.specs.declared.faults.DebugFault.{DebugFault}

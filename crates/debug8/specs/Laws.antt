@@ -1,4 +1,4 @@
--- What the laws of snapshots speak of.
+-- What the laws of snapshots use.
 use Rattle.std.specs.Prelude.{◌<◌}
 use Rattle.cpu8.specs.State.{State}
 

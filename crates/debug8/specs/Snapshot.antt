@@ -48,7 +48,7 @@ shown_text (truth false) = codes "false"
 abbrev pub member_text : List ℕ × Shown → List ℕ
 member_text m = codes "\"" ++ (m.0 ++ (codes "\":" ++ shown_text m.1))
 
--- members behind the first, each with a comma before it
+-- members after the first, each with a comma before it
 abbrev pub later_text : List (List ℕ × Shown) → List ℕ
 later_text [] = []
 later_text (m ∷ ms) = codes "," ++ (member_text m ++ later_text ms)

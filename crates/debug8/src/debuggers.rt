@@ -44,8 +44,8 @@ impl Debugger {
         Ok(Debugger { breaks, count: 0 })
     }
 
-    /// Sets a break at a cell. A cell that has one keeps it, and a cell that has none is refused one where there are
-    /// 64 already (this project's profile). It takes no memory.
+    /// Sets a break at a cell. A cell that has one keeps it. A cell that has none is refused one where there are 64
+    /// already (this project's profile). It takes no memory.
     pub fn set_break(&mut self, cell: Cell) -> Result<(), DebugFault>
         ensures { SetsBreak self.old cell self.new result }
     {
@@ -71,9 +71,9 @@ impl Debugger {
     }
 
     /// Lets a machine make steps, each an instruction or an interrupt (Small Computer Handbook), up to a HLT, an
-    /// unassigned word or a break, and at most n of them; none where it stands stopped. A break isn't tested before the
-    /// first step. With `quick` the printer ends its character before each step that finds it busy (this project's
-    /// profile). What is printed is appended, for which the caller made room: a go takes no memory.
+    /// unassigned word or a break. It makes at most n of them, and none where it stands stopped. A break isn't tested
+    /// before the first step. With `quick` the printer ends its character before each step that finds it busy (this
+    /// project's profile). What is printed is appended, for which the caller made room: a go takes no memory.
     pub fn go(&self, machine: &mut Machine, n: usize, quick: bool, printed: &mut Vec<u8>) -> Gone
         requires room { vec_len printed.old + n ≤ vec_capacity printed.old }
         ensures steps { IsGo quick self.now machine.old n result.steps result.why }

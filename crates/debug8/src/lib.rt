@@ -1,6 +1,6 @@
 //! A debugger for the machine: breaks, runs to the next stop, core by cells, and a snapshot of the registers.
 //!
-//! A contract sees a debugger as the list that tells of each cell, by its number, whether it has a break.
+//! A contract sees a debugger as a list that says for each cell, by its number, whether it has a break.
 #![tactic(auto)]
 
 mod debuggers;

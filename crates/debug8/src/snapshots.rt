@@ -13,8 +13,8 @@ use std::alloc::{AllocError, Global};
 use word12::Word;
 
 impl Debugger {
-    /// The registers and flags of a machine as compact JSON (RFC 8259), with sixteen keys in alphabetical order: numbers
-    /// as texts of octal digits, flags as truth values (this project's profile).
+    /// The registers and flags of a machine as compact JSON (RFC 8259), with sixteen keys in alphabetical order. Numbers
+    /// are texts of octal digits, and flags are truth values (this project's profile).
     pub fn snapshot(alloc: Global, machine: &Machine) -> Result<String, DebugFault>
         ensures text { IfOk result (λ text. string_bytes text ≡ snapshot machine.now) }
         ensures memory { IsOkUnless result Memory }

@@ -4,7 +4,7 @@ ghost use Rattle.file_kind.specs.declared.faults.KindFault.TheVariants.{Memory};
 use std::alloc::AllocError;
 use thiserror::Error;
 
-/// Why it isn't known what a file holds.
+/// Why the kind of a file isn't known.
 #[derive(Clone, Copy, PartialEq, Eq, Debug, Error)]
 pub enum KindFault {
     /// Memory ran out.

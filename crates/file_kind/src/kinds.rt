@@ -29,8 +29,8 @@ pub enum FileKind {
     Unknown,
 }
 
-/// What these frames are, of which the first that fits is answered: zeros alone, a core image, a BIN tape, a RIM tape, a text (each as its
-/// own crate has it, by the public source told there; the order is this project's profile).
+/// What these frames are: the first that fits of zeros alone, a core image, a BIN tape, a RIM tape, a text. Each is as its own crate has
+/// it, by the public source that is named there. The order is this project's profile.
 pub fn kind_of(alloc: Global, frames: &[u8]) -> Result<FileKind, KindFault>
     ensures { IfOk result (IsKind frames.now) }
 {

@@ -1,11 +1,11 @@
-//! Texts, as their frames tell them.
+//! Texts, by their frames.
 ghost use Rattle.std.specs.Prelude.{◌≡◌, ◌&&◌};
 ghost use Rattle.file_kind.specs.Texts as spec;
 
 use char_pack::CONTROL_Z;
 
-/// Whether frames are a text: up to the first control Z, or to zeros at the end, each has a character that may stand in one, with the top bit
-/// or without, and one at least is graphic (OS/8 Software Support Manual; which characters may stand there is this project's profile).
+/// Whether frames are a text. Up to the first control Z, or to zeros at the end, each has a character that may stand in a text, with the top bit or
+/// without. One at least is graphic (OS/8 Software Support Manual; which characters may stand there is this project's profile).
 pub fn is_text(frames: &[u8]) -> bool
     ensures { result ≡ spec.is_text frames.now }
 {

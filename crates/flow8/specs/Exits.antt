@@ -1,4 +1,4 @@
--- Where a program goes on behind an instruction, as far as its word tells (Small Computer Handbook): at most two cells.
+-- Where a program goes on after an instruction, as far as its word shows (Small Computer Handbook): at most two cells.
 use Rattle.std.specs.Prelude.{◌≡◌, ◌⊎◌, ℕ, ◌+◌, ◌*◌, ◌/◌, ◌%◌, ◌||◌, nat_eq, if◌then◌else◌, Option, Some, None}
 use Rattle.word12.specs.declared.sizes.TheConstants.{FIELD, PAGE}
 use Rattle.tty8.specs.Bits.{has}
@@ -6,7 +6,7 @@ use Rattle.cpu8.specs.State.{place}
 use Rattle.cpu8.specs.Decoding.{pulses_of, is_indirect, is_group_1, is_group_2, has_sma, has_sza, has_snl, is_reversed, has_hlt}
 use Rattle.cpu8.specs.Operate.{is_group1_unassigned}
 
--- the cell so many words behind this one, in its field
+-- the cell so many words after this one, in its field
 abbrev pub behind : ℕ → ℕ → ℕ
 behind count cell = place (cell / FIELD) ((cell % FIELD + count) % FIELD)
 
@@ -34,7 +34,7 @@ skips cell = (Some (behind 2 cell), None)
 
 -- ## Instructions
 
--- a subroutine begins behind the cell that the JMS names, and comes back behind the JMS
+-- a subroutine begins after the cell that the JMS names, and comes back after the JMS
 abbrev pub jms_exits : ℕ → ℕ → Option ℕ × Option ℕ
 jms_exits cell word = (Some (behind 1 cell), if is_indirect word then None else Some (behind 1 (referred_cell cell word)))
 
@@ -53,7 +53,7 @@ iot_exits cell word =
     else if nat_eq (word / 0o10 % 0o100) 4 then (if has (pulses_of word) 1 then may_skip cell else goes_on cell)
     else goes_on cell
 
--- an operate of group 2 skips where a condition of SMA, SZA and SNL holds; SKP always does; behind HLT nothing comes
+-- an operate of group 2 skips where a condition of SMA, SZA and SNL holds; SKP always does; after HLT nothing comes
 abbrev pub group2_exits : ℕ → ℕ → Option ℕ × Option ℕ
 group2_exits cell word =
     if has_hlt word then stops
@@ -66,7 +66,7 @@ operate_exits cell word =
     if is_group_1 word then (if is_group1_unassigned word then stops else goes_on cell)
     else (if is_group_2 word then group2_exits cell word else stops)
 
--- The cells at which the program goes on behind the instruction of this word in this cell. The operations are AND, TAD, ISZ, DCA,
+-- The cells at which the program goes on after the instruction of this word in this cell. The operations are AND, TAD, ISZ, DCA,
 -- JMS, JMP, IOT and OPR.
 abbrev pub exits : ℕ → ℕ → Option ℕ × Option ℕ
 exits cell word =

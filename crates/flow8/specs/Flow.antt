@@ -12,8 +12,8 @@ abbrev pub IsAmong : ℕ → List ℕ → Type 0
 IsAmong cell [] = ⊥
 IsAmong cell (first ∷ others) = (cell ≡ first) ⊎ IsAmong cell others
 
--- What a program that starts at these cells reaches: the starts to which these words give one, and the cells to which they give one
--- among those at which an instruction that is reached goes on; nothing else.
+-- What a program that starts at these cells reaches. These are the starts to which these words give a word. They are also the exits of
+-- each instruction that is reached, as far as these words give them one. Nothing else is reached.
 pub data Reaches (words : ℕ → Option ℕ) (starts : List ℕ) : ℕ → Type 0 where
   start : (cell word : ℕ) → IsAmong cell starts → words cell ≡ Some word → Reaches words starts cell
   goes : (cell word next other : ℕ) → Reaches words starts cell → words cell ≡ Some word → IsExit cell word next → words next ≡ Some other

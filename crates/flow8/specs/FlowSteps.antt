@@ -1,4 +1,4 @@
--- What marking comes to on the way, for private clauses.
+-- The steps of marking, for private clauses.
 use Rattle.std.specs.Prelude.{◌≡◌, ◌⊎◌, ℕ, ◌+◌, ◌*◌, ◌≤◌, Bool, true, false, if◌then◌else◌, List, [], length, Option, Some, None, slice_index_or, ◌++◌, option_to_list, sum_by}
 use Rattle.flow8.specs.Exits.{exits}
 use Rattle.flow8.specs.Flow.{IsAmong, word_in}
@@ -19,7 +19,7 @@ IsMarked reached cell = slice_index_or reached cell false ≡ true
 abbrev pub AreUnmarked : List Bool → Type 0
 AreUnmarked reached = (cell : ℕ) → IsMarked reached cell → ⊥
 
--- These cells are marked, but for those to which the tape gives no word; each that wasn't before waits.
+-- These cells are marked, except those to which the tape gives no word; each that wasn't before waits.
 pub record MarksCells (words : List (Option ℕ)) (old new : List Bool) (waiting waiting' : List ℕ) (cells : List ℕ) : Type 0 where
   pub size : length new ≡ length old
   pub marks : (cell word : ℕ) → IsAmong cell cells → GivesWord words cell word → IsMarked new cell

@@ -7,7 +7,7 @@ use crate::exits;
 use std::alloc::{AllocError, Global};
 use word12::{CORE, Cell, Word};
 
-/// Which cells hold instructions that a program reaches from these starts, over the words that a tape gives the 0o100000 cells of
+/// The cells with instructions that a program reaches from these starts, over the words that a tape gives the 0o100000 cells of
 /// core: one flag for each cell. Memory is asked for the flags, and for a list of cells, at most one entry for each.
 pub fn flow(alloc: Global, words: &[Option<Word>], starts: &[Cell]) -> Result<Vec<bool>, AllocError>
     requires { length words.now ≡ CORE }
@@ -28,7 +28,7 @@ fn no_cells(alloc: Global, count: usize) -> Result<Vec<bool>, AllocError>
     Ok(reached)
 }
 
-/// MarksCells what a program reaches.
+/// Marks what a program reaches.
 fn reach(
     alloc: Global,
     words: &[Option<Word>],
@@ -48,7 +48,7 @@ fn reach(
     Ok(())
 }
 
-/// MarksCells the cells at which a program starts.
+/// Marks the cells at which a program starts.
 fn mark_starts(
     words: &[Option<Word>],
     reached: &mut [bool],
@@ -66,7 +66,7 @@ fn mark_starts(
     Ok(())
 }
 
-/// MarksCells the cells at which a program goes on behind an instruction.
+/// Marks the cells at which a program goes on after an instruction.
 fn mark_exits(
     words: &[Option<Word>],
     reached: &mut [bool],
@@ -87,7 +87,7 @@ fn mark_exits(
     Ok(())
 }
 
-/// MarksCells a cell, if there is one.
+/// Marks a cell, if there is one.
 fn mark_exit(
     words: &[Option<Word>],
     reached: &mut [bool],
@@ -105,7 +105,7 @@ fn mark_exit(
     }
 }
 
-/// MarksCells a cell, which then waits, unless it is marked or the tape gives it no word.
+/// Marks a cell, which then waits, unless it is marked or the tape gives it no word.
 fn mark(
     words: &[Option<Word>],
     reached: &mut [bool],

@@ -1,8 +1,8 @@
-//! The flow of a program: which words of a tape are instructions, as far as that can be told from where the program starts.
+//! The flow of a program: which words of a tape are instructions, as far as the starts of the program show it.
 //!
-//! Behind an instruction the program goes on at the next word, at the one behind where it may skip, and where a direct jump leads;
-//! what is reached through a pointer or in another field isn't told by its word (Small Computer Handbook). The words of a tape
-//! are a list of 0o100000, one or none for each cell of core.
+//! After an instruction the program goes on at the next word, at the one after it where it may skip, and where a direct jump
+//! leads. What is reached through a pointer or in another field isn't known from its word (Small Computer Handbook). The words of
+//! a tape are a list of 0o100000, one or none for each cell of core.
 #![tactic(auto)]
 
 mod flows;

@@ -9,10 +9,11 @@ use cpu8::decoding::{
 };
 use word12::{Cell, PAGE, Word};
 
-/// The cells, at most two, at which a program goes on behind the instruction of this word in this cell, as far as the word
-/// tells (Small Computer Handbook): the next cell; the one behind it too for what may skip, or alone for SKP; where a direct JMP
-/// or JMS leads in its own field, behind the cell that a JMS names; cell 1 of field 0 behind ION, by which interrupts come; and
-/// none behind HLT and words that are unassigned.
+/// The cells, at most two, at which a program goes on after the instruction of this word in this cell, as far as the word shows
+/// (Small Computer Handbook). After most instructions this is the next cell. After what may skip it is the one after that too, and
+/// after SKP that one alone. After a direct JMP it is the cell of its own field that it names. After a JMS it is the next cell, and
+/// after a direct one also the cell after that which it names. After ION it is also cell 1 of field 0, by which interrupts come.
+/// After an indirect JMP, HLT and words that are unassigned there is none.
 pub fn exits(cell: Cell, word: Word) -> (Option<Cell>, Option<Cell>)
     ensures { result ≡ exits cell word }
 {
@@ -114,7 +115,7 @@ fn is_unassigned(word: Word) -> bool
     (right && left) || (has(word, TWICE) && !(right || left))
 }
 
-/// The cell so many words behind this one, in its field.
+/// The cell so many words after this one, in its field.
 fn behind(cell: Cell, count: u16) -> Cell
     requires { count ≤ 2 }
     ensures value { result ≡ behind count cell }

@@ -1,4 +1,4 @@
--- What the answers of an assembler come to.
+-- The answers of an assembler.
 use Rattle.std.specs.Prelude.{◌≡◌, ℕ, Bool, Option, Some, Result, Ok, Err, List, ◌++◌}
 use Rattle.pal_sym.specs.SymbolTable.{SymbolTable}
 use Rattle.pal_sym.specs.Values.{is_fixed, symbol_value}

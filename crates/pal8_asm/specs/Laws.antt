@@ -73,7 +73,7 @@ SkippedIsNothing = (text : List ℕ) (left : Left) → left_of text ≡ Ok left 
 
 -- ## Places rest on no word
 
--- what a statement says, but that a word is the word 0
+-- what a statement says, except that a word is the word 0
 abbrev pub zero_phrase : Phrase → Phrase
 zero_phrase (body.Nothing, steps) = (body.Nothing, steps)
 zero_phrase (body.Origin, steps) = (body.Origin, steps)

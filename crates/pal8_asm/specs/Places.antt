@@ -209,7 +209,7 @@ with_value_of body s (Ok v) = with_valued body s v
 abbrev pub value_at : Standing → List Step → Result ℕ Code
 value_at s steps = coded (early_value (stands s.kept) (spot_at s.position) steps)
 
--- what a body does, with the steps of its value and the length of its string; `EXPUNGE` and the like aren't taken yet
+-- what a body does, with the steps of its value and the length of its string; `EXPUNGE` and such bodies aren't taken yet
 abbrev pub with_body : Body → List Step → ℕ → Standing → Result Standing Code
 with_body body.Nothing steps length s = Ok s
 with_body body.Origin steps length s = with_value_of body.Origin s (value_at s steps)

@@ -62,7 +62,8 @@ start_of at (t ∷ others) = t.start
 abbrev pub place_of : Statement → Place
 place_of s = record { line = s.line; start = start_of s.at s.tokens }
 
--- A word that is to be made: the place of its statement in the text, its cell, what `.` is there, whether it is punched, and the steps of its value.
+-- A word that is to be made. It has the place of its statement in the text, its cell, what `.` is there, whether it is punched, and the steps of its
+-- value.
 pub record Entry : Type 0 where
   pub place : Place
   pub cell : ℕ
@@ -70,8 +71,8 @@ pub record Entry : Type 0 where
   pub is_punched : Bool
   pub steps : List Step
 
--- What statements leave: places and names; their words, in the order of the source; of each bracket that is open whether it is true, the newest
--- first; and the place of the `$` that ended the source.
+-- What statements leave: places and names; their words, in the order of the source; and for each open bracket whether it is true, the newest first.
+-- The place of the `$` that ended the source is left, too.
 pub record Left : Type 0 where
   pub standing : Standing
   pub entries : List Entry
@@ -291,6 +292,6 @@ abbrev pub ended : List ℕ → Passed → Passed
 ended text (Err fault) = Err fault
 ended text (Ok left) = with_end text left left.brackets left.end
 
--- what a text leaves to be made, or its first fault but for those of words
+-- what a text leaves to be made, or its first fault except those of words
 abbrev pub left_of : List ℕ → Passed
 left_of text = ended text (passed (statements text))

@@ -1,4 +1,4 @@
--- What the small steps of a pass come to, for private clauses.
+-- What the small steps of a pass give, for private clauses.
 use Rattle.pal8_asm.specs.Assembling.{Progress, left_in, standing}
 use Rattle.std.specs.Prelude.{◌≡◌, ℕ, ◌-◌, Bool, true, false, length, Option, Some, None, Result, Ok, Err, List, ◌∷◌, ◌++◌}
 use Rattle.pal_sym.specs.SymbolTable.{SymbolTable}
@@ -77,7 +77,7 @@ TakesBody whole place body steps string before old (Err asm.Memory) table new = 
 
 -- ## Texts
 
--- what a byte after others is answered: whether it ends a statement, which is then shown
+-- the answer for a byte after others: whether it ends a statement, which is then shown
 abbrev pub Pushes : List ℕ → ℕ → Result Bool AsmFault → lex.Progress → Type 0
 Pushes here b (Ok true) new =
     (shown new ≡ Some (statement_of (as_read b) (live here)))
@@ -91,7 +91,7 @@ pub record HasTaken (here : List ℕ) (lexer : lex.Progress) (a : Progress) : Ty
   pub has_read : HasRead lexer here
   pub leaves : passed (statements here) ≡ Ok (left_in a)
 
--- what a byte more comes to; or its fault; or memory ran out
+-- what a byte more gives; or its fault; or memory ran out
 abbrev pub TakesByte : List ℕ → Result (Unit {0}) AsmFault → lex.Progress → Progress → Type 0
 TakesByte here (Ok nothing) lexer a = HasTaken here lexer a
 TakesByte here (Err (asm.At code place)) lexer a = passed (statements here) ≡ Err (at_place place code)
@@ -109,7 +109,7 @@ pub record HasReadAll (whole : List ℕ) (lexer : lex.Progress) (at : ℕ) (a : 
   pub leaves : passed (statements whole) ≡ Ok (left_in a)
   pub counts : a.end ≡ None → (at ≡ limit (length whole)) × HasRead lexer whole
 
--- what further bytes come to; or their fault; or memory ran out
+-- what further bytes give; or their fault; or memory ran out
 abbrev pub ReadsOn : List ℕ → Result (Unit {0}) AsmFault → lex.Progress → ℕ → Progress → Type 0
 ReadsOn whole (Ok nothing) lexer at a = HasReadAll whole lexer at a
 ReadsOn whole (Err (asm.At code place)) lexer at a = passed (statements whole) ≡ Err (at_place place code)
@@ -148,7 +148,7 @@ pub record IsMaking (whole : Result Made Fault) (pools : PoolTable) (marks : Lis
   pub clashes : clash ≡ made.clash
   pub free : made.clash ≡ None → lowest_clash made.asks made.words ≡ None
 
--- what making entries comes to, or the first fault of a word; or memory ran out
+-- what making entries gives, or the first fault of a word; or memory ran out
 abbrev pub Makes : Result Made Fault → Result (Unit {0}) AsmFault → PoolTable → List Bool → Option Fault → List (ℕ × ℕ) → Type 0
 Makes whole (Ok nothing) pools marks clash pairs = IsMaking whole pools marks clash pairs
 Makes whole (Err (asm.At code place)) pools marks clash pairs = whole ≡ Err (at_place place code)

@@ -13,8 +13,8 @@ use Rattle.pal8_asm.specs.declared.faults.Fault.{Fault}
 use Rattle.pal8_asm.specs.declared.faults.Code.{Code}
 use Rattle.pal8_asm.specs.declared.faults.Code.TheVariants as code
 
--- What entries make: the punched words with their cells, in the order of the source; what all words asked, and what the punched ones asked of
--- that, the newest first; and the first fault of a punched word on a pool's cell.
+-- What entries make: the punched words with their cells, in the order of the source, and the first fault of a punched word on a pool's cell. Also
+-- what all words asked, and what the punched ones asked of that, the newest first.
 pub record Made : Type 0 where
   pub words : List (ℕ × ℕ)
   pub asks : List Ask

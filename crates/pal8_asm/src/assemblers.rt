@@ -17,8 +17,8 @@ use pal8_sym::{SourceNames, Symbols};
 use std::alloc::Global;
 use std::marker::Model;
 
-/// Takes the statements of a source one after the other, and learns what names stand for, which statements are selected and which words are to
-/// be made.
+/// Takes the statements of a source one after the other. It learns what names stand for, which statements are selected and which words are to be
+/// made.
 #[derive(Drop)]
 pub struct Assembler {
     pub(crate) symbols: Symbols,
@@ -212,13 +212,13 @@ impl Assembler {
         }
     }
 
-    /// Takes the next statement of the source: its line, the place of the byte that ends it, its tokens, its string and whether an end cuts that,
-    /// and what ended it. If it is selected, its tags and its body define names, and set the position of the next one, and its words stay to
-    /// be made. Another opens or closes a bracket at most. A `$` that ends one which is selected ends the source, and nothing after it is read.
+    /// Takes the next statement of the source: its line, the place of the byte that ends it, its tokens, its string, whether an end cuts that, and
+    /// what ended it. If it is selected, its tags and its body define names and set the position of the next one, and its words stay to be made.
+    /// Another opens or closes a bracket at most. A `$` that ends one which is selected ends the source, and nothing after it is read.
     ///
-    /// Its fault is the first of these: IC, NU, SY; of each tag PF and DT; of a value that a place, a name or a condition rests on UA, PF, DZ and
-    /// IR; FD, PG or RD; PF where a word is past 7777; PH where `>` closes no bracket. After a fault, and where memory ran out, no further
-    /// statement means anything (PAL8, in this project's profile).
+    /// Its fault is the first of these. IC, NU and SY come first. Then come PF and DT of each tag. Then come UA, PF, DZ and IR of a value that a
+    /// place, a name or a condition rests on. Then come FD, PG or RD, then PF where a word is past 7777, and PH where `>` closes no bracket. After a
+    /// fault, and where memory ran out, no further statement means anything (PAL8, in this project's profile).
     pub fn take(
         &mut self,
         line: u64,

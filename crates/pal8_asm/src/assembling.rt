@@ -26,10 +26,10 @@ fn push_pool(pairs: &mut Vec<(Cell, Word)>, pools: &Pools) -> Result<(), AllocEr
 /// The answer is its punched words with their cells, in the order of the source, and then each cell that they ask for with its value, by rising
 /// cell.
 ///
-/// Its fault is the first of this order: of its statements, by places and names, up to the `$`; NE, with the place of the text's end; of its
-/// words, punched or not, UA, DZ, II, RL, or PE or ZE where a page has no cell left; the clash of a punched word with a pool's cell, at the later
-/// of the two statements, the first one; NW, with the place of the `$`. It takes time in proportion to the bytes, but that a name is found by
-/// halving (PAL8, the assembler of OS/8, in this project's profile).
+/// Its fault is the first of this order. First come those of its statements, by places and names, up to the `$`, and then NE, with the place of the
+/// text's end. Then come those of its words, punched or not: UA, DZ, II, RL, or PE or ZE where a page has no cell left. Then comes the first clash of
+/// a punched word with a pool's cell, at the later of the two statements. Last comes NW, with the place of the `$`. It takes time in proportion to
+/// the bytes, except that a name is found by halving (PAL8, the assembler of OS/8, in this project's profile).
 pub fn assemble(alloc: Global, text: &[u8]) -> Result<Vec<(Cell, Word)>, AsmFault>
     ensures { Assembles (text_of text.now) result }
 {

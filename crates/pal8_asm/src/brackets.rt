@@ -5,8 +5,8 @@ use pal8_lex::End;
 use std::alloc::{AllocError, Global};
 use std::marker::Model;
 
-/// The brackets that are open: of each whether it is true, so that the statements in it are selected. One that is opened in a false one is
-/// false.
+/// The brackets that are open: of each whether it is true, by which the statements in it are selected. One that is opened in a false one
+/// is false.
 #[derive(Drop)]
 pub struct Brackets {
     open: Vec<bool>,

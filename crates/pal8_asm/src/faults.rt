@@ -15,8 +15,8 @@ pub enum Code {
     SY,
     #[error("bad number")]
     NU,
-    /// A name that no statement defines, or, where a place or a name rests on it, none before it: the first of its statement, by the number
-    /// that its six sixbit codes make.
+    /// A name that no statement defines. Where a place or a name rests on it, no statement before defines it. It is the first such name of its
+    /// statement, by the number that its six sixbit codes make.
     #[error("undefined name")]
     UA(u64),
     /// A tag whose name is permanent or defined with another value.
@@ -89,7 +89,7 @@ impl From<AllocError> for Stop {
 pub struct Place {
     /// Its line, 1 and up.
     pub line: u64,
-    /// Its first byte in the text, from 0: that of its first token, or, of an empty statement, that which ends it. Each is 2^64 - 1 where it
+    /// Its first byte in the text, from 0. It is that of its first token, or, of an empty statement, the byte that ends it. Each is 2^64 - 1 where it
     /// would be more.
     pub start: u64,
 }
@@ -101,8 +101,8 @@ pub struct Fault {
     pub place: Place,
 }
 
-/// Why a source isn't assembled: a code with the place of its statement; of NE with that of the text's end, and of NW with that of the `$`. Or
-/// memory ran out.
+/// Why a source isn't assembled: a code with the place of its statement, or memory ran out. The place of NE is that of the text's end, and the place
+/// of NW that of the `$`.
 #[derive(Clone, Copy, PartialEq, Eq, Debug, Error)]
 pub enum AsmFault {
     #[error("{code} in line {line}", code = .0, line = .1.line)]

@@ -1,4 +1,4 @@
-//! Laws about what a text comes to, which hold whatever assembles it. A call of one does nothing, and lets its caller use it.
+//! Laws about what a text gives, which hold whatever assembles it. A call of one does nothing, and lets its caller use it.
 
 ghost use Rattle.pal8_asm.specs.Laws.{Apart, FaultStays, NoPoolNoChange, PlacesStay, SkippedIsNothing, ValueIsFound};
 
@@ -21,19 +21,19 @@ pub fn no_pool_no_change()
     ensures { NoPoolNoChange }
 {}
 
-/// In a text without a fault the cell that a punched word's literal or link asks for holds its value: it is the last word that the pairs give
-/// that cell.
+/// In a text without a fault the cell that a punched word's literal or link asks for holds its value. That is the last word that the pairs give that
+/// cell.
 pub fn value_is_found()
     ensures { ValueIsFound }
 {}
 
-/// What the statements of a text leave is what those that are selected leave by themselves, each condition read as nothing and `<` and `>` as
-/// `;`.
+/// What the statements of a text leave is what those that are selected leave by themselves. Each condition is then read as nothing, and `<` and `>`
+/// as `;`.
 pub fn skipped_is_nothing()
     ensures { SkippedIsNothing }
 {}
 
-/// Each place, field and name, each condition, and each fault of theirs, is that of the source with each word read as the word 0: none rests on a
+/// Each place, field and name, each condition, and each fault of theirs, is that of the source with each word read as the word 0. None rests on a
 /// literal or a link.
 pub fn places_stay()
     ensures { PlacesStay }

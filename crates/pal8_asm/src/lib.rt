@@ -1,5 +1,6 @@
-//! The assembler of PAL8, the assembler of OS/8 (in this project's profile of it): of a text its first fault, or the words that its statements
-//! leave to be made, and these with their cells. No place and no name rests on a literal or a link, so words are made after all statements.
+//! The assembler of PAL8, the assembler of OS/8 (in this project's profile of it). Of a text it gives the first fault, or the words that its
+//! statements leave to be made, and these with their cells. No place and no name rests on a literal or a link, so words are made after all
+//! statements.
 #![tactic(auto)]
 
 mod assemblers;

@@ -169,7 +169,7 @@ pub fn next_page(position: Position) -> Position
     at_location(kept_low(position.location + left), position)
 }
 
-/// The position from which on this is the place.
+/// The position with the shift by which this is its place.
 pub fn relocated(place: Word, position: Position) -> Position
     requires { position.location < 0o20000 }
     ensures value { result ≡ relocated place position }

@@ -119,7 +119,7 @@ fn value_at(symbols: &Symbols, position: Position, steps: &[Step]) -> Result<Wor
     }
 }
 
-/// Whether a condition is true, at a position, by the names so far, or the first fault of its value: UA, PF, DZ. Another body is none (PAL8, in
+/// Whether a condition is true, at a position, by the names so far, or the first fault of its value: UA, PF, DZ. Another body isn't true (PAL8, in
 /// this project's profile).
 #[tactic(auto, unfolding(pal8_sym::specs::Symbols::value_of))]
 pub(crate) fn truth_of(
@@ -255,11 +255,12 @@ fn pass_body(
     }
 }
 
-/// Takes a statement, whose tokens begin with its tags: they are defined from the left, then its body, with the steps of its value and the
-/// length of its string, defines a name or sets the position of the next statement. The position answered is that one.
+/// Takes a statement, whose tokens begin with its tags, which are defined from the left. Then its body defines a name or sets the position of the
+/// next statement, by the steps of its value and the length of its string. The position answered is that one.
 ///
-/// Its fault is the first of these: of each tag PF and DT; of a value that a place or a name rests on UA, PF, DZ and IR; then FD, PG or RD; last
-/// PF, where a word is past 7777. A name that memory ran out for isn't defined, and those before it are (PAL8, in this project's profile).
+/// Its fault is the first of these. First come PF and DT of each tag. Then come UA, PF, DZ and IR of a value that a place or a name rests on, then
+/// FD, PG or RD. The last is PF, where a word is past 7777. A name that memory ran out for isn't defined, and those before it are (PAL8, in this
+/// project's profile).
 pub fn pass_statement(
     symbols: &mut Symbols,
     tokens: &[Token],

@@ -121,11 +121,11 @@ impl Assembler {
         }
     }
 
-    /// Takes the bytes of a text up to the `$` that ends its source, and answers the place of that: what its statements leave. The assembler has
-    /// taken no statement yet.
+    /// Takes the bytes of a text up to the `$` that ends its source, and answers the place of that. It gives what its statements leave. The assembler
+    /// has taken no statement yet.
     ///
-    /// Its fault is the first of its statements in their order, or else PH where a bracket is open at the `$`; without a `$`, PH or NE with
-    /// the place of the text's end (PAL8, in this project's profile).
+    /// Its fault is the first of its statements in their order, or else PH where a bracket is open at the `$`. Without a `$` it is PH or NE with the
+    /// place of the text's end (PAL8, in this project's profile).
     pub fn read(&mut self, alloc: Global, text: &[u8]) -> Result<Place, AsmFault>
         ensures { left_in self.old ≡ first_left → ReadsText (text_of text.now) result self.new }
     {
@@ -142,7 +142,7 @@ impl Assembler {
     /// Makes the words that the statements left, by what names stand for at last, and gives the punched ones, each with its cell, in the order of
     /// the source. Nothing was asked of the pools before; then they hold the values of the literals and links.
     ///
-    /// Its fault is the first of a word, in their order: UA, DZ, II, RL, or PE or ZE where a page has no cell left; else the first clash of a
+    /// Its fault is the first of a word, in their order: UA, DZ, II, RL, or PE or ZE where a page has no cell left. Else it is the first clash of a
     /// punched word with a pool's cell, by the later of the two statements (PAL8, in this project's profile).
     #[tactic(auto, unfolding(pal8_sym::specs::Symbols::value_of))]
     pub fn words(&self, alloc: Global, pools: &mut Pools) -> Result<Vec<(Cell, Word)>, AsmFault>

@@ -1,4 +1,4 @@
--- What the small steps come to, for private clauses.
+-- What the small steps give, for private clauses.
 use Rattle.std.specs.Prelude.{◌≡◌, ℕ, ◌<◌, ◌≤◌, Bool, true, false, ◌&&◌, Option, Some, None, List}
 use Rattle.pal8_pools.specs.Asks.{Ask}
 use Rattle.pal8_pools.specs.Pooled.{is_cell_of}
@@ -8,7 +8,8 @@ use Rattle.pal8_clash.specs.Clashes.{has_word}
 abbrev pub is_clash : List (ℕ × ℕ) → List Ask → ℕ → Bool
 is_clash words asks c = has_word words c && is_cell_of asks asks c
 
--- Among the cells from a first one up to a last one, these included and excluded, this is the lowest that is a word's and a pool's.
+-- Among the cells from a first one up to a last one, the first included and the last not, this is the lowest that is a word's and a
+-- pool's.
 abbrev pub IsLowestIn : List (ℕ × ℕ) → List Ask → ℕ → ℕ → Option ℕ → Type 0
 IsLowestIn words asks low high None = (c : ℕ) → low ≤ c → c < high → is_clash words asks c ≡ false
 IsLowestIn words asks low high (Some c) =

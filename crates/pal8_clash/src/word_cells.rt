@@ -141,9 +141,9 @@ impl WordCells {
         lower(on_zero, on_own)
     }
 
-    /// Puts a word at a cell, if it is punched. Its literals and links have asked the pools already; before, so many values were asked of its
-    /// page, and so many of page zero of its field. It answers the lowest cell that is a punched word's and a pool's, where none was before. It
-    /// takes no memory.
+    /// Puts a word at a cell, if it is punched. Its literals and links have asked the pools already. Before that, so many values were asked of its
+    /// page, and so many of page zero of its field. It answers the lowest cell that is a punched word's and a pool's, where none was before. It takes
+    /// no memory.
     pub fn put(
         &mut self,
         pools: &Pools,

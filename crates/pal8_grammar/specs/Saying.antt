@@ -1,4 +1,4 @@
--- What the answer for a statement comes to.
+-- The answer for a statement.
 use Rattle.std.specs.Prelude.{◌≡◌, Result, Ok, Err}
 use Rattle.pal8_grammar.specs.Values.{Reading}
 use Rattle.pal8_grammar.specs.Bodies.{Phrase}

@@ -1,4 +1,4 @@
--- What the small steps of reading come to, for private clauses.
+-- What the small steps of reading give, for private clauses.
 use Rattle.std.specs.Prelude.{◌≡◌, Bool, true, false, Option, Some, None, Result, Ok, Err, List, [], ◌∷◌}
 use Rattle.std.specs.declared.alloc.AllocError.{AllocError}
 use Rattle.pal8_sym.specs.SourceNames.{vocabulary_of}
@@ -25,7 +25,7 @@ Closes old (Ok None) new = (old.literals ≡ []) × (new ≡ old)
 Closes old (Ok (Some outer)) new = (old.literals ≡ outer ∷ new.literals) × (new ≡ behind_literal outer new.literals old.steps)
 Closes old (Err refused) new = Unit {0}
 
--- a token was taken, or doesn't stand there
+-- a token was taken, or can't stand there
 abbrev pub Takes : Option Reading → Result Bool AllocError → Reading → Type 0
 Takes next (Ok true) new = next ≡ Some new
 Takes next (Ok false) new = next ≡ None

@@ -20,7 +20,7 @@ use Rattle.pal8_grammar.specs.declared.stands.Stand.{Stand}
 use Rattle.pal8_grammar.specs.declared.stands.Stand.TheVariants as stand
 use Rattle.pal8_grammar.specs.declared.stands.Outer.{Outer}
 
--- What is read of a value so far: where it stands, the literals that are open, the innermost first, and the steps in their order.
+-- What is read of a value so far: where it stands, the open literals, the innermost first, and the steps in their order.
 pub record Reading : Type 0 where
   pub stand : Stand
   pub literals : List Outer
@@ -259,8 +259,8 @@ with_next setting kind r = with_next_by setting r.stand (operator_of kind) kind 
 abbrev pub behind_literal : Outer → List Outer → List Step → Reading
 behind_literal outer others steps = record { stand = stand.Term outer.is_address; literals = others; steps = steps ++ step.Close ∷ [] }
 
--- A token that doesn't go on with a value ends it: its literal's own closing, or else a token that goes on with what stands around. Where no
--- literal is open, there is none such.
+-- A token that doesn't go on with a value ends it. Such a token is its literal's own closing, or else one that goes on with what stands around. Where
+-- no literal is open, there is no such token.
 abbrev pub with_end : Setting → Token → List Outer → List Step → Option Reading
 with_end setting t [] steps = None
 with_end setting t (outer ∷ others) steps =
@@ -313,6 +313,6 @@ abbrev pub steps_in : Option Reading → Option (List Step)
 steps_in None = None
 steps_in (Some r) = if is_whole r.stand then Some (closed r.literals r.steps) else None
 
--- the steps of a value or, where it begins so, of an expression
+-- the steps of a value or, where it begins as one, of an expression
 abbrev pub steps_of : Setting → Stand → List Token → Option (List Step)
 steps_of setting first tokens = steps_in (with_tokens setting tokens (Some record { stand = first; literals = []; steps = [] }))

@@ -4,7 +4,7 @@ ghost use Rattle.pal8_grammar.specs.declared.faults.GrammarFault.TheVariants.{Me
 use std::alloc::AllocError;
 use thiserror::Error;
 
-/// Why a statement says nothing, numbered from 1 in this order, in which the first that applies is answered.
+/// Why a statement says nothing, numbered from 1 in this order. The first that applies is answered.
 #[derive(Clone, Copy, PartialEq, Eq, Debug, Error)]
 pub enum GrammarFault {
     #[error("illegal character")]

@@ -1,7 +1,7 @@
-//! The grammar of PAL8, the assembler of OS/8 (in this project's profile of it): what a statement says, by its tokens, and by
+//! The grammar of PAL8, the assembler of OS/8 (in this project's profile of it). It gives what a statement says, by its tokens, and by
 //! the names and the radix before it.
 //!
-//! Its value, if it has one, reads as steps, in the order in which they come to a value. Brackets nest to any depth, and no call recurs.
+//! Its value, if it has one, reads as steps, in the order in which they are evaluated. Brackets nest to any depth, and no call recurs.
 #![tactic(auto)]
 
 mod bodies;

@@ -59,7 +59,8 @@ impl Reader {
         self.steps.clear();
     }
 
-    /// Reads a value, or where it begins so an expression, and answers whether the tokens are one (PAL8, in this project's profile).
+    /// Reads a value or, where it begins as one, an expression, and answers whether the tokens are one (PAL8, in this project's
+    /// profile).
     pub(crate) fn read(
         &mut self,
         names: &SourceNames,

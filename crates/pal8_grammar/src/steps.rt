@@ -1,8 +1,7 @@
 use pal8_lex::{Name, Operator, Pool};
 use word12::Word;
 
-/// A step of a value. A value is the sum of its terms, each joined by the sign before it, and a reference is an operation with such a sum as
-/// its address.
+/// A step of a value. A value is the sum of its terms, each joined by the sign before it. A reference is an operation with such a sum as its address.
 #[derive(Clone, Copy)]
 pub enum Step {
     /// A memory reference begins, with the word of its operation.

@@ -1,4 +1,4 @@
--- What tokens are to those beside them (PAL8, in this project's profile).
+-- How tokens stand to those beside them (PAL8, in this project's profile).
 use Rattle.std.specs.Prelude.{ℕ, nat_eq, Bool, true, false, ◌||◌, if◌then◌else◌, codes}
 use Rattle.word12.specs.Sixbit.{name_number}
 use Rattle.pal8_lex.specs.declared.tokens.Kind.{Kind}

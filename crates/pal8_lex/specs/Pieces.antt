@@ -37,7 +37,7 @@ kind_by shape.Title first others = None
 abbrev pub kind_of : Piece → Option Kind
 kind_of p = kind_by p.shape p.first.0 p.others
 
--- a blank before a piece means something, as far as the piece goes
+-- a blank before a piece means something, as far as the piece decides it
 abbrev pub takes_blank : Shape → Bool
 takes_blank shape.Run = true
 takes_blank shape.Blank = false

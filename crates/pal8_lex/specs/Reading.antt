@@ -74,7 +74,7 @@ takes_room effect.GoesOn = true
 takes_room effect.Closes = false
 takes_room (effect.Completes c) = false
 
--- What a byte after a text is answered: whether it ends a statement, which the lexer then shows. Where memory ran out the byte was not taken.
+-- The answer for a byte after a text: whether it ends a statement, which the lexer then shows. Where memory ran out the byte was not taken.
 abbrev pub Answers : List ℕ → ℕ → Result Bool AllocError → Progress → Type 0
 Answers text b (Ok true) new =
     (shown new ≡ Some (statement_of (as_read b) (live text))) × (statements (b ∷ text) ≡ statement_of (as_read b) (live text) ∷ statements text)

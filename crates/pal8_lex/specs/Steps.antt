@@ -1,4 +1,4 @@
--- What the small steps of the lexer come to, for private clauses.
+-- What the small steps of the lexer give, for private clauses.
 use Rattle.std.specs.Prelude.{ℕ, ◌≡◌, Bool, true, false, List, [], ◌∷◌}
 use Rattle.pal8_lex.specs.Kinds.{head_of_one}
 use Rattle.pal8_lex.specs.Pieces.{Piece}

@@ -37,7 +37,7 @@ impl Model for Draft {
     } };
 }
 
-/// Whether a blank before a piece of this shape means something, as far as it goes.
+/// Whether a blank before a piece of this shape means something, as far as the piece decides it.
 #[inline(always)]
 fn takes_blank(shape: Shape) -> bool
     ensures { result ≡ takes_blank shape }

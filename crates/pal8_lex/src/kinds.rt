@@ -22,7 +22,7 @@ const EJECT: u64 = name!(b'E' b'J' b'E' b'C' b'T');
 
 const XLIST: u64 = name!(b'X' b'L' b'I' b'S' b'T');
 
-/// Whether a blank after such a token means something, as far as it goes.
+/// Whether a blank after such a token means something, as far as the token decides it.
 #[inline(always)]
 pub fn takes_blank_behind(kind: Kind) -> bool
     ensures { result ≡ takes_blank_behind kind }
@@ -34,7 +34,7 @@ pub fn takes_blank_behind(kind: Kind) -> bool
     }
 }
 
-/// Whether a blank before such a token means something, as far as it goes.
+/// Whether a blank before such a token means something, as far as the token decides it.
 #[inline(always)]
 pub fn takes_blank_before(kind: Kind) -> bool
     ensures { result ≡ takes_blank_before kind }

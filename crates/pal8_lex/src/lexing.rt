@@ -43,7 +43,7 @@ impl Lexer {
     /// Takes the next byte, and answers whether it ends a statement, which is then shown until the next byte that is there.
     ///
     /// CR, form feed, NUL and rubout are as if they weren't there. Where memory ran out the byte was not taken, and may be pushed
-    /// again; the statement that was shown is then gone. Only a byte that begins a token, or one of a string, takes memory.
+    /// again. The statement that was shown is then gone. Only a byte that begins a token, or one of a string, takes memory.
     #[tactic(auto, unfolding(crate::specs::Reading::HasRead))]
     #[inline]
     pub fn push(&mut self, byte: u8) -> Result<bool, AllocError>

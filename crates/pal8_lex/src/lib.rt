@@ -1,8 +1,8 @@
-//! The lexer of PAL8 source, the assembler of OS/8 (in this project's profile of it): it takes the bytes of a host's text and
-//! hands out its statements, each as its tokens, the line that it begins in, and what ended it.
+//! The lexer of PAL8 source, the assembler of OS/8 (in this project's profile of it). It takes the bytes of a host's text and hands out
+//! its statements, each as its tokens, the line that it begins in, and what ended it.
 //!
-//! Which statements count hangs on conditions, and numbers on the radix, and neither is known here: so it judges only what tokens say by
-//! themselves. In each contract a text is the list of its bytes, the newest first.
+//! Which statements count depends on conditions, and numbers on the radix. Neither is known here, so the lexer judges only what tokens
+//! say by themselves. In each contract a text is the list of its bytes, the newest first.
 #![tactic(auto)]
 
 mod drafts;

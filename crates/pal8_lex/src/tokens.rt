@@ -4,8 +4,8 @@ ghost use Rattle.pal8_lex.specs.Runs.{word_of};
 use std::marker::Model;
 use word12::Word;
 
-/// A name, or the first six characters of a number: the number of six digits to the base 64 that their sixbit codes make, with 0
-/// for each that is missing. A small letter counts as its capital.
+/// A name, or the first six characters of a number. It is the number of six digits to the base 64 that their sixbit codes make,
+/// with 0 for each that is missing. A small letter counts as its capital.
 #[derive(Clone, Copy)]
 pub struct Name {
     number: u64,

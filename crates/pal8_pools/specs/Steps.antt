@@ -1,4 +1,4 @@
--- What the small steps of pools come to, for private clauses.
+-- What the small steps of pools give, for private clauses.
 use Rattle.std.specs.Prelude.{◌≡◌, ℕ, ◌+◌, ◌*◌, ◌<◌, ◌≤◌, ◌-◌, nat_eq, Bool, true, false, if◌then◌else◌, Option, Some, None, Result, Ok, Err, slice_index, slice_set, zero, suc, List, ◌∷◌}
 use Rattle.std.specs.declared.alloc.AllocError.{AllocError}
 use Rattle.word12.specs.declared.sizes.TheConstants.{FIELD}

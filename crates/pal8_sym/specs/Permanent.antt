@@ -57,7 +57,7 @@ soft_names =
     (name_number (codes "DXAC"), octal_number (codes "6645")) ∷
     (name_number (codes "DMMT"), octal_number (codes "6646")) ∷ []
 
--- the reserved names that PAL III lacks; of each six characters count
+-- the reserved names that PAL III lacks; six characters of each count
 abbrev pub reserved_names : List ℕ
 reserved_names =
     name_number (codes "PAGE") ∷

@@ -1,4 +1,4 @@
--- What the names of a source stand for by the statements before (PAL8, in this project's profile): the last definition of a name, or else its
+-- What the names of a source stand for by the statements before (PAL8, in this project's profile). It is the last definition of a name, or else its
 -- permanent value, until EXPUNGE takes the permanent values and the operations away.
 use Rattle.std.specs.Prelude.{◌≡◌, ℕ, nat_eq, Bool, true, false, ◌&&◌, ◌||◌, not, if◌then◌else◌, Option, Some, None, is_some, Result, Ok, Err}
 use Rattle.std.specs.Ordering.{nat_cmp}

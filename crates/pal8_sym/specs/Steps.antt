@@ -1,4 +1,4 @@
--- What the small steps of a look-up come to, for private clauses.
+-- What the small steps of a look-up give, for private clauses.
 use Rattle.std.specs.Prelude.{◌≡◌, ℕ, Bool, true, ◌&&◌, if◌then◌else◌, nat_eq, nat_lt, Some, None, is_some, Result, Ok, Err, List, [], ◌∷◌}
 use Rattle.std.specs.Ordering.{nat_cmp}
 use Rattle.std.specs.BTreeSet.{contains}
@@ -11,7 +11,7 @@ abbrev pub all_words : List (ℕ × ℕ) → Bool
 all_words [] = true
 all_words (entry ∷ others) = nat_lt entry.1 0o10000 && all_words others
 
--- The fields of names stay, but for what a private step changes.
+-- The fields of names stay, except what a private step changes.
 pub record KeepsRest (old new : SourceNames) : Type 0 where
   pub operations : new.operations ≡ old.operations
   pub permanent : new.is_expunged ≡ old.is_expunged

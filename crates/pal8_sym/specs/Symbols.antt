@@ -1,4 +1,4 @@
--- What the names of a source stand for (PAL8, in this project's profile): as in PAL III, but that a soft name gives way to a definition.
+-- What the names of a source stand for (PAL8, in this project's profile): as in PAL III, except that a soft name gives way to a definition.
 use Rattle.std.specs.Prelude.{◌≡◌, ℕ, nat_eq, if◌then◌else◌, Option, Some, None}
 use Rattle.std.specs.Ordering.{nat_cmp}
 use Rattle.std.specs.FinMap.{find}

@@ -40,8 +40,8 @@ pub struct Meaning {
     pub standing: Standing,
 }
 
-/// The soft names with their values: those of the PDP-8/E, its MQ, the Teletype, reader and punch, DECtape, DF32 and RF08 (Small Computer
-/// Handbook; the choice of the list is this project's profile).
+/// The soft names with their values. They are those of the PDP-8/E, its MQ, the Teletype, reader and punch, DECtape, DF32 and RF08 (Small
+/// Computer Handbook; the choice of the list is this project's profile).
 const SOFT: [(u64, u16); 42] = [
     (name!(b'I' b'O' b'T' 0 0 0), 0o6000),
     (name!(b'O' b'P' b'R' 0 0 0), 0o7000),
@@ -121,7 +121,7 @@ pub(crate) fn is_operation(name: Name) -> bool
         || number == name!(b'J' b'M' b'P' 0 0 0)
 }
 
-/// How one of PAL III's permanent names stands.
+/// How one of PAL III's permanent names stands to definitions.
 fn standing_of(name: Name) -> Standing
     ensures { result ≡ standing_of name }
 {
@@ -145,7 +145,7 @@ fn is_old_reserved(name: Name) -> bool
         || number == name!(b'Z' 0 0 0 0 0)
 }
 
-/// Whether a name stands for no value, but for a form of statement, or is `I` or `Z` (PAL8, in this project's profile).
+/// Whether a name stands for a form of statement and not for a value, or is `I` or `Z` (PAL8, in this project's profile).
 pub fn is_reserved(name: Name) -> bool
     ensures { result ≡ is_reserved name }
 {
@@ -166,7 +166,7 @@ fn is_one_of(list: &[u64], number: u64) -> bool
     false
 }
 
-/// What a permanent name stands for: PAL III's have the values that they have there, and the soft ones of PAL8 come after these. Any other
+/// What a permanent name stands for. PAL III's have the values that they have there, and the soft ones of PAL8 come after these. Any other
 /// name has none (PAL8, in this project's profile).
 #[tactic(auto, unfolding(crate::specs::Permanent::permanent))]
 pub fn permanent(name: Name) -> Option<Meaning>

@@ -130,7 +130,7 @@ impl SourceNames {
         permanent(name)
     }
 
-    /// The value of a name, if it has one: what the source defined it as last, or else its permanent value (PAL8, in this project's profile).
+    /// The value of a name, if it has one: its last definition in the source, or else its permanent value (PAL8, in this project's profile).
     pub fn value(&self, name: Name) -> Option<Word>
         ensures value { result ≡ value_of self.now name }
         ensures range { IfSome result (λ word. word < 0o10000) }
@@ -149,7 +149,7 @@ impl SourceNames {
         value_in(self.permanent(name))
     }
 
-    /// The value that a name keeps, if it has one: what the source defined it as last, or else its permanent value if it isn't soft (PAL8, in
+    /// The value that a name keeps, if it has one. It is its last definition in the source, or else its permanent value if it isn't soft (PAL8, in
     /// this project's profile).
     pub fn kept_value(&self, name: Name) -> Option<Word>
         ensures value { result ≡ kept_value self.now name }
@@ -200,7 +200,7 @@ impl SourceNames {
         Ok(())
     }
 
-    /// Sets a name free that has no value.
+    /// Sets free a name that has no value.
     fn free_new(&mut self, name: Name) -> Result<(), AllocError>
         ensures { Frees name self.old self.new result }
     {

@@ -49,8 +49,8 @@ impl Symbols {
         Ok(())
     }
 
-    /// Gives the name of a tag its value, the place of the tag. Where it was defined, or is permanent and not soft, it stands for that value
-    /// already; else the fault is DT (PAL8, in this project's profile).
+    /// Gives the name of a tag its value, the place of the tag. Where it was defined, or is permanent and not soft, it stands for that value already.
+    /// Else the fault is DT (PAL8, in this project's profile).
     #[tactic(auto, unfolding(crate::specs::Symbols::value_of))]
     pub fn define_tag(&mut self, name: Name, value: Word) -> Result<(), SymFault>
         ensures table { DefinesTag name value self.old self.new result }
@@ -60,8 +60,8 @@ impl Symbols {
             .define_tag(SymbolName::numbered(name.number()), value)
     }
 
-    /// Gives a name the value of an expression, as `=` does. A tag, and a permanent name that isn't soft, must stand for it already; else the
-    /// fault is RD (PAL8, in this project's profile).
+    /// Gives a name the value of an expression, as `=` does. A tag, and a permanent name that isn't soft, must stand for it already. Else the fault
+    /// is RD (PAL8, in this project's profile).
     #[tactic(auto, unfolding(crate::specs::Symbols::value_of))]
     pub fn define_value(&mut self, name: Name, value: Word) -> Result<(), SymFault>
         ensures table { DefinesValue name value self.old self.new result }

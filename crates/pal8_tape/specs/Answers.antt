@@ -1,4 +1,4 @@
--- What a source of the host is answered (PAL8, the assembler of OS/8, in this project's profile).
+-- The answer for a source of the host (PAL8, the assembler of OS/8, in this project's profile).
 use Rattle.std.specs.Prelude.{◌≡◌, ℕ, Err, get_or, List}
 use Rattle.bin_tape.specs.Writing.{tape_of}
 use Rattle.pal_lex.specs.Text.{text_of}
@@ -11,7 +11,7 @@ use Rattle.pal8_tape.specs.declared.faults.Fault.{Fault}
 use Rattle.pal8_tape.specs.declared.faults.SourceFault.{SourceFault}
 use Rattle.pal8_tape.specs.declared.faults.SourceFault.TheVariants.{At, Memory}
 
--- The source has no fault, and these are the frames of the tape of its words with their cells, in its order, and then of the cells of its
+-- The source has no fault. These are the frames of the tape of its words with their cells, in its order, and then of the cells of its
 -- pools with their values, by rising cell.
 pub record IsTape (source frames : List ℕ) : Type 0 where
   pub pairs : List (ℕ × ℕ)

@@ -73,8 +73,8 @@ is_redefinition PH = false
 is_redefinition NE = false
 is_redefinition NW = false
 
--- a token is what the fault of its statement is about: of IC a byte that stands in no token, of NU a number
--- that is none by this radix, of UA the name
+-- A token is what the fault of its statement is about. Of IC it is a byte that stands in no token, of NU a
+-- number that is none by this radix, of UA the name.
 abbrev pub is_meant : Code → Radix → Kind → Bool
 is_meant IC radix token = is_bad token
 is_meant (UA name) radix token = is_name name token

@@ -4,11 +4,11 @@ use Rattle.pal_lex.specs.Text.{text_of}
 use Rattle.assemble8.specs.Places.{line_behind}
 use Rattle.assemble8.specs.declared.faults.Place.{Place}
 
--- the column behind one more byte: LF ends a line, and CR counts for nothing
+-- the column after one more byte: LF ends a line, and CR counts for nothing
 abbrev pub column_with : ℕ → ℕ → ℕ
 column_with b column = if nat_eq b 0o12 then 1 else (if nat_eq b 0o15 then column else column + 1)
 
--- the column behind a text with its newest byte first, from 1
+-- the column after a text with its newest byte first, from 1
 abbrev pub column_behind : List ℕ → ℕ
 column_behind [] = 1
 column_behind (b ∷ older) = column_with b (column_behind older)

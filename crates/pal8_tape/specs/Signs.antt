@@ -1,4 +1,4 @@
--- What of a PAL III source is PAL8 (this project's profile of the two).
+-- Which signs of a PAL III source are PAL8's (this project's profile of the two).
 use Rattle.std.specs.Prelude.{ℕ, nat_eq, Bool, ◌||◌, if◌then◌else◌, List, [], ◌∷◌}
 use Rattle.pal8_sym.specs.Permanent.{is_reserved}
 use Rattle.assemble8.specs.Spelling.{spelling}
@@ -17,8 +17,8 @@ name_sign name = if is_reserved name then spelling name else []
 abbrev pub character_sign : ℕ → List ℕ
 character_sign b = if is_of_pal8 b then b ∷ [] else []
 
--- The name or the character of PAL8 that the first fault of a PAL III source is about: of UA the undefined name, where PAL8 reserves it; of IC
--- the character, where PAL8 has it.
+-- The name or the character of PAL8 that the first fault of a PAL III source is about. Of UA it is the undefined name, where PAL8 reserves it. Of IC
+-- it is the character, where PAL8 has it.
 abbrev pub sign_text : About → List ℕ
 sign_text Nothing = []
 sign_text (Name name) = name_sign name

@@ -1,4 +1,4 @@
--- The text of a fault, as a compiler tells it (this project's profile of PAL8).
+-- The text of a fault, as a compiler reports it (this project's profile of PAL8).
 use Rattle.std.specs.Prelude.{ℕ, codes, decimal, List, [], ◌++◌}
 use Rattle.word12.specs.Octal.{octal5}
 use Rattle.pal8_asm.specs.declared.faults.Code.{Code}
@@ -76,15 +76,15 @@ about PH byte = []
 about NE byte = []
 about NW byte = []
 
--- `CODE: WORDS`, and behind it what the fault is about
+-- `CODE: WORDS`, and after it what the fault is about
 abbrev pub told : Code → ℕ → List ℕ
 told code byte = letters_of code ++ codes ": " ++ words_of code ++ about code byte ++ codes "\n"
 
--- `? 5 CODE LINE`, as scripts are told it
+-- `? 5 CODE LINE`, as it is reported to scripts
 abbrev pub numbered : Fault → List ℕ
 numbered fault = codes "? 5 " ++ letters_of fault.code ++ codes " " ++ decimal fault.line ++ codes "\n"
 
--- the text of a fault of a source with this name: the fault with its place, its line with a caret below its place, and the
--- line that scripts are told
+-- The text of a fault of a source with this name. It is the fault with its place, its line with a caret below its place,
+-- and the line that scripts get.
 abbrev pub fault_text : List ℕ → List ℕ → Fault → List ℕ
 fault_text source name fault = located name fault.place ++ told fault.code fault.byte ++ marked_line source fault.place ++ numbered fault

@@ -11,7 +11,7 @@ use thiserror::Error;
 pub struct Fault {
     /// What is wrong; of UA with the name, and of a word on a pool's cell with the cell.
     pub code: Code,
-    /// The line, as scripts are told it: 1 and up, or 2^64 - 1 where it would be more.
+    /// The line, as it is reported to scripts: 1 and up, or 2^64 - 1 where it would be more.
     pub line: u64,
     /// Of IC where the character stands, of UA where the name first stands in the statement; of any other fault where the statement begins.
     pub place: Place,
@@ -22,7 +22,7 @@ pub struct Fault {
 /// Why a source isn't assembled.
 #[derive(Clone, Copy, PartialEq, Eq, Debug, Error)]
 pub enum SourceFault {
-    /// The first fault of the source, with its place. The text leaves the source to who knows its name.
+    /// The first fault of the source, with its place. Its text leaves the name of the source to the caller.
     #[error("{code} in line {line}, column {column}", code = .0.code, line = .0.place.line, column = .0.place.column)]
     At(Fault),
 

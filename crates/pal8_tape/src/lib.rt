@@ -1,8 +1,8 @@
-//! A PAL8 source of the host to a BIN tape: the frames of the tape that it is assembled to, or its first fault with its place, as a compiler
-//! tells it; and at which word of PAL8 a source has a fault that was taken as PAL III.
+//! A PAL8 source of the host to a BIN tape. It gives the frames of the tape that it is assembled to, or its first fault with its place, as a compiler
+//! reports it. It also gives the word of PAL8 at which a source has a fault that was taken as PAL III.
 //!
-//! A source is the bytes of a text of the host, in which LF ends a line and CR, form feed, NUL and rubout are as if they weren't there (PAL8,
-//! the assembler of OS/8, in this project's profile of it).
+//! A source is the bytes of a text of the host. LF ends a line of it, and CR, form feed, NUL and rubout are as if they weren't there (PAL8, the
+//! assembler of OS/8, in this project's profile of it).
 #![tactic(auto)]
 
 mod codes;

@@ -5,7 +5,8 @@ ghost use Rattle.pal8_tape.specs.Places.{column_behind, column_with, place_of};
 
 use assemble8::{Place, first_bytes, line_behind};
 
-/// The place of a byte of a source, by its number from 0; where there is none of this number, that behind the last one.
+/// The place of a byte of a source, by its number from 0. Where there is none of this number, it is the place after the
+/// last one.
 pub(crate) fn place_of(source: &[u8], at: usize) -> Place
     ensures { result ≡ place_of source.now at }
 {
@@ -17,7 +18,7 @@ pub(crate) fn place_of(source: &[u8], at: usize) -> Place
     }
 }
 
-/// The column behind a text, from 1.
+/// The column after a text, from 1.
 fn column_behind(text: &[u8]) -> usize
     ensures { result ≡ column_behind (text_of text.now) }
 {
@@ -28,7 +29,7 @@ fn column_behind(text: &[u8]) -> usize
     column
 }
 
-/// The column behind one more byte.
+/// The column after one more byte.
 fn column_with(column: usize, byte: u8) -> usize
     requires { column < 18446744073709551615 }
     ensures { result ≡ column_with byte column }

@@ -1,4 +1,4 @@
-//! What of a PAL III source is PAL8.
+//! Which signs of a PAL III source are PAL8's.
 ghost use Rattle.std.specs.Prelude.{◌≡◌, IfOk};
 ghost use Rattle.pal8_tape.specs.Signs.{character_sign, is_of_pal8, name_sign, sign_text};
 
@@ -7,8 +7,8 @@ use pal8_lex::Name;
 use pal8_sym::is_reserved;
 use std::alloc::{AllocError, Global};
 
-/// The name or the character of PAL8 that the first fault of a PAL III source is about, as text: of UA the undefined name, where PAL8 reserves
-/// it; of IC the character, where PAL8 has it. Of all else it is empty (this project's profile of the two).
+/// The name or the character of PAL8 that the first fault of a PAL III source is about, as text. Of UA it is the undefined name, where PAL8 reserves
+/// it. Of IC it is the character, where PAL8 has it. Of all else it is empty (this project's profile of the two).
 pub fn sign_text(alloc: Global, about: About) -> Result<Vec<u8>, AllocError>
     ensures { IfOk result (λ text. text.items ≡ sign_text about) }
 {

@@ -19,8 +19,8 @@ use word12::{Cell, Word};
 /// The frames of the BIN tape that a source of the host is assembled to, or its first fault, with its place.
 ///
 /// LF ends a line of the source, and CR, form feed, NUL and rubout are as if they weren't there. The tape has the words in the order of the
-/// source, then the literals and links of each page, by rising cell (PAL8, the assembler of OS/8, in this project's profile). `Memory` is
-/// answered where memory runs out.
+/// source. After them come the literals and links of each page, by rising cell (PAL8, the assembler of OS/8, in this project's profile).
+/// Where memory runs out the answer is `Memory`.
 pub fn tape_of(alloc: Global, source: &[u8]) -> Result<Vec<u8>, SourceFault>
     ensures tape { IfOk result (λ tape. IsTape source.now tape.items) }
     ensures fault { IfErr result (λ fault. IsTold source.now fault) }

@@ -1,4 +1,4 @@
-//! Faults, as a compiler tells them.
+//! Faults, as a compiler reports them.
 ghost use Rattle.std.specs.Prelude.{◌≡◌, ◌++◌, IfOk, OnOk};
 ghost use Rattle.word12.specs.Octal.{octal5};
 ghost use Rattle.pal8_tape.specs.Telling.{about, told, numbered, fault_text};
@@ -11,9 +11,9 @@ use pal8_asm::Code;
 use std::alloc::{AllocError, Global};
 use word12::Cell;
 
-/// The text of a fault of a source with this name, four lines that LF ends: the fault behind the name of the source and its place there, UA
-/// with the undefined name by the six characters that count, IC with the character, and a word on a pool's cell with the cell; the line of the source; a caret below
-/// the column; and the fault as scripts are told it.
+/// The text of a fault of a source with this name, four lines that LF ends. The first is the fault, after the name of the source and its place there.
+/// UA has the undefined name by the six characters that count, IC the character, and a word on a pool's cell the cell. Then come the line of the
+/// source, a caret below the column, and the fault as it is reported to scripts.
 ///
 /// In the line of the source a byte that is neither printable ASCII nor a tab is shown as `?`, and no CR stands in it (this project's
 /// profile).
@@ -33,7 +33,7 @@ pub fn fault_text(
     Ok(text)
 }
 
-/// Puts a fault by its letters and words, and behind them what it is about.
+/// Puts a fault by its letters and words, and after them what it is about.
 fn put_told(text: &mut Vec<u8>, code: Code, byte: u8) -> Result<(), AllocError>
     ensures { OnOk result (text.new.items ≡ text.old.items ++ told code byte) }
 {
@@ -79,7 +79,7 @@ fn put_cell(text: &mut Vec<u8>, cell: Cell) -> Result<(), AllocError>
     Ok(())
 }
 
-/// Puts a fault as scripts are told it.
+/// Puts a fault as it is reported to scripts.
 fn put_numbered(text: &mut Vec<u8>, fault: Fault) -> Result<(), AllocError>
     ensures { OnOk result (text.new.items ≡ text.old.items ++ numbered fault) }
 {

@@ -1,4 +1,4 @@
--- What the answer for a value comes to.
+-- The answer for a value.
 use Rattle.std.specs.Prelude.{◌≡◌, ℕ, Result, Ok, Err, List}
 use Rattle.pal8_pools.specs.Asks.{Ask}
 use Rattle.pal8_pools.specs.Pooled.{Holds, PoolTable}

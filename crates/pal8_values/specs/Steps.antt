@@ -1,4 +1,4 @@
--- What the small steps of an evaluation come to, for private clauses.
+-- What the small steps of an evaluation give, for private clauses.
 use Rattle.pal8_values.specs.Answering.{IsFault}
 use Rattle.std.specs.Prelude.{◌≡◌, Option, Some, None, Result, Ok, Err, List, [], ◌∷◌}
 use Rattle.pal8_pools.specs.Asks.{Ask}
@@ -20,7 +20,7 @@ pub record IsTaken (whole : Result Evaluation ValueFault) (sum : Sum) (frames : 
   pub is_whole : whole ≡ Ok record { sum = sum; frames = frames; asks = asks; punched = punched }
   pub holds : Holds new asks punched
 
--- what a step comes to, or its fault
+-- what a step gives, or its fault
 abbrev pub Takes : Result Evaluation ValueFault → Result Sum ValueFault → List Frame → PoolTable → Type 0
 Takes whole (Ok sum) frames new = IsTaken whole sum frames new
 Takes whole (Err fault) frames new = IsFault whole fault

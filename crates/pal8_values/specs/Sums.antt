@@ -78,8 +78,8 @@ with_plain known spot step.Close s = Ok s
 
 -- ## Memory references
 
--- What stands in a memory reference for an address: below 0200 its offset on page zero; on the page of the place its offset with 0200. No
--- other address is reached.
+-- What stands in a memory reference for an address. Below 0200 it is its offset on page zero, and on the page of the place its offset
+-- with 0200. No other address is reached.
 abbrev pub offset_of : ℕ → ℕ → Option ℕ
 offset_of here address =
     if nat_lt address PAGE then Some address
@@ -103,7 +103,7 @@ abbrev pub direct : ℕ → Bool → Sum → Result ℕ ValueFault
 direct here false s = Ok s.total
 direct here true s = direct_by s.operation s.is_indirect (offset_of here s.total)
 
--- what terms come to: a reference there makes no link
+-- the value of terms: a reference there makes no link
 abbrev pub direct_value : ℕ → Result Sum ValueFault → Result ℕ ValueFault
 direct_value here (Err fault) = Err fault
 direct_value here (Ok s) = direct here s.is_reference s

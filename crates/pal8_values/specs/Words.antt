@@ -14,7 +14,7 @@ use Rattle.pal8_values.specs.declared.frames.Frame.{Frame}
 use Rattle.pal8_values.specs.declared.faults.ValueFault.{ValueFault}
 use Rattle.pal8_values.specs.declared.faults.ValueFault.TheVariants.{II, PE, ZE, RL}
 
--- What a word has come to so far: the innermost value, those around it; all that was asked, and what punched words asked of that, each the
+-- The word so far: the innermost value, those around it; all that was asked, and what punched words asked of that, each the
 -- newest first.
 pub record Evaluation : Type 0 where
   pub sum : Sum
@@ -78,7 +78,7 @@ abbrev pub value_by : Spot → Bool → Sum → List Ask → List Ask → Asked
 value_by spot false s asks punched = Ok (s.total, asks, punched)
 value_by spot true s asks punched = referred spot s.operation s.is_indirect (offset_of spot.here s.total) s.total asks punched
 
--- what a value comes to where it ends
+-- what a value is where it ends
 abbrev pub value_of : Spot → Sum → List Ask → List Ask → Asked
 value_of spot s asks punched = value_by spot s.is_reference s asks punched
 
@@ -128,8 +128,8 @@ abbrev pub word_in : Spot → Result Evaluation ValueFault → Asked
 word_in spot (Err fault) = Err fault
 word_in spot (Ok e) = value_of spot e.sum e.asks e.punched
 
--- The word of steps at a place, after these asks, of which those are of punched words, and the asks after it: those of its terms from the left,
--- those in a literal before the literal's own, that of a link last. Or its first fault from the left.
+-- The word of steps at a place, after these asks, of which those are of punched words, and the asks after it. The asks of its terms come from the
+-- left, those in a literal before the literal's own, that of a link last. Else it is the first fault from the left.
 abbrev pub word_value : Known → Spot → List Step → List Ask → List Ask → Asked
 word_value known spot steps asks punched =
     word_in spot (with_steps known spot steps (Ok record { sum = empty; frames = []; asks = asks; punched = punched }))

@@ -1,5 +1,5 @@
-//! The values of PAL8, the assembler of OS/8 (in this project's profile of it): what the steps of a value come to at a place, by what names
-//! stand for, and what its literals and links ask of the pools of pages.
+//! The values of PAL8, the assembler of OS/8 (in this project's profile of it). It gives the value of steps at a place, by what names stand
+//! for, and what its literals and links ask of the pools of pages.
 #![tactic(auto)]
 
 mod faults;

@@ -25,7 +25,7 @@ pub struct Spot {
     pub is_punched: bool,
 }
 
-/// What terms have come to: the address of a memory reference, or an expression.
+/// The value of the terms so far: the address of a memory reference, or an expression.
 #[derive(Clone, Copy)]
 pub struct Sum {
     pub is_reference: bool,
@@ -217,8 +217,8 @@ fn direct(here: u16, sum: Sum) -> Result<Word, ValueFault>
     }
 }
 
-/// The value of steps without literals at a place, by the names so far; or its first fault from the left: UA, PF where `.` stands and the
-/// location is past 7777, DZ, or at last IR. It takes no memory (PAL8, in this project's profile).
+/// The value of steps without literals at a place, by the names so far. Else it is the first fault from the left: UA, PF where `.` stands
+/// and the location is past 7777, DZ, or at last IR. It takes no memory (PAL8, in this project's profile).
 pub fn early_value(symbols: &Symbols, spot: Spot, steps: &[Step]) -> Result<Word, ValueFault>
     ensures { Answers (early_value (value_of symbols.now) spot steps.now) result }
 {

@@ -118,7 +118,7 @@ fn linked(
     Ok(reference_word(operation, true, offset))
 }
 
-/// What a value comes to where it ends.
+/// What a value is where it ends.
 fn value_of(pools: &mut Pools, alloc: Global, spot: Spot, sum: Sum) -> Result<Word, ValueFault>
     requires field { spot.field < 8 }
     requires place { spot.location < 0o10000 }
@@ -201,11 +201,11 @@ fn take(
 }
 
 /// The word of steps where one stands, by what names stand for: its location and its place are below 0o10000. Its literals and links ask pools for
-/// their cells, which hold what was asked before; the asks come in the order of the terms, those in a literal before its own, that of a link
-/// last. A word that isn't punched asks, too.
+/// their cells, which hold what was asked before. The asks come in the order of the terms, those in a literal before its own, that of a link last. A
+/// word that isn't punched asks, too.
 ///
-/// Its fault is the first from the left: UA, DZ, II, RL where an own literal or a link would ask and the place and the location are apart by no
-/// whole pages, or PE or ZE where a page has no cell left. Memory is taken for the pools, and for literals within others (PAL8, in this
+/// Its fault is the first from the left. It is UA, DZ, II, or RL where an own literal or a link would ask and the place and the location are apart by
+/// no whole pages. Or it is PE or ZE where a page has no cell left. Memory is taken for the pools, and for literals within others (PAL8, in this
 /// project's profile).
 pub fn word_value(
     frames: &mut Frames,

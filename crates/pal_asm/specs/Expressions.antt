@@ -27,7 +27,7 @@ joined_values joint None b = None
 joined_values joint (Some a) None = None
 joined_values joint (Some a) (Some b) = Some (joined joint a b)
 
--- the value of terms behind others, from left to right
+-- the value of terms after others, from left to right
 abbrev pub value_behind : Known → ℕ → Option ℕ → List Part → Option ℕ
 value_behind known place before [] = before
 value_behind known place before (part ∷ others) =

@@ -77,7 +77,7 @@ body_fault fixed known place (Field e) = first_of (terms_fault known place e) (f
 body_fault fixed known place (Reference operation indirect address) = past place
 body_fault fixed known place (Word e) = past place
 
--- the fault of a statement behind others: its tags, then its body
+-- the fault of a statement after others: its tags, then its body
 abbrev pub statement_fault : Statement → Source → Option Code
 statement_fault s older =
     first_of (tags_fault (values older) (place_at older) s.tags) (body_fault (fixed_at s.tags older) (values_at s.tags older) (place_at older) s.body)
@@ -106,7 +106,7 @@ first_order (Ok s ∷ older) = first_of (first_order older) (at_line s.line (sta
 abbrev pub no_end : List ℕ → Option AsmFault
 no_end text = if is_over text then None else Some (At NE (line_after text))
 
--- ## Words: a name may be defined behind them
+-- ## Words: a name may be defined after them
 
 abbrev pub no_offset : Option ℕ → Option Code
 no_offset None = Some IR

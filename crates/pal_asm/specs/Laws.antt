@@ -7,8 +7,8 @@ use Rattle.pal_asm.specs.Places.{Source, values, is_fixed}
 use Rattle.pal_asm.specs.Words.{pairs_of}
 use Rattle.pal_asm.specs.Faults.{lexical, first_order, no_end, words_fault, no_word, fault_of}
 
--- In a source with no fault of the first order a permanent name or a tag that stands for a value behind some statements
--- stands for it behind all of them.
+-- In a source with no fault of the first order a permanent name or a tag keeps its value. What it stands for after some
+-- statements it stands for after all of them.
 abbrev pub FixedNamesKeepTheirValues : Type 0
 FixedNamesKeepTheirValues =
     (later older : Source) (name value : ℕ) → first_order (later ++ older) ≡ None → is_fixed older name ≡ true → values older name ≡ Some value

@@ -1,4 +1,4 @@
--- What the small steps of the two passes come to, for private clauses.
+-- What the small steps of the two passes give, for private clauses.
 use Rattle.std.specs.Prelude.{◌≡◌, ℕ, ◌+◌, ◌*◌, ◌%◌, ◌≤◌, nat_eq, Bool, true, ◌||◌, if◌then◌else◌, Option, Some, None, unwrap_or, Result, Ok, Err, List, [], ◌∷◌, length}
 use Rattle.word12.specs.declared.sizes.TheConstants.{FIELD}
 use Rattle.pal_sym.specs.SymbolTable.{SymbolTable}
@@ -18,7 +18,7 @@ use Rattle.pal_asm.specs.Faults.{first_of, past, defined_otherwise, terms_fault,
 
 -- ## One statement
 
--- the place behind a body
+-- the place after a body
 abbrev pub place_by : Known → ℕ → Body → ℕ
 place_by known place Nothing = place
 place_by known place (Origin e) = unwrap_or (value_of known place e) 0
@@ -42,7 +42,7 @@ abbrev pub GivesValue : Option ℕ → Option Code → Result ℕ Code → Type 
 GivesValue value fault (Ok found) = (value ≡ Some found) × (fault ≡ None)
 GivesValue value fault (Err code) = fault ≡ Some code
 
--- the spot behind a body, or the fault that refuses it
+-- the spot after a body, or the fault that refuses it
 abbrev pub Moves : Spot → Option Code → Result Spot Code → Type 0
 Moves next fault (Ok found) = (found ≡ next) × (fault ≡ None)
 Moves next fault (Err code) = fault ≡ Some code
@@ -102,7 +102,7 @@ abbrev pub ReadsStatement : List ℕ → Body → Spot → SymbolTable → Symbo
 ReadsStatement tags body spot old new (Ok next) = IsRead tags body spot old new next
 ReadsStatement tags body spot old new (Err code) = fault_by_table tags body spot.location old ≡ Some code
 
--- what keeps an assembler from going on behind a body, where each name may be defined again
+-- what keeps an assembler from going on after a body, where each name may be defined again
 abbrev pub spot_fault : Known → ℕ → Body → Option Code
 spot_fault known place Nothing = None
 spot_fault known place (Origin e) = terms_fault known place e

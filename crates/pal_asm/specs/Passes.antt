@@ -28,7 +28,7 @@ definitions (Word e) = 0
 
 -- ## The first pass
 
--- The first pass stands behind these statements, none of which has a fault.
+-- The first pass stands after these statements, none of which has a fault.
 pub record IsFirst (assembler : Progress) (source : Source) : Type 0 where
   pub symbols : symbol_value assembler.symbols ≡ values source
   pub fixed : fixed_in assembler.symbols ≡ is_fixed source
@@ -44,14 +44,14 @@ pub record IsFirst (assembler : Progress) (source : Source) : Type 0 where
 abbrev pub HasFailed : Progress → AsmFault → Type 0
 HasFailed assembler fault = assembler.failed ≡ Some fault
 
--- What the first pass answers for a statement behind others. Memory is taken for names alone; where it ran out nothing
+-- What the first pass answers for a statement after others. Memory is taken for names alone; where it ran out nothing
 -- was taken.
 abbrev pub AnswersFirst : Source → Statement → Result (Unit {0}) AsmFault → Progress → Progress → Type 0
 AnswersFirst older statement (Ok nothing) old new = IsFirst new (Ok statement ∷ older)
 AnswersFirst older statement (Err (At code line)) old new = (first_order (Ok statement ∷ older) ≡ Some (At code line)) × HasFailed new (At code line)
 AnswersFirst older statement (Err Memory) old new = (new ≡ old) × (old.symbols.room < length statement.tags + definitions statement.body)
 
--- want of memory is answered only for a statement whose tags have no fault behind others
+-- want of memory is answered only for a statement whose tags have no fault after others
 abbrev pub IsJudged : Source → Statement → Result (Unit {0}) AsmFault → Type 0
 IsJudged older statement (Ok nothing) = Unit {0}
 IsJudged older statement (Err (At code line)) = Unit {0}
@@ -59,12 +59,12 @@ IsJudged older statement (Err Memory) = tags_fault (values older) (place_at olde
 
 -- ## The second pass
 
--- what names stand for behind some statements of a whole source in the second pass: their last definition, and where there
+-- what names stand for after some statements of a whole source in the second pass: their last definition, and where there
 -- is none, their last in the whole
 abbrev pub second_values : Source → Source → Known
 second_values whole older name = if_none (values older name) (values whole name)
 
--- The second pass stands behind these statements of a whole source, which has no fault of the first order and a word;
+-- The second pass stands after these statements of a whole source, which has no fault of the first order and a word;
 -- none of these words has a fault.
 pub record IsSecond (assembler : Progress) (whole older : Source) : Type 0 where
   pub symbols : symbol_value assembler.symbols ≡ second_values whole older
@@ -82,7 +82,7 @@ BeginsSecond whole (Ok nothing) old new = IsSecond new whole []
 BeginsSecond whole (Err (At code line)) old new = (no_word whole ≡ Some (At code line)) × HasFailed new (At code line)
 BeginsSecond whole (Err Memory) old new = ⊥
 
--- what is handed out for a statement, behind what was handed out for those before it
+-- what is handed out for a statement, after what was handed out for those before it
 abbrev pub with_handed : List (ℕ × ℕ) → Option (ℕ × ℕ) → List (ℕ × ℕ)
 with_handed pairs None = pairs
 with_handed pairs (Some pair) = pairs ++ pair ∷ []

@@ -37,7 +37,7 @@ sets_location (Field e) = true
 sets_location (Reference operation indirect address) = false
 sets_location (Word e) = false
 
--- the words behind the last statement that sets the location
+-- the words after the last statement that sets the location
 abbrev pub words_since : Source → ℕ
 words_since [] = 0
 words_since (Err fault ∷ older) = words_since older
@@ -73,7 +73,7 @@ with_body known place (Reference operation indirect address) name = known name
 with_body known place (Word e) name = known name
 
 abbrev mutual
-  -- the value of the last `*`, or 0200 behind `FIELD` and where there is none
+  -- the value of the last `*`, or 0200 after `FIELD` and where there is none
   pub last_setting : Source → ℕ
   last_setting [] = FIRST_PLACE
   last_setting (Err fault ∷ older) = last_setting older
@@ -87,7 +87,7 @@ abbrev mutual
   values (Ok s ∷ older) name =
       with_body (with_tags s.tags (last_setting older + words_since older) (values older)) (last_setting older + words_since older) s.body name
 
--- the place of a statement behind these: the last setting of the location, and one more for each word since
+-- the place of a statement after these: the last setting of the location, and one more for each word since
 abbrev pub place_at : Source → ℕ
 place_at older = last_setting older + words_since older
 
@@ -100,7 +100,7 @@ abbrev pub is_among : List ℕ → ℕ → Bool
 is_among [] name = false
 is_among (tag ∷ tags) name = nat_eq tag name || is_among tags name
 
--- the names that `=` can't redefine behind these statements: the permanent ones, and the tags
+-- the names that `=` can't redefine after these statements: the permanent ones, and the tags
 abbrev pub is_fixed : Source → ℕ → Bool
 is_fixed [] name = is_some (permanent name)
 is_fixed (Err fault ∷ older) name = is_fixed older name

@@ -1,4 +1,4 @@
--- What a character, a statement and a source come to in the two passes, for private clauses.
+-- What a character, a statement and a source give in the two passes, for private clauses.
 use Rattle.std.specs.Prelude.{◌≡◌, ℕ, Bool, true, false, not, Option, Some, None, Result, Ok, Err, List, [], ◌∷◌, ◌++◌}
 use Rattle.pal_lex.specs.Statements.{statements}
 use Rattle.pal_lex.specs.Joins.{join_of}
@@ -24,19 +24,19 @@ abbrev pub is_pause_answer : Option Statement → Bool
 is_pause_answer None = false
 is_pause_answer (Some statement) = is_pause_body statement.body
 
--- what a character behind a text of a source comes to
+-- what a character after a text of a source gives
 abbrev pub PassesByte : List ℕ → Bool → List ℕ → ℕ → Result (Unit {0}) AsmFault → Pass → Type 0
 PassesByte prefix several here b (Ok nothing) pass = HasPassed pass prefix several (b ∷ here) false
 PassesByte prefix several here b (Err Memory) pass = HasPassed pass prefix several here false
 PassesByte prefix several here b (Err (At code line)) pass = TellsJoinFault first_order prefix several (b ∷ here) (At code line)
 
--- what a statement of a whole comes to in the second pass, where these stand behind it and it
+-- what a statement of a whole gives in the second pass, where it is the last of this source
 abbrev pub MakesStatement : Source → Source → Result (Unit {0}) AsmFault → asm.Progress → List (ℕ × ℕ) → Type 0
 MakesStatement whole source (Ok nothing) new pairs = IsSecond new whole source × (pairs ≡ pairs_by (values whole) source)
 MakesStatement whole source (Err (At code line)) new pairs = words_fault (values whole) source ≡ Some (At code line)
 MakesStatement whole source (Err Memory) new pairs = ⊥
 
--- what a statement that was handed out comes to in the second pass: PAUSE, or another
+-- what a statement that was handed out gives in the second pass: PAUSE, or another
 abbrev pub MakesSome : Bool → Statement → Result (Unit {0}) AsmFault → Pass → List (ℕ × ℕ) → Pass → List (ℕ × ℕ) → Type 0
 MakesSome true s result old pairs new pairs' = (result ≡ Ok tt) × (new ≡ record old { ended = true }) × (pairs' ≡ pairs)
 MakesSome false s result old pairs new pairs' =
@@ -44,12 +44,12 @@ MakesSome false s result old pairs new pairs' =
     × ((whole older : Source) (tokens : List Token) → Behind whole (Ok (with_tokens tokens s) ∷ older) → IsSecond old.assembler whole older → pairs ≡ pairs_by (values whole) older
     → MakesStatement whole (Ok (with_tokens tokens s) ∷ older) result new.assembler pairs')
 
--- what an answer of the lexer comes to in the second pass
+-- what an answer of the lexer gives in the second pass
 abbrev pub MakesAnswer : Option Statement → Result (Unit {0}) AsmFault → Pass → List (ℕ × ℕ) → Pass → List (ℕ × ℕ) → Type 0
 MakesAnswer None result old pairs new pairs' = (result ≡ Ok tt) × (new ≡ old) × (pairs' ≡ pairs)
 MakesAnswer (Some s) result old pairs new pairs' = MakesSome (is_pause_body s.body) s result old pairs new pairs'
 
--- what a character behind a text of a source comes to in the second pass of a whole
+-- what a character after a text of a source gives in the second pass of a whole
 abbrev pub MakesByte : Source → List ℕ → Bool → List ℕ → ℕ → Result (Unit {0}) AsmFault → Pass → List (ℕ × ℕ) → Type 0
 MakesByte whole prefix several here b (Ok nothing) pass pairs = HasMade whole pass pairs prefix several (b ∷ here) false
 MakesByte whole prefix several here b (Err Memory) pass pairs = HasMade whole pass pairs prefix several here false
@@ -76,11 +76,11 @@ abbrev pub IsWordsFault : List ℕ → AsmFault → Type 0
 IsWordsFault text (At code line) = words_fault (values (statements text)) (statements text) ≡ Some (At code line)
 IsWordsFault text Memory = RanOutAgain (statements text)
 
--- The first pass stands behind a text, all of whose statements it has taken.
+-- The first pass stands after a text, all of whose statements it has taken.
 abbrev pub HasPassedAll : List ℕ → Pass → Type 0
 HasPassedAll text pass = (seam : ℕ) × (HasRead pass.lexer seam text × IsFirst pass.assembler (statements text) × (pass.waiting ≡ None))
 
--- The first pass begins with the first of sources behind this text.
+-- The first pass begins with the first of sources after this text.
 abbrev pub BeginsPass : List ℕ → List (List ℕ) → Pass → Type 0
 BeginsPass before sources pass =
     (pass.ended ≡ false) × Counts pass.lexer before (are_several sources) [] (λ source. IsBehind pass.waiting pass.assembler source) × (pass.waiting ≡ None)
@@ -90,7 +90,7 @@ abbrev pub BeginsAgain : Source → List ℕ → List (List ℕ) → Pass → Li
 BeginsAgain whole before sources pass pairs =
     (pass.ended ≡ false) × Counts pass.lexer before (are_several sources) [] (λ source. IsMade whole pass pairs source)
 
--- What comes behind a source that was read: the next of these counts, or nothing more does; or a `$` is missing.
+-- What comes after a source that was read: the next of these counts, or nothing more does; or a `$` is missing.
 abbrev pub GoesOn : List (List ℕ) → lex.Progress → Result Bool AsmFault → lex.Progress → Bool → Type 0
 GoesOn [] old (Ok true) new ended = ⊥
 GoesOn [] old (Ok false) new ended = new ≡ old
@@ -99,7 +99,7 @@ GoesOn (next ∷ others) old (Ok true) new ended = EndsSource old (not (has_next
 GoesOn (next ∷ others) old (Ok false) new ended = EndsSource old (not (has_next others)) (Ok tt) new ended × (ended ≡ true)
 GoesOn (next ∷ others) old (Err fault) new ended = EndsSource old (not (has_next others)) (Err fault) new ended
 
--- What the first pass answers for a source behind this text: whether it goes on with the next one.
+-- What the first pass answers for a source after this text: whether it goes on with the next one.
 abbrev pub PassesSource : List ℕ → List ℕ → List (List ℕ) → Result Bool AsmFault → Pass → Type 0
 PassesSource before text others (Ok true) pass =
     (cut : List ℕ) × ((join_of (text ∷ others) ++ before ≡ join_of others ++ cut) × BeginsPass cut others pass)

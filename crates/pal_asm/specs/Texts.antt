@@ -1,4 +1,4 @@
--- What the two passes over whole sources come to.
+-- What the two passes over whole sources give.
 use Rattle.std.specs.Prelude.{◌≡◌, ℕ, Bool, true, false, Some, None, List, [], ◌∷◌, ◌++◌}
 use Rattle.std.specs.Borrow.{Bor}
 use Rattle.pal_lex.specs.Text.{text_of}
@@ -16,24 +16,24 @@ texts (source ∷ others) = text_of source.now ∷ texts others
 
 -- ## What is promised of sources
 
--- The statements of a whole source go on behind others.
+-- The statements of a whole source go on after others.
 abbrev pub Behind : Source → Source → Type 0
 Behind whole older = (later : Source) × (whole ≡ later ++ older)
 
--- The first pass wanted memory behind these bytes, and none of their statements has a fault that it tells.
+-- The first pass wanted memory after these bytes, and none of their statements has a fault that it reports.
 pub record RanOut (whole : Source) : Type 0 where
   pub prefix : List ℕ
   pub behind : Behind whole (statements prefix)
   pub no_fault : first_order (statements prefix) ≡ None
 
--- The second pass wanted memory behind these bytes, and none of their words has a fault.
+-- The second pass wanted memory after these bytes, and none of their words has a fault.
 pub record RanOutAgain (whole : Source) : Type 0 where
   pub prefix : List ℕ
   pub behind : Behind whole (statements prefix)
   pub no_fault : words_fault (values whole) (statements prefix) ≡ None
 
 -- One of the two passes wanted memory. The second is made only of a text with its `$` and a word, none of whose statements
--- has a fault that the first one tells.
+-- has a fault that the first one reports.
 pub record WantsMemory (text : List ℕ) : Type 0 where
   pub again : Bool
   pub first : again ≡ false → RanOut (statements text)

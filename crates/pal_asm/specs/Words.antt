@@ -10,8 +10,8 @@ use Rattle.pal_asm.specs.Expressions.{Known, value_of, address_value}
 use Rattle.pal_sym.specs.Values.{if_none}
 use Rattle.pal_asm.specs.Places.{Source, place_at, field_at, values, values_at}
 
--- what stands in a memory reference for an address: below 0200 its offset on page zero; on the page of the reference its
--- offset with 0200; no other address can be reached
+-- What stands in a memory reference for an address. Below 0200 it is its offset on page zero, and on the page of the
+-- reference its offset with 0200. No other address can be reached.
 abbrev pub offset_of : ℕ → ℕ → Option ℕ
 offset_of place address =
     if nat_lt address PAGE then Some address
@@ -38,7 +38,7 @@ body_word known place (Field e) = None
 body_word known place (Reference operation indirect address) = with_offset operation indirect (offset_to place (address_value known place address))
 body_word known place (Word e) = value_of known place e
 
--- the cell of a word behind these statements
+-- the cell of a word after these statements
 abbrev pub cell_at : Source → ℕ
 cell_at older = FIELD * field_at older + place_at older
 
@@ -46,7 +46,7 @@ abbrev pub with_pair : List (ℕ × ℕ) → ℕ → Option ℕ → List (ℕ ×
 with_pair pairs cell None = pairs
 with_pair pairs cell (Some word) = pairs ++ (cell, word) ∷ []
 
--- what names stand for in a word with these tags behind these statements: their last definition before it, and where
+-- what names stand for in a word with these tags after these statements: their last definition before it, and where
 -- there is none, what they stand for at last
 abbrev pub word_values : Known → List ℕ → Source → Known
 word_values last tags older name = if_none (values_at tags older name) (last name)
@@ -57,7 +57,7 @@ pairs_by last [] = []
 pairs_by last (Err fault ∷ older) = pairs_by last older
 pairs_by last (Ok s ∷ older) = with_pair (pairs_by last older) (cell_at older) (body_word (word_values last s.tags older) (place_at older) s.body)
 
--- the words of a text with their cells, in the order of the source: a word may use names that are only defined behind it,
--- and these stand for their last definition
+-- The words of a text with their cells, in the order of the source. A word may use names that are only defined after it,
+-- and these stand for their last definition.
 abbrev pub pairs_of : List ℕ → List (ℕ × ℕ)
 pairs_of text = pairs_by (values (statements text)) (statements text)

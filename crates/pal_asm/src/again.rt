@@ -34,7 +34,7 @@ fn set_value(symbols: &mut Symbols, location: u16, name: Name, parts: &[Part]) -
     Ok(())
 }
 
-/// The spot behind a body, in the second pass, which sets names again.
+/// The spot after a body, in the second pass, which sets names again.
 fn moved(symbols: &mut Symbols, spot: Spot, body: &Body) -> Result<Spot, Code>
     ensures spot { Moves (spot_by (symbol_value symbols.old) body.now spot)
         (spot_fault (symbol_value symbols.old) spot.location body.now) result }
@@ -54,7 +54,7 @@ fn moved(symbols: &mut Symbols, spot: Spot, body: &Body) -> Result<Spot, Code>
     }
 }
 
-/// The spot behind a body in the second pass, and its word with the cell of that.
+/// The spot after a body in the second pass, and its word with the cell of that.
 pub fn made(
     symbols: &mut Symbols,
     spot: Spot,

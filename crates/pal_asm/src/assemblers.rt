@@ -75,10 +75,10 @@ impl Assembler {
     /// counted.
     ///
     /// Its fault is the first of the source in the order of its statements. A call that answers want of memory took
-    /// nothing, and comes only for a statement that defines names, which asks for the room of each, also of one that is there
-    /// already, and asks for none where its tags have a fault; after another fault each call answers the same (PAL III Symbolic Assembler manual, and this project's profile
-    /// of it). PAUSE says nothing: of several sources the statements come one after the other. Behind its end nothing is
-    /// taken.
+    /// nothing, and comes only for a statement that defines names. It asks for the room of each, also of one that is
+    /// there already, and asks for none where its tags have a fault. After another fault each call answers the same
+    /// (PAL III Symbolic Assembler manual, and this project's profile of it). PAUSE says nothing: of several sources
+    /// the statements come one after the other. After its end nothing is taken.
     pub fn first(&mut self, statement: &Statement) -> Result<(), AsmFault>
         ensures answers { (older : Source) (tokens : List Token) → is_pause_body statement.now.body ≡ false
             → IsFirst self.old older → AnswersFirst older (with_tokens tokens statement.now) result
@@ -115,8 +115,9 @@ impl Assembler {
         }
     }
 
-    /// Goes from the first pass to the second, where `$` ended the last statement; a source with no word is answered NW
-    /// with the line of that `$` (this project's profile of PAL III). It takes no memory, and where it was done before it changes nothing.
+    /// Goes from the first pass to the second, where `$` ended the last statement. A source with no word gets NW with
+    /// the line of that `$` (this project's profile of PAL III). It takes no memory, and where it was done before it
+    /// changes nothing.
     pub fn begin_second(&mut self) -> Result<(), AsmFault>
         ensures turns { (whole : Source) → IsFirst self.old whole
             → BeginsSecond whole result self.old self.new }
@@ -137,10 +138,10 @@ impl Assembler {
         Ok(())
     }
 
-    /// Takes the next statement of the same source in the second pass, and hands out its word with the cell of that, if it
-    /// is one. Its fault is a name in a word that no statement defines, or an address out of reach, the first of these in
-    /// the source (PAL III Symbolic Assembler manual, and this project's profile of it). It takes no memory, PAUSE says nothing,
-    /// and before the second pass nothing is handed out.
+    /// Takes the next statement of the same source in the second pass, and hands out its word with the cell of that, if
+    /// it is one. Its fault is a name in a word that no statement defines, or an address out of reach. It is the first
+    /// of these in the source (PAL III Symbolic Assembler manual, and this project's profile of it). It takes no
+    /// memory, PAUSE says nothing, and before the second pass nothing is handed out.
     pub fn second(&mut self, statement: &Statement) -> Result<Option<(Cell, Word)>, AsmFault>
         ensures answers { (whole later older : Source) (tokens : List Token)
             → is_pause_body statement.now.body ≡ false → whole ≡ later

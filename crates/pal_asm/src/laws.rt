@@ -18,7 +18,7 @@ pub fn word_fault_stays()
     ensures { WordFaultStays }
 {}
 
-/// A text that is without fault but for its want of a word has that fault.
+/// A text that has no word, and no other fault before that, has that fault.
 pub fn no_word_is_told()
     ensures { NoWordIsTold }
 {}
@@ -58,7 +58,7 @@ pub fn first_words_tell()
     ensures { FirstWordsTell }
 {}
 
-/// A text that is without fault but for its want of a `$` has that fault.
+/// A text that has no `$`, and no other fault before that, has that fault.
 pub fn no_end_is_told()
     ensures { NoEndIsTold }
 {}

@@ -13,7 +13,7 @@ use pal_lex::Statement;
 use pal_lex::laws::{byte_goes_on, pause_is_bad, pause_joins};
 use word12::{Cell, Word};
 
-/// Puts a pair behind others, if there is one, where there is room.
+/// Puts a pair after others, if there is one, where there is room.
 fn put_handed(pairs: &mut Vec<(Cell, Word)>, handed: Option<(Cell, Word)>)
     requires { vec_len pairs.old < vec_capacity pairs.old }
     ensures { pairs.new.items ≡ with_handed pairs.old.items handed }
@@ -87,7 +87,7 @@ fn make_statement(
     Ok(())
 }
 
-/// Takes characters from a place on in the second pass. Where memory runs out the place tells how many were taken.
+/// Takes characters from a place on in the second pass. Where memory runs out the place shows how many were taken.
 pub fn make_text(
     pass: &mut Pass,
     pairs: &mut Vec<(Cell, Word)>,

@@ -42,7 +42,7 @@ fn is_pause(answer: &Option<Statement>) -> bool
     }
 }
 
-/// Takes characters from a place on that end no statement, and answers the place behind them.
+/// Takes characters from a place on that end no statement, and answers the place after them.
 pub(crate) fn read_on(lexer: &mut Lexer, text: &[u8], offset: usize) -> usize
     requires { offset ≤ length text.now }
     ensures range { (offset ≤ result) × (result ≤ length text.now) }
@@ -123,7 +123,7 @@ fn pass_statement(pass: &mut Pass, text: &[u8], offset: &mut usize) -> Result<()
     Ok(())
 }
 
-/// Takes characters from a place on. Where memory runs out the place tells how many were taken.
+/// Takes characters from a place on. Where memory runs out the place shows how many were taken.
 pub fn pass_text(pass: &mut Pass, text: &[u8], offset: &mut usize) -> Result<(), AsmFault>
     ensures none { OnOk result ((pass.new.waiting ≡ None) × (length text.now ≤ offset.new)) }
     ensures passes { (prefix here : List ℕ) (several : Bool)
@@ -139,7 +139,7 @@ pub fn pass_text(pass: &mut Pass, text: &[u8], offset: &mut usize) -> Result<(),
     settle(pass)
 }
 
-/// Goes on with the next source, behind one that may pause, where no statement waits. It takes no memory.
+/// Goes on with the next source, after one that may pause, where no statement waits. It takes no memory.
 pub fn end_source(pass: &mut Pass, last: bool) -> Result<(), AsmFault>
     ensures ends { EndsSource pass.old.lexer last result pass.new.lexer pass.new.ended }
     ensures others { (pass.new.assembler ≡ pass.old.assembler) × (pass.new.waiting ≡ pass.old.waiting) }

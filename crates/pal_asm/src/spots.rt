@@ -36,7 +36,7 @@ pub fn first_spot() -> Spot
     }
 }
 
-/// The spot behind an origin.
+/// The spot after an origin.
 pub fn origin(symbols: &Symbols, spot: Spot, parts: &[Part]) -> Result<Spot, Code>
     ensures spot { Moves (spot_by (symbol_value symbols.now) (Body.Origin parts.now) spot)
         (spot_fault (symbol_value symbols.now) spot.location (Body.Origin parts.now)) result }
@@ -50,7 +50,7 @@ pub fn origin(symbols: &Symbols, spot: Spot, parts: &[Part]) -> Result<Spot, Cod
     })
 }
 
-/// The spot behind a `FIELD`.
+/// The spot after a `FIELD`.
 pub fn field(symbols: &Symbols, spot: Spot, parts: &[Part]) -> Result<Spot, Code>
     ensures spot { Moves (spot_by (symbol_value symbols.now) (Body.Field parts.now) spot)
         (spot_fault (symbol_value symbols.now) spot.location (Body.Field parts.now)) result }
@@ -67,7 +67,7 @@ pub fn field(symbols: &Symbols, spot: Spot, parts: &[Part]) -> Result<Spot, Code
     })
 }
 
-/// The spot behind a word.
+/// The spot after a word.
 pub fn behind_word(spot: Spot) -> Result<Spot, Code>
     ensures spot { Moves (record { location = spot.location + 1; field = spot.field; word = true })
         (past spot.location) result }

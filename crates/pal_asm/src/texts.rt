@@ -19,8 +19,9 @@ use pal_lex::laws::{join_goes_on, source_ends_join};
 use std::alloc::Global;
 use word12::{Cell, Word};
 
-/// The words of a source, each with its cell, in the order of the source; or its first fault with its line, 1 and up (PAL
-/// III Symbolic Assembler manual, and this project's profile of it). Want of memory is answered only where none was met.
+/// The words of a source, each with its cell, in the order of the source. Else it is the first fault with its line, 1 and
+/// up (PAL III Symbolic Assembler manual, and this project's profile of it). Want of memory is answered only where no
+/// fault was met.
 pub fn assemble(alloc: Global, source: &[u8]) -> Result<Vec<(Cell, Word)>, AsmFault>
     ensures pairs { IfOk result (λ pairs. ArePairsOf (text_of source.now) pairs.items) }
     ensures fault { IfErr result (λ fault. IsFaultOf (text_of source.now) fault) }
@@ -29,11 +30,11 @@ pub fn assemble(alloc: Global, source: &[u8]) -> Result<Vec<(Cell, Word)>, AsmFa
 }
 
 /// The words of sources that are one, each with its cell, in their order; or the first fault with its line, 1 and up. Each
-/// source but the last goes on in the next one at its first PAUSE that stands alone; lines count over them all (PAL III
+/// source but the last goes on in the next one at its first PAUSE that stands alone. Lines count over them all (PAL III
 /// Symbolic Assembler manual, and this project's profile of it). No source at all is an empty one.
 ///
-/// Want of memory is answered only where no fault was met: in the first pass behind statements with none, and in the second
-/// where the whole has its `$`, a word and no fault that the first one tells.
+/// Want of memory is answered only where no fault was met. In the first pass that is after statements with none. In the
+/// second the whole has its `$`, a word and no fault that the first one reports.
 pub fn assemble_all(alloc: Global, sources: &[&[u8]]) -> Result<Vec<(Cell, Word)>, AsmFault>
     ensures pairs { IfOk result (λ pairs. ArePairsOf (join_of (texts sources.now)) pairs.items) }
     ensures fault { IfErr result (λ fault. IsFaultOf (join_of (texts sources.now)) fault) }
@@ -75,7 +76,7 @@ fn begin(alloc: Global, sources: &[&[u8]]) -> Pass
     }
 }
 
-/// Goes on with the first of these sources behind one that was read, and answers whether it counts. It takes no memory.
+/// Goes on with the first of these sources after one that was read, and answers whether it counts. It takes no memory.
 fn go_on(pass: &mut Pass, others: &[&[u8]]) -> Result<bool, AsmFault>
     ensures goes { GoesOn (texts others.now) pass.old.lexer result pass.new.lexer pass.new.ended }
     ensures same { (pass.new.assembler ≡ pass.old.assembler) × (pass.new.waiting ≡ pass.old.waiting) }

@@ -1,4 +1,4 @@
--- What is read behind what was read before, for private clauses.
+-- What is read after what was read before, for private clauses.
 use Rattle.std.specs.Prelude.{ℕ, Option, Some, None, List, ◌++◌}
 use Rattle.pal_lex.specs.declared.phrases.Part.{Part}
 use Rattle.pal_lex.specs.declared.phrases.Said.{Said}

@@ -1,4 +1,4 @@
--- How a stretch of live bytes is cut (PAL III Symbolic Assembler manual, and this project's profile of it): letters and
+-- How a stretch of live bytes is cut (PAL III Symbolic Assembler manual, and this project's profile of it). Letters and
 -- digits that stand together are one piece, every other character is one by itself. A blank is a piece only between two
 -- pieces that are no `+ - = , *`.
 use Rattle.std.specs.Prelude.{ℕ, ◌+◌, nat_eq, Bool, true, false, ◌&&◌, ◌||◌, not, if◌then◌else◌, Option, Some, None, is_some, List, [], ◌∷◌, ◌++◌}
@@ -7,7 +7,7 @@ use Rattle.pal_lex.specs.declared.pieces.Term.TheVariants.{Here}
 use Rattle.pal_lex.specs.declared.pieces.Kind.{Kind}
 use Rattle.pal_lex.specs.declared.pieces.Kind.TheVariants.{Term, BadNumber, Blank, Plus, Minus, Equals, Comma, Star}
 
--- Letters and digits, from their first place to the place behind them; or a token of one character, at its place.
+-- Letters and digits, from their first place to the place after them; or a token of one character, at its place.
 pub data Piece : Type 0 where
   Run : ℕ → List ℕ → ℕ → ℕ → Piece
   Mark : Kind → ℕ → Piece

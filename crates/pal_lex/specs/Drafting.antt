@@ -18,7 +18,7 @@ abbrev pub weight_after : ℕ → ℕ
 weight_after zero = 0o10000000000
 weight_after (suc n) = weight_after n / 0o100
 
--- what the next byte may go on with
+-- what the next byte stands after
 abbrev pub tail_of : List Piece → Tail
 tail_of [] = tail.Sign
 tail_of (Run first others start end ∷ before) = tail.Run (weight_after (suc (length others)))

@@ -121,7 +121,7 @@ is_comma Equals = false
 is_comma Comma = true
 is_comma Star = false
 
--- behind an operation: any number of blank and `I` or `Z`, then at most one blank and sum
+-- after an operation: any number of blank and `I` or `Z`, then at most one blank and sum
 abbrev pub reference : Operation → Bool → List Token → Option Body
 reference op indirect [] = Some (Reference op indirect None)
 reference op indirect (t ∷ []) = None
@@ -136,12 +136,12 @@ abbrev pub definition : Option ℕ → Option (List Part) → Option Body
 definition None e = None
 definition (Some name) e = map_body (Define name) e
 
--- behind `FIELD`: a blank and an expression, or an expression that begins with a sign
+-- after `FIELD`: a blank and an expression, or an expression that begins with a sign
 abbrev pub field_number : Token → List Token → Option (List Part)
 field_number u others =
     if is_blank u.kind then expression others else (if is_sign u.kind then expression (u ∷ others) else None)
 
--- a name of an operation with a blank behind it begins a memory reference
+-- a name of an operation with a blank after it begins a memory reference
 abbrev pub spaced_body : Option Operation → List Token → List Token → Option Body
 spaced_body None whole behind = map_body Word (expression whole)
 spaced_body (Some op) whole behind = reference op false behind

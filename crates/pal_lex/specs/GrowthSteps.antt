@@ -35,7 +35,7 @@ grown base weight c Equals = Equals
 grown base weight c Comma = Comma
 grown base weight c Star = Star
 
--- A run was begun by a character at a place and went on with so many of the bytes behind it.
+-- A run was begun by a character at a place and went on with so many of the bytes after it.
 pub record IsRun (base first : ℕ) (others : List ℕ) (at : ℕ) (run : Grown) : Type 0 where
   pub range : run.more ≤ length others
   pub coded : are_coded (take run.more others) ≡ true

@@ -13,15 +13,15 @@ is_lone_pause [] = false
 is_lone_pause (t ∷ []) = is_named (name_number (codes "PAUSE")) t.kind
 is_lone_pause (t ∷ u ∷ others) = false
 
--- a stretch of live bytes is the word PAUSE alone; what a radix says of numbers doesn't matter
+-- a stretch of live bytes is the word PAUSE alone; how a radix reads numbers doesn't matter
 abbrev pub is_pause : List (ℕ × ℕ) → Bool
 is_pause live = not (has_illegal live) && is_lone_pause (tokens Octal live)
 
--- a byte behind a text ends a statement that is the word PAUSE alone
+-- a byte after a text ends a statement that is the word PAUSE alone
 abbrev pub pauses : List ℕ → ℕ → Bool
 pauses older b = ends_statement older b && is_pause (stretch older)
 
--- A text that ends behind a statement, or is empty, with no `$`: a source may begin behind it.
+-- A text that ends after a statement, or is empty, with no `$`: a source may begin after it.
 abbrev pub IsClear : List ℕ → Type 0
 IsClear text = (up_to_end text ≡ text) × (is_over text ≡ false)
 
@@ -30,7 +30,7 @@ abbrev pub first_text : Option (List ℕ) → Option (List ℕ) → Option (List
 first_text None later = later
 first_text (Some text) later = Some text
 
--- a text cut behind the last live `;` or CR before its first PAUSE, if it has one
+-- a text cut after the last live `;` or CR before its first PAUSE, if it has one
 abbrev pub before_pause : List ℕ → Option (List ℕ)
 before_pause [] = None
 before_pause (b ∷ older) = first_text (before_pause older) (if pauses older b then Some (up_to_end older) else None)
@@ -40,8 +40,8 @@ abbrev pub continued : List ℕ → Option (List ℕ) → List ℕ → List ℕ
 continued text None others = text
 continued text (Some prefix) others = others ++ prefix
 
--- The join of texts, which stand in their order: each up to the first PAUSE, followed by the join of those behind it. A text
--- that is the last, or has no PAUSE, is joined whole, and none behind it.
+-- The join of texts, which stand in their order: each up to the first PAUSE, followed by the join of those after it. A text that is
+-- the last, or has no PAUSE, is joined whole, and none after it.
 abbrev pub join_of : List (List ℕ) → List ℕ
 join_of [] = []
 join_of (text ∷ []) = text

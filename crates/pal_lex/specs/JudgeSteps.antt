@@ -18,7 +18,7 @@ use Rattle.pal_lex.specs.declared.runs.Radix.TheVariants.{Octal}
 abbrev pub comment_after : Bool → ℕ → Bool
 comment_after comment b = if nat_eq b 0o15 then false else (if nat_eq b 0o57 then true else comment)
 
--- what a stretch with these tokens is answered, or that memory ran out
+-- the answer for a stretch with these tokens, or that memory ran out
 abbrev pub Judges : ℕ → Bool → List Token → Result Said LexFault → Type 0
 Judges line illegal tokens (Ok s) = (illegal ≡ false) × (has_bad_number tokens ≡ false) × (said tokens ≡ Some s)
 Judges line illegal tokens (Err (IC at)) = (at ≡ line) × (illegal ≡ true)

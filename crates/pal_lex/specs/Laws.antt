@@ -11,7 +11,7 @@ use Rattle.pal_lex.specs.declared.pieces.Kind.{Kind}
 use Rattle.pal_lex.specs.declared.phrases.Statement.{Statement}
 use Rattle.pal_lex.specs.declared.runs.Radix.{Radix}
 
--- Bytes in their order, with one behind them, are a text with that byte as its newest.
+-- Bytes in their order, with one after them, are a text with that byte as its newest.
 abbrev pub TextGrows : Type 0
 TextGrows = (bytes : List ℕ) (b : ℕ) → text_of (bytes ++ b ∷ []) ≡ b ∷ text_of bytes
 
@@ -19,7 +19,7 @@ TextGrows = (bytes : List ℕ) (b : ℕ) → text_of (bytes ++ b ∷ []) ≡ b �
 abbrev pub StatementsStay : Type 0
 StatementsStay = (text later : List ℕ) → (more : List (Result Statement LexFault)) × (statements (later ++ text) ≡ more ++ statements text)
 
--- Behind the `$` that ends the source there is no statement.
+-- After the `$` that ends the source there is no statement.
 abbrev pub EndsSource : Type 0
 EndsSource = (text later : List ℕ) → is_over text ≡ true → statements (later ++ text) ≡ statements text
 
@@ -39,7 +39,7 @@ IsOfStatement Memory = ⊥
 abbrev pub FaultsAreOfStatements : Type 0
 FaultsAreOfStatements = (text : List ℕ) (fault : LexFault) → first_fault (statements text) ≡ Some fault → IsOfStatement fault
 
--- ## Several sources. In each of these laws a source follows a text that ends behind a statement, and others follow it.
+-- ## Several sources. In each of these laws a source follows a text that ends after a statement, and others follow it.
 
 -- PAUSE is a bad statement of a text that nothing follows.
 abbrev pub PauseIsBad : Type 0
@@ -50,7 +50,7 @@ abbrev pub has_next : List (List ℕ) → Bool
 has_next [] = false
 has_next (text ∷ others) = true
 
--- Where a byte ends PAUSE, the join goes on with the next source behind the last end before it.
+-- Where a byte ends PAUSE, the join goes on with the next source after the last end before it.
 abbrev pub PauseJoins : Type 0
 PauseJoins =
     (before here later : List ℕ) (b : ℕ) (next : List ℕ) (others : List (List ℕ)) → IsClear before → first_fault (statements (here ++ before)) ≡ None
@@ -97,14 +97,14 @@ first_place place [] = place
 first_place place (live ∷ older) = first_place live.1 older
 
 -- Letters and digits that stand together, with none before them, are one piece with all of them, from the place of the first
--- to behind that of the last.
+-- to that after the last.
 abbrev pub RunsAreMaximal : Type 0
 RunsAreMaximal =
     (b place : ℕ) (run before : List (ℕ × ℕ)) → all_coded ((b, place) ∷ run) ≡ true → ends_coded before ≡ false → has_illegal before ≡ false
     → (first : ℕ) × ((others : List ℕ) × ((pieces ((b, place) ∷ run ++ before) ≡ Run first others (first_place place run) (place + 1) ∷ pieces before)
     × (first ∷ others ≡ spelt ((b, place) ∷ run))))
 
--- Any other character of the language stands behind them as a piece by itself, and changes none.
+-- Any other character of the language stands after them as a piece by itself, and changes none.
 abbrev pub RunsEnd : Type 0
 RunsEnd =
     (b place : ℕ) (live : List (ℕ × ℕ)) (first : ℕ) (others : List ℕ) (start end : ℕ) (before : List Piece) → is_coded b ≡ false → is_legal b ≡ true
@@ -113,7 +113,7 @@ RunsEnd =
 
 -- ## Blanks of a stretch
 
--- behind these live bytes a blank means nothing: there are none, or the newest is a sign or a blank
+-- after these live bytes a blank means nothing: there are none, or the newest is a sign or a blank
 abbrev pub ends_idle : List (ℕ × ℕ) → Bool
 ends_idle [] = true
 ends_idle (live ∷ older) = is_space live.0 || is_some (sign_of live.0)
@@ -124,7 +124,7 @@ begins_idle [] = true
 begins_idle (live ∷ []) = is_some (sign_of live.0)
 begins_idle (live ∷ next ∷ older) = begins_idle (next ∷ older)
 
--- A blank beside a sign, at an end or behind a blank leaves the tokens as they are.
+-- A blank beside a sign, at an end or after a blank leaves the tokens as they are.
 abbrev pub BlanksMeanNothing : Type 0
 BlanksMeanNothing =
     (radix : Radix) (b place : ℕ) (before later : List (ℕ × ℕ)) → is_space b ≡ true → (ends_idle before || begins_idle later) ≡ true

@@ -15,7 +15,7 @@ use Rattle.pal_lex.specs.declared.pieces.Token.{Token}
 use Rattle.pal_lex.specs.declared.lexing.State.{State}
 use Rattle.pal_lex.specs.declared.lexing.State.TheVariants.{Reading, Paused, Over, Failed}
 
--- The lexer reads on behind this text, of which the present source begins behind so many bytes.
+-- The lexer reads on after this text, of which the present source begins after so many bytes.
 pub record IsReading (lexer : Progress) (seam : ℕ) (text : List ℕ) : Type 0 where
   pub begun : seam ≤ length text
   pub comment : lexer.comment ≡ in_comment text
@@ -32,11 +32,11 @@ StateIs Paused lexer seam text = ⊥
 StateIs Over lexer seam text = (first_fault (statements text) ≡ None) × (is_over text ≡ true)
 StateIs (Failed fault) lexer seam text = first_fault (statements text) ≡ Some fault
 
--- The lexer was given this text, the join of its sources so far, of which the present source begins behind so many bytes.
+-- The lexer was given this text, the join of its sources so far, of which the present source begins after so many bytes.
 unfoldable pub HasRead : Progress → ℕ → List ℕ → Type 0
 HasRead lexer seam text = StateIs lexer.state lexer seam text
 
--- The source that the lexer was given last has paused, and this is the join of the sources so far: it ends behind a
+-- The source that the lexer was given last has paused, and this is the join of the sources so far: it ends after a
 -- statement, or is empty.
 pub record IsPaused (lexer : Progress) (text : List ℕ) : Type 0 where
   pub state : lexer.state ≡ Paused
@@ -81,7 +81,7 @@ is_pause_body (Field e) = false
 is_pause_body (Reference op indirect e) = false
 is_pause_body (Word e) = false
 
--- A byte behind a text ended this statement. Its tokens have the places in its source.
+-- A byte after a text ended this statement. Its tokens have the places in its source.
 pub record IsHandedOut (seam : ℕ) (text : List ℕ) (b : ℕ) (statement : Statement) (old new : Progress) : Type 0 where
   pub no_fault : first_fault (statements (b ∷ text)) ≡ None
   pub newest : statements (b ∷ text) ≡ Ok (with_tokens (tokens_behind text) statement) ∷ statements text
@@ -89,7 +89,7 @@ pub record IsHandedOut (seam : ℕ) (text : List ℕ) (b : ℕ) (statement : Sta
   pub source : statement.source ≡ old.source
   pub read : HasRead new seam (b ∷ text)
 
--- A byte behind a text ended PAUSE, where the source may pause: the text is cut behind the last end before it, which takes
+-- A byte after a text ended PAUSE, where the source may pause: the text is cut after the last end before it, which takes
 -- no statement away.
 pub record Pauses (seam : ℕ) (text : List ℕ) (b : ℕ) (statement : Statement) (old new : Progress) : Type 0 where
   pub may_pause : old.may_pause ≡ true
@@ -107,13 +107,13 @@ abbrev pub HandsOut : Bool → ℕ → List ℕ → ℕ → Statement → Progre
 HandsOut false seam text b statement old new = IsHandedOut seam text b statement old new
 HandsOut true seam text b statement old new = Pauses seam text b statement old new
 
--- A byte behind a text is answered a fault: this is the first of the text, and no PAUSE of a source that may pause.
+-- For a byte after a text the answer is a fault: this is the first of the text, and no PAUSE of a source that may pause.
 abbrev pub TellsFault : ℕ → List ℕ → ℕ → LexFault → Progress → Progress → Type 0
 TellsFault seam text b fault old new =
     IsFault (b ∷ text) fault × (first_fault (statements text) ≡ None → old.may_pause ≡ true → pauses text b ≡ false) × HasRead new seam (b ∷ text)
 
--- What a byte behind a text is answered: the statement that it ends, with its tokens or with none, or nothing where it
--- ends none; from the first statement with a fault on, that fault. Where memory ran out the byte was not taken.
+-- The answer for a byte after a text. It is the statement that it ends, with its tokens or with none, or nothing where it
+-- ends none. From the first statement with a fault on, it is that fault. Where memory ran out the byte was not taken.
 abbrev pub Answers : ℕ → List ℕ → ℕ → Result (Option Statement) LexFault → Progress → Progress → Type 0
 Answers seam text b (Ok None) old new =
     (first_fault (statements (b ∷ text)) ≡ None) × (statements (b ∷ text) ≡ statements text) × HasRead new seam (b ∷ text)
@@ -124,12 +124,12 @@ Answers seam text b (Err (NU line)) old new = TellsFault seam text b (NU line) o
 Answers seam text b (Err (NE line)) old new = ⊥
 Answers seam text b (Err Memory) old new = (first_fault (statements text) ≡ None) × (is_over text ≡ false) × (is_dead text b ≡ false) × (new ≡ old)
 
--- So many of the bytes behind a text were taken, none of which ends a statement.
+-- So many of the bytes after a text were taken, none of which ends a statement.
 abbrev pub ReadsOn : ℕ → List ℕ → List ℕ → ℕ → Progress → Type 0
 ReadsOn seam text bytes taken new =
     (taken ≤ length bytes) × (statements (text_from text (take taken bytes)) ≡ statements text) × HasRead new seam (text_from text (take taken bytes))
 
--- What the end of a text is answered.
+-- The answer for the end of a text.
 abbrev pub Ends : List ℕ → Result (Unit {0}) LexFault → Type 0
 Ends text (Ok nothing) = (first_fault (statements text) ≡ None) × (is_over text ≡ true)
 Ends text (Err (IC line)) = IsFault text (IC line)
@@ -138,7 +138,7 @@ Ends text (Err (NU line)) = IsFault text (NU line)
 Ends text (Err (NE line)) = (first_fault (statements text) ≡ None) × (is_over text ≡ false) × (line ≡ line_after text)
 Ends text (Err Memory) = ⊥
 
--- Behind a text that didn't pause no source begins: nothing changes, but that NE is answered for good.
+-- After a text that didn't pause no source begins: nothing changes, except that NE is answered for good.
 abbrev pub EndsSource : Result (Unit {0}) LexFault → Progress → Progress → Type 0
 EndsSource (Ok nothing) old new = new ≡ old
 EndsSource (Err (IC line)) old new = new ≡ old
@@ -147,7 +147,7 @@ EndsSource (Err (NU line)) old new = new ≡ old
 EndsSource (Err (NE line)) old new = HasFailed new (NE line)
 EndsSource (Err Memory) old new = ⊥
 
--- The next source begins behind this text.
+-- The next source begins after this text.
 pub record BeginsSource (text : List ℕ) (last : Bool) (old new : Progress) : Type 0 where
   pub read : HasRead new (length text) text
   pub source : new.source ≡ limit (old.source + 1)

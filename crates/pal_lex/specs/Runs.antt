@@ -21,7 +21,7 @@ abbrev pub are_digits : ℕ → List ℕ → Bool
 are_digits base [] = true
 are_digits base (c ∷ others) = nat_le 0o60 c && nat_lt c (0o60 + base) && are_digits base others
 
--- the number that digits spell behind a number that was spelled before them
+-- the number that digits spell after those of a number before them
 abbrev pub number_after : ℕ → ℕ → List ℕ → ℕ
 number_after base n [] = n
 number_after base n (c ∷ others) = number_after base (base * n + (c - 0o60)) others

@@ -42,24 +42,24 @@ HasSpans =
     (text later : List ℕ) (b : ℕ) (statement : Statement) → statements (b ∷ text) ≡ Ok statement ∷ statements text
     → AllSpell (later ++ b ∷ text) (base (radix_after (statements text))) statement.tokens
 
--- the live bytes of a stretch in their order, but for blanks and tabs
+-- the live bytes of a stretch in their order, without blanks and tabs
 abbrev pub solid : List (ℕ × ℕ) → List ℕ
 solid [] = []
 solid (live ∷ older) = solid older ++ (if is_space live.0 then [] else live.0 ∷ [])
 
--- what stands between the places of tokens, one after the other, but for blanks
+-- what stands between the places of tokens, one after the other, without blanks
 abbrev pub joined : List ℕ → List Token → List ℕ
 joined text [] = []
 joined text (token ∷ others) = (if is_blank token.kind then [] else between text token.start token.end) ++ joined text others
 
--- The tokens of a statement that a byte ends leave nothing out but blanks: joined they are the live bytes behind the end
+-- The tokens of a statement that a byte ends leave nothing out but blanks. Joined they are the live bytes after the end
 -- before it, where the places are no more than a number of 64 bits holds.
 abbrev pub HasAll : Type 0
 HasAll =
     (text later : List ℕ) (b : ℕ) (statement : Statement) → length text ≤ 18446744073709551615
     → statements (b ∷ text) ≡ Ok statement ∷ statements text → joined (later ++ b ∷ text) statement.tokens ≡ solid (stretch text)
 
--- So it is in one of several sources, with the places in that source alone, which stands behind the join of those before it.
+-- So it is in one of several sources, with the places in that source alone, which stands after the join of those before it.
 abbrev pub HasSourceSpans : Type 0
 HasSourceSpans =
     (before here later : List ℕ) (b : ℕ) (statement : Statement) → IsClear before → statements (b ∷ here ++ before) ≡ Ok statement ∷ statements (here ++ before)

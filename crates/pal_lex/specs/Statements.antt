@@ -1,5 +1,5 @@
--- The statements of a text: the stretches of live bytes between the live `;`, CR and `$`, each judged by the grammar and
--- by the radix that the statements before it set. A last stretch that nothing ends is no statement.
+-- The statements of a text are the stretches of live bytes between the live `;`, CR and `$`. Each is judged by the
+-- grammar and by the radix that the statements before it set. A last stretch that nothing ends is no statement.
 use Rattle.std.specs.Prelude.{ℕ, nat_eq, Bool, if◌then◌else◌, Option, Some, None, Result, Ok, Err, List, [], ◌∷◌}
 use Rattle.pal_lex.specs.Text.{ends_statement, stretch, line_after}
 use Rattle.pal_lex.specs.Cutting.{has_illegal}
@@ -19,7 +19,7 @@ abbrev pub stated : ℕ → Bool → List Token → Option Said → Result State
 stated line last tokens None = Err (SY line)
 stated line last tokens (Some said) = Ok record { line = line; tags = said.tags; body = said.body; last = last; source = 0; tokens = tokens }
 
--- An illegal character is told before a bad number, and that before a bad statement.
+-- An illegal character is reported before a bad number, and that before a bad statement.
 abbrev pub judged : ℕ → Bool → List (ℕ × ℕ) → Radix → Result Statement LexFault
 judged line last live radix =
     if has_illegal live then Err (IC line)
@@ -42,7 +42,7 @@ abbrev pub radix_set : Result Statement LexFault → Radix → Radix
 radix_set (Ok statement) before = radix_by statement.body before
 radix_set (Err fault) before = before
 
--- the radix behind statements: octal until the first that sets it
+-- the radix after statements: octal until the first that sets it
 abbrev pub radix_after : List (Result Statement LexFault) → Radix
 radix_after [] = radix.Octal
 radix_after (newest ∷ older) = radix_set newest (radix_after older)

@@ -1,4 +1,4 @@
--- What the small steps of the lexer come to, for private clauses.
+-- What the small steps of the lexer give, for private clauses.
 use Rattle.std.specs.Prelude.{ℕ, ◌+◌, List, [], ◌∷◌, ◌≡◌, ◌≤◌, Bool, true, Option, Some, None, take, length, false, nat_eq, ◌||◌}
 use Rattle.pal_lex.specs.Cutting.{Piece, with_character, are_coded}
 use Rattle.pal_lex.specs.Text.{limit}
@@ -28,7 +28,7 @@ pending tail.Dot = []
 pending (tail.Blank place) = record { kind = Blank; start = place; end = limit (place + 1) } ∷ []
 pending (tail.Run weight) = []
 
--- A letter or a digit and so many of the bytes behind it, letters and digits too, were put behind pieces, or nothing was.
+-- A letter or a digit and so many of the bytes after it, letters and digits too, were put after pieces, or nothing was.
 abbrev pub PutsRun : ℕ → Bool → List Piece → ℕ → List ℕ → ℕ → Option ℕ → Cut → Cut → Type 0
 PutsRun base illegal before first others at None old new = new ≡ old
 PutsRun base illegal before first others at (Some more) old new =
@@ -36,7 +36,7 @@ PutsRun base illegal before first others at (Some more) old new =
 
 -- ## Reading
 
--- A byte behind a text that ends no statement was taken, or nothing was.
+-- A byte after a text that ends no statement was taken, or nothing was.
 abbrev pub TakesByte : ℕ → List ℕ → ℕ → Bool → Progress → Progress → Type 0
 TakesByte seam text b true old new = (statements (b ∷ text) ≡ statements text) × HasRead new seam (b ∷ text)
 TakesByte seam text b false old new = new ≡ old

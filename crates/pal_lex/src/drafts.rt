@@ -13,7 +13,7 @@ use std::alloc::{AllocError, Global};
 use std::marker::Model;
 use std::mem;
 
-/// What the next byte of a stretch may go on with.
+/// What the next byte of a stretch stands after.
 #[derive(Clone, Copy)]
 pub enum Tail {
     /// Nothing, or a sign beside which a blank means nothing.
@@ -21,7 +21,7 @@ pub enum Tail {
     Dot,
     /// A blank, at this place, which counts once a token follows that is no such sign.
     Blank(u64),
-    /// A name or a number; the next character of the name has this weight.
+    /// A name or a number. The next character of the name has this weight.
     Run(u32),
 }
 
@@ -60,7 +60,7 @@ fn sign_of(byte: u8) -> Option<Kind>
     }
 }
 
-/// Puts a letter or a digit behind the last token, a name or a number.
+/// Puts a letter or a digit after the last token, a name or a number.
 #[inline(always)]
 fn lengthen(tokens: &mut [Token], radix: Radix, weight: u32, character: u8, end: u64)
     ensures { (before : List Token) (last : Token) → tokens.old ≡ before ++ last ∷ []
@@ -117,7 +117,7 @@ impl Draft {
         Tokens::new(Vec::new(alloc))
     }
 
-    /// Puts a live byte, at this place, behind the stretch.
+    /// Puts a live byte, at this place, after the stretch.
     #[inline(always)]
     pub fn put(&mut self, radix: Radix, byte: u8, place: u64) -> Result<(), AllocError>
         ensures refused { OnErr result (self.new ≡ self.old) }
@@ -153,7 +153,7 @@ impl Draft {
         self.tokens.clear();
     }
 
-    /// Puts a token behind the others, and a blank before it where one is pending.
+    /// Puts a token after the others, and a blank before it where one is pending.
     #[inline(always)]
     fn add(&mut self, token: Token, tail: Tail) -> Result<(), AllocError>
         ensures refused { OnErr result (self.new ≡ self.old) }
@@ -198,8 +198,8 @@ impl Draft {
         self.add(token, Tail::Run(0o100000000))
     }
 
-    /// Puts a letter or a digit behind the stretch, and the letters and digits that stand at the prefix of other bytes as
-    /// far as it likes. It answers how many of these, or nothing where memory ran out.
+    /// Puts a letter or a digit after the stretch. It also puts those that stand at the prefix of other bytes, as many as
+    /// it likes. It answers how many of these, or nothing where memory ran out.
     #[inline(always)]
     pub fn put_run(&mut self, radix: Radix, first: u8, others: &[u8], place: u64) -> Option<usize>
         requires { is_coded first ≡ true }
@@ -254,7 +254,7 @@ impl Draft {
         self.add(token, Tail::Dot)
     }
 
-    /// Puts a sign behind the tokens. A blank before it means nothing.
+    /// Puts a sign after the tokens. A blank before it means nothing.
     #[inline(always)]
     fn put_sign(&mut self, sign: Kind, place: u64) -> Result<(), AllocError>
         requires operand { is_operand sign ≡ false }

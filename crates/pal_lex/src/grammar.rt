@@ -38,7 +38,7 @@ fn addressed(
     }))
 }
 
-/// A memory reference, by what stands behind its operation.
+/// A memory reference, by what stands after its operation.
 fn reference(
     alloc: Global,
     operation: Operation,
@@ -91,7 +91,7 @@ fn field(
     Ok(None)
 }
 
-/// An origin, by what stands behind its `*`.
+/// An origin, by what stands after its `*`.
 fn origin(alloc: Global, tokens: &[Token]) -> Result<Option<Body>, AllocError>
     ensures { IfOk result (λ b. b ≡ map_body Body.Origin (expression tokens.now)) }
 {
@@ -99,7 +99,7 @@ fn origin(alloc: Global, tokens: &[Token]) -> Result<Option<Body>, AllocError>
     Ok(place.map(Body::Origin))
 }
 
-/// A definition, by its name and what stands behind `=`.
+/// A definition, by its name and what stands after `=`.
 fn definition(alloc: Global, kind: Kind, tokens: &[Token]) -> Result<Option<Body>, AllocError>
     ensures { IfOk result (λ b. b ≡ definition (free_name kind) (expression tokens.now)) }
 {
@@ -173,7 +173,7 @@ fn body(alloc: Global, tokens: &[Token]) -> Result<Option<Body>, AllocError>
     }
 }
 
-/// What a statement says, by its tags and what stands behind them.
+/// What a statement says, by its tags and what stands after them.
 fn tagged(alloc: Global, names: Vec<Name>, tokens: &[Token]) -> Result<Option<Said>, AllocError>
     ensures { IfOk result (λ s. s ≡ tagged names.items (untagged (body tokens.now))) }
 {

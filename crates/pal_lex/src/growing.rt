@@ -10,7 +10,7 @@ ghost use Rattle.pal_lex.specs.GrowthSteps.{IsRun};
 use crate::runs::{Radix, begun, grown, longer_name};
 use crate::{Kind, Name, Term, Token};
 
-/// The token of a name or a number, how many characters behind its first one it has, and the weight of the next one.
+/// The token of a name or a number, how many characters it has after its first one, and the weight of the next one.
 #[derive(Clone, Copy)]
 pub struct Grown {
     pub token: Token,
@@ -34,7 +34,7 @@ fn is_letter(byte: u8) -> bool
     matches!(byte, b'A'..=b'Z')
 }
 
-/// The name that a letter at a place begins, with the letters and digits behind it.
+/// The name that a letter at a place begins, with the letters and digits after it.
 #[inline(always)]
 fn name_of(first: u8, others: &[u8], place: u64) -> Grown
     requires { is_letter first ≡ true }
@@ -63,7 +63,7 @@ fn name_of(first: u8, others: &[u8], place: u64) -> Grown
     }
 }
 
-/// The name or number that a character at a place begins, with the letters and digits behind it.
+/// The name or number that a character at a place begins, with the letters and digits after it.
 #[inline(always)]
 pub fn run_of(radix: Radix, first: u8, others: &[u8], place: u64) -> Grown
     requires { is_coded first ≡ true }

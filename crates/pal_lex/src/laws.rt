@@ -13,7 +13,7 @@ pub fn whole_statement()
     ensures { HasAll }
 {}
 
-/// Bytes in their order, with one behind them, are a text with that byte as its newest.
+/// Bytes in their order, with one after them, are a text with that byte as its newest.
 pub fn text_grows()
     ensures { TextGrows }
 {}
@@ -23,7 +23,7 @@ pub fn statements_stay()
     ensures { StatementsStay }
 {}
 
-/// Behind the `$` that ends the source there is no statement.
+/// After the `$` that ends the source there is no statement.
 pub fn dollar_ends_source()
     ensures { EndsSource }
 {}
@@ -58,7 +58,7 @@ pub fn byte_goes_on()
     ensures { ByteGoesOn }
 {}
 
-/// Behind a source with neither PAUSE nor a fault no further source counts.
+/// After a source with neither PAUSE nor a fault no further source counts.
 pub fn source_ends_join()
     ensures { EndsJoin }
 {}
@@ -79,7 +79,7 @@ pub fn pause_spans()
     ensures whole { PauseHasAll }
 {}
 
-/// A blank beside a sign, at an end of a statement or behind a blank means nothing: the tokens are the same without it.
+/// A blank beside a sign, at an end of a statement or after a blank means nothing: the tokens are the same without it.
 pub fn blanks_mean_nothing()
     ensures { BlanksMeanNothing }
 {}

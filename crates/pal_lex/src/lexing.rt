@@ -20,9 +20,9 @@ use std::marker::Model;
 #[derive(Clone, Copy)]
 enum State {
     Reading,
-    /// Behind the PAUSE that ends the present source.
+    /// After the PAUSE that ends the present source.
     Paused,
-    /// Behind the `$` that ends the source.
+    /// After the `$` that ends the source.
     Over,
     Failed(LexFault),
 }
@@ -41,7 +41,7 @@ fn is_ignored(byte: u8) -> bool
     matches!(byte, 0 | LINE_FEED | FORM_FEED | RUBOUT)
 }
 
-/// Whether a comment goes on behind a byte.
+/// Whether a comment goes on after a byte.
 #[inline(always)]
 fn comment_after(comment: bool, byte: u8) -> bool
     ensures { result ≡ comment_after comment byte }
@@ -82,7 +82,7 @@ fn is_end(byte: u8) -> bool
     matches!(byte, b';' | b'\r' | b'$')
 }
 
-/// The radix behind a statement.
+/// The radix after a statement.
 fn radix_by(body: &Body, before: Radix) -> Radix
     ensures { result ≡ radix_by body.now before }
 {
@@ -130,8 +130,8 @@ fn judge(alloc: Global, draft: &Draft, line: u64) -> Result<Said, LexFault>
 
 /// Reads a source byte by byte, and hands out its statements. It keeps the tokens of the present statement alone.
 ///
-/// The source may be several, one after the other: PAUSE ends each but the last, and the next one goes on where it stood.
-/// In each contract a text is the join of the sources so far, of which the present one begins behind so many bytes.
+/// The source may be several, one after the other: PAUSE ends each but the last, and the next one goes on where it stood. In
+/// each contract a text is the join of the sources so far, of which the present one begins after so many bytes.
 #[derive(Drop)]
 pub struct Lexer {
     alloc: Global,
@@ -199,8 +199,8 @@ impl Lexer {
 
     /// Takes the next byte, and hands out the statement that it ends, if it ends one.
     ///
-    /// The byte that ends a statement with a fault is answered that fault, and each later byte the same; behind the `$`
-    /// that ends the source, and behind the PAUSE that ends one of several, each byte is answered nothing. Where memory ran
+    /// For the byte that ends a statement with a fault the answer is that fault, and for each later byte the same. After the `$`
+    /// that ends the source, and after the PAUSE that ends one of several, the answer for each byte is nothing. Where memory ran
     /// out the byte was not taken, and may be pushed again.
     #[tactic(auto, unfolding(crate::specs::Statements::statements, crate::specs::Reading::HasRead, crate::specs::Reading::HasPaused, crate::specs::Reading::HasFailed))]
     #[inline(always)]
@@ -224,8 +224,8 @@ impl Lexer {
     }
 
     /// Takes bytes from the beginning of these that end no statement, as many as it likes, and answers how many. It stops before
-    /// a byte that ends a statement, and where memory runs out, which [`Lexer::push`] tells. What [`Lexer::push`] answers
-    /// nothing behind the end of a source is taken whole.
+    /// a byte that ends a statement, and where memory runs out, which [`Lexer::push`] then answers. After the end of a source it
+    /// takes all bytes for which [`Lexer::push`] answers nothing.
     #[tactic(auto, unfolding(crate::specs::Reading::HasRead, crate::specs::Reading::HasPaused, crate::specs::Reading::HasFailed))]
     pub fn read_on(&mut self, bytes: &[u8]) -> usize
         ensures range { result ≤ length bytes.now }
@@ -249,8 +249,8 @@ impl Lexer {
 
     /// Goes on with the next source, where PAUSE ended the one before; it may pause unless it is the last.
     ///
-    /// A source with neither PAUSE nor `$` is answered NE, with its last line, as is each later call; one with a fault is
-    /// answered that. Behind the `$` that ends them all nothing comes.
+    /// For a source with neither PAUSE nor `$` the answer is NE, with its last line, and so for each later call. For one with a
+    /// fault the answer is that fault. After the `$` that ends them all nothing comes.
     #[tactic(auto, unfolding(crate::specs::Statements::statements, crate::specs::Reading::HasRead, crate::specs::Reading::HasPaused, crate::specs::Reading::HasFailed))]
     pub fn next_source(&mut self, last: bool) -> Result<(), LexFault>
         ensures read { (seam : ℕ) (text : List ℕ) → HasRead self.old seam text
@@ -343,7 +343,7 @@ impl Lexer {
         Ok(None)
     }
 
-    /// Takes bytes of a source that goes on, as long as they end no statement.
+    /// Takes bytes of a source that goes on, while they end no statement.
     fn take(&mut self, bytes: &[u8]) -> usize
         requires { self.old.state ≡ State.Reading }
         ensures range { result ≤ length bytes.now }
@@ -519,7 +519,7 @@ impl Lexer {
         }
     }
 
-    /// Fails for good, but for want of memory.
+    /// Fails for good, except for want of memory.
     fn fail(&mut self, fault: LexFault)
         ensures { self.new ≡ failed fault self.old }
     {

@@ -1,8 +1,8 @@
 //! The lexer of PAL III source: it takes a source byte by byte and hands out its statements, or the first fault.
 //!
 //! A statement is a stretch of the source between two ends (`;`, CR, `$`), read by the grammar of this project's profile
-//! of PAL III (PAL III Symbolic Assembler manual). In each contract a text is the list of its bytes, the newest first;
-//! a [`Name`] is a number, and lists of names, tokens and terms are lists in their order.
+//! of PAL III (PAL III Symbolic Assembler manual). In each contract a text is the list of its bytes, the newest first.
+//! A [`Name`] is a number, and lists of names, tokens and terms are lists in their order.
 #![tactic(auto)]
 
 mod drafts;

@@ -6,7 +6,7 @@ use std::marker::Model;
 /// Symbolic Assembler manual).
 ///
 /// A contract sees the number of six digits to the base 64, which are the sixbit codes of those characters, with 0 for
-/// each that is missing. It is kept as two halves, which need not lie at a multiple of eight bytes: so each token and each
+/// each that is missing. It is kept as two halves, which need not lie at a multiple of eight bytes. So each token and each
 /// term of an expression is that much smaller.
 #[derive(Clone, Copy)]
 pub struct Name {

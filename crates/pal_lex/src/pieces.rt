@@ -28,8 +28,8 @@ pub enum Kind {
     Star,
 }
 
-/// A token, with the places of its first byte and behind its last one in the source of its statement, from 0; each is
-/// 2^64 - 1 where it would be more.
+/// A token, with the place of its first byte and the place after its last one, in the source of its statement, from
+/// 0. Each is 2^64 - 1 where it would be more.
 #[derive(Clone, Copy)]
 pub struct Token {
     pub kind: Kind,

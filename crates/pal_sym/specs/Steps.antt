@@ -1,4 +1,4 @@
--- What the small steps of a table come to, for private clauses.
+-- What the small steps of a table give, for private clauses.
 use Rattle.std.specs.Prelude.{◌≡◌, ℕ, ◌+◌, ◌<◌, ◌≤◌, nat_eq, if◌then◌else◌, Some, Result, Ok, Err, length, Bool, true, ◌&&◌, nat_lt, List, [], ◌∷◌, ◌≢◌}
 use Rattle.std.specs.Ordering.{nat_cmp}
 use Rattle.std.specs.FinMap.{find}

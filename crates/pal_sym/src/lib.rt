@@ -1,9 +1,9 @@
 //! The symbols of a PAL III source: names of which six characters count, and the value that each stands for.
 //!
-//! Permanent names have their values from the start; a source defines further ones: a tag once, or again to the same value,
-//! and what `=` defines as often as it likes (PAL III Symbolic Assembler manual, and this project's profile of it). In each
-//! contract a [`SymbolName`] is a number, and a [`Symbols`] is a finite map from such numbers to words, each of a tag or
-//! not, beside the room that is made for new names.
+//! Permanent names have their values from the start. A source defines further ones (PAL III Symbolic Assembler manual, and
+//! this project's profile of it). It defines a tag once, or again to the same value, and what `=` defines as often as it
+//! likes. In each contract a [`SymbolName`] is a number. A [`Symbols`] is a finite map from such numbers to words, each of
+//! a tag or not, beside the room that is made for new names.
 #![tactic(auto)]
 
 mod entries;

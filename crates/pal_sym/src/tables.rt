@@ -54,7 +54,7 @@ impl Symbols {
         permanent_value(name)
     }
 
-    /// Makes room for so many new names: that many definitions then take no memory. It doesn't ask which names come, so a
+    /// Makes room for so many new names: that many definitions then take no memory. It doesn't ask which names come. So a
     /// caller that counts names that are there already asks for more than it needs.
     pub fn room(&mut self, names: usize) -> Result<(), AllocError>
         ensures { MakesRoom names self.old self.new result }
@@ -64,7 +64,7 @@ impl Symbols {
     }
 
     /// Gives the name of a tag its value, the place of the tag. The name is new, or stands for that value already, as a
-    /// permanent name may; else the fault is DT (PAL III Symbolic Assembler manual, and this project's profile of it).
+    /// permanent name may. Else the fault is DT (PAL III Symbolic Assembler manual, and this project's profile of it).
     pub fn define_tag(&mut self, name: SymbolName, value: Word) -> Result<(), SymFault>
         ensures { DefinesTag name value self.old self.new result }
     {
@@ -75,7 +75,7 @@ impl Symbols {
     }
 
     /// Gives a name the value of an expression, as `=` does. It may stand for another value, unless it is a permanent name
-    /// or a tag: then the fault is RD (PAL III Symbolic Assembler manual, and this project's profile of it).
+    /// or a tag. Then the fault is RD (PAL III Symbolic Assembler manual, and this project's profile of it).
     pub fn define_value(&mut self, name: SymbolName, value: Word) -> Result<(), SymFault>
         ensures { DefinesValue name value self.old self.new result }
     {

@@ -4,7 +4,7 @@ use Rattle.rim_tape.specs.Tape.{IsRim, IsOpen}
 use Rattle.rim_tape.specs.declared.faults.RimFault.{RimFault}
 use Rattle.rim_tape.specs.declared.faults.RimFault.TheVariants.{BadFrame, NoTrailer, Memory}
 
--- A frame that can't come next: no leader or trailer and no first frame of an address, or, behind that, one of more than six bits.
+-- A frame that can't come next: no leader or trailer and no first frame of an address, or, after that, one of more than six bits.
 abbrev pub IsOutOfPlace : List ℕ → ℕ → Type 0
 IsOutOfPlace [] frame = (frame < 0o100) ⊎ (0o200 < frame)
 IsOutOfPlace (a ∷ rest) frame = 0o100 ≤ frame
@@ -31,7 +31,7 @@ pub record IsSomeRim (frames : List ℕ) : Type 0 where
   pub pairs : List (ℕ × ℕ)
   pub is_rim : IsRim frames pairs
 
--- The fault of frames that are no tape: that of the first frame which can't come where it does, or that none is the trailer. Memory
+-- The fault of frames that are no tape: that of the first frame which can't come at its place, or that none is the trailer. Memory
 -- runs out only for the words of a tape.
 abbrev pub IsFault : List ℕ → RimFault → Type 0
 IsFault frames (BadFrame place frame) = RefusesFrame frames place frame

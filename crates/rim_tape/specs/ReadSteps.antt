@@ -1,10 +1,10 @@
--- What reading a tape comes to on the way, for private clauses.
+-- The steps of reading a tape, for private clauses.
 use Rattle.std.specs.Prelude.{◌≡◌, ℕ, ◌+◌, ◌/◌, ◌%◌, ◌<◌, ◌≤◌, length, take, slice_index, Option, Some, None, Result, Ok, Err, List, [], ◌∷◌, ◌++◌}
 use Rattle.rim_tape.specs.Tape.{IsRim, IsOpen}
 use Rattle.rim_tape.specs.Fault.{IsFault}
 use Rattle.rim_tape.specs.declared.faults.RimFault.{RimFault}
 
--- what marks the frame behind a part: channel 7 the first of an address
+-- what marks the frame after a part: channel 7 the first of an address
 abbrev pub mark_of : List ℕ → ℕ
 mark_of [] = 0o100
 mark_of (p ∷ rest) = 0
@@ -31,7 +31,7 @@ pub record HasReadSome (frames : List ℕ) (place : ℕ) : Type 0 where
   pub pairs : List (ℕ × ℕ)
   pub read : HasReadTo frames place pairs
 
--- what comes behind these words: the trailer, one more word with its cell, or a fault
+-- what comes after these words: the trailer, one more word with its cell, or a fault
 abbrev pub Goes : List ℕ → ℕ → List (ℕ × ℕ) → Result (Option (ℕ × ℕ)) RimFault → Type 0
 Goes frames place pairs (Ok None) = IsRim frames pairs
 Goes frames place pairs (Ok (Some pair)) = HasReadTo frames (place + 4) (pairs ++ pair ∷ [])

@@ -2,8 +2,8 @@
 use Rattle.std.specs.Prelude.{◌≡◌, ℕ, ◌<◌, ◌≤◌, length, replicate, List, [], ◌∷◌, ◌++◌}
 use Rattle.rim_tape.specs.Pairs.{spelled, AreOfField0}
 
--- The frames are a tape of these words with their cells: leader frames 0200, if any, each address with its word, one at least, a
--- trailer frame 0200, and anything.
+-- The frames are a tape of these words with their cells. They are leader frames 0200, if any, then each address with its word, one at
+-- least, then a trailer frame 0200, and anything.
 pub record IsRim (frames : List ℕ) (pairs : List (ℕ × ℕ)) : Type 0 where
   pub leader : ℕ
   pub rest : List ℕ

@@ -27,7 +27,7 @@ pub fn leader_length(frames: &[u8]) -> usize
     frames.len()
 }
 
-/// The word with its cell that comes at a place, behind others or the leader; none where the trailer comes.
+/// The word with its cell that comes at a place, after others or the leader; none where the trailer comes.
 pub fn next(frames: &[u8], place: usize) -> Result<Option<(Cell, Word)>, RimFault>
     requires { place ≤ length frames.now }
     ensures { (pairs : List (ℕ × ℕ)) → HasReadTo frames.now place pairs → Goes frames.now place pairs result }

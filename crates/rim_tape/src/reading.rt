@@ -11,8 +11,8 @@ use word12::{Cell, Word};
 /// The frames of a word with its address.
 const PAIR: usize = 4;
 
-/// The words of a tape with their cells, in its order. The tape has no fields, so the cells are of field 0; what follows its trailer
-/// means nothing. The answer is the fault of the frame that is refused first where there is one.
+/// The words of a tape with their cells, in its order. The tape has no fields, so the cells are of field 0. What follows its trailer
+/// means nothing. Where a frame is refused, the answer is the fault of the first such frame.
 ///
 /// No memory is asked for before the frames are known to be a tape.
 pub fn read(alloc: Global, frames: &[u8]) -> Result<Vec<(Cell, Word)>, RimFault>
@@ -51,7 +51,7 @@ fn words_behind(alloc: Global, frames: &[u8], leader: usize) -> Result<Vec<(Cell
     Ok(pairs)
 }
 
-/// Puts a word with its cell behind the others.
+/// Puts a word with its cell after the others.
 fn put(pairs: &mut Vec<(Cell, Word)>, pair: (Cell, Word)) -> Result<(), AllocError>
     ensures { OnOk result (pairs.new.items ≡ pairs.old.items ++ pair ∷ []) }
 {

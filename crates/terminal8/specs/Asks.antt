@@ -14,8 +14,8 @@ is_undisturbed s = s.running && not (grants_interrupt (printer_done s))
 abbrev pub tests_keyboard : State → Bool
 tests_keyboard s = is_ksf (fetched s) && is_undisturbed s
 
--- A program asks for a key where none is in the keyboard's buffer unread, and the next step is a KSF; or where interrupts are
--- on, and so many steps were made since it last asked as take a tenth of a second.
+-- A program asks for a key where none is in the keyboard's buffer unread, and one of these holds. The next step is a KSF; or
+-- interrupts are on, and the steps since it last asked take a tenth of a second or more.
 abbrev pub asks_for_key : ℕ → State → Bool
 asks_for_key since s = not s.teletype.keyboard_flag && (tests_keyboard s || (s.interrupts_on && nat_le 30000 since))
 
@@ -25,7 +25,7 @@ asks_for_key since s = not s.teletype.keyboard_flag && (tests_keyboard s || (s.i
 abbrev pub is_direct_jmp : ℕ → Bool
 is_direct_jmp word = nat_eq (word / 0o400) 0o12
 
--- the word behind that of the next instruction
+-- the word after that of the next instruction
 abbrev pub word_behind : State → ℕ
 word_behind s = slice_index s.core (place s.instruction_field ((s.pc + 1) % 0o10000))
 

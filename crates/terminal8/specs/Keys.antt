@@ -12,8 +12,8 @@ pub record Keyboard : Type 0 where
 abbrev pub fresh : Form → Keyboard
 fresh form = record { form = form; behind_return = false }
 
--- The key of a byte of a text: LF is struck as CR (0215), but for the LF of CR LF, which is none; any other byte below 0200
--- is struck with its top bit set; one above 0177 is none.
+-- The key of a byte of a text. LF is struck as CR (0215), except the LF of CR LF, which is none. Any other byte below 0200
+-- is struck with its top bit set, and one above 0177 is none.
 abbrev pub text_key : Bool → ℕ → Option ℕ
 text_key behind_return byte =
     if nat_eq byte 0o12 then (if behind_return then None else Some 0o215)

@@ -34,7 +34,7 @@ pub record IsWholeRun (t : Terminal) (n : ℕ) (new : State) (writer writer' : O
 abbrev pub krb : ℕ
 krb = 0o6036
 
--- A program reads a key next: the machine waits for one in KSF (6031) and JMP .-1, behind which is a KRB (6036), and interrupts
+-- A program reads a key next: the machine waits for one in KSF (6031) and JMP .-1, after which is a KRB (6036), and interrupts
 -- are off.
 pub record ReadsNext (s : State) : Type 0 where
   pub waits : waits_for_key s ≡ true
@@ -50,7 +50,7 @@ none_yet (suc count) looks = None ∷ none_yet count looks
 abbrev pub waiting_for : State → ℕ → ℕ → List (Option ℕ) → ℕ → Terminal
 waiting_for s count key looks since = record { machine = s; looks = none_yet count (Some key ∷ looks); since = since }
 
--- the machine behind its KRB: AC is the key, the keyboard's flag is clear, and all else but PC and the buffer is as before
+-- the machine after its KRB: AC is the key, the keyboard's flag is clear, and all else but PC and the buffer is as before
 abbrev pub key_read : State → ℕ → State
 key_read s key = record s {
   pc = (s.pc + 3) % 0o10000;

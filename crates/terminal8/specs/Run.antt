@@ -24,11 +24,11 @@ abbrev pub FindsKey : Input → List (Option ℕ) → List ℕ → Type 0
 FindsKey Ending looks keys = looks ≡ map (λ key. Some key) keys
 FindsKey Live looks keys = keys_found looks ≡ keys
 
--- the keys have ended: they are such as end, no byte was read ahead, and the reader has no more
+-- the keys have ended: they are keys that end, no byte was read ahead, and the reader has no more
 abbrev pub HaveEnded : Input → List ℕ → Option (List ℕ) → Type 0
 HaveEnded input ahead reader = (input ≡ Ending) × (ahead ≡ []) × IsAtEnd reader
 
--- A look behind these found none where the reader had given all its bytes, and each was struck.
+-- A look after these found none where the reader had given all its bytes, and each was struck.
 pub record FindsNone (form : Form) (reader : Option (List ℕ)) (before : List (Option ℕ)) : Type 0 where
   pub bytes : List ℕ
   pub left : Option (List ℕ)
@@ -43,7 +43,7 @@ MayFollow is_over more = is_over ≡ true → more ≡ []
 -- ## Runs
 
 -- A machine made so many steps, in which these looks were made, whatever later ones would have found. They found the keys of
--- bytes that the reader gave; bytes behind those that were read ahead are no part of the run.
+-- bytes that the reader gave. Bytes after those that were read ahead are no part of the run.
 pub record HasMadeSteps (form : Form) (input : Input) (old new : State) (reader reader' : Option (List ℕ)) (looks : List (Option ℕ)) (is_over : Bool) (steps : ℕ) : Type 0 where
   pub bytes : List ℕ
   pub ahead : List ℕ
@@ -62,7 +62,7 @@ pub record IsRunOf (form : Form) (input : Input) (n : ℕ) (old new : State) (re
   pub run : (more : List (Option ℕ)) → MayFollow is_over more → IsRun (seated old (looks ++ more)) n ended.steps ended.why
   pub none_left : ended.why ≡ why.Keys → is_over ≡ true
 
--- A run that a fault cuts short behind so many steps.
+-- A run that a fault cuts short after so many steps.
 pub record IsCut (form : Form) (input : Input) (n : ℕ) (old new : State) (reader reader' : Option (List ℕ)) : Type 0 where
   pub looks : List (Option ℕ)
   pub is_over : Bool
@@ -76,7 +76,7 @@ abbrev pub WritesPrinted : State → List (Option ℕ) → Bool → Option (List
 WritesPrinted s looks is_over writer writer' steps =
     (more : List (Option ℕ)) → MayFollow is_over more → Appends writer writer' (shown (printed_by steps (seated s (looks ++ more))))
 
--- What a run of at most n steps comes to. Where the reader fails the writer got what was printed so far.
+-- What a run of at most n steps answers. Where the reader fails the writer got what was printed so far.
 abbrev pub RunsProgram : Form → Input → ℕ → State → State → Option (List ℕ) → Option (List ℕ) → Option (List ℕ) → Option (List ℕ) → Result Ended TerminalFault → Type 0
 RunsProgram form input n old new reader reader' writer writer' (Ok ended) =
     (ran : IsRunOf form input n old new reader reader' ended) × WritesPrinted old ran.looks ran.is_over writer writer' ended.steps

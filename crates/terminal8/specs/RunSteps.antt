@@ -1,4 +1,4 @@
--- What a run comes to on the way, for private clauses.
+-- The steps of a run, for private clauses.
 use Rattle.std.specs.Prelude.{◌≡◌, ℕ, ◌≤◌, Bool, true, false, List, [], ◌∷◌, ◌++◌, length, take, Option, Some, None, Result, Ok, Err}
 use Rattle.std.specs.Io.KnownBytes.{Consumes, Appends, IsAtEnd}
 use Rattle.cpu8.specs.State.{State}
@@ -15,12 +15,12 @@ use Rattle.terminal8.specs.declared.outcomes.TerminalFault.TheVariants.{Reader, 
 
 -- ## Bytes that are read ahead
 
--- what a read into a buffer comes to: so many bytes at its prefix, none only at the reader's end
+-- what a read into a buffer gives: so many bytes at its prefix, none only at the reader's end
 abbrev pub ReadsSome : List ℕ → Option (List ℕ) → Option (List ℕ) → Result ℕ TerminalFault → Type 0
 ReadsSome buffer reader reader' (Ok count) = (count ≤ length buffer) × Consumes reader reader' (take count buffer) × (count ≡ 0 → IsAtEnd reader')
 ReadsSome buffer reader reader' (Err fault) = (fault ≡ Reader) × Consumes reader reader' []
 
--- what filling comes to, where no byte was ahead
+-- what filling gives, where no byte was ahead
 abbrev pub FillsBuffer : List ℕ → Option (List ℕ) → Option (List ℕ) → Result Unit TerminalFault → Type 0
 FillsBuffer ahead reader reader' (Ok nothing) = Consumes reader reader' ahead × (ahead ≡ [] → IsAtEnd reader')
 FillsBuffer ahead reader reader' (Err fault) = (fault ≡ Reader) × (ahead ≡ []) × Consumes reader reader' []
@@ -40,7 +40,7 @@ pub record Strikes (ahead ahead' : List ℕ) (reader reader' : Option (List ℕ)
 abbrev pub IsDry : List ℕ → Option (List ℕ) → Type 0
 IsDry ahead reader = (ahead ≡ []) × IsAtEnd reader
 
--- what taking the next byte comes to
+-- what taking the next byte gives
 abbrev pub ReadsByte : List ℕ → List ℕ → Option (List ℕ) → Option (List ℕ) → Result (Option ℕ) TerminalFault → Type 0
 ReadsByte ahead ahead' reader reader' (Ok (Some byte)) = Strikes ahead ahead' reader reader' (byte ∷ [])
 ReadsByte ahead ahead' reader reader' (Ok None) = Strikes ahead ahead' reader reader' [] × IsDry ahead' reader'
@@ -53,7 +53,7 @@ pub record StrikesKeys (k k' : Keyboard) (ahead ahead' : List ℕ) (reader reade
   pub keyboard : k' ≡ behind k bytes
   pub keys_are : keys_from k bytes ≡ keys
 
--- what striking bytes up to the next key comes to
+-- what striking bytes up to the next key gives
 abbrev pub ReadsKey : Keyboard → Keyboard → List ℕ → List ℕ → Option (List ℕ) → Option (List ℕ) → Result (Option ℕ) TerminalFault → Type 0
 ReadsKey k k' ahead ahead' reader reader' (Ok (Some key)) = StrikesKeys k k' ahead ahead' reader reader' (key ∷ [])
 ReadsKey k k' ahead ahead' reader reader' (Ok None) = StrikesKeys k k' ahead ahead' reader reader' [] × IsDry ahead' reader'
@@ -99,7 +99,7 @@ pub record Looks (input : Input) (k k' : Keyboard) (ahead ahead' : List ℕ) (is
   pub left : is_over' ≡ is_none_left found
   pub same : is_over' ≡ true → s' ≡ s
 
--- The operator attends to a machine, so many steps behind the last time; starved tells whether the keys have ended for a machine
+-- The operator attends to a machine, so many steps after the last time. Starved says whether the keys have ended for a machine
 -- that waits for one.
 pub record Attends (input : Input) (k k' : Keyboard) (ahead ahead' : List ℕ) (is_over is_over' : Bool) (s s' : State) (since since' : ℕ) (reader reader' : Option (List ℕ)) (starved : Bool) : Type 0 where
   pub found : List (Option ℕ)
@@ -117,7 +117,7 @@ pub record Attends (input : Input) (k k' : Keyboard) (ahead ahead' : List ℕ) (
   pub none_left : starved ≡ true → is_over' ≡ true
   pub idle : starved ≡ true → (s' ≡ s) × (found ≡ [])
 
--- a fault met by the operator, behind bytes that are no key
+-- a fault met by the operator, after bytes that are no key
 abbrev pub Misses : Keyboard → Keyboard → List ℕ → List ℕ → Bool → Option (List ℕ) → Option (List ℕ) → Type 0
 Misses k k' ahead ahead' is_over reader reader' = (is_over ≡ false) × StrikesKeys k k' ahead ahead' reader reader' []
 
@@ -128,7 +128,7 @@ abbrev pub Prints : State → List (Option ℕ) → Bool → Option (List ℕ) �
 Prints s looks is_over writer writer' paper steps =
     (more : List (Option ℕ)) → MayFollow is_over more → Passes writer writer' [] paper (shown (printed_by steps (seated s (looks ++ more))))
 
--- what a run comes to whose last printed characters may still be on the paper
+-- the answer of a run whose last printed characters may still be on the paper
 abbrev pub RunsInto : Form → Input → ℕ → State → State → Option (List ℕ) → Option (List ℕ) → Option (List ℕ) → Option (List ℕ) → List ℕ → Result Ended TerminalFault → Type 0
 RunsInto form input n old new reader reader' writer writer' paper (Ok ended) =
     (ran : IsRunOf form input n old new reader reader' ended) × Prints old ran.looks ran.is_over writer writer' paper ended.steps

@@ -11,7 +11,7 @@ use Rattle.terminal8.specs.declared.outcomes.Why.{Why}
 use Rattle.terminal8.specs.declared.outcomes.Why.TheVariants as why
 
 -- A machine, what the operator's next looks at the keys find, each a key or none yet, and the steps since the program last asked
--- for one. Behind the last look the keys have ended.
+-- for one. After the last look the keys have ended.
 pub record Terminal : Type 0 where
   pub machine : State
   pub looks : List (Option ℕ)
@@ -35,7 +35,7 @@ attended t = if asks_for_key t.since t.machine then looked t.machine t.looks els
 abbrev pub stepped : Terminal → State × Stepped
 stepped t = printing_step true (attended t).machine
 
--- what stands behind that step
+-- what stands after that step
 abbrev pub next : Terminal → Terminal
 next t = record (attended t) { machine = (stepped t).0; since = (attended t).since + 1 }
 
@@ -44,7 +44,7 @@ unfoldable pub later : ℕ → Terminal → Terminal
 later zero t = t
 later (suc k) t = next (later k t)
 
--- what the last of so many steps did; before the first, what a machine that runs or stands stopped is said to have done
+-- what the last of so many steps did; before the first, what a machine that runs or stands stopped counts as having done
 unfoldable pub last_did : ℕ → Terminal → Stepped
 last_did zero t = if t.machine.running then Ran None else Stopped
 last_did (suc k) t = (stepped (later k t)).1
@@ -75,7 +75,7 @@ has_halted (Unassigned word) = false
 has_halted Interrupted = false
 has_halted (Ran printed) = false
 
--- why a run ends behind a step, if it does
+-- why a run ends after a step, if it does
 abbrev pub stop_of : Stepped → Option Why
 stop_of Halted = Some why.Halt
 stop_of (Unassigned word) = Some why.Unassigned
@@ -83,8 +83,8 @@ stop_of Stopped = Some why.Halt
 stop_of Interrupted = None
 stop_of (Ran printed) = None
 
--- Why a run of at most n steps ends after so many of them: the last one was a HLT, or the machine stands stopped; it met an
--- unassigned word; the keys have ended and the machine waits for one; or all n are made.
+-- Why a run of at most n steps ends after so many of them. The last one was a HLT, or the machine stands stopped. Or it met an
+-- unassigned word; or the keys have ended and the machine waits for one; or all n are made.
 abbrev pub Ends : Terminal → ℕ → ℕ → Why → Type 0
 Ends t n steps why.Halt = has_halted (last_did steps t) ≡ true
 Ends t n steps why.Unassigned = (word : ℕ) × (last_did steps t ≡ Unassigned word)

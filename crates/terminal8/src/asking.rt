@@ -7,8 +7,9 @@ ghost use Rattle.cpu8.specs.Step.{fetched};
 use cpu8::Machine;
 use word12::{Cell, PAGE, Word};
 
-/// Whether the program asks for a key, so many steps after it last asked: no key is unread, and the next step is a KSF (pulse 1
-/// of a keyboard instruction), or interrupts are on and the steps are 30,000 at least, a tenth of a second.
+/// Whether the program asks for a key, so many steps after it last asked. It does where no key is unread, and one of these
+/// holds. The next step is a KSF (pulse 1 of a keyboard instruction); or interrupts are on and the steps are 30,000 at least, a
+/// tenth of a second.
 pub fn asks_for_key(since: u64, machine: &Machine) -> bool
     ensures { result ≡ asks_for_key since machine.now }
 {
@@ -16,8 +17,8 @@ pub fn asks_for_key(since: u64, machine: &Machine) -> bool
         && (tests_keyboard(machine) || (machine.interrupts_on() && since >= TENTH_OF_A_SECOND))
 }
 
-/// How many steps, at most n, a program may make before it asks for a key by its time alone, so many steps after it last asked,
-/// with interrupts on or off as they are.
+/// How many steps, at most n, a program may make before it asks for a key by its time alone. So many steps were made since it
+/// last asked, and interrupts stay on or off as they are.
 #[inline(always)]
 pub(crate) fn steps_before_look(since: u64, machine: &Machine, n: u64) -> usize
     ensures within { result ≤ n }
@@ -76,7 +77,7 @@ fn is_undisturbed(machine: &Machine) -> bool
     machine.is_running() && !grants
 }
 
-/// Whether behind the next instruction there is a direct JMP back to it.
+/// Whether the word after the next instruction is a direct JMP back to it.
 fn jumps_back(machine: &Machine) -> bool
     ensures { result ≡ jumps_back machine.now }
 {

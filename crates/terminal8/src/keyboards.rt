@@ -9,7 +9,7 @@ use std::marker::Model;
 /// How bytes are struck.
 #[derive(Clone, Copy, PartialEq, Eq, Debug)]
 pub enum Form {
-    /// As a text of the host: LF is struck as CR (0215), and so is CR, with which an LF behind it is one; any other byte
+    /// As a text of the host: LF is struck as CR (0215), and so is CR, with which an LF after it is one. Any other byte
     /// below 0200 is struck with its top bit set, and one above 0177 is dropped.
     Text,
     /// Each byte as it is.
@@ -58,7 +58,7 @@ impl Keyboard {
     }
 }
 
-/// The key of a byte of a text, behind a CR or not.
+/// The key of a byte of a text, after a CR or not.
 fn text_key(behind_return: bool, byte: u8) -> Option<u8>
     ensures { result ≡ text_key behind_return byte }
 {

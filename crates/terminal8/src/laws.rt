@@ -13,17 +13,17 @@ ghost use Rattle.terminal8.specs.declared.keyboards.Form.{Form};
 ghost use Rattle.terminal8.specs.declared.outcomes.Ended.{Ended};
 ghost use Rattle.terminal8.specs.declared.outcomes.Why.{Why};
 
-/// A machine that waits for a key does so for ever where none comes: after any number of steps it stands at its KSF or at the JMP
-/// behind it, else as before, and has printed nothing. At its KSF it asks for a key.
+/// A machine that waits for a key does so for ever where none comes. After any number of steps it stands at its KSF or at the JMP
+/// after it. Else it is as before, and has printed nothing. At its KSF it asks for a key.
 pub fn waiting()
     ensures state { (s : State) (k : ℕ) → waits_for_key s ≡ true → IsInLoop s (after true k s) }
     ensures printed { (s : State) (k : ℕ) → waits_for_key s ≡ true → printed_by true k s ≡ [] }
     ensures asks { (s : State) (since : ℕ) → waits_for_key s ≡ true → asks_for_key since s ≡ true }
 {}
 
-/// A program that reads with `KSF; JMP .-1; KRB` gets the next key: behind the looks that find none yet, two steps each,
-/// and two more steps it stands behind its KRB with the key in AC. Nothing was printed, and the looks behind that one are
-/// still to come: so it gets every key once and in order, whenever it reads. No end comes on the way.
+/// A program that reads with `KSF; JMP .-1; KRB` gets the next key. After the looks that find none yet, two steps each, and two
+/// more steps it stands after its KRB with the key in AC. Nothing was printed, and the looks after that one are still to come. So
+/// it gets every key once and in order, whenever it reads. No end comes on the way.
 pub fn reading()
     ensures read { (s : State) (count key : ℕ) (looks : List (Option ℕ)) (since : ℕ) → ReadsNext s
         → later (2 * count + 2) (waiting_for s count key looks since)
@@ -34,7 +34,7 @@ pub fn reading()
         → k < 2 * count + 2 → GoesOn (waiting_for s count key looks since) k }
 {}
 
-/// Steps behind others are steps of the terminal that those left.
+/// Steps after others are steps of the terminal that those left.
 pub fn later_steps()
     ensures terminal { (a b : ℕ) (t : Terminal) → later (a + b) t ≡ later b (later a t) }
     ensures printed { (a b : ℕ) (t : Terminal) → terminal.printed_by (a + b) t
@@ -49,8 +49,8 @@ pub fn one_end()
         → why ≡ other }
 {}
 
-/// Where keys end, and the bytes of the reader are known, a run is that of a terminal at which the keys of all of them are
-/// struck, however far the reader was read.
+/// Where keys end, and the bytes of the reader are known, a run is that of a terminal at which all their keys are struck. It does
+/// not matter how far the reader was read.
 pub fn known_bytes()
     ensures { (form : Form) (n : ℕ) (old new : State) (bytes left : List ℕ)
         (writer written : Option (List ℕ)) (ended : Ended)

@@ -1,5 +1,5 @@
-//! A machine at a terminal: the bytes of a reader are struck as keys, each where the program asks for one, and a writer gets what
-//! is printed; or the keys are known, and steps are made one by one, or several at once that are counted.
+//! A machine at a terminal. The bytes of a reader are struck as keys, each where the program asks for one, and a writer gets what
+//! is printed. Or the keys are known, and steps are made one by one, or several at once that are counted.
 //!
 //! Nothing here takes memory but lists of keys.
 #![tactic(auto)]

@@ -42,7 +42,7 @@ impl Operator {
         }
     }
 
-    /// Looks for a key where the program asks for one. Answers whether the keys have ended and the machine waits
+    /// Looks for a key where the program asks for one. The answer is whether the keys have ended and the machine waits
     /// for one.
     #[inline(always)]
     pub(crate) fn attend<R: Read, W: Write>(

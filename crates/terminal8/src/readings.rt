@@ -66,7 +66,7 @@ impl ReadAhead {
     }
 }
 
-/// Reads bytes to the prefix of a buffer that has room, and tells how many.
+/// Reads bytes into the prefix of a buffer that has room. The answer is how many.
 fn read<R: Read>(bytes: &mut [u8], reader: &mut R) -> Result<usize, TerminalFault>
     requires { 0 < length bytes.old }
     ensures { ReadsSome bytes.new (R.remaining reader.old) (R.remaining reader.new) result }
@@ -84,7 +84,7 @@ fn read<R: Read>(bytes: &mut [u8], reader: &mut R) -> Result<usize, TerminalFaul
     Err(TerminalFault::Reader)
 }
 
-/// Strikes bytes up to the first that is a key, and answers it; none where the reader gives no byte before.
+/// Strikes bytes up to the first that is a key, and answers it. It answers none where the reader gives no byte before.
 pub(crate) fn next_key<R: Read, W: Write>(
     keyboard: &mut Keyboard,
     ahead: &mut ReadAhead,
@@ -107,7 +107,7 @@ pub(crate) fn next_key<R: Read, W: Write>(
     Err(TerminalFault::Reader)
 }
 
-/// The next byte, of those read ahead or else of a reader, which may keep us waiting: what was printed is handed on
+/// The next byte, of those read ahead or else of a reader, which may keep us waiting. What was printed is handed on
 /// before.
 #[inline(always)]
 fn next_byte<R: Read, W: Write>(
@@ -127,7 +127,7 @@ fn next_byte<R: Read, W: Write>(
     Ok(ahead.take_next())
 }
 
-/// Whether a reader only says that it was interrupted.
+/// Whether the error of a reader is only that it was interrupted.
 fn is_interrupted(error: &io::Error) -> bool
     ensures it { result ≡ true → error_kind error.now ≡ Interrupted }
     ensures all { error_kind error.now ≡ Interrupted → result ≡ true }

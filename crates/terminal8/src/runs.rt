@@ -23,8 +23,8 @@ use std::io::{Read, Write};
 /// goes to the writer without its top bit, and NUL is left out. Bytes are read some ahead: those that are not struck are
 /// no part of the run. Before the reader is asked for bytes, what was printed so far is handed on, and the writer flushed.
 ///
-/// It ends at a HLT, or where the machine stands stopped; at an unassigned word; where the keys have ended and the
-/// machine waits for one for ever; or behind n steps. Live keys never end: a look that finds none is made again where the
+/// It ends at a HLT, or where the machine stands stopped, or at an unassigned word. It ends where the keys have ended and the
+/// machine waits for one for ever, or after n steps. Live keys never end: a look that finds none is made again where the
 /// program next asks for one. The answer is `Reader` or `Writer` where one of these fails. It takes no memory.
 pub fn run<R: Read, W: Write>(
     machine: &mut Machine,
@@ -125,8 +125,8 @@ fn take_turn(machine: &mut Machine) -> Stepped
     machine.step()
 }
 
-/// Makes up to n steps that print nothing, go on, and in which the program asks for no key, so many steps after it last
-/// asked for one, and tells how many.
+/// Makes up to n steps that print nothing, go on, and in which the program asks for no key. So many steps were made since it
+/// last asked for one. The answer is how many steps are made.
 #[inline(always)]
 fn go_on(machine: &mut Machine, n: u64, since: u64) -> u64
     ensures within { result ≤ n }
@@ -138,8 +138,8 @@ fn go_on(machine: &mut Machine, n: u64, since: u64) -> u64
     machine.run_unasked(most) as u64
 }
 
-/// Why a run ends behind a step that did this, if it does: it was a HLT, or the machine stood stopped; or it met a word that is
-/// unassigned.
+/// Why a run ends after a step that did this, if it does. The step was a HLT, or the machine stood stopped, or the step met a
+/// word that is unassigned.
 pub fn stop_of(did: Stepped) -> Option<Why>
     ensures { result ≡ stop_of did }
 {

@@ -63,7 +63,7 @@ impl<'k> Terminal<'k> {
         self.keys.is_empty() && waits_for_key(&self.machine)
     }
 
-    /// One step: where the program asks for a key the next one is struck, then the printer ends its character where it is busy, and
+    /// One step. Where the program asks for a key the next one is struck. Then the printer ends its character where it is busy, and
     /// then the machine makes a step (this project's profile). A terminal makes at most 2^64 - 1 steps.
     #[inline]
     pub fn step(&mut self) -> Stepped
@@ -79,10 +79,10 @@ impl<'k> Terminal<'k> {
         self.machine.step()
     }
 
-    /// Makes at once at most n steps, as many as are quickly made, and tells how many: each is an instruction that prints nothing and
-    /// goes on, and in none the program asks for a key. One count for each of the 0o100000 cells of core becomes one more with each
-    /// step that fetches the word of its cell; each has room for n more. None may be made: then take a `step`. A terminal makes at
-    /// most 2^64 - 1 steps.
+    /// Makes at once at most n steps, as many as are quickly made, and answers how many. Each is an instruction that prints nothing
+    /// and goes on, and in none the program asks for a key. One count for each of the 0o100000 cells of core becomes one more with
+    /// each step that fetches the word of its cell. Each count has room for n more. Where none is made the caller takes a `step`. A
+    /// terminal makes at most 2^64 - 1 steps.
     pub fn go_on_counting(&mut self, n: u64, counts: &mut [u64]) -> u64
         requires since { self.old.since + n < 2 ^ 64 }
         requires size { length counts.old ≡ CORE }

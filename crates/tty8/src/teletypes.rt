@@ -68,7 +68,7 @@ impl Teletype {
         self.keyboard_flag = true;
     }
 
-    /// The printer ends a character: where it is busy it is so no more, and the printer flag is set. Else nothing
+    /// The printer ends a character: where it is busy it no longer is, and the printer flag is set. Else nothing
     /// changes.
     pub fn done(&mut self)
         ensures { self.new ≡ finished self.old }
@@ -79,7 +79,7 @@ impl Teletype {
         }
     }
 
-    /// Both flags are cleared, and the printer is busy no more. The keyboard's buffer stays.
+    /// Both flags are cleared, and the printer is no longer busy. The keyboard's buffer stays.
     pub fn clear(&mut self)
         ensures { self.new ≡ cleared self.old }
     {
@@ -125,8 +125,8 @@ impl Teletype {
     /// A printer instruction, 6040 to 6047, of these pulses (the last octal digit; only its three bits count) and
     /// this AC: the character that it prints.
     ///
-    /// Pulse 2 clears the printer flag (Small Computer Handbook); 4 prints AC bits 4 to 11 at once, also where the
-    /// printer is busy, and makes it busy (this project's profile).
+    /// Pulse 2 clears the printer flag (Small Computer Handbook). Pulse 4 prints AC bits 4 to 11 at once, also where
+    /// the printer is busy, and makes it busy (this project's profile).
     #[inline]
     pub fn printer(&mut self, pulses: u8, ac: Word) -> Option<u8>
         ensures state { self.new ≡ printer_pulsed self.old pulses }

@@ -14,7 +14,7 @@ octal4 word = octal_digit (word / 0o1000) ∷ octal_digit (word / 0o100) ∷ oct
 abbrev pub octal5 : ℕ → List ℕ
 octal5 cell = octal_digit (cell / FIELD) ∷ octal4 (cell % FIELD)
 
--- the number that octal digits spell behind a number that was spelled before them
+-- the number that octal digits spell after those of a number before them
 abbrev pub octal_number_after : ℕ → List ℕ → ℕ
 octal_number_after n [] = n
 octal_number_after n (digit ∷ digits) = octal_number_after (8 * n + (digit - 0o60)) digits
@@ -23,13 +23,13 @@ octal_number_after n (digit ∷ digits) = octal_number_after (8 * n + (digit - 0
 abbrev pub octal_number : List ℕ → ℕ
 octal_number digits = octal_number_after 0 digits
 
--- the number that octal digits go on to
+-- the number that octal digits spell after those of a number before them, if each is one
 abbrev pub octal_from : ℕ → List ℕ → Option ℕ
 octal_from n [] = Some n
 octal_from n (digit ∷ digits) =
     if nat_le 0o60 digit && nat_lt digit 0o70 then octal_from (8 * n + (digit - 0o60)) digits else None
 
--- an octal number of just so many digits
+-- the number that exactly so many octal digits spell
 abbrev pub octal_of : ℕ → List ℕ → Option ℕ
 octal_of count digits = if nat_eq (length digits) count then octal_from 0 digits else None
 

@@ -1,4 +1,4 @@
-//! Octal numbers of just so many digits, as the handbook writes words and cells.
+//! Octal numbers with a given number of digits, as the handbook writes words and cells.
 ghost use Rattle.std.specs.Prelude.{◌≡◌, ◌≤◌, ◌<◌, IfSome, length};
 ghost use Rattle.word12.specs.Octal.{octal_from, octal_limit, octal_of};
 
@@ -20,7 +20,7 @@ pub fn octal_word(digits: &[u8]) -> Option<Word>
     Some(Word::low(number as u16))
 }
 
-/// The number of just so many octal digits, at most five, else nothing.
+/// The number that exactly so many octal digits spell, at most five, else nothing.
 pub fn octal(digits: &[u8], count: usize) -> Option<u32>
     requires { count ≤ 5 }
     ensures value { result ≡ octal_of count digits.now }

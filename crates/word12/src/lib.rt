@@ -1,5 +1,5 @@
-//! Words and cells of the PDP-8: numbers of twelve bits, and places in core; how they are written in octal; how large core, its parts
-//! and a disk's blocks are; and the sixbit codes of names.
+//! Words and cells of the PDP-8: numbers of twelve bits and places in core, and how they are written in octal. Here too are the
+//! sizes of core, of its parts and of a disk's blocks, and the sixbit codes of names.
 //!
 //! In each contract a [`Word`] is a number below 0o10000, and a [`Cell`] is the number of its place in core, below
 //! 0o100000. Nothing here takes memory.

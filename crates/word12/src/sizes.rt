@@ -15,5 +15,5 @@ pub const BLOCK: usize = 256;
 /// The most blocks of a volume: their numbers are words (OS/8 Software Support Manual).
 pub const MOST_BLOCKS: usize = 4095;
 
-/// The first block behind the directory's, where files may lie (OS/8 Software Support Manual).
+/// The first block after the directory's, where files may lie (OS/8 Software Support Manual).
 pub const FIRST_FILE_BLOCK: usize = 7;

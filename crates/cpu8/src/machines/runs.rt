@@ -13,11 +13,11 @@ use crate::{Gone, Stepped, Why};
 use word12::{CORE, FIELD};
 
 impl Machine {
-    /// Makes steps, each an instruction or an interrupt (Small Computer Handbook), up to a HLT, an unassigned word or a
-    /// break, and at most n of them; none where the machine stands stopped. The breaks tell of each cell, by its number,
-    /// whether it has one; a cell past their end has none, and a break isn't tested before the first step. With `quick`
-    /// the printer ends its character before each step that finds it busy (this project's profile). What is printed is
-    /// appended, for which the caller made room: a run takes no memory.
+    /// Makes steps, each an instruction or an interrupt (Small Computer Handbook), up to a HLT, an unassigned word or a break. It
+    /// makes at most n of them, and none where the machine stands stopped. The breaks say for each cell, by its number, whether it
+    /// has one. A cell past their end has none, and a break isn't tested before the first step. With `quick` the printer ends its
+    /// character before each step that finds it busy (this project's profile). What is printed is appended, for which the caller
+    /// made room: a run takes no memory.
     pub fn run(&mut self, n: usize, quick: bool, breaks: &[bool], printed: &mut Vec<u8>) -> Gone
         requires room { vec_len printed.old + n ≤ vec_capacity printed.old }
         ensures steps { IsGo quick breaks.now self.old n result.steps result.why }
@@ -52,10 +52,10 @@ impl Machine {
         }
     }
 
-    /// Makes steps, at most n, as many as are quickly made without a look at the Teletype, and tells how many: with a printer
-    /// that ends its character before the next step (this project's profile), each an instruction that prints nothing and
-    /// goes on. It stops before a KSF that finds the keyboard flag clear, where a program asks for a key, and before an
-    /// instruction that changes whether interrupts are on. None may be made: then take a `step`.
+    /// Makes steps, at most n, as many as are quickly made without a look at the Teletype, and answers how many. The printer ends
+    /// its character before the next step (this project's profile). Each step is an instruction that prints nothing and goes on. It
+    /// stops before a KSF that finds the keyboard flag clear, where a program asks for a key. It also stops before an instruction
+    /// that changes whether interrupts are on. Where none is made the caller takes a `step`.
     pub fn run_unasked(&mut self, n: usize) -> usize
         ensures within { result ≤ n }
         ensures state { self.new ≡ after true result self.old }
@@ -67,7 +67,7 @@ impl Machine {
         self.run_without_breaks(n, true, true, &[])
     }
 
-    /// The same, and counts the words that are fetched: one count for each of the 0o100000 cells of core becomes one more with each
+    /// The same, and counts the words that are fetched. One count for each of the 0o100000 cells of core becomes one more with each
     /// step that fetches the word of its cell. Each count must have room for n more.
     pub fn run_unasked_counting(&mut self, n: usize, counts: &mut [u64]) -> usize
         requires size { length counts.old ≡ CORE }
@@ -94,8 +94,8 @@ impl Machine {
             && !self.processor.finds_transfer(&self.core)
     }
 
-    /// Makes up to n steps as long as they are quiet, and no break is ahead. Where few were made, IOTs come close together,
-    /// and the loop with IOTs goes on. It comes back after `MOST` steps, since steps without IOTs are made sooner without it.
+    /// Makes up to n steps as long as they are quiet, and no break is ahead. Where few were made, IOTs come close together, and the
+    /// loop with IOTs goes on. It comes back after `MOST` steps, since steps without IOTs are made sooner without it.
     #[inline(always)]
     fn run_quietly(
         &mut self,
@@ -133,7 +133,7 @@ impl Machine {
             && !self.processor.finds_print(&self.core)
     }
 
-    /// The steps of a quiet machine up to the next IOT: none where breaks tell of some cells alone.
+    /// The steps of a quiet machine up to the next IOT: none where breaks are set in some cells alone.
     #[inline(always)]
     fn run_settled(
         &mut self,
@@ -172,9 +172,9 @@ impl Machine {
         steps
     }
 
-    /// The steps of a quiet machine in a field without breaks: on a copy of the processor, which so stays in registers of
-    /// the machine that this program runs on. That it is settled tells the compiler that these steps leave the fields and
-    /// the states of interrupts alone. A run that asks and one that doesn't go through the same loop, at the same speed.
+    /// The steps of a quiet machine in a field without breaks. They are made on a copy of the processor, which so stays in
+    /// registers of the machine that this program runs on. By the settled state the compiler knows that these steps leave the
+    /// fields and the states of interrupts alone. A run that asks and one that doesn't go through the same loop, at the same speed.
     #[inline(never)]
     fn run_without_breaks(&mut self, n: usize, quick: bool, asks: bool, breaks: &[bool]) -> usize
         requires quiet { is_quiet quick self.old ≡ true }
@@ -191,7 +191,7 @@ impl Machine {
         steps
     }
 
-    /// The same with breaks that tell of each cell.
+    /// The same with breaks that say for each cell whether it has one.
     #[inline(never)]
     fn run_with_breaks(&mut self, n: usize, quick: bool, breaks: &[bool]) -> usize
         requires quiet { is_quiet quick self.old ≡ true }
@@ -225,7 +225,7 @@ impl Machine {
         steps
     }
 
-    /// A step: its character is appended, for which there is room, and why to stop behind it, if there is a reason.
+    /// A step: its character is appended, for which there is room. The answer is why to stop after it, if there is a reason.
     #[inline(always)]
     fn advance(&mut self, quick: bool, breaks: &[bool], printed: &mut Vec<u8>) -> Option<Why>
         requires { vec_len printed.old + 1 ≤ vec_capacity printed.old }
@@ -272,8 +272,8 @@ impl Machine {
     }
 }
 
-/// Which fields have no break: all where there is none. Else a run of few steps isn't worth the look, and no field is told
-/// to have none.
+/// Which fields have no break: all where there is none. Else a run of few steps isn't worth the look, and for no field it is known
+/// that it has none.
 fn unbroken_fields(n: usize, breaks: &[bool]) -> [bool; FIELDS]
     ensures { AreUnbroken breaks.now result }
 {

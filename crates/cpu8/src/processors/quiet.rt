@@ -3,12 +3,12 @@
 //! A loop works on a copy of the processor, which the compiler keeps in registers of the host. For that every function here
 //! is inlined. What comes seldom is left to the plain step.
 //!
-//! A step jumps by the five leading bits of its word, and an operate once more by its whole word. The code that each jump
-//! comes to is compiled for those bits, so that it tests them no more.
+//! A step jumps by the five leading bits of its word, and an operate once more by its whole word. The code at which each jump ends
+//! is compiled for those bits, and tests them no more.
 //!
-//! There are four loops: without breaks, with breaks, with counts, and with IOTs. The compiler inlines what is called once, so
-//! a large function stands in the program once for each loop. Its parameters tell them apart: MINDS, whether breaks are
-//! minded; COUNTS, whether fetches are counted; TRANSFERS, whether IOTs are among the steps.
+//! There are four loops: without breaks, with breaks, with counts, and with IOTs. The compiler inlines what is called once, so a
+//! large function stands in the program once for each loop. The loops differ by its parameters: MINDS, whether breaks are minded;
+//! COUNTS, whether fetches are counted; TRANSFERS, whether IOTs are among the steps.
 
 ghost use Rattle.std.specs.Prelude.{◌≡◌, ◌<◌, ◌≤◌, ◌/◌, true, false, nat_eq, length};
 ghost use Rattle.word12.specs.declared.sizes.TheConstants.{CORE};
@@ -27,8 +27,8 @@ use crate::decoding::{
 use core_load::Core;
 use word12::{Cell, FIELD, Word};
 
-/// Does an instruction by a method, whose code is compiled for each word of the list by itself. Another word is done as the
-/// `else` says.
+/// Does an instruction by a method, whose code is compiled for each word of the list by itself. Another word is done as the `else`
+/// says.
 macro_rules! each_for_itself {
     ($processor:ident, $does:ident, $core:ident, $word:ident: $($one:literal)*; else $other:expr) => {
         match $word.get() {
@@ -68,7 +68,7 @@ impl Processor {
         self.instruction_buffer == self.instruction_field && !self.waiting && !self.held_off
     }
 
-    /// The same processor, with what is settled written as constants, so that the compiler knows it.
+    /// The same processor, with what is settled written as constants, by which the compiler knows it.
     #[inline(always)]
     pub(crate) fn with_settled_state(self) -> Processor
         requires { is_settled self ≡ true }
@@ -140,8 +140,8 @@ impl Processor {
     }
 
     /// Makes up to n steps, IOTs among them, and answers how many. It ends where a step is not quiet, and where a break is ahead.
-    /// It stands beside the other loops, so that what an IOT changes is constant in those. A break is looked for before each
-    /// step, since the cell is then known.
+    /// It stands beside the other loops. So what an IOT changes is constant in those. A break is looked for before each step,
+    /// since the cell is then known.
     #[inline(always)]
     pub(crate) fn run_with_transfers(
         &mut self,
@@ -341,8 +341,8 @@ impl Processor {
         true
     }
 
-    /// Does the next instruction, if it is an IOT of the loop with IOTs, and answers whether it was. A run ends with it, so that
-    /// what it changes is constant in the loop.
+    /// Does the next instruction, if it is an IOT of the loop with IOTs, and answers whether it was. A run ends with it. So what
+    /// it changes is constant in the loop.
     #[inline(always)]
     fn end_by_transfer(&mut self, core: &Core) -> bool
         ensures { GoesOrNot (with_core self.old core.now) (fetched (with_core self.old core.now)) result (with_core self.new core.now) }
@@ -381,8 +381,8 @@ impl Processor {
         true
     }
 
-    /// An operate instruction, if it goes on: all of group 1 that are assigned, a line for two choices of CLA, CLL, CMA and CML, and
-    /// all of group 2 without HLT.
+    /// An operate instruction, if it goes on: all of group 1 that are assigned, and all of group 2 without HLT. A line of the list
+    /// has two choices of CLA, CLL, CMA and CML.
     #[inline(always)]
     fn operate_quietly<const MINDS: bool, const COUNTS: bool, const TRANSFERS: bool>(
         &mut self,
