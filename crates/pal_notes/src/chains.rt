@@ -144,7 +144,7 @@ fn put_cells(
     Ok(())
 }
 
-/// Appends a cell behind a blank, its field first.
+/// Appends a cell after a blank, its field first.
 fn put_cell(text: &mut Vec<u8>, cell: Cell) -> Result<(), AllocError>
     ensures { OnOk result (text.new.items ≡ text.old.items ++ 0o40 ∷ octal5 cell) }
 {
