@@ -13,7 +13,7 @@ pub fn shown_line(alloc: Global, source: &[u8], line: usize) -> Result<Vec<u8>, 
     Ok(text)
 }
 
-/// What stands behind so many LFs.
+/// What stands after so many LFs.
 fn behind_lines(bytes: &[u8], count: usize) -> &[u8]
     ensures { result.now ≡ behind_lines count bytes.now }
 {
