@@ -8,7 +8,7 @@ use char_pack::CONTROL_Z;
 /// What frames are for a text that comes to them.
 #[derive(Clone, Copy, PartialEq, Eq, Debug)]
 pub enum Passage {
-    /// It goes on behind them, and has had a graphic character or not.
+    /// It goes on after them, and has had a graphic character or not.
     Goes(bool),
 
     /// It ends among them, by a control Z or by zeros up to their end, and has had a graphic character or not.
