@@ -62,7 +62,7 @@ unknown_ended standing [] = None
 unknown_ended standing (b ∷ older) = if ends_statement older b then newest_unknown standing (statements (b ∷ older)) else None
 
 -- The first name that stands for nothing where the statement with the fault of a text is judged. In the first pass it is
--- judged by the statements before it. In the second one, where words are judged, it is by those, else by the whole text.
+-- judged by the statements before it. In the second one, where words are judged, it is judged by those, else by the whole text.
 abbrev pub unknown_name : List ℕ → Option ℕ
 unknown_name text =
     if is_refused text then unknown_ended values_at (shortest is_refused text)

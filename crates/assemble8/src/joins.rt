@@ -19,7 +19,7 @@ pub struct Join {
     pub counts: Vec<usize>,
 }
 
-/// The join of sources of the host: each but the last goes on in the next one at its first PAUSE that stands alone (PAL III
+/// The join of sources of the host. Each but the last goes on in the next one at its first PAUSE that stands alone (PAL III
 /// Symbolic Assembler manual, and this project's profile of it). The only fault is `Memory`.
 pub(crate) fn join_all(alloc: Global, sources: &[&[u8]]) -> Result<Join, SourceFault>
     ensures text { IfOk result (λ join. text_of join.text.items ≡ newest_first sources.now) }

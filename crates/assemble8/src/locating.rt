@@ -154,7 +154,7 @@ fn step_behind(byte: u8) -> Step
     Step::GoesOn
 }
 
-/// Takes a text that has its `$`, a word and no fault of the first pass in the second one, and answers the place of the byte
+/// Takes, in the second pass, a text that has its `$`, a word and no fault of the first pass. Answers the place of the byte
 /// that ends the first word with a fault, or that of the `$`.
 fn second_pass(alloc: Global, text: &[u8], assembler: &mut Assembler) -> Result<usize, SourceFault>
     requires second { IsSecond assembler.old (statements (text_of text.now)) [] }

@@ -32,8 +32,8 @@ pub(crate) fn comment_behind(comment: bool, byte: u8) -> bool
     }
 }
 
-/// The place of the first byte of a statement so far that is no blank, with one byte more, after which a comment goes on
-/// or not.
+/// The place of the first byte of a statement so far that is no blank, with one byte more, by whether a comment goes on
+/// after that.
 pub(crate) fn start_behind(
     start: Option<usize>,
     comment: bool,
@@ -54,7 +54,7 @@ pub(crate) fn start_behind(
     Some(place)
 }
 
-/// Whether a byte means nothing, after which a comment goes on or not.
+/// Whether a byte means nothing, by whether a comment goes on after it.
 pub(crate) fn is_dead(comment: bool, byte: u8) -> bool
     ensures { result ≡ (spec.is_ignored byte || comment) }
 {

@@ -47,7 +47,7 @@ EachTextIsFound = (before text behind : List (List ℕ)) → IsWhole false text
 abbrev pub EachProgramGoesOn : Type 0
 EachProgramGoesOn = (kind : ProgramKind) (words all : List ℕ) (few many : ℕ) → few ≤ many → Heads kind words all few → Heads kind words all many
 
--- each program is one where it is listed
+-- each program is one at the block that is given for it
 abbrev pub ArePrograms : List ℕ → List Program → Type 0
 ArePrograms words [] = Unit {0}
 ArePrograms words (program ∷ programs) =

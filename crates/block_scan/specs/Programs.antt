@@ -74,7 +74,7 @@ frames_from words place = drop (BLOCK_FRAMES * place) (frames words)
 abbrev pub BeginsNoneIn : List ℕ → ℕ → ℕ → ℕ → Type 0
 BeginsNoneIn words count from to = (place : ℕ) → from ≤ place → place < to → BeginsNone (words_from words place) (frames_from words place) (count - place)
 
--- a program begins where it is listed
+-- a program begins at the block that is given for it
 abbrev pub BeginsAt : List ℕ → ℕ → Program → Type 0
 BeginsAt words count program = Begins (words_from words program.place) (frames_from words program.place) (count - program.place) program.kind program.size
 

@@ -31,7 +31,7 @@ pub fn programs_are_there()
     ensures { EachProgramIsOne }
 {}
 
-/// A law: each whole program of a volume that begins at a block with more than leader, and lies in one piece, is found: it begins with one
+/// A law: each whole program of a volume that begins at a block with more than leader, and lies in one piece, is found. It begins with one
 /// that is listed, or inside it.
 pub fn programs_are_found()
     ensures { EachProgramIsFound }

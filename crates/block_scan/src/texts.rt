@@ -54,7 +54,7 @@ fn texts_of(alloc: Global, count: usize, frames: &[u8]) -> Result<Vec<TextPiece>
     Ok(pieces)
 }
 
-/// Adds the text that ends in the block before the next one, where a text may have come to it so.
+/// Adds the text that ends in the block before the next one, where a text may have reached it so.
 fn put_found(
     stretch: Stretch,
     next: usize,
@@ -76,7 +76,7 @@ fn put_found(
     }
 }
 
-/// How a text may come to the next block.
+/// How a text may reach the next block.
 fn stretch_behind(stretch: Stretch, next: usize, way: Passage) -> Stretch
     requires { stretch.first ≤ next }
     ensures value { result ≡ open_behind stretch next way }

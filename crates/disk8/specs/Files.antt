@@ -13,7 +13,7 @@ pub record Disk : Type 0 where
   pub layout : Layout
   pub bytes : List ℕ
 
--- what is answered where bytes are to be the file of a disk or a DECtape: `Memory` is reported of such a file only
+-- what is answered where bytes are to be the file of a disk or a DECtape: `Memory` is reported for such a file only
 abbrev pub Opens : Layout → List ℕ → Result Disk DiskFault → Type 0
 Opens layout bytes (Ok disk) = FitsLayout layout bytes × (disk.layout ≡ layout) × (disk.bytes ≡ bytes)
 Opens First bytes (Err TooLong) = DISK < length bytes
@@ -59,7 +59,7 @@ pub record IsBlankTape (image file : List ℕ) : Type 0 where
   pub volume : (k : ℕ) → k < TAPE_VOLUME → byte file (place Dectape k) ≡ byte image k
   pub others : (at : ℕ) → IsOutside Dectape at → byte file at ≡ 0
 
--- what is answered where a new DECtape is wanted: `Memory` is reported of an image of its volume only
+-- what is answered where a new DECtape is wanted: `Memory` is reported for an image of its volume only
 abbrev pub MakesTape : List ℕ → Result (Vec ℕ) DiskFault → Type 0
 MakesTape image (Ok file) = IsBlankTape image file.items
 MakesTape image (Err TooLong) = ⊥

@@ -17,7 +17,7 @@ pub record IsFirstLargest (rooms : List (ℕ × ℕ)) (room : ℕ × ℕ) : Type
   pub before : EachRoom (λ size. size < room.1) prefix
   pub after : EachRoom (λ size. size ≤ room.1) behind
 
--- The smallest of these rooms that has so many blocks, the first of equals: those before it that have so many have more
+-- The smallest of these rooms that has so many blocks, the first of equals. Those before it that have so many have more
 -- than it, and those after it no fewer.
 pub record IsFirstSmallest (wish : ℕ) (rooms : List (ℕ × ℕ)) (room : ℕ × ℕ) : Type 0 where
   pub prefix : List (ℕ × ℕ)

@@ -9,7 +9,7 @@ use crate::found::last_room;
 use crate::items::{drop_last, push_item};
 use std::alloc::AllocError;
 
-/// Adds blocks of no file after the others; none are nothing.
+/// Adds blocks of no file after the others; where there are none, it adds nothing.
 fn append_room(entries: &mut Vec<DirEntry>, length: usize) -> Result<(), AllocError>
     requires neat { IsTidy entries.old.items }
     requires fits { total entries.old.items + length ≤ MOST_BLOCKS }

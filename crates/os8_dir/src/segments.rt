@@ -134,7 +134,7 @@ impl Directory {
         self.entries().len().saturating_sub(1) / per_segment(self.information_words()) + 1
     }
 
-    /// The words of a segment, counted from 0: segment `number` stands in block `number + 1`, and links to the block after
+    /// The words of a segment, counted from 0. Segment `number` stands in block `number + 1`, and links to the block after
     /// it, or is the last (OS/8 Software Support Manual; flag word and rest are 0 in this project's profile).
     pub fn segment(&self, number: usize, words: &mut Block)
         requires inside { number < segment_count_of self.now }

@@ -370,7 +370,7 @@ abbrev pub HasMissed : Mounted → Mounted → Type 0
 HasMissed old new = new ≡ record old { reads = new.reads; failed_reads = old.failed_reads + 1 }
 
 -- A write failed where the lowest file with an empty directly below it is moved down. Either mounting finds all files with
--- their words, but perhaps this one where it is longer than that empty; or each file stands in full where the new list has it.
+-- their words, but perhaps this one where it is longer than that empty. Or each file stands in full where the new list has it.
 pub record MoveFailed (old new : Mounted) : Type 0 where
   pub ready : IsReady old
   pub name : ℕ

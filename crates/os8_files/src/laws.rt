@@ -55,8 +55,8 @@ pub fn held_blocks()
         → after ≡ take BLOCK (drop (BLOCK * k) file.1) }
 {}
 
-/// Calls that name no hold take and release none, and after them files that are held have their words. It is the same
-/// after two such calls. None of them, and no hold that is taken, lets a service go on that has stopped.
+/// Calls that aren't about holds take and release none, and after them files that are held have their words. It is the
+/// same after two such calls. None of them, and no hold that is taken, lets a service go on that has stopped.
 pub fn kept_holds()
     ensures read_block { (old new : Mounted) (name k : ℕ) (before after : List ℕ)
         (result : Result (Unit {0}) FileFault) → ReadsBlock old name k before result new after
@@ -97,8 +97,8 @@ pub fn counted_holds()
     ensures held { (name : ℕ) (holds : List ℕ) → contains holds name ≡ nat_lt 0 (times name holds) }
 {}
 
-/// Of all calls only a turn of squeezing changes the place of a file that it neither writes nor deletes, and of one file at
-/// most, the one that it answers.
+/// Of all calls only a turn of squeezing changes the place of a file that it neither writes nor deletes. It does so of one
+/// file at most, the one that it answers.
 pub fn file_places()
     ensures read_block { (old new : Mounted) (name k : ℕ) (before after : List ℕ)
         (result : Result (Unit {0}) FileFault) → ReadsBlock old name k before result new after
@@ -228,8 +228,8 @@ pub fn stopped_calls()
         → IsStopped old result }
 {}
 
-/// What giving a file another name leaves, as the laws above say of the other calls. It leaves this of the holds, the files that
-/// are held, the places of the other files and the count of reads, and after a write that fails of the files. It answers
+/// What giving a file another name leaves, as the laws above say of the other calls. This is said of the holds, the files that
+/// are held, the places of the other files and the count of reads. After a write that fails it is said of the files. It answers
 /// `Stopped` just where a write has failed before.
 pub fn renamed_files()
     ensures holds { (old new : Mounted) (name other : ℕ) (result : Result (Unit {0}) FileFault)

@@ -207,7 +207,7 @@ fn follows(place: usize, count: usize) -> bool
     count > 1 && place < count - 1
 }
 
-/// A lexer that has read no byte, of as many sources as there are numbers of blocks.
+/// A lexer that has read no byte, for as many sources as there are numbers of blocks.
 fn lexer_of(alloc: Global, blocks: &[usize]) -> Lexer
     ensures read { HasRead result 0 [] }
     ensures several { result.may_pause ≡ nat_lt 1 (length blocks.now) }

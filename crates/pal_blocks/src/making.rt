@@ -15,7 +15,7 @@ use char_pack::laws::joined_text;
 use pal_asm::{AsmFault, Pass, make_text};
 use word12::{Cell, Word};
 
-/// In the second pass takes a block, from a place in its characters on. Where memory runs out the place says how many
+/// Takes a block in the second pass, from a place in its characters on. Where memory runs out the place says how many
 /// were taken.
 pub(crate) fn make_block(
     pass: &mut Pass,

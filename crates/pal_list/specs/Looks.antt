@@ -22,7 +22,7 @@ pub record Look : Type 0 where
   pub remark : ℕ → List ℕ
   pub has_gap : ℕ → Bool
 
--- Comments are made of graphic characters, so that none of them ends its line.
+-- Comments are made of graphic characters, and so none of them ends its line.
 pub record AreNotes (look : Look) : Type 0 where
   pub above : (cell : ℕ) → cell < CORE → all_graphic (look.above cell) ≡ true
   pub remark : (cell : ℕ) → cell < CORE → are_graphic (look.remark cell) ≡ true

@@ -36,7 +36,7 @@ pub fn tape_comes_back()
     has_words();
 }
 
-/// A tape's source tags a cell exactly where the tape gives it a word, and it has a name of its own or a memory reference among the
+/// A tape's source tags a cell just where the tape gives it a word, and it has a name of its own or a memory reference among the
 /// instructions names it.
 pub fn named_cells_are_tagged()
     ensures { (look : Look) (frames text : List ℕ)

@@ -39,9 +39,9 @@ pub fn source_of(alloc: Global, frames: &[u8]) -> Result<Vec<u8>, ListFault>
 }
 
 /// The same of a program that starts at these cells. Instructions are those words that it reaches, as far as the words say. All other
-/// words stand as data: as the tag of the cell whose address they are, in their own field, where it has one, else as numbers (this
-/// project's reading of a program's flow). Comments show who refers to a cell and the characters of data, and an empty line stands where
-/// a program doesn't go on (this project's profile).
+/// words stand as data. Such a word is the tag of the cell whose address it is, in its own field, where that has one, else a number
+/// (this project's reading of a program's flow). Comments show who refers to a cell and the characters of data, and an empty line stands
+/// where a program doesn't go on (this project's profile).
 ///
 /// The first start to which the tape gives no word is refused.
 pub fn source_from(alloc: Global, frames: &[u8], starts: &[Cell]) -> Result<Vec<u8>, ListFault>
@@ -61,7 +61,7 @@ pub fn source_from(alloc: Global, frames: &[u8], starts: &[Cell]) -> Result<Vec<
 }
 
 /// The same as `source_of`'s with names for some cells, which a text gives as `pal_names` reads it. Each is the tag of its cell, whatever
-/// refers to it, and stands for the cell where a tag would (PAL III Symbolic Assembler manual, and this project's profile of it).
+/// refers to it. It stands for the cell where a tag would (PAL III Symbolic Assembler manual, and this project's profile of it).
 ///
 /// The first line of the names that is refused is reported before a tape of no word is.
 pub fn named_source_of(alloc: Global, frames: &[u8], names: &[u8]) -> Result<Vec<u8>, ListFault>
@@ -196,7 +196,7 @@ fn words_in(alloc: Global, map: &TapeMap) -> Result<Vec<Option<Word>>, AllocErro
     Ok(words)
 }
 
-/// A tape's fault, or want of memory.
+/// A tape's fault, or that memory ran out.
 fn fault_of(fault: TapeFault) -> ListFault
     ensures { (frames : List ℕ) → IsMapFault frames fault → IsUnread frames result }
 {

@@ -48,7 +48,7 @@ fn no_cells(alloc: Global, count: usize) -> Result<Vec<Option<Cell>>, AllocError
     Ok(cells)
 }
 
-/// Links the cells that refer to each cell, where none is linked before: from the highest down, so that chains rise.
+/// Links the cells that refer to each cell, where none is linked before: from the highest down, and so chains rise.
 fn link_all(
     first: &mut [Option<Cell>],
     next: &mut [Option<Cell>],

@@ -84,7 +84,7 @@ kept_of (f ∷ fs) [] = []
 kept_of (f ∷ fs) (None ∷ refusals) = f ∷ kept_of fs refusals
 kept_of (f ∷ fs) (Some refusal ∷ refusals) = kept_of fs refusals
 
--- a refusal is one of the file, and not for want of memory
+-- a refusal is one of the file, and not that memory ran out
 abbrev pub IsOfFile : Refusal → Type 0
 IsOfFile (NoName at) = Unit {0}
 IsOfFile (NotWhole at) = Unit {0}

@@ -35,7 +35,7 @@ pub enum RescueFault {
     #[error("{0}")]
     Image(ImageFault),
 
-    /// The new volume could not be read, for want of memory.
+    /// The new volume could not be read, as memory ran out.
     #[error("the new volume could not be read")]
     Unread,
 

@@ -51,8 +51,8 @@ rows line words (b ∷ source) ends =
     else (if nat_eq b 0o12 then record { line = line; words = words + two_ends ends; ended = true } ∷ rows [] 0 source (drop 2 ends)
     else rows (line ++ b ∷ []) (words + first_end ends) source (drop 1 ends))
 
--- what is given for the bytes of a source of which so many are in a join, by the counts for this and further ones; all of
--- it where there is no count
+-- What is given for the bytes of a source of which so many are in a join, by the counts for this and further ones. It is
+-- all where there is no count.
 abbrev pub own_ends : {A : Type 0} → List ℕ → List A → List A
 own_ends [] ends = ends
 own_ends (count ∷ counts) ends = take count ends

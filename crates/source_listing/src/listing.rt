@@ -39,9 +39,9 @@ pub struct Listing {
 ///
 /// Each line of each source stands after the cell and the word of the first of its words, five digits and four, or after as
 /// many blanks. Its further words stand below it. After an empty line come the names that the sources define, in their
-/// order, each with its last value. In a cross reference each also has the lines of the statements that name it, each line
-/// after the number of its source where there are several (PAL III Symbolic Assembler manual and PAL8, and this project's
-/// profile of them). `Memory` is answered where memory runs out.
+/// order, each with its last value. In a cross reference each also has the lines of the statements that name it. Each line
+/// stands after the number of its source where there are several (PAL III Symbolic Assembler manual and PAL8, and this
+/// project's profile of them). `Memory` is answered where memory runs out.
 pub fn list_sources(
     alloc: Global,
     sources: &[&[u8]],

@@ -42,7 +42,7 @@ pub record IsImageOf (bytes : List ℕ) (blocks : List (List ℕ)) : Type 0 wher
   pub range : (k : ℕ) → image_word bytes k < 0o10000
   pub words : (n k : ℕ) → n < length blocks → k < BLOCK → block_word blocks n k ≡ image_word bytes (BLOCK * n + k)
 
--- what is answered where bytes are to be read as an image: `Memory` is reported of an image only
+-- what is answered where bytes are to be read as an image: `Memory` is reported for an image only
 abbrev pub ReadsImage : List ℕ → Result InMemory ImageFault → Type 0
 ReadsImage bytes (Ok volume) = IsImageOf bytes volume.blocks × (volume.reads ≡ 0) × (volume.writes ≡ 0)
 ReadsImage bytes (Err NotWhole) = length bytes % 512 ≢ 0
