@@ -62,8 +62,8 @@ pub record Refers (is_code : ℕ → Bool) (items : List Item) (named : ℕ) : T
   pub reference : is_reference (cell % FIELD) word ≡ true
   pub names : referred_cell cell word ≡ named
 
--- A cell is tagged exactly where a tape gives it a word, and it has a name of its own or a memory reference among the instructions
--- names it.
+-- A cell is tagged exactly where a tape gives it a word, and it has a name of its own or is named by a memory reference among the
+-- instructions.
 abbrev pub TagsWhatIsNamed : Look → List Item → Type 0
 TagsWhatIsNamed look items =
     (cell : ℕ) → cell < CORE → (is_tagged look (words_of_tape items) cell ≡ true)

@@ -36,8 +36,8 @@ pub fn tape_comes_back()
     has_words();
 }
 
-/// A tape's source tags a cell just where the tape gives it a word, and it has a name of its own or a memory reference among the
-/// instructions names it.
+/// A tape's source tags a cell just where the tape gives it a word, and it has a name of its own or is named by a memory
+/// reference among the instructions.
 pub fn named_cells_are_tagged()
     ensures { (look : Look) (frames text : List ℕ)
         (source : IsSourceWith look frames text) → TagsWhatIsNamed look source.items }
