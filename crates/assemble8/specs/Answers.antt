@@ -1,4 +1,4 @@
--- What the sources of the host are answered.
+-- What the answer for sources of the host is.
 use Rattle.std.specs.Prelude.{◌≡◌, ℕ, Some, None, List}
 use Rattle.std.specs.Borrow.{Bor}
 use Rattle.bin_tape.specs.Writing.{tape_of}

@@ -1,4 +1,4 @@
--- The faults behind the first (this project's profile of PAL III).
+-- The faults after the first (this project's profile of PAL III).
 use Rattle.std.specs.Prelude.{ℕ, ◌||◌, not, if◌then◌else◌, Option, Some, None, Ok, Err, take, drop, List, [], ◌∷◌, ◌++◌}
 use Rattle.std.specs.Borrow.{Bor}
 use Rattle.pal_lex.specs.Text.{is_over, ends_statement}
@@ -28,11 +28,11 @@ newest_fault last (Err fault ∷ older) = None
 newest_fault last (Ok s ∷ older) =
     with_line s.line (unknown_in (word_values last s.tags older) s.body) (word_fault (word_values last s.tags older) (place_at older) s.body)
 
--- the fault of the word that a byte behind a text ends
+-- the fault of the word that a byte after a text ends
 abbrev pub byte_fault : Known → List ℕ → ℕ → Option (Code × ℕ × Option ℕ)
 byte_fault last older b = if ends_statement older b then newest_fault last (statements (b ∷ older)) else None
 
--- the fault of the word that a byte behind a text ends, if it has one
+-- the fault of the word that a byte after a text ends, if it has one
 abbrev pub with_place : (ℕ → Place) → List ℕ → Option (Code × ℕ × Option ℕ) → List Fault
 with_place place older None = []
 with_place place older (Some found) = at_mark place found.0 found.1 (mark_of found.0 found.2 older) ∷ []
@@ -42,8 +42,8 @@ abbrev pub word_faults : (ℕ → Place) → Known → List ℕ → List Fault
 word_faults place last [] = []
 word_faults place last (b ∷ older) = word_faults place last older ++ with_place place older (byte_fault last older b)
 
--- So many faults behind the first. Behind one of a word each word is judged by itself, since what names stand for is known; behind IC, SY
--- and NU the statement is made harmless. Behind another fault there is none.
+-- So many faults after the first. After one of a word each word is judged by itself, since what names stand for is known; after IC, SY
+-- and NU the statement is made harmless. After another fault there is none.
 abbrev pub further_faults : List (Bor (List ℕ)) → ℕ → List Fault
 further_faults sources most =
     if is_refused (newest_first sources) || not (is_over (newest_first sources))

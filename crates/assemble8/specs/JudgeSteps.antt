@@ -1,4 +1,4 @@
--- What the small steps of judging words come to, for private clauses.
+-- What the small steps of judging words do, for private clauses.
 use Rattle.std.specs.Prelude.{◌≡◌, ℕ, Option, take, List, [], ◌∷◌}
 use Rattle.std.specs.BTreeMap.{BTreeMap}
 use Rattle.pal_sym.specs.Values.{if_none}
@@ -32,7 +32,7 @@ placed place bytes [] = []
 placed place bytes (found ∷ others) =
     at_mark place found.code found.line (mark_of found.code found.about (text_of (take found.end bytes))) ∷ placed place bytes others
 
--- A byte behind a text was taken, and this is the fault of the word that it ends.
+-- A byte after a text was taken, and this is the fault of the word that it ends.
 pub record IsJudged (text : List ℕ) (b : ℕ) (last : Known) (fault : Option (Code × ℕ × Option ℕ)) (lexer : Progress) (symbols : BTreeMap ℕ ℕ) (place : ℕ) : Type 0 where
   pub follows : Follows symbols place (statements (b ∷ text))
   pub read : HasRead lexer 0 (b ∷ text)

@@ -22,8 +22,8 @@ use Rattle.assemble8.specs.declared.faults.Fault.{Fault}
 
 -- ## Bytes
 
--- A text up to behind one of its bytes has this as its newest; and where the first pass meets no fault of the text, it meets none
--- up to there.
+-- A text up to one of its bytes, and with it, has this byte as its newest. Where the first pass meets no fault of the text, it
+-- meets none up to there.
 abbrev pub FineByBytes : Type 0
 FineByBytes =
     (bytes : List ℕ) (n : ℕ) → n < length bytes
@@ -43,7 +43,7 @@ FineTermsHaveValue =
 abbrev pub value_by : Entries → ℕ → Option ℕ
 value_by entries name = if_none (lookup (is_at (nat_cmp name)) entries) (permanent name)
 
--- The symbols of sources have the values that names stand for behind all statements.
+-- The symbols of sources have the values that names stand for after all statements.
 abbrev pub SymbolsHaveLastValues : Type 0
 SymbolsHaveLastValues =
     (sources : List (Bor (List ℕ))) → fault_of (newest_first sources) ≡ None
@@ -51,8 +51,8 @@ SymbolsHaveLastValues =
 
 -- ## Further faults
 
--- The first of the words with a fault, where the first pass meets none, is the fault that is told, at its place and with what
--- it is about.
+-- The first of the words with a fault, where the first pass meets none, is the fault that is reported, at its place and with
+-- what it is about.
 abbrev pub FirstIsTold : Type 0
 FirstIsTold =
     (sources : List (Bor (List ℕ))) (fault : Fault) (others : List Fault) → is_refused (newest_first sources) ≡ false → is_over (newest_first sources) ≡ true

@@ -1,4 +1,4 @@
--- The faults behind one of a character, a number or a statement's form (this project's profile of PAL III).
+-- The faults after one of a character, a number or a statement's form (this project's profile of PAL III).
 use Rattle.std.specs.Prelude.{ℕ, Bool, true, false, ◌&&◌, not, if◌then◌else◌, Option, Some, None, is_some, zero, suc, List, [], ◌∷◌}
 use Rattle.pal_asm.specs.declared.faults.AsmFault.{AsmFault}
 use Rattle.pal_asm.specs.declared.faults.AsmFault.TheVariants.{At, Memory}
@@ -42,7 +42,7 @@ lexical_with place text (Some found) = Some (at_mark place found.0 found.1 (faul
 abbrev pub lexical_fault : (ℕ → Place) → List ℕ → Option Fault
 lexical_fault place text = lexical_with place text (lexical_code text)
 
--- behind this fault of a text others can be told: its statement doesn't say how what follows is read
+-- after this fault of a text others can be found: its statement doesn't say how what follows is read
 abbrev pub goes_on : List ℕ → Bool
 goes_on text = is_some (lexical_code text) && not (turns (shortest is_refused text))
 
@@ -50,8 +50,8 @@ abbrev pub with_first : Option Fault → List Fault → List Fault
 with_first None others = []
 with_first (Some fault) others = fault ∷ others
 
--- So many faults behind the first of a text, if this is IC, SY or NU: the first one of the text with that statement made harmless, if this is
--- IC, SY or NU again, and then those behind it.
+-- So many faults after the first of a text, if this is IC, SY or NU. They are the first one of the text with that statement made harmless,
+-- if this is IC, SY or NU again, and then those after it.
 abbrev pub lexical_further : (ℕ → Place) → ℕ → List ℕ → List Fault
 lexical_further place zero text = []
 lexical_further place (suc n) text =

@@ -55,8 +55,8 @@ abbrev pub at_name : Option ℕ → List ℕ → Mark
 at_name None older = at_start older
 at_name (Some name) older = at_run (Name name) (is_name name) older
 
--- Where the fault of the statement is that a byte behind a text ends: IC at its first character that is none of PAL III, NU at its first
--- run that is a bad number, UA at its first run that is this name, and all else where the statement begins.
+-- Where the fault of the statement is that a byte after a text ends. IC is at its first character that is none of PAL III, NU at its
+-- first run that is a bad number. UA is at its first run that is this name, and all else where the statement begins.
 abbrev pub mark_of : Code → Option ℕ → List ℕ → Mark
 mark_of IC name older = at_character (start_of older) (first_illegal (stretch older))
 mark_of SY name older = at_start older
@@ -75,8 +75,8 @@ abbrev pub ended_mark : Code → Option ℕ → List ℕ → Mark
 ended_mark code name [] = record { at = 0; about = Nothing }
 ended_mark code name (b ∷ older) = mark_of code name older
 
--- Where the fault of a text is, and what stands there: in the statement that has it, at the `$` where there is no word, and behind the
--- text where there is no `$`.
+-- Where the fault of a text is, and what stands there. It is in the statement that has it, at the `$` where there is no word, and
+-- after the text where there is no `$`.
 abbrev pub fault_mark : Code → Option ℕ → List ℕ → Mark
 fault_mark code name text =
     if is_refused text then ended_mark code name (shortest is_refused text)

@@ -1,4 +1,4 @@
--- What the small steps of making a statement harmless come to, for private clauses.
+-- What the small steps of making a statement harmless do, for private clauses.
 use Rattle.std.specs.Prelude.{◌≡◌, ℕ, nat_eq, nat_lt, nat_le, Bool, true, false, ◌||◌, if◌then◌else◌, Option, Some, None, suc, List, [], ◌∷◌, ◌++◌}
 use Rattle.std.specs.Option.{option_or}
 use Rattle.std.specs.Global.{Vec}
@@ -31,7 +31,7 @@ Advances place text new_text faults new true =
     (n : ℕ) → new ++ lexical_further place n new_text ≡ faults ++ lexical_further place (suc n) text
 Advances place text new_text faults new false = (n : ℕ) → new ≡ faults ++ lexical_further place (suc n) text
 
--- a fault was put behind others, if there is one
+-- a fault was put after others, if there is one
 abbrev pub PutsFault : Option Fault → List Fault → List Fault → Bool → Type 0
 PutsFault found faults new true = (fault : Fault) × (found ≡ Some fault) × (new ≡ faults ++ fault ∷ [])
 PutsFault found faults new false = (found ≡ None) × (new ≡ faults)

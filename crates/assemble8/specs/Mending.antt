@@ -23,12 +23,12 @@ up_to_comma (b ∷ older) =
     if is_dead older b then up_to_comma older
     else (if is_end b then None else option_or (up_to_comma older) (if nat_eq b 0o54 then Some (b ∷ older) else None))
 
--- behind this beginning of a statement, if it is a tag without fault, else where the statement begins
+-- the place after this beginning of a statement, if it is a tag without fault, else where the statement begins
 abbrev pub behind_tag : Option (List ℕ) → ℕ → ℕ
 behind_tag None start = start
 behind_tag (Some tag) start = if is_refused (0o73 ∷ tag) then start else length tag
 
--- where the statement that the newest byte of a text ends goes on behind its first tag, and where it ends
+-- where the statement that the newest byte of a text ends goes on after its first tag, and where it ends
 abbrev pub body_place : List ℕ → ℕ
 body_place [] = 0
 body_place (b ∷ older) = behind_tag (up_to_comma older) (start_of older)

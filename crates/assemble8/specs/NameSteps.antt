@@ -1,4 +1,4 @@
--- What the small steps of names come to, for private clauses.
+-- What the small steps of names do, for private clauses.
 use Rattle.std.specs.Prelude.{ℕ, ◌+◌, min, nat_eq, if◌then◌else◌, unwrap_or}
 use Rattle.pal_sym.specs.Values.{if_none}
 use Rattle.pal_lex.specs.declared.phrases.Body.{Body}
@@ -17,7 +17,7 @@ values_by before place (Field e) name = before name
 values_by before place (Reference operation indirect address) name = before name
 values_by before place (Word e) name = before name
 
--- the place behind a body, as far as a number of 16 bits goes
+-- the place after a body, as far as a number of 16 bits goes
 abbrev pub place_by : Known → ℕ → Body → ℕ
 place_by before place Nothing = place
 place_by before place (Origin e) = unwrap_or (value_of before place e) 0

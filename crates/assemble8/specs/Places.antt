@@ -31,7 +31,7 @@ abbrev pub first_solid : List (ℕ × ℕ) → Option ℕ
 first_solid [] = None
 first_solid (live ∷ older) = option_or (first_solid older) (if is_space live.0 then None else Some live.1)
 
--- where the statement begins that a byte behind a text ends: at that byte, if the statement is empty
+-- where the statement begins that a byte after a text ends: at that byte, if the statement is empty
 abbrev pub start_of : List ℕ → ℕ
 start_of text = unwrap_or (first_solid (stretch text)) (length text)
 
@@ -52,12 +52,12 @@ bytes_of [] number = []
 bytes_of (source ∷ others) zero = source.now
 bytes_of (source ∷ others) (suc number) = bytes_of others number
 
--- the line behind a text, from 1: LF ends a line
+-- the line after a text, from 1: LF ends a line
 abbrev pub line_behind : List ℕ → ℕ
 line_behind [] = 1
 line_behind (b ∷ older) = (if nat_eq b 0o12 then 1 else 0) + line_behind older
 
--- the column behind a text, from 1: the bytes of the line so far and one more
+-- the column after a text, from 1: the bytes of the line so far and one more
 abbrev pub column_behind : List ℕ → ℕ
 column_behind [] = 1
 column_behind (b ∷ older) = if nat_eq b 0o12 then 1 else column_behind older + 1

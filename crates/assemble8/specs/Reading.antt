@@ -7,7 +7,7 @@ use Rattle.pal_lex.specs.Progress.{Progress}
 use Rattle.pal_lex.specs.declared.phrases.Statement.{Statement}
 use Rattle.pal_lex.specs.declared.pieces.Token.{Token}
 
--- A byte behind a text was read, and this is the statement that it ends, if it ends one, whatever its tokens are.
+-- A byte after a text was read, and this is the statement that it ends, if it ends one, whatever its tokens are.
 abbrev pub IsEnded : List ℕ → ℕ → Option Statement → Progress → Type 0
 IsEnded text b None lexer = (ends_statement text b ≡ false) × (statements (b ∷ text) ≡ statements text) × HasRead lexer 0 (b ∷ text)
 IsEnded text b (Some s) lexer =

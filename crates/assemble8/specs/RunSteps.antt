@@ -1,4 +1,4 @@
--- What the small steps of the search for a run come to, for private clauses.
+-- What the small steps of the search for a run do, for private clauses.
 use Rattle.std.specs.Prelude.{◌≡◌, ℕ, nat_lt, Bool, true, false, ◌&&◌, if◌then◌else◌, Option, Some, None, List, [], ◌∷◌}
 use Rattle.std.specs.Option.{option_or}
 use Rattle.pal_lex.specs.Cutting.{Piece, Run, Mark as Sign, is_legal}
@@ -19,7 +19,7 @@ abbrev pub base_of : Bool → ℕ
 base_of true = 10
 base_of false = 8
 
--- digits behind a number are a number of twelve bits with it
+-- digits after a number are a number of twelve bits with it
 abbrev pub is_number_by : ℕ → ℕ → List ℕ → Bool
 is_number_by base n digits = are_digits base digits && nat_lt (number_after base n digits) 0o10000
 
@@ -64,7 +64,7 @@ found_before holds [] = None
 found_before holds (Run first others start end ∷ before) = first_run holds before
 found_before holds (Sign kind place ∷ before) = first_run holds before
 
--- The search came to these pieces.
+-- The search has met these pieces.
 pub record IsSearch (holds : List ℕ → Bool) (search : Search) (before : List Piece) : Type 0 where
   pub run : search.run.items ≡ newest_run before
   pub start : search.start ≡ newest_start before

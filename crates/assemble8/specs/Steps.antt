@@ -1,4 +1,4 @@
--- What the small steps come to, for private clauses.
+-- What the small steps do, for private clauses.
 use Rattle.std.specs.Prelude.{◌≡◌, ◌⊎◌, ℕ, ◌+◌, ◌≤◌, ◌<◌, nat_eq, Bool, true, false, if◌then◌else◌, Option, Some, None, is_some, Ok, take, length, List, [], ◌∷◌, ◌++◌}
 use Rattle.std.specs.Option.{option_or}
 use Rattle.pal_lex.specs.Text.{text_of, is_end, is_over, ends_statement}
@@ -37,7 +37,7 @@ abbrev pub met_by : Bool → Met
 met_by true = Pause
 met_by false = End
 
--- what a byte behind a text is to a lexer: it ends nothing, or a statement, or PAUSE
+-- what a byte after a text is to a lexer: it ends nothing, or a statement, or PAUSE
 abbrev pub Meets : List ℕ → ℕ → Met → Progress → Type 0
 Meets text b Nothing new = (ends_statement text b ≡ false) × (first_fault (statements (b ∷ text)) ≡ None) × HasRead new 0 (b ∷ text)
 Meets text b End new = (ends_statement text b ≡ true) × (pauses text b ≡ false)
@@ -48,13 +48,13 @@ is_pause_met Nothing = false
 is_pause_met End = false
 is_pause_met Pause = true
 
--- behind this byte the text is over
+-- after this byte the text is over
 abbrev pub ends_text : Met → ℕ → Bool
 ends_text Nothing b = false
 ends_text End b = nat_eq b 0o44
 ends_text Pause b = false
 
--- The end of the last statement behind a byte, and what reads on: a lexer of no byte behind an end.
+-- The end of the last statement after a byte, and what reads on: a lexer of no byte after an end.
 abbrev pub Renews : Met → ℕ → ℕ → ℕ → Progress → Progress → Type 0
 Renews Nothing end behind result old new = (result ≡ end) × (new ≡ old)
 Renews End end behind result old new = (result ≡ behind) × HasRead new 0 []
@@ -67,7 +67,7 @@ IsPrefix bytes (Some count) = (count ≤ length bytes) × (before_pause (text_of
 
 -- ## Joins
 
--- A text was put behind a join, whole or up to its PAUSE, and others follow it or not.
+-- A text was put after a join, whole or up to its PAUSE, and others follow it or not.
 abbrev pub Puts : Bool → List ℕ → Bool → List ℕ → List ℕ → List ℕ → List ℕ → Type 0
 Puts last bytes true old new counts counts_then =
     (last ≡ false) × ((count : ℕ) × (before_pause (text_of bytes) ≡ Some (text_of (take count bytes)))
@@ -80,18 +80,18 @@ Puts last bytes false old new counts counts_then =
 abbrev pub step_behind : ℕ → Step
 step_behind b = if nat_eq b 0o44 then step.Over else step.GoesOn
 
--- what the first pass answers for a statement behind others: that it has no fault, or has one
+-- what the first pass answers for a statement after others: that it has no fault, or has one
 abbrev pub PassesStatement : Statement → Source → Bool → asm.Progress → Type 0
 PassesStatement s older true new = (tokens : List Token) → is_pause_body s.body ≡ false → IsFirst new (Ok (with_tokens tokens s) ∷ older)
 PassesStatement s older false new = (tokens : List Token) → is_pause_body s.body ≡ false → is_some (first_order (Ok (with_tokens tokens s) ∷ older)) ≡ true
 
--- what the first pass answers for a byte behind a text
+-- what the first pass answers for a byte after a text
 abbrev pub PassesByte : List ℕ → ℕ → Step → Progress → asm.Progress → Type 0
 PassesByte text b step.GoesOn lexer assembler = HasRead lexer 0 (b ∷ text) × IsFirst assembler (statements (b ∷ text)) × (is_over (b ∷ text) ≡ false)
 PassesByte text b step.Over lexer assembler = IsFirst assembler (statements (b ∷ text)) × (is_over (b ∷ text) ≡ true)
 PassesByte text b step.Refused lexer assembler = is_refused (b ∷ text) ≡ true
 
--- what the first pass comes to
+-- what the first pass gives
 abbrev pub Passes : List ℕ → Passed → asm.Progress → Type 0
 Passes bytes (passed.Refused end) assembler =
     (end < length bytes) × (is_refused (text_of (take (end + 1) bytes)) ≡ true) × (is_refused (text_of (take end bytes)) ≡ false)
@@ -100,7 +100,7 @@ Passes bytes (passed.Over end) assembler =
     × (is_over (text_of (take (end + 1) bytes)) ≡ true) × (is_over (text_of (take end bytes)) ≡ false)
 Passes bytes passed.Open assembler = (is_refused (text_of bytes) ≡ false) × (is_over (text_of bytes) ≡ false)
 
--- what the second pass of a whole source answers for a byte behind a text: whether it goes on
+-- what the second pass of a whole source answers for a byte after a text: whether it goes on
 abbrev pub MakesByte : Source → List ℕ → ℕ → Bool → Progress → asm.Progress → Type 0
 MakesByte whole text b true lexer assembler =
     HasRead lexer 0 (b ∷ text) × IsSecond assembler whole (statements (b ∷ text)) × (is_over (b ∷ text) ≡ false)

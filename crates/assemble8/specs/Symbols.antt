@@ -47,7 +47,7 @@ symbols_of (Ok s ∷ older) = with_body (with_tags (symbols_of older) s.tags (pl
 abbrev pub known : BTreeMap ℕ ℕ → Known
 known symbols name = if_none (get nat_cmp symbols name) (permanent name)
 
--- These symbols and this place are those behind some statements.
+-- These symbols and this place are those after some statements.
 pub record Follows (symbols : BTreeMap ℕ ℕ) (place : ℕ) (source : Source) : Type 0 where
   pub values : (n : ℕ) → known symbols n ≡ values source n
   pub entries : symbols.entries ≡ symbols_of source

@@ -1,4 +1,4 @@
--- The text of a fault, as a compiler tells it (this project's profile of PAL III).
+-- The text of a fault, as a compiler prints it (this project's profile of PAL III).
 use Rattle.std.specs.Prelude.{ℕ, ◌+◌, ◌-◌, ◌/◌, ◌%◌, nat_eq, nat_lt, nat_le, ◌&&◌, ◌||◌, if◌then◌else◌, zero, suc, take, codes, decimal, List, [], ◌∷◌, ◌++◌}
 use Rattle.std.specs.Borrow.{Bor}
 use Rattle.pal_asm.specs.declared.faults.Code.{Code}
@@ -12,7 +12,7 @@ use Rattle.assemble8.specs.declared.faults.Place.{Place}
 
 -- ## A line of a source
 
--- what stands behind so many LFs
+-- what stands after so many LFs
 abbrev pub behind_lines : ℕ → List ℕ → List ℕ
 behind_lines n [] = []
 behind_lines zero (b ∷ bytes) = b ∷ bytes
@@ -76,13 +76,13 @@ abbrev pub character_text : ℕ → List ℕ
 character_text b =
     if nat_lt 0o40 b && nat_lt b 0o177 then b ∷ [] else (0o60 + b / 0o100) ∷ (0o60 + b / 8 % 8) ∷ (0o60 + b % 8) ∷ []
 
--- what a fault is about, behind a blank
+-- what a fault is about, after a blank
 abbrev pub named : About → List ℕ
 named Nothing = []
 named (Name name) = codes " " ++ spelling name
 named (Character b) = codes " " ++ character_text b
 
--- `CODE: WORDS`, and behind it what the fault is about
+-- `CODE: WORDS`, and after it what the fault is about
 abbrev pub told : Fault → List ℕ
 told fault = letters_of fault.code ++ codes ": " ++ words_of fault.code ++ named fault.about
 
@@ -102,12 +102,12 @@ with_caret line column = line ++ codes "\n" ++ blanks_below (take (column - 1) l
 abbrev pub marked_line : List ℕ → Place → List ℕ
 marked_line source place = with_caret (shown_line source place.line) place.column
 
--- `? 5 CODE LINE`, as scripts are told it
+-- `? 5 CODE LINE`, as it is printed for scripts
 abbrev pub numbered : Fault → List ℕ
 numbered fault = codes "? 5 " ++ letters_of fault.code ++ codes " " ++ decimal fault.line ++ codes "\n"
 
--- the text of a fault of sources with these names: the fault, its line with a caret below its place, and
--- the line that scripts are told
+-- the text of a fault of sources with these names: the fault, its line with a caret below its place, and the line that
+-- is printed for scripts
 abbrev pub fault_text : List (Bor (List ℕ)) → List (Bor (List ℕ)) → Fault → List ℕ
 fault_text sources names fault =
     headline (bytes_of names fault.place.source) fault ++ marked_line (bytes_of sources fault.place.source) fault.place ++ numbered fault

@@ -46,7 +46,7 @@ unknown_in known (Word e) = unknown_of known e
 
 -- ## In a text
 
--- what names stand for at the body of a statement with these tags behind others
+-- what names stand for at the body of a statement with these tags after others
 abbrev pub Standing : Type 0
 Standing = List ℕ → Source → Known
 
@@ -61,8 +61,8 @@ abbrev pub unknown_ended : Standing → List ℕ → Option ℕ
 unknown_ended standing [] = None
 unknown_ended standing (b ∷ older) = if ends_statement older b then newest_unknown standing (statements (b ∷ older)) else None
 
--- The first name that stands for nothing where the statement with the fault of a text is judged: in the first pass by the
--- statements before it, and in the second one, where words are, by those else by the whole text.
+-- The first name that stands for nothing where the statement with the fault of a text is judged. In the first pass it is
+-- judged by the statements before it. In the second one, where words are judged, it is judged by those, else by the whole text.
 abbrev pub unknown_name : List ℕ → Option ℕ
 unknown_name text =
     if is_refused text then unknown_ended values_at (shortest is_refused text)

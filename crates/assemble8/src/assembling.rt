@@ -27,11 +27,11 @@ pub struct Assembly {
     pub pairs: Vec<(Cell, Word)>,
 }
 
-/// Sources of the host, assembled as one; or their first fault, with its place, of UA with the first name of the statement that stands for
-/// nothing there, and of IC with the character.
+/// Sources of the host, assembled as one; or their first fault, with its place. A fault UA has the first name of the statement that stands
+/// for nothing there, and IC has the character.
 ///
 /// A source is taken as its text stands in a file of a volume: LF ends a line, with a CR before it or not. Each source but
-/// the last goes on in the next one at its first PAUSE that stands alone, and no source at all is an empty one (PAL III
+/// the last goes on in the next one at its first PAUSE that stands alone. No source at all is an empty one (PAL III
 /// Symbolic Assembler manual, and this project's profile of it). `Memory` is answered where memory runs out.
 pub fn assembly_of(alloc: Global, sources: &[&[u8]]) -> Result<Assembly, SourceFault>
     ensures assembly { IfOk result (λ assembly. IsAssemblyOf sources.now assembly) }
@@ -44,8 +44,8 @@ pub fn assembly_of(alloc: Global, sources: &[&[u8]]) -> Result<Assembly, SourceF
     }
 }
 
-/// The frames of the BIN tape that sources of the host are assembled to as one; or their first fault, as [`assembly_of`] tells
-/// it.
+/// The frames of the BIN tape that sources of the host are assembled to as one; or their first fault, as [`assembly_of`]
+/// reports it.
 pub fn assemble_sources(alloc: Global, sources: &[&[u8]]) -> Result<Vec<u8>, SourceFault>
     ensures tape { IfOk result (λ tape. IsAssembled sources.now tape.items) }
     ensures fault { IfErr result (λ fault. IsTold sources.now fault) }

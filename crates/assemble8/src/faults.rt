@@ -32,21 +32,21 @@ pub enum About {
 #[derive(Clone, Copy, PartialEq, Eq, Debug)]
 pub struct Fault {
     pub code: Code,
-    /// The line over the sources joined, as scripts are told it: 1 and up, or 2^64 - 1 where it would be more.
+    /// The line in the joined sources, as it is printed for scripts: 1 and up, or 2^64 - 1 where it would be more.
     pub line: u64,
-    /// Of IC where the character stands, of NU where the first bad number of the statement begins, of UA where the name first stands in the
-    /// statement; of any other fault where the statement begins.
+    /// For IC it is where the character stands, for NU where the first bad number of the statement begins. For UA it is where the name
+    /// first stands in the statement, and for any other fault where the statement begins.
     pub place: Place,
-    /// Of UA, the first name of the statement, from the left, that stands for nothing where the statement is judged; of IC the first byte of
-    /// the statement that is no character of PAL III; of any other fault nothing.
+    /// For UA it is the first name of the statement, from the left, that stands for nothing where the statement is judged. For IC it is the
+    /// first byte of the statement that is no character of PAL III, and for any other fault it is nothing.
     pub about: About,
 }
 
 /// Why sources are not assembled.
 #[derive(Clone, Copy, PartialEq, Eq, Debug, Error)]
 pub enum SourceFault {
-    /// The first fault of the sources, with its place: of the `$` where there is no word, and
-    /// behind the last source where there is no `$`. The text leaves the source to who knows its name.
+    /// The first fault of the sources, with its place. That is at the `$` where there is no word, and after the last
+    /// source where there is no `$`. The text doesn't name the source: the caller knows its name.
     #[error("{code} in line {line}, column {column}", code = .0.code, line = .0.place.line, column = .0.place.column)]
     At(Fault),
 
@@ -62,7 +62,7 @@ impl From<AllocError> for SourceFault {
     }
 }
 
-/// Answers want of memory, if a fault of the lexer is that.
+/// Answers that memory ran out, if a fault of the lexer is that.
 pub(crate) fn unless_memory(fault: LexFault) -> Result<(), SourceFault>
     ensures other { OnOk result (is_memory fault ≡ false) }
     ensures fault { IfErr result (λ fault. fault ≡ Memory) }

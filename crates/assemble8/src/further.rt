@@ -1,4 +1,4 @@
-//! Faults behind the first.
+//! Faults after the first.
 ghost use Rattle.std.specs.Prelude.{◌≡◌, ℕ, ◌++◌, ◌∷◌, [], take, drop, false, Option, None, List, IfOk, IfErr, OnOk};
 ghost use Rattle.pal_lex.specs.Text.{text_of};
 ghost use Rattle.pal_lex.specs.Statements.{statements};
@@ -31,7 +31,7 @@ use std::collections::BTreeMap;
 #[derive(Clone, Copy)]
 struct Found {
     code: Code,
-    /// The line over the join.
+    /// The line in the join.
     line: u64,
     /// The place in the join of the byte that ends the statement.
     end: usize,
@@ -39,11 +39,11 @@ struct Found {
     about: Option<u64>,
 }
 
-/// So many of the faults of sources of the host behind the first, in the order of the sources. Where the first is one of a word (UA or IR),
+/// So many of the faults of sources of the host after the first, in the order of the sources. Where the first is one of a word (UA or IR),
 /// which the second pass meets, what names stand for is known, and each word is judged by itself. Where it is IC, SY or NU, its statement is
-/// read as its first tag, if that has no fault, and the word 0; the next fault is the first of that text, if it is IC, SY or NU, and so on,
-/// unless the statement has DECIMAL, OCTAL or PAUSE, which say how what follows is read. None where the sources have another fault, or none
-/// at all (this project's profile of PAL III). The only fault of the call is `Memory`.
+/// read as its first tag, if that has no fault, and the word 0. The next fault is the first of that text, if it is IC, SY or NU, and so on.
+/// There is no next one where the statement has DECIMAL, OCTAL or PAUSE, which say how what follows is read. There are none where the
+/// sources have another fault, or none at all (this project's profile of PAL III). The only fault of the call is `Memory`.
 pub fn further_faults(
     alloc: Global,
     sources: &[&[u8]],
@@ -63,7 +63,7 @@ pub fn further_faults(
     Ok(faults)
 }
 
-/// So many behind the first.
+/// So many after the first.
 fn further(found: &[Found], most: usize) -> &[Found]
     ensures { result.now ≡ take most (drop 1 found.now) }
 {
@@ -154,7 +154,7 @@ fn word_faults(
     Ok(found)
 }
 
-/// Puts a fault behind others, if there is one.
+/// Puts a fault after others, if there is one.
 fn keep(
     found: &mut Vec<Found>,
     fault: Option<(Code, u64, Option<u64>)>,

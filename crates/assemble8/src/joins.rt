@@ -19,7 +19,7 @@ pub struct Join {
     pub counts: Vec<usize>,
 }
 
-/// The join of sources of the host: each but the last goes on in the next one at its first PAUSE that stands alone (PAL III
+/// The join of sources of the host. Each but the last goes on in the next one at its first PAUSE that stands alone (PAL III
 /// Symbolic Assembler manual, and this project's profile of it). The only fault is `Memory`.
 pub(crate) fn join_all(alloc: Global, sources: &[&[u8]]) -> Result<Join, SourceFault>
     ensures text { IfOk result (λ join. text_of join.text.items ≡ newest_first sources.now) }
@@ -42,7 +42,7 @@ pub(crate) fn join_all(alloc: Global, sources: &[&[u8]]) -> Result<Join, SourceF
     Ok(join)
 }
 
-/// Puts a text behind others, and answers whether the next one goes on behind it.
+/// Puts a text after others, and answers whether the next one goes on after it.
 fn put(alloc: Global, join: &mut Join, text: &[u8], last: bool) -> Result<bool, SourceFault>
     ensures puts { IfOk result
         (λ goes_on. Puts last text.now goes_on join.old.text.items join.new.text.items
@@ -67,7 +67,7 @@ fn put(alloc: Global, join: &mut Join, text: &[u8], last: bool) -> Result<bool, 
     }
 }
 
-/// Puts a count behind others.
+/// Puts a count after others.
 fn put_count(counts: &mut Vec<usize>, count: usize) -> Result<(), AllocError>
     ensures { OnOk result (counts.new.items ≡ counts.old.items ++ count ∷ []) }
 {

@@ -20,8 +20,8 @@ use std::alloc::AllocError;
 use std::collections::BTreeMap;
 use word12::PAGE;
 
-/// Takes the next statement, which has no fault that the first pass meets, and answers its fault with its line and the name
-/// that it is about, if it is a word that has one, where names stand for these values at last.
+/// Takes the next statement, which has no fault that the first pass meets. If it is a word with a fault, where names stand
+/// for these values at last, answers that with its line and the name that it is about.
 pub(crate) fn judge(
     names: &mut Names,
     last: &BTreeMap<u64, u16>,

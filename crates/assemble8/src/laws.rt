@@ -1,4 +1,4 @@
-//! Laws about texts, names and further faults, which hold whatever tells them. A call of one does nothing, and lets its caller use it.
+//! Laws about texts, names and further faults, which hold whatever reports them. A call of one does nothing, and lets its caller use it.
 
 ghost use Rattle.assemble8.specs.Laws.{FineByBytes, FineTermsHaveValue, SymbolsHaveLastValues, FirstIsTold};
 
@@ -17,12 +17,12 @@ pub fn fine_terms_have_value()
     ensures { FineTermsHaveValue }
 {}
 
-/// The symbols of sources have the values that names stand for behind all statements.
+/// The symbols of sources have the values that names stand for after all statements.
 pub fn symbols_have_last_values()
     ensures { SymbolsHaveLastValues }
 {}
 
-/// The first of the words with a fault is the fault that is told, so the further ones are those behind it.
+/// The first of the words with a fault is the fault that is reported, so the further ones are those after it.
 pub fn first_is_told()
     ensures { FirstIsTold }
 {}

@@ -1,4 +1,4 @@
-//! Faults behind one of a character, a number or a statement's form.
+//! Faults after one of a character, a number or a statement's form.
 ghost use Rattle.std.specs.Prelude.{◌≡◌, ◌++◌, ◌∷◌, [], ℕ, None, IfOk, IfErr, OnOk};
 ghost use Rattle.pal_lex.specs.Text.{text_of};
 ghost use Rattle.pal_asm.specs.Faults.{fault_of};
@@ -20,7 +20,7 @@ use crate::{Fault, SourceFault};
 use pal_asm::{AsmFault, Code, assemble};
 use std::alloc::{AllocError, Global};
 
-/// So many faults of a join of sources behind the first, if this is IC, SY or NU: each is the first of the text in which the statements of
+/// So many faults of a join of sources after the first, if this is IC, SY or NU. Each is the first of the text in which the statements of
 /// those before it are harmless. The only fault of the call is `Memory`.
 pub(crate) fn lexical_further(
     alloc: Global,
@@ -45,7 +45,7 @@ pub(crate) fn lexical_further(
     Ok(faults)
 }
 
-/// Makes the statement with the fault of a text harmless, puts the next fault behind others, and answers whether there is one.
+/// Makes the statement with the fault of a text harmless, puts the next fault after others, and answers whether there is one.
 fn advance(
     alloc: Global,
     sources: &[&[u8]],
@@ -68,7 +68,7 @@ fn advance(
     }
 }
 
-/// Puts the first fault of a text behind others, and answers whether it is IC, SY or NU.
+/// Puts the first fault of a text after others, and answers whether it is IC, SY or NU.
 fn put_fault(
     alloc: Global,
     sources: &[&[u8]],
@@ -90,7 +90,7 @@ fn put_fault(
     }
 }
 
-/// Puts a fault behind others.
+/// Puts a fault after others.
 pub(crate) fn put(faults: &mut Vec<Fault>, fault: Fault) -> Result<(), AllocError>
     ensures { OnOk result (faults.new.items ≡ faults.old.items ++ fault ∷ []) }
 {
@@ -98,7 +98,7 @@ pub(crate) fn put(faults: &mut Vec<Fault>, fault: Fault) -> Result<(), AllocErro
     Ok(())
 }
 
-/// The text with its statement with the fault made harmless, if behind this others can be told. The only fault of the call is `Memory`.
+/// The text with its statement with the fault made harmless, if others can be found after this one. The only fault of the call is `Memory`.
 fn next_text(alloc: Global, text: &[u8]) -> Result<Option<Vec<u8>>, SourceFault>
     ensures goes { IfOk result (λ next. GoesOn (text_of text.now) next) }
     ensures fault { IfErr result (λ fault. fault ≡ Memory) }

@@ -1,12 +1,12 @@
 //! Sources of the host to a BIN tape: the frames of the tape that they are assembled to, or their first fault with its
-//! place, as a compiler tells it.
+//! place, as a compiler prints it.
 //!
-//! A source is taken as `STORE` takes its lines, LF ending a line and each CR dropped, and several are joined as `ASSEMBLE` joins
-//! those of a volume (PAL III Symbolic Assembler manual, and this project's profile of it). In each contract a text has its newest byte
+//! A source is taken as `STORE` takes its lines: LF ends a line, and each CR is dropped. Several are joined as `ASSEMBLE` joins those
+//! of a volume (PAL III Symbolic Assembler manual, and this project's profile of it). In each contract a text has its newest byte
 //! first.
 //!
-//! What stands on it reads an [`Assembly`]: the text that sources join to, its words, its statements and its names. It puts numbers as
-//! faults have them.
+//! A crate that stands on it reads an [`Assembly`]: the text that sources join to, its words, its statements and its names. It writes
+//! numbers as faults have them.
 #![tactic(auto)]
 
 mod assembling;

@@ -18,7 +18,7 @@ use pal_lex::laws::dollar_ends_source;
 use pal_lex::{Lexer, Statement};
 use std::alloc::Global;
 
-/// What a pass comes to, with the place of the byte that shows it.
+/// What a pass finds, with the place of the byte that shows it.
 #[derive(Clone, Copy)]
 pub(crate) enum Passed {
     /// A fault of a statement in the first pass.
@@ -29,7 +29,7 @@ pub(crate) enum Passed {
     Open,
 }
 
-/// Whether a pass goes on behind a byte.
+/// Whether a pass goes on after a byte.
 #[derive(Clone, Copy)]
 enum Step {
     GoesOn,
@@ -144,7 +144,7 @@ fn pass_statement(assembler: &mut Assembler, statement: &Statement) -> Result<bo
     }
 }
 
-/// Whether a text goes on behind a byte that ends a statement without fault.
+/// Whether a text goes on after a byte that ends a statement without fault.
 fn step_behind(byte: u8) -> Step
     ensures { result ≡ step_behind byte }
 {
@@ -154,7 +154,7 @@ fn step_behind(byte: u8) -> Step
     Step::GoesOn
 }
 
-/// Takes a text that has its `$`, a word and no fault of the first pass in the second one, and answers the place of the byte
+/// Takes, in the second pass, a text that has its `$`, a word and no fault of the first pass. Answers the place of the byte
 /// that ends the first word with a fault, or that of the `$`.
 fn second_pass(alloc: Global, text: &[u8], assembler: &mut Assembler) -> Result<usize, SourceFault>
     requires second { IsSecond assembler.old (statements (text_of text.now)) [] }

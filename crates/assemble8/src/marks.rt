@@ -26,8 +26,8 @@ pub(crate) struct Mark {
     pub about: About,
 }
 
-/// Where the fault of a text is, and what stands there: in the statement that has it, at the `$` where there is no word, and behind the text
-/// where there is no `$`. The name is the one that UA is about. The only fault of the call is `Memory`.
+/// Where the fault of a text is, and what stands there. It is in the statement that has it, at the `$` where there is no word, and after
+/// the text where there is no `$`. The name is the one that UA is about. The only fault of the call is `Memory`.
 pub(crate) fn fault_mark(
     alloc: Global,
     text: &[u8],
@@ -57,7 +57,7 @@ pub(crate) fn fault_mark(
     }
 }
 
-/// Where the fault of the statement is that a byte behind a text ends, and what stands there, where the first pass meets no fault before it.
+/// Where the fault of the statement is that a byte after a text ends, and what stands there, where the first pass meets no fault before it.
 /// The only fault of the call is `Memory`.
 pub(crate) fn mark_of(
     alloc: Global,
@@ -84,7 +84,7 @@ pub(crate) fn mark_of(
     }
 }
 
-/// The fault of the statement that a byte behind a text ends, where the statement begins.
+/// The fault of the statement that a byte after a text ends, where the statement begins.
 fn at_start(before: &[u8]) -> Mark
     ensures { result ≡ spec.at_start (text_of before.now) }
 {

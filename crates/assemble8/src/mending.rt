@@ -16,8 +16,8 @@ use crate::runs::{Wanted, first_run, is_end};
 use crate::starts::{comment_behind, is_dead, statement_place};
 use std::alloc::{AllocError, Global};
 
-/// A text whose first statement with a fault, which a byte of it ends, is read as its first tag, if that has no fault itself, and the word 0;
-/// none where the statement has a word that says how what follows is read. The only fault of the call is `Memory`.
+/// A text whose first statement with a fault, which a byte of it ends, is read as its first tag, if that has no fault itself, and the word 0.
+/// There is none where the statement has a word that says how what follows is read. The only fault of the call is `Memory`.
 pub(crate) fn mended(alloc: Global, text: &[u8], end: usize) -> Result<Option<Vec<u8>>, SourceFault>
     requires { IsMetAt text.now (Refused end) }
     ensures mended { IfOk result (λ next. Mends (text_of text.now) next) }
@@ -34,7 +34,7 @@ pub(crate) fn mended(alloc: Global, text: &[u8], end: usize) -> Result<Option<Ve
     }
 }
 
-/// Where the statement that a byte behind a text ends goes on behind its first tag, if that has no fault.
+/// Where the statement that a byte after a text ends goes on after its first tag, if that has no fault.
 fn body_place(alloc: Global, before: &[u8]) -> Result<usize, SourceFault>
     ensures place { (byte : ℕ) → IfOk result (λ place. place ≡ mending.body_place (byte ∷ text_of before.now)) }
     ensures fault { IfErr result (λ fault. fault ≡ Memory) }
@@ -49,7 +49,7 @@ fn body_place(alloc: Global, before: &[u8]) -> Result<usize, SourceFault>
     }
 }
 
-/// Behind the beginning of a statement, if it is a tag without fault, else where the statement begins.
+/// The place after the beginning of a statement, if it is a tag without fault, else where the statement begins.
 fn behind_tag(alloc: Global, tag: &[u8], start: usize) -> Result<usize, SourceFault>
     ensures place { IfOk result (λ place. place ≡ mending.behind_tag (Some (text_of tag.now)) start) }
     ensures fault { IfErr result (λ fault. fault ≡ Memory) }
@@ -61,7 +61,7 @@ fn behind_tag(alloc: Global, tag: &[u8], start: usize) -> Result<usize, SourceFa
     Ok(tag.len())
 }
 
-/// A text with `;` behind it.
+/// A text with `;` after it.
 fn with_end(alloc: Global, text: &[u8]) -> Result<Vec<u8>, AllocError>
     ensures { IfOk result (λ new. new.items ≡ text.now ++ 0o73 ∷ []) }
 {
@@ -71,7 +71,7 @@ fn with_end(alloc: Global, text: &[u8]) -> Result<Vec<u8>, AllocError>
     Ok(new)
 }
 
-/// How many bytes there are up to the first `,` of the statement that goes on behind a text.
+/// How many bytes there are up to the first `,` of the statement that goes on after a text.
 fn comma_end(before: &[u8]) -> Option<usize>
     ensures { option_map (λ count. text_of (take count before.now)) result ≡ mending.up_to_comma (text_of before.now) }
 {
@@ -88,7 +88,7 @@ fn comma_end(before: &[u8]) -> Option<usize>
     comma
 }
 
-/// The same behind one byte more, which means something or not, and ends at a place.
+/// The same after one byte more, which means something or not, and ends at a place.
 fn comma_behind(comma: Option<usize>, dead: bool, byte: u8, place: usize) -> Option<usize>
     ensures { result ≡ comma_by comma dead (spec.is_end byte) (nat_eq byte 0o54) place }
 {

@@ -99,7 +99,7 @@ fn take_byte(lexer: &mut Lexer, names: &mut Names, byte: u8) -> Result<(), Sourc
     }
 }
 
-/// Takes the next statement, which has no fault behind those before it.
+/// Takes the next statement, which has no fault after those before it.
 fn take(names: &mut Names, statement: &Statement) -> Result<(), AllocError>
     ensures { (older : Source) (tokens : List Token) → Follows names.old.symbols names.old.place older
         → first_order (Ok (with_tokens tokens statement.now) ∷ older) ≡ None

@@ -69,7 +69,7 @@ pub fn first_bytes(text: &[u8], count: usize) -> &[u8]
     text
 }
 
-/// The line behind a text, from 1: LF ends a line (this project's profile).
+/// The line after a text, from 1: LF ends a line (this project's profile).
 pub fn line_behind(text: &[u8]) -> usize
     ensures { result ≡ line_behind (text_of text.now) }
 {
@@ -80,7 +80,7 @@ pub fn line_behind(text: &[u8]) -> usize
     line
 }
 
-/// The line behind one more byte.
+/// The line after one more byte.
 fn line_after(line: usize, byte: u8) -> usize
     requires { line < 18446744073709551615 }
     ensures { result ≡ (if nat_eq byte 0o12 then 1 else 0) + line }
@@ -91,7 +91,7 @@ fn line_after(line: usize, byte: u8) -> usize
     }
 }
 
-/// The column behind a text, from 1.
+/// The column after a text, from 1.
 fn column_behind(text: &[u8]) -> usize
     ensures { result ≡ column_behind (text_of text.now) }
 {
@@ -102,7 +102,7 @@ fn column_behind(text: &[u8]) -> usize
     column
 }
 
-/// The column behind one more byte.
+/// The column after one more byte.
 fn column_after(column: usize, byte: u8) -> usize
     requires { column < 18446744073709551615 }
     ensures { result ≡ (if nat_eq byte 0o12 then 1 else column + 1) }

@@ -14,7 +14,7 @@ use pal_asm::laws::{no_fault_before, statements_stay};
 use pal_lex::{Body, Lexer};
 use std::alloc::Global;
 
-/// Whether numbers are decimal behind a text with no fault that the first pass meets. The only fault is `Memory`.
+/// Whether numbers are decimal after a text with no fault that the first pass meets. The only fault is `Memory`.
 pub(crate) fn is_decimal(alloc: Global, text: &[u8]) -> Result<bool, SourceFault>
     requires { first_order (statements (text_of text.now)) ≡ None }
     ensures radix { IfOk result (λ decimal. base_of decimal ≡ base (radix_after (statements (text_of text.now)))) }
@@ -33,7 +33,7 @@ pub(crate) fn is_decimal(alloc: Global, text: &[u8]) -> Result<bool, SourceFault
     Ok(is_decimal)
 }
 
-/// Whether numbers are decimal behind one byte more.
+/// Whether numbers are decimal after one byte more.
 fn take(lexer: &mut Lexer, before: bool, byte: u8) -> Result<bool, SourceFault>
     ensures takes { (text : List ℕ) → HasRead lexer.old 0 text → lexer.old.may_pause ≡ false
         → first_order (statements (byte ∷ text)) ≡ None
@@ -49,7 +49,7 @@ fn take(lexer: &mut Lexer, before: bool, byte: u8) -> Result<bool, SourceFault>
     }
 }
 
-/// Whether numbers are decimal behind a statement.
+/// Whether numbers are decimal after a statement.
 fn decimal_by(body: &Body, before: bool) -> bool
     ensures { result ≡ decimal_by body.now before }
 {

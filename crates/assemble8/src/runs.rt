@@ -41,7 +41,7 @@ struct Search {
     found: Option<usize>,
 }
 
-/// Where the first run begins that is looked for, in the statement that a byte behind a text ends.
+/// Where the first run begins that is looked for, in the statement that a byte after a text ends.
 pub(crate) fn first_run(
     alloc: Global,
     before: &[u8],
@@ -219,7 +219,7 @@ fn base_of(is_decimal: bool) -> u16
     }
 }
 
-/// The first byte that is no character of PAL III, with its place, in the statement that a byte behind a text ends.
+/// The first byte that is no character of PAL III, with its place, in the statement that a byte after a text ends.
 pub(crate) fn first_illegal(before: &[u8]) -> Option<(u8, usize)>
     ensures { result ≡ marks.first_illegal (stretch (text_of before.now)) }
 {

@@ -4,8 +4,8 @@ ghost use Rattle.assemble8.specs.Telling.{behind_lines, up_to_lf, shown_byte, sh
 
 use std::alloc::{AllocError, Global};
 
-/// A line of a source as it is shown, by its number from 1: a byte that is neither printable ASCII nor a tab as `?`, and no CR (this project's
-/// profile).
+/// A line of a source as it is shown, by its number from 1. A byte that is neither printable ASCII nor a tab is shown as `?`, and no CR is
+/// shown (this project's profile).
 pub fn shown_line(alloc: Global, source: &[u8], line: usize) -> Result<Vec<u8>, AllocError>
     ensures { IfOk result (λ text. text.items ≡ shown_line source.now line) }
 {
@@ -13,7 +13,7 @@ pub fn shown_line(alloc: Global, source: &[u8], line: usize) -> Result<Vec<u8>, 
     Ok(text)
 }
 
-/// What stands behind so many LFs.
+/// What stands after so many LFs.
 fn behind_lines(bytes: &[u8], count: usize) -> &[u8]
     ensures { result.now ≡ behind_lines count bytes.now }
 {

@@ -5,7 +5,7 @@ ghost use Rattle.pal_lex.specs.Text.{text_of};
 ghost use Rattle.assemble8.specs.Places.{start_of};
 ghost use Rattle.assemble8.specs.Steps.{comment_by, start_by};
 
-/// The place of the statement that a byte behind a text ends; that of this byte, where the statement is empty.
+/// The place of the statement that a byte after a text ends; that of this byte, where the statement is empty.
 pub(crate) fn statement_place(before: &[u8]) -> usize
     ensures { result ≡ start_of (text_of before.now) }
 {
@@ -21,7 +21,7 @@ pub(crate) fn statement_place(before: &[u8]) -> usize
     start.unwrap_or(before.len())
 }
 
-/// Whether a comment goes on behind a byte.
+/// Whether a comment goes on after a byte.
 pub(crate) fn comment_behind(comment: bool, byte: u8) -> bool
     ensures { result ≡ comment_by byte comment }
 {
@@ -32,8 +32,8 @@ pub(crate) fn comment_behind(comment: bool, byte: u8) -> bool
     }
 }
 
-/// The place of the first byte of a statement so far that is no blank, with one byte more, behind which a comment goes on
-/// or not.
+/// The place of the first byte of a statement so far that is no blank, with one byte more, by whether a comment goes on
+/// after that.
 pub(crate) fn start_behind(
     start: Option<usize>,
     comment: bool,
@@ -54,7 +54,7 @@ pub(crate) fn start_behind(
     Some(place)
 }
 
-/// Whether a byte means nothing, behind which a comment goes on or not.
+/// Whether a byte means nothing, by whether a comment goes on after it.
 pub(crate) fn is_dead(comment: bool, byte: u8) -> bool
     ensures { result ≡ (spec.is_ignored byte || comment) }
 {

@@ -1,4 +1,4 @@
-//! Faults, as a compiler tells them.
+//! Faults, as a compiler prints them.
 ghost use Rattle.std.specs.Prelude.{◌≡◌, ◌++◌, decimal, IfOk, OnOk};
 ghost use Rattle.assemble8.specs.Places.{bytes_of};
 ghost use Rattle.assemble8.specs.Telling.{letters_of, words_of, character_text, named, told, located, headline, with_caret, marked_line, numbered, fault_text};
@@ -10,9 +10,9 @@ use crate::{About, Fault, Place};
 use pal_asm::Code;
 use std::alloc::{AllocError, Global};
 
-/// The text of a fault of sources with these names, four lines that LF ends: the fault behind the name of its source and its
-/// place there, of UA with the undefined name by the six characters that count, of IC with the character, one that isn't printable ASCII by its
-/// three octal digits; the line of the source; a caret below the column; and the fault as scripts are told it.
+/// The text of a fault of sources with these names, four lines that LF ends. The first is the fault after the name of its source and its place
+/// there. UA has the undefined name by the six characters that count, IC the character, or its three octal digits where it isn't printable
+/// ASCII. Then come the line of the source, a caret below the column, and the fault as it is printed for scripts.
 ///
 /// In the line of the source a byte that is neither printable ASCII nor a tab is shown as `?`, and no CR stands in it (this
 /// project's profile).
@@ -48,7 +48,7 @@ fn name_of<'a>(names: &[&'a str], number: usize) -> &'a str
     ""
 }
 
-/// Puts a fault behind the name of its source and its place there.
+/// Puts a fault after the name of its source and its place there.
 fn put_headline(text: &mut Vec<u8>, name: &str, fault: Fault) -> Result<(), AllocError>
     ensures { OnOk result (text.new.items ≡ text.old.items ++ headline name.now fault) }
 {
@@ -58,7 +58,7 @@ fn put_headline(text: &mut Vec<u8>, name: &str, fault: Fault) -> Result<(), Allo
     Ok(())
 }
 
-/// Puts `NAME:LINE:COLUMN: `: the name of a source, and the line and the column of a place of it, each from 1, as they stand before a fault
+/// Puts `NAME:LINE:COLUMN: `: the name of a source, and the line and the column of a place of it, each from 1. They stand so before a fault
 /// (this project's profile).
 pub fn put_place(text: &mut Vec<u8>, name: &str, place: Place) -> Result<(), AllocError>
     ensures { OnOk result (text.new.items ≡ text.old.items ++ located name.now place) }
@@ -86,7 +86,7 @@ pub fn put_marked_line(
     put_caret(text, &line, place.column)
 }
 
-/// Puts a fault by its letters and words, and behind them what it is about.
+/// Puts a fault by its letters and words, and after them what it is about.
 fn put_told(text: &mut Vec<u8>, fault: Fault) -> Result<(), AllocError>
     ensures { OnOk result (text.new.items ≡ text.old.items ++ told fault) }
 {
@@ -97,7 +97,7 @@ fn put_told(text: &mut Vec<u8>, fault: Fault) -> Result<(), AllocError>
     Ok(())
 }
 
-/// Puts the name or the character that a fault is about behind a blank, if there is one.
+/// Puts the name or the character that a fault is about after a blank, if there is one.
 fn put_named(text: &mut Vec<u8>, about: About) -> Result<(), AllocError>
     ensures { OnOk result (text.new.items ≡ text.old.items ++ named about) }
 {
@@ -139,7 +139,7 @@ fn put_caret(text: &mut Vec<u8>, line: &[u8], column: usize) -> Result<(), Alloc
     Ok(())
 }
 
-/// Puts a fault as scripts are told it.
+/// Puts a fault as it is printed for scripts.
 fn put_numbered(text: &mut Vec<u8>, fault: Fault) -> Result<(), AllocError>
     ensures { OnOk result (text.new.items ≡ text.old.items ++ numbered fault) }
 {

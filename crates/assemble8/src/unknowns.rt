@@ -65,7 +65,7 @@ fn unknown_name(alloc: Global, text: &[u8], met: Passed) -> Result<Option<u64>, 
     }
 }
 
-/// The first name that stands for nothing in the statement that a byte of a text ends, where the first pass meets no fault
+/// The first name that stands for nothing in the statement that a byte of a text ends. The first pass meets no fault
 /// before it, and names stand for these values at last. The only fault of the call is `Memory`.
 fn unknown_ended(
     alloc: Global,

@@ -22,8 +22,8 @@ pub enum DumpForm {
 /// How many lines a block has.
 const ROWS: usize = 32;
 
-/// Appends the lines of a block: each has the decimal number of its first word in the block, eight words in octal, and characters (OS/8
-/// Software Support Manual for both packings; the form of the lines is this project's profile).
+/// Appends the lines of a block. Each has the decimal number of its first word in the block, eight words in octal, and characters
+/// (OS/8 Software Support Manual for both packings; the form of the lines is this project's profile).
 pub fn put_block(
     text: &mut Vec<u8>,
     words: &[Word; BLOCK],

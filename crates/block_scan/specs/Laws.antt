@@ -27,7 +27,7 @@ ArePieces blocks (piece ∷ pieces) = IsPiece blocks piece × ArePieces blocks p
 abbrev pub EachPieceIsText : Type 0
 EachPieceIsText = (blocks : List (List ℕ)) → ArePieces blocks (texts_from (record { first = 0; seen = false }) 0 blocks)
 
--- behind the blocks before it a text ends in the last of these
+-- after the blocks before it a text ends in the last of these
 abbrev pub IsWhole : Bool → List (List ℕ) → Type 0
 IsWhole seen [] = ⊥
 IsWhole seen (frames ∷ []) = passage seen frames ≡ Ends true
@@ -47,7 +47,7 @@ EachTextIsFound = (before text behind : List (List ℕ)) → IsWhole false text
 abbrev pub EachProgramGoesOn : Type 0
 EachProgramGoesOn = (kind : ProgramKind) (words all : List ℕ) (few many : ℕ) → few ≤ many → Heads kind words all few → Heads kind words all many
 
--- each program is one where it is told
+-- each program is one at the block that is given for it
 abbrev pub ArePrograms : List ℕ → List Program → Type 0
 ArePrograms words [] = Unit {0}
 ArePrograms words (program ∷ programs) =
@@ -58,11 +58,11 @@ abbrev pub HasBlock : List Program → ℕ → Type 0
 HasBlock [] place = ⊥
 HasBlock (program ∷ programs) place = ((program.place ≤ place) × (place < program.place + program.size)) ⊎ HasBlock programs place
 
--- what is told as the programs of a volume is there: each can be read as one
+-- what is listed as the programs of a volume is there: each can be read as one
 abbrev pub EachProgramIsOne : Type 0
 EachProgramIsOne = (words : List ℕ) (programs : List Program) → AreProgramsOf words programs → ArePrograms words programs
 
--- each whole program that begins at a block, with more than leader there, and lies in one piece, begins with one that is told, or inside it
+-- each whole program that begins at a block, with more than leader there, and lies in one piece, begins with one that is listed, or inside it
 abbrev pub EachProgramIsFound : Type 0
 EachProgramIsFound = (words : List ℕ) (programs : List Program) (kind : ProgramKind) (place size : ℕ) → AreProgramsOf words programs
     → place + size ≤ length words / BLOCK → 0 < size → is_blank (frames_from words place) ≡ false

@@ -8,7 +8,7 @@ abbrev pub end_or_break : Bool → Bool → Passage
 end_or_break seen true = Ends seen
 end_or_break seen false = Breaks
 
--- what frames are for a text that comes to them, and has had a graphic character or not
+-- what frames are for a text that reaches them, and has had a graphic character or not
 abbrev pub passage : Bool → List ℕ → Passage
 passage seen [] = Goes seen
 passage seen (frame ∷ others) =

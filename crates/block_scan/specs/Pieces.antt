@@ -12,14 +12,14 @@ unfoldable pub blocks_in : ℕ → List ℕ → List (List ℕ)
 blocks_in zero frames = []
 blocks_in (suc n) frames = take BLOCK_FRAMES frames ∷ blocks_in n (drop BLOCK_FRAMES frames)
 
--- the text that ends in the block before the next one, where a text may have come to it so
+-- the text that ends in the block before the next one, where a text may have reached it so
 abbrev pub found : Stretch → ℕ → Passage → List TextPiece
 found stretch next (Goes seen) = []
 found stretch next (Ends true) = record { place = stretch.first; size = next - stretch.first } ∷ []
 found stretch next (Ends false) = []
 found stretch next Breaks = []
 
--- how a text may come to the next block
+-- how a text may reach the next block
 abbrev pub open_behind : Stretch → ℕ → Passage → Stretch
 open_behind stretch next (Goes seen) = record { first = stretch.first; seen = seen }
 open_behind stretch next (Ends seen) = record { first = next; seen = false }

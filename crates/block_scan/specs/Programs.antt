@@ -74,11 +74,11 @@ frames_from words place = drop (BLOCK_FRAMES * place) (frames words)
 abbrev pub BeginsNoneIn : List ℕ → ℕ → ℕ → ℕ → Type 0
 BeginsNoneIn words count from to = (place : ℕ) → from ≤ place → place < to → BeginsNone (words_from words place) (frames_from words place) (count - place)
 
--- a program begins where it is told
+-- a program begins at the block that is given for it
 abbrev pub BeginsAt : List ℕ → ℕ → Program → Type 0
 BeginsAt words count program = Begins (words_from words program.place) (frames_from words program.place) (count - program.place) program.kind program.size
 
--- the programs that begin at a block or behind it: where one ends, the next is looked for
+-- the programs that begin at a block or after it: where one ends, the next is looked for
 abbrev pub AreProgramsFrom : List ℕ → ℕ → ℕ → List Program → Type 0
 AreProgramsFrom words count block [] = BeginsNoneIn words count block count
 AreProgramsFrom words count block (program ∷ programs) =

@@ -50,7 +50,7 @@ fn is_core(alloc: Global, words: &[Word]) -> bool
     is_image_without_room(fault)
 }
 
-/// Whether the fault of words is want of memory, which is asked for only where they are a core image.
+/// Whether the fault of words is `Memory`; memory is asked for only where they are a core image.
 fn is_image_without_room(fault: CoreFault) -> bool
     ensures { (words : List ℕ) → core.IsFault words fault → IsTrue result ↔ IsSomeImage words }
 {
@@ -93,7 +93,7 @@ fn is_rim(alloc: Global, frames: &[u8]) -> bool
     is_tape_without_room(fault)
 }
 
-/// Whether the fault of frames is want of memory, which is asked for only where they are a RIM tape.
+/// Whether the fault of frames is `Memory`; memory is asked for only where they are a RIM tape.
 fn is_tape_without_room(fault: RimFault) -> bool
     ensures { (frames : List ℕ) → rim.IsFault frames fault → IsTrue result ↔ IsSomeRim frames }
 {

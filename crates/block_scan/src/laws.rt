@@ -13,26 +13,26 @@ pub fn pieces_are_texts()
     ensures { EachPieceIsText }
 {}
 
-/// A law: each whole text that begins at a block and lies in one piece, of however many blocks, is found: a piece ends where it ends, and
+/// A law: each whole text that begins at a block and lies in one piece, of however many blocks, is found. A piece ends where it ends, and
 /// begins where it begins, or before it, where blocks that a text may go through lie directly before it.
 pub fn texts_are_found()
     ensures { EachTextIsFound }
 {}
 
-/// A law: a program with more blocks behind it is one of the same kind.
+/// A law: a program with more blocks after it is one of the same kind.
 pub fn longer_programs()
     ensures { EachProgramGoesOn }
 {
     longer_tape();
 }
 
-/// A law: each program that is told as one of a volume can be read there as what it is told to be.
+/// A law: each program that is listed as one of a volume can be read there as what it is listed as.
 pub fn programs_are_there()
     ensures { EachProgramIsOne }
 {}
 
-/// A law: each whole program of a volume that begins at a block with more than leader, and lies in one piece, is found: it begins with one
-/// that is told, or inside it.
+/// A law: each whole program of a volume that begins at a block with more than leader, and lies in one piece, is found. It begins with one
+/// that is listed, or inside it.
 pub fn programs_are_found()
     ensures { EachProgramIsFound }
 {}

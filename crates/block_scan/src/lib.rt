@@ -1,4 +1,4 @@
-//! What the blocks of a volume hold by their content alone, where no directory tells: whole texts, and programs.
+//! What the blocks of a volume hold by their content alone, where no directory lists it: whole texts, and programs.
 //!
 //! A block is its frames, three for each two of its words.
 #![tactic(auto)]

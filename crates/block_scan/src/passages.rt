@@ -5,10 +5,10 @@ ghost use Rattle.file_kind.specs.Texts as text;
 
 use char_pack::CONTROL_Z;
 
-/// What frames are for a text that comes to them.
+/// What frames are for a text that reaches them.
 #[derive(Clone, Copy, PartialEq, Eq, Debug)]
 pub enum Passage {
-    /// It goes on behind them, and has had a graphic character or not.
+    /// It goes on after them, and has had a graphic character or not.
     Goes(bool),
 
     /// It ends among them, by a control Z or by zeros up to their end, and has had a graphic character or not.
@@ -18,7 +18,7 @@ pub enum Passage {
     Breaks,
 }
 
-/// What frames are for a text that comes to them, and has had a graphic character or not (OS/8 Software Support Manual; which characters may
+/// What frames are for a text that reaches them, and has had a graphic character or not (OS/8 Software Support Manual; which characters may
 /// stand in a text is this project's profile).
 pub fn passage_of(seen: bool, frames: &[u8]) -> Passage
     ensures { result ≡ spec.passage seen frames.now }

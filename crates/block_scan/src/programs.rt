@@ -27,8 +27,8 @@ struct Extent {
     size: usize,
 }
 
-/// The programs among the blocks of a volume, in order of their blocks: each is the fewest blocks from one on that are a core image, a BIN
-/// tape with its check sum, or a RIM tape, the first of these, and the next one is looked for where it ends. A block that has nothing but
+/// The programs among the blocks of a volume, in order of their blocks. Each is the fewest blocks from one on that are a core image, a BIN
+/// tape with its check sum, or a RIM tape, the first of these. The next one is looked for where it ends. A block that has nothing but
 /// leader begins none (PAL III Symbolic Assembler manual, Small Computer Handbook and OS/8 Software Support Manual; the order is this
 /// project's profile).
 pub fn programs_in(alloc: Global, words: &[Word]) -> Result<Vec<Program>, AllocError>

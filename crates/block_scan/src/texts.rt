@@ -22,8 +22,8 @@ pub struct Stretch {
     pub seen: bool,
 }
 
-/// The whole texts among blocks of 384 frames, in order of their blocks: the longest stretches of blocks that a text goes through up to the
-/// one in which it ends (OS/8 Software Support Manual; which characters may stand in a text is this project's profile).
+/// The whole texts among blocks of 384 frames, in order of their blocks. They are the longest stretches of blocks that a text goes through
+/// up to the one in which it ends (OS/8 Software Support Manual; which characters may stand in a text is this project's profile).
 pub fn texts_in(alloc: Global, frames: &[u8]) -> Result<Vec<TextPiece>, AllocError>
     ensures pieces { IfOk result (λ pieces. pieces.items ≡ texts_among frames.now) }
     ensures inside { IfOk result (λ pieces. AreInside (length frames.now / BLOCK_FRAMES) pieces.items) }
@@ -54,7 +54,7 @@ fn texts_of(alloc: Global, count: usize, frames: &[u8]) -> Result<Vec<TextPiece>
     Ok(pieces)
 }
 
-/// Adds the text that ends in the block before the next one, where a text may have come to it so.
+/// Adds the text that ends in the block before the next one, where a text may have reached it so.
 fn put_found(
     stretch: Stretch,
     next: usize,
@@ -76,7 +76,7 @@ fn put_found(
     }
 }
 
-/// How a text may come to the next block.
+/// How a text may reach the next block.
 fn stretch_behind(stretch: Stretch, next: usize, way: Passage) -> Stretch
     requires { stretch.first ≤ next }
     ensures value { result ≡ open_behind stretch next way }

@@ -5,7 +5,7 @@ use Rattle.disk8.specs.declared.layouts.Layout.{Layout}
 use Rattle.disk8.specs.declared.layouts.Layout.TheVariants.{First, Second, Dectape}
 use Rattle.disk8.specs.declared.sizes.TheConstants.{DISK_VOLUME, DISK, TAPE_VOLUME, TAPE}
 
--- byte k of a file; 0 behind its end
+-- byte k of a file; 0 after its end
 abbrev pub byte : List ℕ → ℕ → ℕ
 byte file k = slice_index file k
 
@@ -15,8 +15,8 @@ image_size First = DISK_VOLUME
 image_size Second = DISK_VOLUME
 image_size Dectape = TAPE_VOLUME
 
--- where byte k of the volume lies in the file: the volumes of a disk lie one behind the other, and a DECtape has 256 bytes of the volume
--- in each 258
+-- Where byte k of the volume lies in the file. The volumes of a disk lie one after the other, and a DECtape has 256 bytes of the volume
+-- in each 258.
 abbrev pub place : Layout → ℕ → ℕ
 place First k = k
 place Second k = k + DISK_VOLUME

@@ -8,12 +8,12 @@ use Rattle.disk8.specs.declared.faults.DiskFault.TheVariants.{TooLong, NoTape, M
 use Rattle.disk8.specs.declared.sizes.TheConstants.{DISK_VOLUME, DISK, TAPE_VOLUME, TAPE}
 use Rattle.disk8.specs.Disks.{byte, image_size, place, IsOutside, FitsLayout}
 
--- a file, and where the volume that is spoken of lies in it
+-- a file, and where the volume that is meant lies in it
 pub record Disk : Type 0 where
   pub layout : Layout
   pub bytes : List ℕ
 
--- what is answered where bytes are to be the file of a disk or a DECtape: want of memory is told of such a file only
+-- what is answered where bytes are to be the file of a disk or a DECtape: `Memory` is reported for such a file only
 abbrev pub Opens : Layout → List ℕ → Result Disk DiskFault → Type 0
 Opens layout bytes (Ok disk) = FitsLayout layout bytes × (disk.layout ≡ layout) × (disk.bytes ≡ bytes)
 Opens First bytes (Err TooLong) = DISK < length bytes
@@ -24,7 +24,7 @@ Opens Second bytes (Err NoTape) = ⊥
 Opens Dectape bytes (Err NoTape) = length bytes ≢ TAPE
 Opens layout bytes (Err Memory) = FitsLayout layout bytes
 
--- an image has zeros alone behind so many blocks, and behind no fewer
+-- an image has zeros alone after so many blocks, and after no fewer
 pub record IsUsed (image : List ℕ) (blocks : ℕ) : Type 0 where
   pub zeros : (k : ℕ) → 512 * blocks ≤ k → byte image k ≡ 0
   pub least : (fewer : ℕ) → ((k : ℕ) → 512 * fewer ≤ k → byte image k ≡ 0) → blocks ≤ fewer
@@ -36,8 +36,8 @@ needed Second zero = 0
 needed Second (suc more) = DISK_VOLUME + 512 * suc more
 needed Dectape blocks = 0
 
--- a file has this image in place of its volume's bytes: each byte that is none of the volume's is as it was, and the file is longer
--- only where a block that isn't zeros alone ends behind it
+-- A file has this image in place of its volume's bytes. Each byte that is none of the volume's is as it was. The file is longer
+-- only where a block that isn't zeros alone ends after it.
 pub record HasLaid (old : Disk) (image : List ℕ) (new : Disk) : Type 0 where
   pub fits : length image ≡ image_size old.layout
   pub layout : new.layout ≡ old.layout
@@ -59,7 +59,7 @@ pub record IsBlankTape (image file : List ℕ) : Type 0 where
   pub volume : (k : ℕ) → k < TAPE_VOLUME → byte file (place Dectape k) ≡ byte image k
   pub others : (at : ℕ) → IsOutside Dectape at → byte file at ≡ 0
 
--- what is answered where a new DECtape is wanted: want of memory is told of an image of its volume only
+-- what is answered where a new DECtape is wanted: `Memory` is reported for an image of its volume only
 abbrev pub MakesTape : List ℕ → Result (Vec ℕ) DiskFault → Type 0
 MakesTape image (Ok file) = IsBlankTape image file.items
 MakesTape image (Err TooLong) = ⊥

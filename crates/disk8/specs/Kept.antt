@@ -11,7 +11,7 @@ most_bytes First = DISK
 most_bytes Second = DISK
 most_bytes Dectape = TAPE
 
--- the bytes of a file with zeros behind them up to a whole disk or DECtape, and how many of them the file has
+-- the bytes of a file with zeros after them up to a whole disk or DECtape, and how many of them the file has
 pub record IsKept (layout : Layout) (bytes : List ℕ) (count : ℕ) : Type 0 where
   pub whole : length bytes ≡ most_bytes layout
   pub within : count ≤ length bytes

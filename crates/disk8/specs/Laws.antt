@@ -28,8 +28,8 @@ abbrev pub WordsStay : Type 0
 WordsStay = (old new : Disk) (image : List ℕ) → old.layout ≡ Dectape → Lays old image true new
     → (block at : ℕ) → 258 * block + 256 ≤ at → at < 258 * block + 258 → byte new.bytes at ≡ byte old.bytes at
 
--- a file in which the image that was read of it is laid has the bytes that it had, and just those where it was whole blocks of 512
--- bytes, or a DECtape; else it may have zeros behind them to the end of its last block
+-- A file in which the image that was read of it is laid has the bytes that it had. It has just those where it was whole blocks of
+-- 512 bytes, or a DECtape. Else it may have zeros after them to the end of its last block.
 pub record ReadIsLaid : Type 0 where
   pub bytes : (old new : Disk) (image : List ℕ) → IsImageIn old.layout old.bytes image → Lays old image true new
       → (at : ℕ) → byte new.bytes at ≡ byte old.bytes at

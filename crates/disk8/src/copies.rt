@@ -108,7 +108,7 @@ pub(crate) fn volume_of(alloc: Global, layout: Layout, file: &[u8]) -> Result<Ve
     }
 }
 
-/// Puts zeros behind bytes until there are so many.
+/// Puts zeros after bytes until there are so many.
 pub(crate) fn fill_up(bytes: &mut Vec<u8>, size: usize) -> Result<(), AllocError>
     requires { length bytes.old.items ≤ size }
     ensures size { OnOk result (length bytes.new.items ≡ size) }

@@ -31,8 +31,8 @@ impl Model for DiskFile {
 }
 
 impl DiskFile {
-    /// The file of these bytes: of a disk at most 3,325,952, where what is behind its end reads as zeros; of a DECtape just 380,292
-    /// (OS/8 Software Support Manual; SIMH's files of both). What a change needs is taken here.
+    /// The file of these bytes. A disk has at most 3,325,952, and what is after its end reads as zeros. A DECtape has just 380,292
+    /// (OS/8 Software Support Manual; SIMH's files of both). The memory that a change needs is taken here.
     pub fn new(bytes: Vec<u8>, layout: Layout) -> Result<DiskFile, DiskFault>
         ensures { Opens layout bytes.items result }
     {
@@ -55,7 +55,7 @@ impl DiskFile {
     }
 
     /// Lays an image in place of the volume's bytes, and says whether it has as many as the volume: one of another size leaves the
-    /// file as it is. The file gets longer only where a block of the volume that isn't zeros alone ends behind it. No memory is taken.
+    /// file as it is. The file gets longer only where a block of the volume that isn't zeros alone ends after it. No memory is taken.
     pub fn lay(&mut self, image: &[u8]) -> bool
         ensures { Lays self.old image.now result self.new }
     {
@@ -76,7 +76,7 @@ impl DiskFile {
     }
 }
 
-/// A new DECtape with this image of its volume of 737 blocks, each 129th word 0; an image of another size is `NoTape` (OS/8 Software
+/// A new DECtape with this image of its volume of 737 blocks, each 129th word 0. An image of another size is `NoTape` (OS/8 Software
 /// Support Manual; SIMH's files of the TU56).
 pub fn blank_tape(alloc: Global, image: &[u8]) -> Result<Vec<u8>, DiskFault>
     ensures { MakesTape image.now result }

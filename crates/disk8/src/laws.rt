@@ -3,7 +3,7 @@ ghost use Rattle.disk8.specs.Laws.{FirstStays, LaidIsRead, ReadIsLaid, SecondSta
 
 /// A law: what was laid is read again. Each byte that is none of the volume's is as it was: the other volume of a disk, which is read
 /// as before, and the 129th words of a DECtape. What was read and is laid again leaves the file as it is, but for zeros to the end of
-/// its last block where it had a part of a block.
+/// a last block that it had in part.
 pub fn laid_volume()
     ensures again { LaidIsRead }
     ensures second { SecondStays }

@@ -1,5 +1,5 @@
-//! Volumes in the files of disks and DECtapes, as other programs keep them: where the bytes of a volume lie in such a file, and the
-//! file with another image of its volume.
+//! Volumes in the files of disks and DECtapes, as other programs keep them. This crate gives where the bytes of a volume lie in
+//! such a file, and the file with another image of its volume.
 //!
 //! In each contract a file is the list of its bytes, an image the list of the volume's bytes, and a [`DiskFile`] its layout and its
 //! bytes. What changes keep stands in [`laws`].

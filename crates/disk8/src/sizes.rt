@@ -26,8 +26,8 @@ pub fn image_size(layout: Layout) -> usize
     }
 }
 
-/// What a file of so many bytes may be: a DECtape of just its size; a disk of two volumes where it is longer than one volume and at
-/// most a disk; else nothing.
+/// What a file of so many bytes may be. It is a DECtape of just its size; a disk of two volumes where it is longer than one volume
+/// and at most a disk; else nothing.
 pub fn guess(size: usize) -> Option<Layout>
     ensures { result ≡ guess_of size }
 {

@@ -9,8 +9,8 @@ twelve_bits bytes at = (slice_index bytes at + 0o400 * slice_index bytes (at + 1
 abbrev pub minus : ℕ → ℕ
 minus word = (0o10000 - word) % 0o10000
 
--- At most 125 entries; the first block of files from 7 up to the number of blocks; the next segment in one of the blocks 1 to 6, or none;
--- at most 10 information words.
+-- At most 125 entries, and the first block of files from 7 up to the number of blocks. The next segment in one of the blocks 1 to 6, or
+-- none, and at most 10 information words.
 abbrev pub is_head : List ℕ → ℕ → ℕ → Bool
 is_head bytes at blocks =
     nat_le (at + 10) (length bytes)

@@ -6,7 +6,7 @@ use Rattle.image_kind.specs.declared.kinds.ImageKind.{ImageKind}
 use Rattle.image_kind.specs.declared.kinds.TheConstants.{DISK_VOLUME, DISK, TAPE, LARGEST, BLOCK_BYTES}
 use Rattle.image_kind.specs.Heads.{is_head}
 
--- How many bytes a file of so many has beyond its form's, if it may be of the form: a DECtape is whole, a disk may end early but not in its
+-- How many bytes a file of so many has beyond its form's, if it may be of the form. A DECtape is whole, a disk may end early but not in its
 -- first volume, and a volume is whole blocks.
 abbrev pub excess : Form → ℕ → Option ℕ
 excess Dectape size = if nat_lt size TAPE || nat_le (TAPE + BLOCK_BYTES) size then None else Some (size - TAPE)
@@ -18,8 +18,8 @@ excess Volume size = if nat_lt size (8 * BLOCK_BYTES) || nat_le (LARGEST + BLOCK
 abbrev pub volume_blocks : ℕ → ℕ
 volume_blocks size = min (size / BLOCK_BYTES) 4095
 
--- Behind so many bytes directories begin in block 1 of each volume: of a disk in one of them, and in the second where a file of this length
--- may be one volume. The second block of a DECtape's volume begins with the third block of the tape.
+-- After so many bytes directories begin in block 1 of each volume. Of a disk one begins in one of its volumes, and in the second where a
+-- file of this length may be one volume. The second block of a DECtape's volume begins with the third block of the tape.
 abbrev pub fits : List ℕ → Form → ℕ → Bool
 fits bytes Dectape before = is_head bytes (before + 516) 737
 fits bytes Disk before =

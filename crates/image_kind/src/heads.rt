@@ -8,9 +8,9 @@ const MOST_ENTRIES: u16 = 125;
 /// The most information words of an entry (this project's profile).
 const MOST_INFORMATION: u16 = 10;
 
-/// Whether the first segment of a directory may begin with this byte of a file, on a volume of so many blocks: at most 125 entries, the
-/// first block of files from 7 up to the end, a link to one of the blocks 1 to 6 or to none, and at most 10 information words (OS/8
-/// Software Support Manual). Of each word the low twelve bits count.
+/// Whether the first segment of a directory may begin with this byte of a file, on a volume of so many blocks. Then it has at most 125
+/// entries, and the first block of files from 7 up to the end. It has a link to one of the blocks 1 to 6 or to none, and at most 10
+/// information words (OS/8 Software Support Manual). Of each word the low twelve bits count.
 pub fn is_head(bytes: &[u8], at: usize, blocks: u16) -> bool
     requires { at ≤ 4000000 }
     ensures { result ≡ is_head bytes.now at blocks }

@@ -1,5 +1,5 @@
 //! What an image file of unknown origin holds: a volume, a disk of two volumes or a DECtape, with bytes that other programs put before or
-//! after it. The length tells what it may be, and the directory which of these it is.
+//! after it. The length says what it may be, and the directory which of these it is.
 //!
 //! In each contract a file is the list of its bytes.
 #![tactic(auto)]

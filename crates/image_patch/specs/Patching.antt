@@ -15,7 +15,7 @@ pub record IsPatched (old new : List ℕ) (place word : ℕ) : Type 0 where
 abbrev pub HasBlock : List ℕ → ℕ → Type 0
 HasBlock image block = block < length image / 0o1000
 
--- What is answered where a word of a block is to be put in place of this one: another word that stands there is told.
+-- What is answered where a word of a block is to be put in place of this one: another word that stands there is reported.
 abbrev pub Patches : List ℕ → ℕ → ℕ → ℕ → ℕ → Result (Unit {0}) PatchFault → List ℕ → Type 0
 Patches old block number found word (Ok done) new =
     HasBlock old block × (number < BLOCK) × (image_word old (BLOCK * block + number) ≡ found) × IsPatched old new (BLOCK * block + number) word

@@ -5,9 +5,9 @@ ghost use Rattle.image_patch.specs.Patching.{IsPatched, Patches};
 use crate::PatchFault;
 use word12::{BLOCK, Word};
 
-/// Puts a word in place of the one that stands in a block of an image, by its number from 0, if that is just so. Words that stand there may
-/// have up to sixteen bits, as they may in an image that is damaged. Blocks are counted from 0, and a block that isn't whole is none (this
-/// project's profile of images).
+/// Puts a word in place of another one in a block of an image, by its number from 0, if just that other one stands there. Words that stand
+/// there may have up to sixteen bits, as they may in an image that is damaged. Blocks are counted from 0, and a block that isn't whole is
+/// none (this project's profile of images).
 ///
 /// After a refusal the image is as it was. No memory is taken.
 pub fn patch(

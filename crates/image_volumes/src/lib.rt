@@ -1,5 +1,5 @@
-//! Which volumes an image file of unknown origin has, and which of its bytes are theirs: by what is asked for, and else by its length and
-//! the directories in it.
+//! Which volumes an image file of unknown origin has, and which of its bytes are theirs. What is asked for decides, and else its length
+//! and the directories in it.
 //!
 //! In each contract a file is the list of its bytes.
 #![tactic(auto)]

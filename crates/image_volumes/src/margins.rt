@@ -12,8 +12,8 @@ pub struct Margins {
     pub after: usize,
 }
 
-/// How many bytes before and after the volumes of a file are none of theirs, as its length and its directories tell. Where a layout is given
-/// these tell it only of a file that may be read so (this project's profile).
+/// How many bytes before and after the volumes of a file are none of theirs, as its length and its directories show. Where a layout is given
+/// these show it only for a file that may be read so (this project's profile).
 pub fn margins_in(given: Option<Layout>, file: &[u8]) -> Margins
     ensures { result ≡ spec.margins_in given file.now }
 {

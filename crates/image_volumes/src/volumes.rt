@@ -16,7 +16,7 @@ pub enum Volumes {
 }
 
 /// Which volumes of a file are meant: the one of the layout that is given, or else those of what the file is by its length and its
-/// directories, where what is unknown is one volume (OS/8's use of the RK05 and of the DECtape; that what is given decides is this project's
+/// directories. What is unknown is one volume (OS/8's use of the RK05 and of the DECtape; that what is given decides is this project's
 /// profile).
 pub fn volumes_in(given: Option<Layout>, file: &[u8]) -> Volumes
     ensures { result ≡ spec.volumes_in given file.now }

@@ -1,6 +1,6 @@
 //! The line of an index that stands for a file of a volume, with tabs between its columns.
 //!
-//! No name can tear a line: what is no graphic character in the name of an image, or in that of a file, is escaped.
+//! No name can break a line: what is no graphic character in the name of an image, or in that of a file, is escaped.
 #![tactic(auto)]
 
 mod columns;

@@ -32,9 +32,9 @@ pub struct IndexEntry {
     pub kind: FileKind,
 }
 
-/// Appends the line of a file: the image's name, its volume, the first block, the length in blocks, the name, the date of the eight years up
-/// to a last one, the kind, and the MD5 digest (RFC 1321) of the bytes that are its words in the image, with a tab between two columns and
-/// LF at the end (this project's profile).
+/// Appends the line of a file. It has the image's name, its volume, the first block, the length in blocks, the name, the date of the eight
+/// years up to a last one, and the kind. Last comes the MD5 digest (RFC 1321) of the bytes that are its words in the image. A tab stands
+/// between two columns, and LF at the end (this project's profile).
 pub fn put_index(
     text: &mut Vec<u8>,
     image: &[u8],

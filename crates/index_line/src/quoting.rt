@@ -4,8 +4,8 @@ ghost use Rattle.index_line.specs.Quoting.{quoted, quoted_byte};
 
 use std::alloc::AllocError;
 
-/// Appends bytes so that they are one column of a line: a graphic character of ASCII other than `\` as it is, any other byte as `\` and
-/// three octal digits (this project's profile).
+/// Appends bytes as one column of a line. A graphic character of ASCII other than `\` stands as it is, any other byte as `\` and three
+/// octal digits (this project's profile).
 pub fn put_quoted(text: &mut Vec<u8>, bytes: &[u8]) -> Result<(), AllocError>
     ensures { OnOk result (text.new.items ≡ text.old.items ++ quoted bytes.now) }
 {

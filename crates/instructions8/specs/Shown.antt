@@ -11,7 +11,7 @@ pub record BeginsWith (name : List ℕ) (pieces : List (List ℕ)) : Type 0 wher
   pub others : List (List ℕ)
   pub pieces_are : pieces ≡ name ∷ others
 
--- the number that stands behind CDF and CIF: ten, in octal, for each field, and none for field 0
+-- the number that stands after CDF and CIF: ten, in octal, for each field, and none for field 0
 abbrev pub field_pieces : ℕ → List (List ℕ)
 field_pieces field = if nat_eq field 0 then [] else (octal_digit field ∷ 0o60 ∷ []) ∷ []
 

@@ -16,19 +16,19 @@ pub fn permanent_names_are_the_tables()
     ensures codes { are_different instructions ≡ true }
 {}
 
-/// A step whose next word is of an instruction does what the table tells: of a memory reference whatever its address, of CDF
-/// and CIF whatever their field, of an operate just the bits that the table lists.
+/// A step whose next word is of an instruction does what the table says. This holds for a memory reference whatever its
+/// address, for CDF and CIF whatever their field, and for an operate with just the bits that the table lists.
 pub fn steps_are_the_tables()
     ensures { Each IsDone instructions }
 {}
 
-/// The statement that the source of a tape has for a word of an instruction begins with the name that the table has for it;
-/// only behind memory references, CDF and CIF something follows.
+/// The statement that the source of a tape has for a word of an instruction begins with the name that the table has for it.
+/// Something follows only after memory references, CDF and CIF.
 pub fn shown_names_are_the_tables()
     ensures { Each IsShown instructions }
 {}
 
-/// The operates whose names a source shows as few as can be are those of the table.
+/// The operates whose names a source shows, as few as possible, are those of the table.
 pub fn groups_are_the_tables()
     ensures group_1 { group_1 ≡ codes_where is_of_group_1 instructions }
     ensures group_2 { group_2 ≡ codes_where is_of_group_2 instructions }

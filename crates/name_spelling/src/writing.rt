@@ -8,9 +8,9 @@ use word12::Word;
 /// Begins an escape.
 pub(crate) const ESCAPE: u8 = b'_';
 
-/// Appends a name as it is typed: the codes of letters and digits as these, each other code as `_` and two octal digits, a dot before the
-/// extension, and no zeros after the last code of either (OS/8 Software Support Manual for the codes; the escape is this project's
-/// profile). No character of it means anything to a shell.
+/// Appends a name as it is typed. The codes of letters and digits stand as these, each other code as `_` and two octal digits. A dot
+/// stands before the extension, and no zeros stand after the last code of either (OS/8 Software Support Manual for the codes; the escape
+/// is this project's profile). No character of it means anything to a shell.
 pub fn put_name(text: &mut Vec<u8>, name: Name) -> Result<(), AllocError>
     ensures { OnOk result (text.new.items ≡ text.old.items ++ text_of name) }
 {

@@ -28,7 +28,7 @@ is_day date = nat_le 1 date.day && nat_le date.day (days_in date.year date.month
 
 -- ## Words
 
--- the last of the eight years that the extension tells, which is in bits 3 and 4 of the word at 07777
+-- the last of the eight years that the extension gives, which is in bits 3 and 4 of the word at 07777
 abbrev pub last_year : ℕ → ℕ
 last_year word = LEAST_LAST + 8 * (word / 0o200 % 4)
 

@@ -40,8 +40,8 @@ fn is_leap(year: u16) -> bool
     year % 4 == 0 && (year % 100 != 0 || year % 400 == 0)
 }
 
-/// The date that a word means among the eight years up to this last one; none where it is no day of the calendar, as 0 is not (OS/8
-/// Software Support Manual).
+/// The date that a word means among the eight years up to this last one. There is none where it is no day of the calendar, as 0 is
+/// not (OS/8 Software Support Manual).
 pub fn date_of(word: Word, last: u16) -> Option<Date>
     requires least { LEAST_LAST ≤ last }
     requires most { last ≤ LAST_YEAR }

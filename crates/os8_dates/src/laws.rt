@@ -2,7 +2,7 @@
 ghost use Rattle.std.specs.Prelude.{◌≡◌};
 ghost use Rattle.os8_dates.specs.Laws.{DatesComeBack, OneYearOfEight, SpelledIsParsed, WordsComeBack};
 
-/// A word that is a date is the word of that date, whichever eight years are meant; and a date is what its word means among eight years
+/// A word that is a date is the word of that date, whichever eight years are meant. A date is what its word means among eight years
 /// that have its own.
 pub fn words_and_dates()
     ensures words { WordsComeBack }

@@ -1,7 +1,7 @@
 //! Dates of files: a date word of OS/8 as a month, a day and a year, and back; and how a date is spelled.
 //!
-//! A date word has the month in bits 0 to 3, the day in bits 4 to 8, and in bits 9 to 11 the year less 1970, modulo 8 (OS/8 Software
-//! Support Manual). So a word alone means a year of each eight: callers tell the last year that it may mean.
+//! A date word has the month in bits 0 to 3 and the day in bits 4 to 8. In bits 9 to 11 it has the year less 1970, modulo 8 (OS/8
+//! Software Support Manual). So a word alone means a year of each eight: callers give the last year that it may mean.
 #![tactic(auto)]
 
 mod dates;

@@ -7,8 +7,8 @@ use crate::dates::{Date, date_of, is_calendar_day};
 use std::alloc::AllocError;
 use word12::Word;
 
-/// Appends what a date word means among the eight years up to this last one: `-` where it is 0, so that no date is given; a date; and four
-/// octal digits where it is no day of the calendar (this project's profile).
+/// Appends what a date word means among the eight years up to this last one. It is `-` where the word is 0, and no date is given; a date;
+/// or four octal digits where it is no day of the calendar (this project's profile).
 pub fn put_date(text: &mut Vec<u8>, word: Word, last: u16) -> Result<(), AllocError>
     requires least { LEAST_LAST ≤ last }
     requires most { last ≤ LAST_YEAR }
@@ -51,8 +51,8 @@ fn digit(number: u16) -> u8
     b'0' + (number % 10) as u8
 }
 
-/// The date that a text spells: four digits of the year, two of the month and two of the day, with `-` between; none where it has another
-/// form, or is no day of the calendar (this project's profile).
+/// The date that a text spells: four digits of the year, two of the month and two of the day, with `-` between. There is none where it
+/// has another form, or is no day of the calendar (this project's profile).
 pub fn parse_date(text: &[u8]) -> Option<Date>
     ensures { result ≡ parsed_date text.now }
 {

@@ -67,7 +67,7 @@ swapped name (Empty gap ∷ File other info size ∷ es) = if other == name then
 abbrev pub moved_down : ℕ → List DirEntry → List DirEntry
 moved_down name es = tidy (swapped name es)
 
--- the smaller of a room and another behind it, the first of equals
+-- the smaller of a room and another after it, the first of equals
 abbrev pub smaller : ℕ × ℕ → Option (ℕ × ℕ) → ℕ × ℕ
 smaller room None = room
 smaller room (Some other) = if nat_lt other.1 room.1 then other else room

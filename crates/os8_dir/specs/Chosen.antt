@@ -9,7 +9,7 @@ abbrev pub EachRoom : (ℕ → Type 0) → List (ℕ × ℕ) → Type 0
 EachRoom So [] = Unit {0}
 EachRoom So (room ∷ rooms) = So room.1 × EachRoom So rooms
 
--- the largest of these rooms, the first of equals: those before it have fewer blocks, and those behind it no more
+-- the largest of these rooms, the first of equals: those before it have fewer blocks, and those after it no more
 pub record IsFirstLargest (rooms : List (ℕ × ℕ)) (room : ℕ × ℕ) : Type 0 where
   pub prefix : List (ℕ × ℕ)
   pub behind : List (ℕ × ℕ)
@@ -17,8 +17,8 @@ pub record IsFirstLargest (rooms : List (ℕ × ℕ)) (room : ℕ × ℕ) : Type
   pub before : EachRoom (λ size. size < room.1) prefix
   pub after : EachRoom (λ size. size ≤ room.1) behind
 
--- The smallest of these rooms that has so many blocks, the first of equals: those before it that have so many have more
--- than it, and those behind it no fewer.
+-- The smallest of these rooms that has so many blocks, the first of equals. Those before it that have so many have more
+-- than it, and those after it no fewer.
 pub record IsFirstSmallest (wish : ℕ) (rooms : List (ℕ × ℕ)) (room : ℕ × ℕ) : Type 0 where
   pub prefix : List (ℕ × ℕ)
   pub behind : List (ℕ × ℕ)

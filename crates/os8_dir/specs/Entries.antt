@@ -39,7 +39,7 @@ abbrev pub total : List DirEntry → ℕ
 total [] = 0
 total (e ∷ es) = size_of e + total es
 
--- the block behind the last entry
+-- the block after the last entry
 abbrev pub end_of : Listed → ℕ
 end_of d = d.first + total d.entries
 
@@ -81,7 +81,7 @@ IsTidy (e ∷ es) = (0 < size_of e) × Apart e es × IsTidy es
 abbrev pub IsNamed : ℕ → Type 0
 IsNamed name = 0 < name / 68719476736
 
--- an entry that its words can say: its name is no name of an empty, and behind so many information words are zeros
+-- an entry that its words can say: its name is no name of an empty, and after so many information words are zeros
 abbrev pub IsWritable : ℕ → DirEntry → Type 0
 IsWritable info (File name words size) = IsNamed name × (padded 10 (take info words) ≡ words)
 IsWritable info (Empty size) = Unit {0}

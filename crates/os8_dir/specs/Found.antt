@@ -39,7 +39,7 @@ rooms_at place [] = []
 rooms_at place (File name info size ∷ es) = rooms_at (place + size) es
 rooms_at place (Empty size ∷ es) = (place, size) ∷ rooms_at (place + size) es
 
--- the larger of a room and another behind it, the first of equals
+-- the larger of a room and another after it, the first of equals
 abbrev pub larger : ℕ × ℕ → Option (ℕ × ℕ) → ℕ × ℕ
 larger room None = room
 larger room (Some other) = if nat_lt room.1 other.1 then other else room
@@ -81,7 +81,7 @@ count_empties [] = 0
 count_empties (File name info size ∷ es) = count_empties es
 count_empties (Empty size ∷ es) = suc (count_empties es)
 
--- how many files of a tidy list have an empty below them: all those behind its first empty
+-- how many files of a tidy list have an empty below them: all those after its first empty
 abbrev pub above : List DirEntry → ℕ
 above [] = 0
 above (File name info size ∷ es) = above es

@@ -27,7 +27,7 @@ abbrev pub before_dot : List ℕ → List ℕ
 before_dot [] = []
 before_dot (c ∷ cs) = if c == 0o56 then [] else c ∷ before_dot cs
 
--- the characters behind the first dot, where there is one
+-- the characters after the first dot, where there is one
 abbrev pub after_dot : List ℕ → Option (List ℕ)
 after_dot [] = None
 after_dot (c ∷ cs) = if c == 0o56 then Some cs else after_dot cs
@@ -47,7 +47,7 @@ codes_of (c ∷ cs) = with_code (sixbit_code c) (codes_of cs)
 abbrev pub codes_within : ℕ → List ℕ → Option (List ℕ)
 codes_within most text = if nat_le 1 (length text) && nat_le (length text) most then codes_of text else None
 
--- so many codes: these, and zeros behind
+-- so many codes: these, and zeros after them
 abbrev pub padded : ℕ → List ℕ → List ℕ
 padded zero codes = []
 padded (suc size) [] = 0 ∷ padded size []

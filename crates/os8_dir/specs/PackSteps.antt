@@ -8,7 +8,7 @@ abbrev pub digits : List ℕ → ℕ
 digits [] = 0
 digits (code ∷ codes) = code * 0o100 ^ length codes + digits codes
 
--- codes with zeros behind them up to a size, as one number
+-- codes with zeros after them up to a size, as one number
 abbrev pub packed : ℕ → Option (List ℕ) → Option ℕ
 packed size None = None
 packed size (Some codes) = Some (digits (padded size codes))
@@ -24,7 +24,7 @@ with_digit size (Some code) (Some number) = Some (code * 0o100 ^ size + number)
 with_digit size (Some code) None = None
 with_digit size None number = None
 
--- the codes of up to so many characters, zeros behind, a character at a time
+-- the codes of up to so many characters, with zeros after them, a character at a time
 abbrev pub packed_codes : ℕ → List ℕ → Option ℕ
 packed_codes size [] = Some 0
 packed_codes zero (c ∷ cs) = None

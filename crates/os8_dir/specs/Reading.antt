@@ -27,12 +27,12 @@ word words k = slice_index_or words k 0
 abbrev pub block : List (List ℕ) → ℕ → List ℕ
 block blocks k = slice_index_or blocks k []
 
--- the empty entry whose words these are behind its first, and the words behind it
+-- the empty entry whose words these are after its first, and the words after it
 unfoldable pub empty_at : List ℕ → Result (DirEntry × List ℕ) DirFault
 empty_at [] = Err EntryPastSegment
 empty_at (size ∷ rest) = Ok (Empty (minus size), rest)
 
--- the file's entry that the words begin with, and the words behind it
+-- the file's entry that the words begin with, and the words after it
 unfoldable pub file_at : ℕ → List ℕ → Result (DirEntry × List ℕ) DirFault
 file_at info (a ∷ b ∷ c ∷ d ∷ rest) = do
   fits ← needs (nat_lt info (length rest)) EntryPastSegment
@@ -42,7 +42,7 @@ file_at info (a ∷ b ∷ []) = Err EntryPastSegment
 file_at info (a ∷ []) = Err EntryPastSegment
 file_at info [] = Err EntryPastSegment
 
--- the entry that the words begin with, and the words behind it
+-- the entry that the words begin with, and the words after it
 unfoldable pub entry_at : ℕ → List ℕ → Result (DirEntry × List ℕ) DirFault
 entry_at info [] = Err EntryPastSegment
 entry_at info (first ∷ rest) = if is_zero first then empty_at rest else file_at info (first ∷ rest)

@@ -6,12 +6,12 @@ use Rattle.os8_dir.specs.declared.faults.DirFault.{DirFault}
 use Rattle.os8_dir.specs.Entries.{Listed}
 use Rattle.os8_dir.specs.Reading.{◌>>=◌, block, word, is_unread, with_segment, head_of, IsOfWords}
 
--- a count of calls behind so many more
+-- a count of calls after so many more
 abbrev pub counted_by : ℕ → ℕ → ℕ
 counted_by zero calls = calls
 counted_by (suc more) calls = counted (counted_by more calls)
 
--- how many come behind a segment: none behind one that has a fault
+-- how many come after a segment: none after one that has a fault
 abbrev pub behind : Result Listed DirFault → (Listed → ℕ) → ℕ
 behind (Ok d) more = more d
 behind (Err fault) more = 0

@@ -14,13 +14,13 @@ abbrev pub words_of_entry : ℕ → DirEntry → List ℕ
 words_of_entry info (File name words size) = words_of_name name ++ (take info words ++ minus size ∷ [])
 words_of_entry info (Empty size) = 0 ∷ minus size ∷ []
 
--- the words of entries behind one another
+-- the words of entries, one after another
 abbrev pub words_of_entries : ℕ → List DirEntry → List ℕ
 words_of_entries info [] = []
 words_of_entries info (e ∷ es) = words_of_entry info e ++ words_of_entries info es
 
--- the words of a segment: how many entries, where the first begins, the block of the next segment or 0, the flag word,
--- how many information words, the entries, and zeros behind
+-- The words of a segment: how many entries, where the first begins, the block of the next segment or 0, the flag word,
+-- and how many information words. Then come the entries, and zeros after them.
 unfoldable pub words_of_segment : ℕ → ℕ → ℕ → List DirEntry → List ℕ
 words_of_segment first info link es = padded BLOCK (minus (length es) ∷ first ∷ link ∷ 0 ∷ minus info ∷ words_of_entries info es)
 

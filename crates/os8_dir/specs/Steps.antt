@@ -38,7 +38,7 @@ abbrev pub is_new_to : (ℕ → Bool) → DirEntry → Bool
 is_new_to known (File name info size) = is_zero size || not (known name)
 is_new_to known (Empty size) = true
 
--- an entry with the words behind it
+-- an entry with the words after it
 abbrev pub seen_entry : DirEntry × Bor (List ℕ) → DirEntry × List ℕ
 seen_entry p = (p.0, p.1.now)
 
@@ -90,7 +90,7 @@ is_gap name (Empty gap) (Empty size) = false
 abbrev pub beats : ℕ → ℕ → ℕ → Bool
 beats wish size other = if wish == 0 then nat_lt size other else nat_lt other size
 
--- the better of a room and one behind it
+-- the better of a room and one after it
 abbrev pub better : ℕ → ℕ × ℕ → Option (ℕ × ℕ) → ℕ × ℕ
 better wish room None = room
 better wish room (Some other) = if beats wish room.1 other.1 then other else room
@@ -100,7 +100,7 @@ abbrev pub best : ℕ → List (ℕ × ℕ) → Option (ℕ × ℕ)
 best wish [] = None
 best wish (room ∷ rooms) = if nat_lt room.1 wish then best wish rooms else Some (better wish room (best wish rooms))
 
--- the better of a room that was chosen and one behind it, where either may be missing
+-- the better of a room that was chosen and one after it, where either may be missing
 abbrev pub or_better : ℕ → Option (ℕ × ℕ) → Option (ℕ × ℕ) → Option (ℕ × ℕ)
 or_better wish None other = other
 or_better wish (Some room) other = Some (better wish room other)

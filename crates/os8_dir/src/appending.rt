@@ -9,7 +9,7 @@ use crate::found::last_room;
 use crate::items::{drop_last, push_item};
 use std::alloc::AllocError;
 
-/// Adds blocks of no file behind the others; none are nothing.
+/// Adds blocks of no file after the others; where there are none, it adds nothing.
 fn append_room(entries: &mut Vec<DirEntry>, length: usize) -> Result<(), AllocError>
     requires neat { IsTidy entries.old.items }
     requires fits { total entries.old.items + length ≤ MOST_BLOCKS }
@@ -27,7 +27,7 @@ fn append_room(entries: &mut Vec<DirEntry>, length: usize) -> Result<(), AllocEr
     push_item(entries, DirEntry::Empty { length })
 }
 
-/// Adds an entry behind the others. One of length 0 is nothing, and empties that touch are one.
+/// Adds an entry after the others. One of length 0 is nothing, and empties that touch are one.
 pub fn append(entries: &mut Vec<DirEntry>, entry: DirEntry) -> Result<(), AllocError>
     requires neat { IsTidy entries.old.items }
     requires fits { total entries.old.items + size_of entry ≤ MOST_BLOCKS }
@@ -44,7 +44,7 @@ pub fn append(entries: &mut Vec<DirEntry>, entry: DirEntry) -> Result<(), AllocE
     }
 }
 
-/// Adds entries behind the others, each as `append` does.
+/// Adds entries after the others, each as `append` does.
 pub fn append_all(entries: &mut Vec<DirEntry>, more: &[DirEntry]) -> Result<(), AllocError>
     requires neat { IsTidy entries.old.items }
     requires fits { total entries.old.items + total more.now ≤ MOST_BLOCKS }

@@ -41,7 +41,7 @@ impl Directory {
         find(self.entries.as_slice(), self.first, *name)
     }
 
-    /// The information words of the file of a name, with zeros behind them; nothing where no file has it (OS/8 Software Support
+    /// The information words of the file of a name, with zeros after them; nothing where no file has it (OS/8 Software Support
     /// Manual).
     pub fn information(&self, name: &Name) -> Option<[Word; 10]>
         ensures { result ≡ information_of_found (found name.now (files_at self.now.first self.now.entries)) }
@@ -134,7 +134,7 @@ impl Directory {
         self.entries.as_slice()
     }
 
-    /// The directory of these entries; the block behind the last of them is `end`.
+    /// The directory of these entries; the block after the last of them is `end`.
     pub(crate) fn of_parts(
         first: usize,
         info: usize,

@@ -59,7 +59,7 @@ impl Draft {
         })
     }
 
-    /// Adds an entry behind the others. Where there is no memory for it, no entry is left.
+    /// Adds an entry after the others. Where there is no memory for it, no entry is left.
     fn add(&mut self, volume: usize, entry: DirEntry) -> Result<(), DirFault>
         requires most { volume ≤ MOST_BLOCKS }
         requires small { size_of entry < 0o10000 }

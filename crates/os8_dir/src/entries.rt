@@ -4,7 +4,7 @@ use word12::Word;
 /// An entry of a directory: a file, or blocks that belong to no file (OS/8 Software Support Manual).
 #[derive(Clone, Copy, PartialEq, Eq)]
 pub enum DirEntry {
-    /// A file of so many blocks, and its information words, with zeros behind them.
+    /// A file of so many blocks, and its information words, with zeros after them.
     File {
         name: Name,
         info: [Word; 10],

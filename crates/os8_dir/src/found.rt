@@ -68,7 +68,7 @@ fn words_in(entry: &DirEntry) -> [Word; 10]
     }
 }
 
-/// The information words of the file of a name, with zeros behind them.
+/// The information words of the file of a name, with zeros after them.
 pub fn information_of(entries: &[DirEntry], name: Name) -> Option<[Word; 10]>
     ensures { result ≡ information_in name entries.now }
 {

@@ -27,9 +27,8 @@ pub fn faults_of_words()
     ensures { (blocks : List (List ℕ)) (fault : DirFault) → HasFault blocks fault → IsOfWords fault }
 {}
 
-/// What a sound volume is read as is a directory: no two files have one name, each file lies inside the volume, files
-/// do not overlap, no entry has length 0, no empties touch, and its
-/// entries can be written.
+/// What a sound volume is read as is a directory: no two files have one name, each file lies inside the volume, and
+/// files do not overlap. No entry has length 0, no empties touch, and its entries can be written.
 pub fn sound_directory()
     ensures { (blocks : List (List ℕ)) (d : Listed) → directory_of blocks ≡ Ok d
         → IsDirectory (length blocks) d }
@@ -67,8 +66,8 @@ pub fn name_order()
         → name_of name < name_of other }
 {}
 
-/// How many blocks a sound volume's directory covers, how many entries it may have, and how many of its files have an
-/// empty below them, are those of what the volume is read as.
+/// A sound volume's directory covers as many blocks, may have as many entries, and has as many files with an empty
+/// below them as what the volume is read as.
 pub fn directory_numbers()
     ensures capacity { (blocks : List (List ℕ)) (d : Listed) → directory_of blocks ≡ Ok d
         → capacity_of blocks ≡ capacity d }
@@ -120,8 +119,8 @@ pub fn file_removed()
 
 /// With one more file a directory is one of the same volume that covers as many blocks. The file is found where it was
 /// placed, with the information words given and zeros for missing ones, and the others as before. Where it was placed at
-/// the beginning of an empty, there is at most one entry more; and where besides its name is new, and no file had an
-/// empty below it, then none has.
+/// the beginning of an empty, there is at most one entry more. Where its name is new too, and no file had an empty below
+/// it, no file has one then.
 pub fn file_placed()
     ensures directory { (volume name place size : ℕ) (words : List ℕ) (d : Listed) → IsDirectory volume d
         → IsNamed name → 0 < size
@@ -160,9 +159,9 @@ pub fn file_moved_down()
     ensures entries { (name : ℕ) (es : List DirEntry) → length (moved_down name es) ≤ length es }
 {}
 
-/// There is a lowest file with an empty directly below it just where some file has one; and where that file is moved
-/// down, one file fewer has one. Below it and its empty there are only files. How many files have one is how many have a
-/// covered block of no file below them.
+/// There is a lowest file with an empty directly below it just where some file has one. Where that file is moved down,
+/// one file fewer has one. Below it and its empty there are only files. As many files have one as have a covered block
+/// of no file below them.
 pub fn lowest_file()
     ensures none { (es : List DirEntry) → IsTidy es → (lowest_above es ≡ None) ↔ (above es ≡ 0) }
     ensures gap { (es : List DirEntry) (name gap : ℕ) → IsTidy es → lowest_above es ≡ Some (name, gap)
@@ -174,8 +173,8 @@ pub fn lowest_file()
     ensures count { (first : ℕ) (es : List DirEntry) → IsTidy es → IsCountAbove first es (above es) }
 {}
 
-/// The room for a wish is an empty that has so many blocks, and there is one where any empty has: the smallest of those, or
-/// for a wish of 0 the largest, of equals the first. Blocks that lie in an empty are no file's.
+/// The room for a wish is an empty that has so many blocks, and there is one where any empty has. It is the smallest of
+/// those, or for a wish of 0 the largest, of equals the first. Blocks that lie in an empty are no file's.
 pub fn rooms()
     ensures fitting { (wish from size : ℕ) (rooms : List (ℕ × ℕ)) → fitting wish rooms ≡ Some (from, size)
         → IsRoom from size rooms × (wish ≤ size) }
@@ -234,7 +233,7 @@ pub fn file_renamed()
         → find new (files_at first es) ≡ None → renamed new name (renamed name new es) ≡ es }
 {}
 
-/// The information words of a file that is found are those that its directory has for each entry, and zeros behind them.
+/// The information words of a file that is found are those that its directory has for each entry, and zeros after them.
 pub fn file_information()
     ensures { (volume name : ℕ) (d : Listed) (f : Placed) → IsDirectory volume d
         → find name (files_at d.first d.entries) ≡ Some f → padded 10 (take d.info f.info) ≡ f.info }

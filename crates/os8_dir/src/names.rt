@@ -40,7 +40,7 @@ fn dot_in(text: &[u8]) -> usize
     text.len()
 }
 
-/// The sixbit codes of up to `size` characters, with zeros behind, as one number to the base 64.
+/// The sixbit codes of up to `size` characters, with zeros after them, as one number to the base 64.
 fn packed(text: &[u8], size: u8) -> Option<u64>
     requires { size ≤ 6 }
     ensures number { result ≡ packed_codes size text.now }
@@ -59,7 +59,7 @@ fn packed(text: &[u8], size: u8) -> Option<u64>
     }
 }
 
-/// The sixbit codes of one up to `size` characters, with zeros behind, as one number to the base 64.
+/// The sixbit codes of one up to `size` characters, with zeros after them, as one number to the base 64.
 fn packed_within(text: &[u8], size: u8) -> Option<u64>
     requires { size ≤ 6 }
     ensures number { result ≡ packed_of size (codes_within size text.now) }

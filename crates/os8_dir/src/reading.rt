@@ -16,7 +16,7 @@ pub fn minus(word: Word) -> usize
     (0o10000 - number) % 0o10000
 }
 
-/// So many words, with zeros behind them.
+/// So many words, with zeros after them.
 pub fn information(words: &[Word], info: usize) -> [Word; 10]
     requires few { info ≤ 10 }
     requires there { info ≤ length words.now }
@@ -29,7 +29,7 @@ pub fn information(words: &[Word], info: usize) -> [Word; 10]
     kept
 }
 
-/// The empty entry whose words these are behind its first, and the words behind it.
+/// The empty entry whose words these are after its first, and the words after it.
 #[tactic(auto, unfolding(crate::specs::Reading::empty_at))]
 fn empty_at(words: &[Word]) -> Result<(DirEntry, &[Word]), DirFault>
     ensures reading { Shows seen_entry result (empty_of words.now) }
@@ -43,7 +43,7 @@ fn empty_at(words: &[Word]) -> Result<(DirEntry, &[Word]), DirFault>
     Ok((DirEntry::Empty { length }, behind))
 }
 
-/// The file's entry that the words begin with, and the words behind it.
+/// The file's entry that the words begin with, and the words after it.
 #[tactic(auto, unfolding(crate::specs::Reading::file_at))]
 fn file_at(words: &[Word], info: usize) -> Result<(DirEntry, &[Word]), DirFault>
     requires { info ≤ 10 }
@@ -66,7 +66,7 @@ fn file_at(words: &[Word], info: usize) -> Result<(DirEntry, &[Word]), DirFault>
     Ok((entry, behind))
 }
 
-/// The entry that the words begin with, and the words behind it.
+/// The entry that the words begin with, and the words after it.
 #[tactic(auto, unfolding(crate::specs::Reading::entry_at))]
 pub fn entry_at(words: &[Word], info: usize) -> Result<(DirEntry, &[Word]), DirFault>
     requires { info ≤ 10 }

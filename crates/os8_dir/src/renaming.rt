@@ -50,7 +50,7 @@ fn with_name(
 }
 
 impl Directory {
-    /// The directory in which the file of a name has a new one, that no file has: its entry keeps its place, its length and its
+    /// The directory in which the file of a name has a new one, that no file has. Its entry keeps its place, its length and its
     /// information words (this project's profile). The only fault is that there is no memory.
     pub fn renamed(&self, alloc: Global, name: &Name, new_name: Name) -> Result<Directory, DirFault>
         requires there { IsSome (extent_of (found name.now (files_at self.now.first self.now.entries))) }

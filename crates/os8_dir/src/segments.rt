@@ -48,7 +48,7 @@ fn put_words(segment: &mut Block, at: usize, words: &[Word])
     }
 }
 
-/// Writes an entry into a segment from a place on, and gives the place behind it.
+/// Writes an entry into a segment from a place on, and gives the place after it.
 fn put_entry(segment: &mut Block, at: usize, entry: &DirEntry, info: usize) -> usize
     requires few { info ≤ 10 }
     requires fits { at + 5 + info ≤ BLOCK }
@@ -78,7 +78,7 @@ fn put_entry(segment: &mut Block, at: usize, entry: &DirEntry, info: usize) -> u
     }
 }
 
-/// Writes entries into a segment, behind its first five words.
+/// Writes entries into a segment, after its first five words.
 fn put_entries(segment: &mut Block, entries: &[DirEntry], info: usize)
     requires few { info ≤ 10 }
     requires fits { length entries.now * (5 + info) ≤ 251 }
@@ -108,7 +108,7 @@ fn put_segment(segment: &mut Block, entries: &[DirEntry], first: usize, info: us
     segment[4] = minus_word(info);
 }
 
-/// The block of the segment behind one that is counted from 0; 0 where that is the last.
+/// The block of the segment after one that is counted from 0; 0 where that is the last.
 fn link_behind(count: usize, number: usize) -> u16
     requires most { count ≤ MOST_BLOCKS }
     requires inside { number < count }
@@ -134,7 +134,7 @@ impl Directory {
         self.entries().len().saturating_sub(1) / per_segment(self.information_words()) + 1
     }
 
-    /// The words of a segment, counted from 0: segment `number` stands in block `number + 1`, and links to the block behind
+    /// The words of a segment, counted from 0. Segment `number` stands in block `number + 1`, and links to the block after
     /// it, or is the last (OS/8 Software Support Manual; flag word and rest are 0 in this project's profile).
     pub fn segment(&self, number: usize, words: &mut Block)
         requires inside { number < segment_count_of self.now }

@@ -35,9 +35,8 @@ fn read_block<S: BlockStore>(
 }
 
 impl Directory {
-    /// Reads the directory of a volume: up to six segments in blocks 1 to 6, each read at most once, and none behind
-    /// the first that has a fault (OS/8 Software Support Manual; the faults and their order are this project's profile). No block is
-    /// written.
+    /// Reads the directory of a volume: up to six segments in blocks 1 to 6. Each is read at most once, and none after the first
+    /// that has a fault (OS/8 Software Support Manual; the faults and their order are this project's profile). No block is written.
     pub fn read<S: BlockStore>(alloc: Global, store: &mut S) -> Result<Directory, DirFault>
         ensures reading { GivesReading (λ d. d) result (directory_of (S.contents store.old)) }
         ensures directory { IfOk result (IsDirectory (length (S.contents store.old))) }

@@ -55,13 +55,13 @@ pub record RisesBy (most before after : ℕ) : Type 0 where
   pub few : number ≤ most
   pub rise : after ≡ counted_more number before
 
--- A directory was written in part, and the count of writes has risen by one for each block with other words below that whose
--- write failed, and by one for that.
+-- A directory was written in part. The count of writes has risen by one for each block with other words below the block
+-- whose write failed, and by one for that block.
 pub record StopsInPart (old new : List (List ℕ)) (directory : Listed) (before after : ℕ) : Type 0 where
   pub part : IsWrittenInPart old new directory
   pub writes : after ≡ counted (counted_more (differing part.number old new) before)
 
--- A write failed: of the blocks and of the number of writes nothing is said here, the directory stays the one that was held,
+-- A write failed. Of the blocks and of the number of writes nothing is said here. The directory stays the one that was held,
 -- and all else but the stop and the count is as before.
 abbrev pub HasFailed : Mounted → Mounted → Type 0
 HasFailed old new = new ≡ record old { blocks = new.blocks; writes = new.writes; failed_writes = old.failed_writes + 1; stopped = true; last = listed_or (directory_of old.blocks) }
@@ -142,20 +142,20 @@ pub record IsLargest (blocks : List (List ℕ)) (most_room : ℕ) : Type 0 where
   pub most : capacity_of blocks ≤ used_of (files_of blocks) + most_room * (count_of (files_of blocks) + 1)
   pub tight : above_of blocks ≡ 0 → most_room + used_of (files_of blocks) ≡ capacity_of blocks
 
--- The directory may have fewer entries than a change makes. Then it may have fewer than the files after the change, with an
--- empty below each and one above all; and where no file has a free block below it, fewer than the files before and two more.
+-- The directory may have fewer entries than a change makes. Then it may have fewer than the files after the change, with an empty
+-- below each and one above all. Where no file has a free block below it, it may have fewer than the files before and two more.
 pub record IsOver (blocks : List (List ℕ)) (after : Files) : Type 0 where
   pub files : limit_of blocks < 2 * count_of after + 1
   pub tight : above_of blocks ≡ 0 → limit_of blocks < count_of (files_of blocks) + 2
 
--- of block 0 and of the blocks behind the directory's, only so many from a place on may differ
+-- of block 0 and of the blocks after the directory's, only so many from a place on may differ
 pub record KeepsBlocks (old new : List (List ℕ)) (place size : ℕ) : Type 0 where
   pub count : length new ≡ length old
   pub first : block new 0 ≡ block old 0
   pub behind : (k : ℕ) → FIRST_FILE_BLOCK ≤ k → (k < place) ⊎ (place + size ≤ k) → block new k ≡ block old k
 
--- The directory stands as it is written: pieces of as many entries as a segment takes, in blocks 1, 2 and so on, each with a
--- link to the block behind it, a flag word of 0, and zeros behind its entries. Blocks up to 6 that it does not need are as before.
+-- The directory stands as it is written: pieces of as many entries as a segment takes, in blocks 1, 2 and so on. Each has a link
+-- to the block after it, a flag word of 0, and zeros after its entries. Blocks up to 6 that it does not need are as before.
 pub record IsWritten (old new : List (List ℕ)) : Type 0 where
   pub directory : Listed
   pub read : directory_of new ≡ Ok directory
@@ -370,7 +370,7 @@ abbrev pub HasMissed : Mounted → Mounted → Type 0
 HasMissed old new = new ≡ record old { reads = new.reads; failed_reads = old.failed_reads + 1 }
 
 -- A write failed where the lowest file with an empty directly below it is moved down. Either mounting finds all files with
--- their words, but perhaps this one where it is longer than that empty; or each file stands in full where the new list has it.
+-- their words, but perhaps this one where it is longer than that empty. Or each file stands in full where the new list has it.
 pub record MoveFailed (old new : Mounted) : Type 0 where
   pub ready : IsReady old
   pub name : ℕ

@@ -24,7 +24,7 @@ extent_or name (Err fault) = None
 abbrev pub size_in : Listed → ℕ → Option ℕ
 size_in d name = size_or_none (find name (files_at d.first d.entries))
 
--- the information words that the file of a name has in a directory, with zeros behind them
+-- the information words that the file of a name has in a directory, with zeros after them
 abbrev pub information_in : Listed → ℕ → Option (List ℕ)
 information_in d name = information_of (find name (files_at d.first d.entries))
 
@@ -64,7 +64,7 @@ abbrev pub listed_or : Result Listed DirFault → Option Listed
 listed_or (Ok d) = Some d
 listed_or (Err fault) = None
 
--- A directory was being written in rising order: blocks below one that it takes have its segments, that one has any words, and
+-- A directory was being written in rising order. Blocks below one that it takes have its segments, that one has any words, and
 -- those above it up to 6 are as before.
 pub record IsWrittenInPart (old new : List (List ℕ)) (directory : Listed) : Type 0 where
   pub number : ℕ
@@ -99,9 +99,9 @@ pub record MovedInFull (old new : List (List ℕ)) : Type 0 where
   pub list : with_list (λ d. moved_down name d.entries) (directory_of old) ≡ Ok directory
   pub part : IsWrittenInPart old new directory
 
--- After a failed write either blocks 1 to 6 are as before, and mounting the volume again finds every file with its words, but
--- perhaps one that was being moved and is longer than the empty below it; or the words of each file stand in full in its
--- old blocks or, where it was moved, in its new ones, and of blocks 1 to 6 the first ones have segments of the new
+-- After a failed write either blocks 1 to 6 are as before, and mounting the volume again finds every file with its words. An
+-- exception may be one that was being moved and is longer than the empty below it. Or the words of each file stand in full in
+-- its old blocks or, where it was moved, in its new ones. Then of blocks 1 to 6 the first ones have segments of the new
 -- directory, one has any words, and the others are as before.
 abbrev pub Survives : List (List ℕ) → List (List ℕ) → Type 0
 Survives old new = FoundAgain old new ⊎ (MovedInPart old new ⊎ (KeptInFull old new ⊎ MovedInFull old new))

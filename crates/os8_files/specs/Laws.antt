@@ -26,7 +26,7 @@ pub record KeepsHolds (old new : Mounted) : Type 0 where
   pub running : new.stopped ≡ false → old.stopped ≡ false
   pub held : KeepsHeld old new
 
--- A file is held in each of these states but perhaps the last, and each follows from the one before by a call behind which
+-- A file is held in each of these states but perhaps the last. Each follows from the one before by a call after which
 -- files that are held have their words.
 abbrev pub IsHeldThrough : ℕ → Mounted → List Mounted → Mounted → Type 0
 IsHeldThrough name first [] last = first ≡ last

@@ -1,4 +1,4 @@
--- What putting words under a name comes to: a file is begun, its blocks are written, and it is closed or given up (this
+-- What putting words under a name does: a file is begun, its blocks are written, and it is closed or given up (this
 -- project's profile).
 use Rattle.std.specs.Prelude.{◌≡◌, ◌⊎◌, ℕ, ◌+◌, ◌/◌, ◌<◌, ◌≤◌, Some, None, List, [], length, Result, Ok, Err}
 use Rattle.word12.specs.declared.sizes.TheConstants.{BLOCK}
@@ -41,7 +41,7 @@ abbrev pub list_put_with : Mounted → ℕ → ℕ → ℕ → List ℕ → List
 list_put_with m name place room given words = list_with m (all_written name place room words) given
 
 -- A file has these words, and an older one of its name is gone; the others stay in their places. It lies at the beginning of the
--- smallest empty that has enough blocks, of equals the first. Of block 0 and the blocks behind the directory's, only those of the
+-- smallest empty that has enough blocks, of equals the first. Of block 0 and the blocks after the directory's, only those of the
 -- file may differ, and the directory stands as it is written. Each of its blocks was written once, and each of blocks 1 to 6 that has
 -- other words.
 pub record HasPutWith (old : Mounted) (name : ℕ) (given words : List ℕ) (new : Mounted) : Type 0 where
@@ -109,8 +109,8 @@ pub record EntryFailed (old : Mounted) (name place room : ℕ) (given words : Li
   pub list : list_put_with old name place room given words ≡ Ok directory
   pub written : StopsInPart old.blocks new.blocks directory (counted_more (blocks_filled words) old.writes) new.writes
 
--- A write failed, of the blocks of the file or behind these of the directory. Of block 0 and the blocks behind the directory's, only
--- those of the file may differ.
+-- A write failed, of the blocks of the file or, after these, of the directory. Of block 0 and the blocks after the directory's,
+-- only those of the file may differ.
 pub record PutFailedWith (old : Mounted) (name : ℕ) (given words : List ℕ) (new : Mounted) : Type 0 where
   pub ready : IsReady old
   pub free : IsFree old name
@@ -148,8 +148,8 @@ PutsFile old name words (Err DirectoryFull) new =
 PutsFile old name words (Err Device) new = PutFailed old name words new
 PutsFile old name words (Err fault) new = PutsFileWith old name [] words (Err fault) new
 
--- What a refusal of words under a name tells of the blocks, beside the files: NO ROOM tells their largest empty, and DIRECTORY FULL
--- that their list of entries would be too long with the file.
+-- What a refusal of words under a name says of the blocks, beside the files. NO ROOM gives their largest empty, and DIRECTORY FULL
+-- says that their list of entries would be too long with the file.
 abbrev pub TellsRoom : List (List ℕ) → ℕ → List ℕ → FileFault → Type 0
 TellsRoom blocks name words (NoRoom most) = IsLargest blocks most
 TellsRoom blocks name words DirectoryFull = HasNoEntry blocks name words

@@ -1,4 +1,4 @@
--- What giving a file another name comes to (this project's profile).
+-- What giving a file another name does (this project's profile).
 use Rattle.std.specs.Prelude.{◌≡◌, ◌≢◌, ◌⊎◌, ℕ, ◌/◌, ◌<◌, ◌≤◌, false, None, Some, List, length, Result, Ok, Err}
 use Rattle.std.specs.FinMap.{get, insert, remove}
 use Rattle.os8_dir.specs.Entries.{Listed, IsNamed}

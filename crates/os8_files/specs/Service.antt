@@ -14,7 +14,7 @@ abbrev pub blocks_of : Option FileData → Option ℕ
 blocks_of None = None
 blocks_of (Some held) = Some (blocks_in held)
 
--- the information words of a file that may be there, with zeros behind them up to ten
+-- the information words of a file that may be there, with zeros after them up to ten
 abbrev pub information_of : Option FileData → Option (List ℕ)
 information_of None = None
 information_of (Some held) = Some (padded 10 held.0)

@@ -42,12 +42,12 @@ RewritesDirectory old d (Ok nothing) new = HasDirectory old d new
 RewritesDirectory old d (Err Device) new = HasFailed old new × KeepsHigh old.blocks new.blocks × StopsInPart old.blocks new.blocks d old.writes new.writes
 RewritesDirectory old d (Err fault) new = ⊥
 
--- blocks are written one behind the other from a place on
+-- blocks are written one after the other from a place on
 abbrev pub with_run : List (List ℕ) → ℕ → List (List ℕ) → List (List ℕ)
 with_run blocks place [] = blocks
 with_run blocks place (words ∷ run) = with_run (slice_set blocks place words) (suc place) run
 
--- At most so many blocks were written one behind the other from a place on; the last of them may have any words. The count of
+-- At most so many blocks were written one after the other from a place on; the last of them may have any words. The count of
 -- writes has risen by one for each.
 pub record HasBrokenOff (old : List (List ℕ)) (place size : ℕ) (new : List (List ℕ)) (before after : ℕ) : Type 0 where
   pub run : List (List ℕ)

@@ -55,8 +55,8 @@ pub fn held_blocks()
         → after ≡ take BLOCK (drop (BLOCK * k) file.1) }
 {}
 
-/// Calls that speak of no hold take and release none, and behind them files that are held have their words; so behind two
-/// such calls. None of them, and no hold that is taken, lets a service go on that has stopped.
+/// Calls that aren't about holds take and release none, and after them files that are held have their words. It is the
+/// same after two such calls. None of them, and no hold that is taken, lets a service go on that has stopped.
 pub fn kept_holds()
     ensures read_block { (old new : Mounted) (name k : ℕ) (before after : List ℕ)
         (result : Result (Unit {0}) FileFault) → ReadsBlock old name k before result new after
@@ -86,7 +86,7 @@ pub fn released_hold()
 {}
 
 /// How often a name is held: a hold that is taken adds one to its name alone, and one that is released takes one away from
-/// it. In which order two are taken is all one. A name is held where it stands among the holds at least once.
+/// it. The order in which two are taken makes no difference. A name is held where it stands among the holds at least once.
 pub fn counted_holds()
     ensures taken { (name hold : ℕ) (holds : List ℕ) → times name (with_hold hold holds)
         ≡ times name (hold ∷ []) + times name holds }
@@ -97,8 +97,8 @@ pub fn counted_holds()
     ensures held { (name : ℕ) (holds : List ℕ) → contains holds name ≡ nat_lt 0 (times name holds) }
 {}
 
-/// Of all calls only a turn of squeezing changes the place of a file that it neither writes nor deletes, and of one file at
-/// most, the one that it answers.
+/// Of all calls only a turn of squeezing changes the place of a file that it neither writes nor deletes. It does so of one
+/// file at most, the one that it answers.
 pub fn file_places()
     ensures read_block { (old new : Mounted) (name k : ℕ) (before after : List ℕ)
         (result : Result (Unit {0}) FileFault) → ReadsBlock old name k before result new after
@@ -182,7 +182,7 @@ pub fn failed_reads()
 {}
 
 /// What a write that fails leaves of the files. Either blocks 1 to 6 are as before, and mounting the store again finds every
-/// file with its words, except perhaps the file that was being moved, where it is longer than the empty below it; or each
+/// file with its words. An exception may be the file that was being moved, where it is longer than the empty below it. Or each
 /// file's words stand in full in its old blocks, and those of a moved file in its new ones. The same is left of the volume as it
 /// was before earlier writes that kept blocks 1 to 6 and all files.
 pub fn failed_writes()
@@ -228,9 +228,9 @@ pub fn stopped_calls()
         → IsStopped old result }
 {}
 
-/// What giving a file another name leaves: of the holds, of the files that are held, of the places of the other files, of the
-/// count of reads, and behind a write that fails of the files, as the laws above say of the other calls. It answers `Stopped` just
-/// where a write has failed before.
+/// What giving a file another name leaves, as the laws above say of the other calls. This is said of the holds, the files that
+/// are held, the places of the other files and the count of reads. After a write that fails it is said of the files. It answers
+/// `Stopped` just where a write has failed before.
 pub fn renamed_files()
     ensures holds { (old new : Mounted) (name other : ℕ) (result : Result (Unit {0}) FileFault)
         → RenamesFile old name other result new → KeepsHolds old new }

@@ -47,8 +47,8 @@ fn write_segment<S: BlockStore>(
     Ok(())
 }
 
-/// Writes the segments of a directory to blocks 1, 2 and so on, in rising order: just those whose words differ from the
-/// words that are kept of blocks 1 to 6.
+/// Writes the segments of a directory to blocks 1, 2 and so on, in rising order. Only those are written whose words
+/// differ from the words that are kept of blocks 1 to 6.
 pub(crate) fn write_segments<S: BlockStore>(
     store: &mut S,
     kept: &mut [Block],

@@ -165,7 +165,7 @@ impl<S: BlockStore> FileService<S> {
         }
     }
 
-    /// The information words of the file of a name, with zeros behind them; nothing where there is none (OS/8 Software Support
+    /// The information words of the file of a name, with zeros after them; nothing where there is none (OS/8 Software Support
     /// Manual). Where a write has failed they are those of the directory that was held then.
     pub fn information(&self, name: &Name) -> Option<[Word; 10]>
         ensures running { self.now.stopped ≡ false → result
@@ -218,8 +218,8 @@ impl<S: BlockStore> FileService<S> {
         Ok(list)
     }
 
-    /// Whether a write has failed. From then on each call that can answer a `FileFault` answers `Stopped`, and the directory
-    /// that was held then is told of.
+    /// Whether a write has failed. From then on each call that can answer a `FileFault` answers `Stopped`, and the other
+    /// calls answer by the directory that was held then.
     pub fn stopped(&self) -> bool
         ensures value { result ≡ self.now.stopped }
         ensures last { result ≡ is_some self.now.last }
@@ -248,8 +248,8 @@ impl<S: BlockStore> FileService<S> {
         }
     }
 
-    /// Holds a file, so that it is neither replaced nor deleted; it may be held more than once. Where no file has the
-    /// name it is `NotFound`.
+    /// Holds a file: it is then neither replaced nor deleted. It may be held more than once. Where no file has the name
+    /// it is `NotFound`.
     pub fn hold(&mut self, name: &Name) -> Result<Hold, FileFault>
         ensures { HoldsFile self.old name.now result self.new }
     {
@@ -268,7 +268,7 @@ impl<S: BlockStore> FileService<S> {
         }
     }
 
-    /// Lets a held file go, as often as it stays held otherwise.
+    /// Releases one hold of a file. It stays held where other holds of it are left.
     pub fn release(&mut self, hold: Hold)
         ensures { self.new ≡ record self.old { holds = without_hold hold self.old.holds } }
     {

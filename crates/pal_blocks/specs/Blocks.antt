@@ -38,6 +38,6 @@ AreFiles (words ∷ others) = (BLOCK * blocks_in words ≡ length words) × (0 <
 abbrev pub assembling_turns : ℕ → ℕ
 assembling_turns blocks = 2 * blocks + 1
 
--- the number of the turn that is taken now, of so many turns in all of which so many are left
+-- the number of the turn that is taken now, by how many turns there are in all and how many are left
 abbrev pub turn_of : ℕ → ℕ → ℕ
 turn_of turns left = turns + 1 - left

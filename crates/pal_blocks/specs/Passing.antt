@@ -1,4 +1,4 @@
--- The text of blocks, and a pass behind the end of its source.
+-- The text of blocks, and a pass after the end of its source.
 use Rattle.std.specs.Prelude.{◌≡◌, ℕ, Bool, true, if◌then◌else◌, None, List, []}
 use Rattle.char_pack.specs.Packing.{frames}
 use Rattle.char_pack.specs.Texts.{characters, is_ended}
@@ -12,11 +12,11 @@ use Rattle.pal_asm.specs.Places.{Source}
 abbrev pub text_in : List ℕ → List ℕ
 text_in given = text_of (characters given)
 
--- the characters that a block adds behind frames of the same source
+-- the characters that a block adds after frames of the same source
 abbrev pub added : List ℕ → List ℕ → List ℕ
 added given block = if is_ended given then [] else characters (frames block)
 
--- A `$` has ended this text, which is all of the source, and nothing behind it is read.
+-- A `$` has ended this text, which is all of the source, and nothing after it is read.
 pub record IsOver (lexer : lex.Progress) (ended : Bool) (text : List ℕ) (Fits : Source → Type 0) : Type 0 where
   pub no_more : ended ≡ true
   pub seam : ℕ

@@ -41,12 +41,12 @@ pub record Place (sources : List (List ℕ)) (source block : ℕ) : Type 0 where
   pub count : source ≡ length before
   pub inside : block < blocks_in words
 
--- What comes behind so many first blocks of sources are these, and their join goes on behind this text.
+-- These come after so many first blocks of sources, and their join goes on after this text.
 pub record GoesOn (sources : List (List ℕ)) (done : ℕ) (rest : List (List ℕ)) (prefix : List ℕ) : Type 0 where
   pub joins : (count : ℕ) → newest_first (first_among (done + count) sources) ≡ newest_first (first_among count rest) ++ prefix
   pub blocks : joined_blocks sources ≡ done + joined_blocks rest
 
--- whatever comes behind so many first blocks of sources, this text is their join
+-- whatever comes after so many first blocks of sources, this text is their join
 abbrev pub IsJoined : List (List ℕ) → ℕ → List ℕ → Type 0
 IsJoined sources done text = (count : ℕ) → newest_first (first_among (done + count) sources) ≡ text
 
@@ -55,7 +55,7 @@ abbrev pub text_taken : List ℕ → ℕ → ℕ → List ℕ
 text_taken words block offset =
     text_from (text_in (frames (first_blocks block words))) (take offset (added (frames (first_blocks block words)) (block_at block words)))
 
--- A pass stands in a source that counts, or behind the `$` that ended one before it.
+-- A pass stands in a source that counts, or after the `$` that ended one before it.
 abbrev pub IsInPass : (sources : List (List ℕ)) (source block offset : ℕ) → Place sources source block → Pass → (Source → Type 0) → Type 0
 IsInPass sources source block offset place pass Fits =
     ((prefix : List ℕ) × GoesOn sources (blocks_among place.before) (place.words ∷ place.others) prefix
@@ -85,7 +85,7 @@ pub record IsAtEnd (sources : List (List ℕ)) (it : Assembling) (left : ℕ) : 
   pub no_fault : fault_of (newest_first sources) ≡ None
   pub pairs : it.pairs.items ≡ pairs_of (newest_first sources)
 
--- The files of these words are assembled, and stand so with so many turns left; none of the turns so far has shown a fault.
+-- The files of these words are assembled, and this is where they stand with so many turns left. No turn so far has shown a fault.
 pub record IsAssembling (sources : List (List ℕ)) (it : Assembling) (left : ℕ) : Type 0 where
   pub files : AreFiles sources
   pub each : it.blocks.items ≡ blocks_of_each sources

@@ -1,4 +1,4 @@
--- At which turn which fault of several sources is known, where each turn reads a block, source after source, all of them
+-- Which fault of several sources is known at which turn. Each turn reads a block, source after source, and all of them
 -- twice.
 use Rattle.std.specs.Prelude.{◌≡◌, ℕ, ◌+◌, ◌-◌, ◌<◌, nat_lt, if◌then◌else◌, Option, Some, None, List, [], ◌∷◌}
 use Rattle.char_pack.specs.Texts.{text}
@@ -15,7 +15,7 @@ use Rattle.pal_blocks.specs.Sources.{newest_first}
 abbrev pub statements_in : ℕ → List (List ℕ) → Source
 statements_in count sources = statements (newest_first (first_among count sources))
 
--- what comes behind a PAUSE, if there is one
+-- what comes after a PAUSE, if there is one
 abbrev pub if_paused : Option (List ℕ) → ℕ → ℕ
 if_paused None behind = 0
 if_paused (Some prefix) behind = behind
@@ -30,14 +30,14 @@ joined_blocks (words ∷ next ∷ others) = blocks_in words + if_paused (before_
 abbrev pub from_turn : ℕ → ℕ → Option AsmFault → Option AsmFault
 from_turn least turn fault = if nat_lt turn least then None else fault
 
--- The first fault that is known when all blocks were read once and then so many of them again, but for those known before:
--- one of a word in the blocks that were read again, or that there is no word.
+-- The first fault that is known when all blocks were read once and then so many of them again, other than those known
+-- before. It is one of a word in the blocks that were read again, or that there is no word.
 abbrev pub known_again : ℕ → List (List ℕ) → Option AsmFault
 known_again again sources =
     first_of (words_fault (values (statements (newest_first sources))) (statements_in again sources)) (no_word (statements (newest_first sources)))
 
--- The first fault that is known at a turn: one of the statements that were read; a missing `$`, once the source was read at
--- whose end it stands; and from the last block on one of those that take the whole source.
+-- The first fault that is known at a turn. It is one of the statements that were read, or a missing `$`, once the source
+-- was read at whose end it is missing. From the last block on it may be one of those that take the whole source.
 abbrev pub known_at : ℕ → List (List ℕ) → Option AsmFault
 known_at turn sources =
     first_of (first_order (statements_in turn sources))

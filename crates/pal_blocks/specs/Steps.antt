@@ -1,4 +1,4 @@
--- What a block comes to in the two passes, for private clauses.
+-- What a block does in the two passes, for private clauses.
 use Rattle.std.specs.Prelude.{◌≡◌, ℕ, Bool, None, Result, Ok, Err, List, ◌++◌, take}
 use Rattle.char_pack.specs.Packing.{frames, packed_blocks, IsBlockPacking}
 use Rattle.char_pack.specs.Texts.{is_ended}
@@ -13,14 +13,14 @@ use Rattle.pal_blocks.specs.Passing.{text_in, added}
 use Rattle.bin_tape.specs.Pairs.{ArePairs}
 use Rattle.bin_tape.specs.Writing.{tape_of}
 
--- what a block comes to behind frames of the same source
+-- what a block does after frames of the same source
 abbrev pub PassesBlock : List ℕ → Bool → List ℕ → List ℕ → ℕ → Result (Unit {0}) AsmFault → Pass → Type 0
 PassesBlock prefix several given block offset (Ok nothing) pass =
     HasPassed pass prefix several (text_in (given ++ frames block)) (is_ended (given ++ frames block)) × (pass.waiting ≡ None)
 PassesBlock prefix several given block offset (Err Memory) pass = HasPassed pass prefix several (text_from (text_in given) (take offset (added given block))) (is_ended given)
 PassesBlock prefix several given block offset (Err (At code line)) pass = TellsJoinFault first_order prefix several (text_in (given ++ frames block)) (At code line)
 
--- what a block comes to in the second pass of a whole
+-- what a block does in the second pass of a whole source
 abbrev pub MakesBlock : Source → List ℕ → Bool → List ℕ → List ℕ → ℕ → Result (Unit {0}) AsmFault → Pass → List (ℕ × ℕ) → Type 0
 MakesBlock whole prefix several given block offset (Ok nothing) pass pairs =
     HasMade whole pass pairs prefix several (text_in (given ++ frames block)) (is_ended (given ++ frames block))

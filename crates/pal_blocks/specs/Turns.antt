@@ -1,4 +1,4 @@
--- What a turn of an assembling comes to.
+-- What a turn of an assembling does.
 use Rattle.std.specs.Prelude.{◌≡◌, ℕ, ◌-◌, None, Some, List, [], Result, Ok, Err}
 use Rattle.std.specs.Global.{Vec}
 use Rattle.pal_asm.specs.Faults.{fault_of}
@@ -10,7 +10,7 @@ use Rattle.pal_blocks.specs.Sources.{newest_first, assembled_words, IsTapeOfSour
 use Rattle.pal_blocks.specs.Schedule.{known_at, IsFirstKnown}
 use Rattle.pal_blocks.specs.Progress.{IsAssembling}
 
--- What a turn that reads a block comes to, where so many are left. Want of memory takes no turn.
+-- What a turn that reads a block does, where so many are left. Where memory runs out no turn is taken.
 abbrev pub TakesBlock : List (List ℕ) → ℕ → Result (Unit {0}) AsmFault → Assembling → Type 0
 TakesBlock sources left (Ok nothing) new =
     IsAssembling sources new (left - 1) × (known_at (turn_of (assembling_turns (blocks_among sources)) left) sources ≡ None)

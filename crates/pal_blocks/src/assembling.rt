@@ -27,17 +27,17 @@ pub struct Due {
     pub block: usize,
 }
 
-/// Files that are assembled as one source, of which each block is handed over twice: all of them in their order, and all
-/// of them again. It keeps no text of them.
+/// Files that are assembled as one source. Each block is handed over twice: first all of them in their order, then all
+/// of them again. No text of them is kept.
 #[derive(Drop)]
 pub struct Assembling {
     /// How many blocks each source has.
     blocks: Vec<usize>,
-    /// The source that the next block is of, as many as there are where all were read twice.
+    /// The source that the next block is of. It is the number of sources where all were read twice.
     source: usize,
     /// That block.
     block: usize,
-    /// How many characters of it were taken, before want of memory broke off.
+    /// How many characters of it were taken before memory ran out.
     offset: usize,
     /// Whether the blocks are read for the second time.
     again: bool,
@@ -82,10 +82,10 @@ impl Assembling {
         }
     }
 
-    /// Takes the next block, and answers the first fault that is known by it, with its line, 1 and up: at each turn that of
-    /// the statements that end in the blocks so far, once a source was read the `$` that is missing at its end, at the last
-    /// block of the first reading that there is no word, and from then on that of a word in the blocks read again (this
-    /// project's profile of PAL III). Where memory runs out no turn is taken, and the same block is due again.
+    /// Takes the next block, and answers the first fault that is known by it, with its line, 1 and up. At each turn it may be
+    /// one of the statements that end in the blocks so far. Once a source was read it may be the `$` that is missing at its end,
+    /// and at the last block of the first reading that there is no word. From then on it may be one of a word in the blocks read
+    /// again (this project's profile of PAL III). Where memory runs out no turn is taken, and the same block is due again.
     pub fn take(&mut self, alloc: Global, block: &[Word]) -> Result<(), AsmFault>
         requires { length block.now ≡ BLOCK }
         ensures { (sources : List (List ℕ)) (left : ℕ) → IsAssembling sources self.old left → 2 ≤ left
@@ -98,7 +98,7 @@ impl Assembling {
     }
 
     /// The words of the file that the sources are assembled to, where one turn is left: the fewest blocks that hold the tape
-    /// of their words. The only fault is want of memory. Where more turns are left they are none, and take no memory.
+    /// of their words. The only fault is that memory ran out. Where more turns are left there are no words, and no memory is taken.
     pub fn target(&self, alloc: Global) -> Result<Vec<Word>, AsmFault>
         ensures last { (sources : List (List ℕ)) → IsAssembling sources self.now 1
             → MakesTarget sources result }
@@ -113,7 +113,7 @@ impl Assembling {
         tape_words(alloc, &self.pairs)
     }
 
-    /// Takes the next block in the first pass. At the last one the passes turn.
+    /// Takes the next block in the first pass. At the last one the second pass begins.
     fn take_first(&mut self, alloc: Global, block: &[Word]) -> Result<(), AsmFault>
         requires block { length block.now ≡ BLOCK }
         requires first { self.old.again ≡ false }
@@ -199,7 +199,7 @@ fn count(blocks: &[usize]) -> usize
     blocks.len()
 }
 
-/// Whether of so many another comes behind this one, counted from 0.
+/// Whether another of so many comes after this one, counted from 0.
 fn follows(place: usize, count: usize) -> bool
     ensures follows { result ≡ nat_lt (place + 1) count }
     ensures range { result ≡ true → place < 18446744073709551615 }
@@ -207,7 +207,7 @@ fn follows(place: usize, count: usize) -> bool
     count > 1 && place < count - 1
 }
 
-/// A lexer of no byte of as many sources as this tells the blocks of.
+/// A lexer that has read no byte, for as many sources as there are numbers of blocks.
 fn lexer_of(alloc: Global, blocks: &[usize]) -> Lexer
     ensures read { HasRead result 0 [] }
     ensures several { result.may_pause ≡ nat_lt 1 (length blocks.now) }

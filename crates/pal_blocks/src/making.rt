@@ -15,8 +15,8 @@ use char_pack::laws::joined_text;
 use pal_asm::{AsmFault, Pass, make_text};
 use word12::{Cell, Word};
 
-/// Takes a block from a place in its characters on in the second pass. Where memory runs out the place tells how many were
-/// taken.
+/// Takes a block in the second pass, from a place in its characters on. Where memory runs out the place says how many
+/// were taken.
 pub(crate) fn make_block(
     pass: &mut Pass,
     pairs: &mut Vec<(Cell, Word)>,

@@ -15,7 +15,7 @@ use char_pack::{BLOCK_FRAMES, CONTROL_Z, frame_at};
 use pal_asm::{AsmFault, Pass, pass_text, settle};
 use word12::Word;
 
-/// Lays the characters of a block into a buffer, up to the first control Z, and answers how many.
+/// Writes the characters of a block into a buffer, up to the first control Z, and answers how many.
 pub(crate) fn lay_characters(block: &[Word], bytes: &mut [u8]) -> usize
     requires block { length block.now ≡ BLOCK }
     requires bytes { length bytes.old ≡ BLOCK_FRAMES }
@@ -37,7 +37,7 @@ pub(crate) fn lay_characters(block: &[Word], bytes: &mut [u8]) -> usize
     count
 }
 
-/// Takes a block from a place in its characters on. Where memory runs out the place tells how many were taken.
+/// Takes a block from a place in its characters on. Where memory runs out the place says how many were taken.
 pub(crate) fn pass_block(
     pass: &mut Pass,
     block: &[Word],

@@ -37,7 +37,7 @@ Differ (name ∷ others) = IsNoneOf others name × Differ others
 abbrev pub IsNoTag : (ℕ → List ℕ) → ℕ → Type 0
 IsNoTag name other = (cell : ℕ) → cell < CORE → name_in name cell ≢ other
 
--- A text defines the tags of the tagged cells among these, the newest first, each once; they stand for the addresses of
+-- A text defines the tags of the tagged cells among these, the newest first, each once. They stand for the addresses of
 -- their cells, and other names for their permanent values.
 pub record DefinesTags (look : Look) (text : List ℕ) (pairs : List (ℕ × ℕ)) : Type 0 where
   pub tags_are : tags_in (statements (text_of text)) ≡ tags_of look.name (is_tagged look pairs) (reverse pairs)
@@ -62,8 +62,8 @@ pub record Refers (is_code : ℕ → Bool) (items : List Item) (named : ℕ) : T
   pub reference : is_reference (cell % FIELD) word ≡ true
   pub names : referred_cell cell word ≡ named
 
--- Just the cells are tagged to which a tape gives a word, and which have a name of their own or which a memory reference among its
--- instructions names.
+-- A cell is tagged exactly where a tape gives it a word, and it has a name of its own or is named by a memory reference among the
+-- instructions.
 abbrev pub TagsWhatIsNamed : Look → List Item → Type 0
 TagsWhatIsNamed look items =
     (cell : ℕ) → cell < CORE → (is_tagged look (words_of_tape items) cell ≡ true)

@@ -38,7 +38,7 @@ abbrev pub values_of : List Pattern → List ℕ
 values_of [] = []
 values_of (p ∷ others) = p.3 ∷ values_of others
 
--- What names of a group come to is shown by names of that group, and by no more of them.
+-- A word that names of a group make is shown by names of that group, and by no more of them.
 abbrev pub AreFewest : List ℕ → Type 0
 AreFewest group =
     (value : ℕ) (values : List ℕ) → are_of group (value ∷ values) ≡ true

@@ -23,7 +23,7 @@ origin_line cell = 0o52 ∷ octal4 (cell % FIELD) ++ line_end
 abbrev pub comment : ℕ → ℕ → List ℕ
 comment cell word = 0o57 ∷ octal5 cell ++ 0o40 ∷ octal4 word
 
--- pieces, the first behind this byte and the others behind a blank
+-- pieces, the first after this byte and the others after a blank
 abbrev pub led : ℕ → List (List ℕ) → List ℕ
 led byte [] = []
 led byte (piece ∷ others) = byte ∷ piece ++ led 0o40 others
@@ -32,13 +32,13 @@ led byte (piece ∷ others) = byte ∷ piece ++ led 0o40 others
 abbrev pub tag_part : (ℕ → List ℕ) → (ℕ → Bool) → ℕ → List ℕ
 tag_part name tagged cell = if tagged cell then name cell ++ 0o54 ∷ [] else []
 
--- the cell's tag, the statement of the word behind a tab, and behind another the comment
+-- the cell's tag, the statement of the word after a tab, and after another tab the comment
 abbrev pub word_line : Look → (ℕ → Bool) → ℕ → ℕ → List ℕ
 word_line look tagged cell word =
     tag_part look.name tagged cell ++ led 9 (statement look tagged cell word) ++ 0o11 ∷ comment cell word ++ look.remark cell ++ line_end
 
--- the lines of a cell's word behind a word for the cell before: the field where it changes, an origin where the cell isn't
--- the next, the comments above it, the word, and an empty line where one stands behind it
+-- The lines of a cell's word after a word for the cell before. They are the field where it changes, an origin where the
+-- cell isn't the next, the comments above it, the word, and an empty line where one stands after it.
 abbrev pub cell_lines : Look → (ℕ → Bool) → Option ℕ → ℕ → ℕ → List ℕ
 cell_lines look tagged before cell word =
     (if nat_eq (cell / FIELD) (field_behind before) then [] else field_line cell) ++ (if is_next before cell then [] else origin_line cell)
@@ -49,7 +49,7 @@ abbrev pub lines_of : Look → (ℕ → Bool) → List (ℕ × ℕ) → List ℕ
 lines_of look tagged [] = []
 lines_of look tagged (pair ∷ older) = lines_of look tagged older ++ cell_lines look tagged (newest_cell older) pair.0 pair.1
 
--- the source of cells with their words, the newest first: their lines, with a tag for each cell that the instructions refer to or that
--- has a name of its own, and `$`
+-- The source of cells with their words, the newest first. It is their lines, with a tag for each cell that the instructions refer to
+-- or that has a name of its own, and `$`.
 abbrev pub source_with : Look → List (ℕ × ℕ) → List ℕ
 source_with look pairs = lines_of look (is_tagged look pairs) pairs ++ 0o44 ∷ line_end

@@ -1,4 +1,4 @@
--- How a listing shows cells, and what it tells of them beside their words (this project's profile).
+-- How a listing shows cells, and what else it shows beside their words (this project's profile).
 use Rattle.std.specs.Prelude.{◌≡◌, ◌≢◌, ℕ, ◌<◌, Bool, true, false, ◌&&◌, ◌||◌, Option, Some, None, is_some, List, [], ◌∷◌, slice_index_or}
 use Rattle.word12.specs.declared.sizes.TheConstants.{CORE}
 use Rattle.word12.specs.Sixbit.{is_letter}
@@ -11,9 +11,9 @@ use Rattle.pal_notes.specs.Notes as notes
 use Rattle.pal_names.specs.Laws.{shown}
 use Rattle.pal_list.specs.Tags.{is_given, is_referred, tag}
 
--- How the tags of cells are spelled; which cells have a name of their own, and so a tag whatever refers to them; which words are shown as
--- instructions; the comments that stand on lines of their own above a cell's, each behind its `/`; what stands in a cell's comment
--- behind its word; and whether an empty line stands behind a cell's.
+-- How the tags of cells are spelled. Which cells have a name of their own, and so a tag whatever refers to them. Which words are shown as
+-- instructions. The comments that stand on lines of their own above a cell's, each after its `/`. What stands in a cell's comment after
+-- its word. Whether an empty line stands after a cell's.
 pub record Look : Type 0 where
   pub name : ℕ → List ℕ
   pub has_name : ℕ → Bool
@@ -22,7 +22,7 @@ pub record Look : Type 0 where
   pub remark : ℕ → List ℕ
   pub has_gap : ℕ → Bool
 
--- Comments are made of graphic characters, so that none of them ends its line.
+-- Comments are made of graphic characters, and so none of them ends its line.
 pub record AreNotes (look : Look) : Type 0 where
   pub above : (cell : ℕ) → cell < CORE → all_graphic (look.above cell) ≡ true
   pub remark : (cell : ℕ) → cell < CORE → are_graphic (look.remark cell) ≡ true
@@ -88,7 +88,7 @@ GivesNoName table = (cell : ℕ) → cell < CORE → slice_index_or table cell N
 
 -- ## Looks
 
--- these are instructions, tags are those that are made of the cells, and nothing is told beside the words
+-- these are instructions, tags are those that are made of the cells, and nothing is shown beside the words
 abbrev pub bare : (ℕ → Bool) → Look
 bare is_code = record { name = tag; has_name = λ cell. false; is_code = is_code; above = λ cell. []; remark = λ cell. []; has_gap = λ cell. false }
 

@@ -23,8 +23,8 @@ pub record IsReferenceBy (word name : ℕ) (body : Body) : Type 0 where
   pub is_operation : word_of operation ≡ 0o1000 * (word / 0o1000)
   pub body_is : body ≡ Reference operation (nat_eq (word / 0o400 % 2) 1) (Some (record { joint = Add; term = Name name } ∷ []))
 
--- The body of a cell's word is by a tag: an instruction's that is a memory reference, where the cell that it names is tagged, and a
--- datum's that is not 0, where the cell is whose address it is in its own field.
+-- The body of a cell's word is by a tag in two cases. The word is an instruction that is a memory reference, and the cell that it
+-- names is tagged. Or it is a datum other than 0, and the cell is tagged whose address it is in its own field.
 pub record IsByTag (look : Look) (tagged : ℕ → Bool) (cell word : ℕ) (body : Body) : Type 0 where
   pub reference : look.is_code cell ≡ true → is_reference (cell % FIELD) word ≡ true → tagged (referred_cell cell word) ≡ true
       → IsReferenceBy word (name_in look.name (referred_cell cell word)) body

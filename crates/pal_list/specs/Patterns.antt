@@ -11,9 +11,9 @@ abbrev pub pattern : List ℕ → List ℕ → List ℕ → List ℕ → Pattern
 pattern mask bits name value = (octal_number mask, octal_number bits, name, octal_number value)
 
 -- The names that are shown. An instruction of the interrupt, the reader, the punch, the Teletype and the extended memory has
--- a name for its whole word; `CDF` and `CIF` have the number of the field behind them, 10 to 70, where it isn't 0. An
--- operate has names for its bits, as few as its group has: one for two bits where that makes them fewer, as CIA, STL, GLK,
--- STA and LAS.
+-- a name for its whole word. `CDF` and `CIF` have the number of the field after them, 10 to 70, where it isn't 0. An operate
+-- has names for its bits, as few as its group has: one for two bits where that makes them fewer, as CIA, STL, GLK, STA and
+-- LAS.
 unfoldable pub patterns : List Pattern
 patterns =
     pattern (codes "7777") (codes "6001") (codes "ION") (codes "6001") ∷

@@ -36,7 +36,7 @@ pub record IsReadAs (text : List ℕ) (pairs : List (ℕ × ℕ)) : Type 0 where
   pub no_fault : fault_of (text_of text) ≡ None
   pub pairs_are : pairs_of (text_of text) ≡ pairs
 
--- A text says what a tape says: it assembles without a fault to the tape's words, by rising cell, and gives each cell the
+-- A text says what a tape says. It assembles without a fault to the tape's words, by rising cell. It gives each cell the
 -- tape's last word for it, and no other cell a word.
 pub record Says (text : List ℕ) (items : List Item) : Type 0 where
   pub no_fault : fault_of (text_of text) ≡ None
@@ -52,11 +52,11 @@ pub record IsSourceWith (look : Look) (frames text : List ℕ) : Type 0 where
   pub lines : text ≡ source_with look (words_of_tape items)
   pub says : Says text items
 
--- with all words as instructions, and nothing told beside them
+-- with all words as instructions, and nothing shown beside them
 abbrev pub IsSourceOf : List ℕ → List ℕ → Type 0
 IsSourceOf frames text = IsSourceWith plain frames text
 
--- with those as instructions that a program reaches which starts at these cells, and with the notes of the tape's words
+-- with those words as instructions that a program reaches when it starts at these cells, and with the notes of the tape's words
 pub record IsSourceFrom (frames starts text : List ℕ) : Type 0 where
   pub look : Look
   pub source : IsSourceWith look frames text
@@ -115,7 +115,7 @@ pub record RefusesName (frames starts names : List ℕ) (line : ℕ) (why : Why)
   pub given : AllGiven (tape_map items) starts
   pub refused : read_of (tape_map items) names ≡ Err (At line why)
 
--- The frames are a tape that gives no cell a word, and neither a start nor a line of a text wants one.
+-- The frames are a tape that gives no cell a word, and neither a start nor a line of a text needs one.
 pub record NamesNoWord (frames starts names : List ℕ) : Type 0 where
   pub items : List Item
   pub is_tape : IsTape frames items

@@ -9,7 +9,7 @@ use Rattle.pal_list.specs.References.{operation_name, is_reference}
 use Rattle.pal_list.specs.Tags.{tag}
 use Rattle.pal_list.specs.Looks.{Look}
 
--- the cell that a memory reference names, by its tag where the source has it, which is spelled so, else by its address
+-- the cell that a memory reference names, by its tag, spelled so, where the source has it, else by its address
 abbrev pub address : (ℕ → List ℕ) → (ℕ → Bool) → ℕ → ℕ → List ℕ
 address name tagged cell word = if tagged (referred_cell cell word) then name (referred_cell cell word) else octal4 (referred (cell % FIELD) word)
 
@@ -18,11 +18,11 @@ abbrev pub reference : (ℕ → List ℕ) → (ℕ → Bool) → ℕ → ℕ →
 reference name tagged cell word =
     operation_name (word / 0o1000) ∷ (if nat_eq (word / 0o400 % 2) 1 then codes "I" ∷ [] else []) ++ address name tagged cell word ∷ []
 
--- whether the names of a word's patterns come to the word
+-- whether the names of a word's patterns make the word
 abbrev pub is_named : ℕ → Bool
 is_named word = nat_lt 3071 word && nat_eq (or_behind 0 (chosen word patterns)) word
 
--- the pieces of an instruction: a memory reference or names where they come to the word, else its number
+-- the pieces of an instruction: a memory reference or names where they make the word, else its number
 abbrev pub instruction_by : (ℕ → List ℕ) → (ℕ → Bool) → ℕ → ℕ → List (List ℕ)
 instruction_by name tagged cell word =
     if is_reference (cell % FIELD) word then reference name tagged cell word
@@ -32,12 +32,12 @@ instruction_by name tagged cell word =
 abbrev pub instruction : (ℕ → Bool) → ℕ → ℕ → List (List ℕ)
 instruction tagged cell word = instruction_by tag tagged cell word
 
--- the pieces of a datum: the tag of the cell whose address it is, in its own field, where the source has that, else its number; a zero is
--- a number, since cells that are to begin as 0 are more than those that point to cell 0
+-- The pieces of a datum: the tag of the cell whose address it is, in its own field, where the source has that, else its number. A zero is
+-- a number, since more cells are to begin as 0 than point to cell 0.
 abbrev pub datum : (ℕ → List ℕ) → (ℕ → Bool) → ℕ → ℕ → List (List ℕ)
 datum name tagged cell word =
     (if nat_eq word 0 then octal4 word else if tagged (FIELD * (cell / FIELD) + word) then name (FIELD * (cell / FIELD) + word) else octal4 word) ∷ []
 
--- the pieces of the statement of a cell's word: an instruction where the cell is told to be one, else a datum
+-- the pieces of the statement of a cell's word: an instruction where the cell is given as one, else a datum
 abbrev pub statement : Look → (ℕ → Bool) → ℕ → ℕ → List (List ℕ)
 statement look tagged cell word = if look.is_code cell then instruction_by look.name tagged cell word else datum look.name tagged cell word

@@ -1,4 +1,4 @@
--- What the parts of a source come to, for private clauses.
+-- What the parts of a source are, for private clauses.
 use Rattle.std.specs.Prelude.{◌≡◌, ℕ, ◌<◌, Bool, false, ◌&&◌, ◌||◌, slice_index_or, Option, Some, None, Err, is_some, List, []}
 use Rattle.word12.specs.declared.sizes.TheConstants.{CORE}
 use Rattle.bin_tape.specs.Items.{Item, IsPrefix, tape_map}
@@ -28,7 +28,7 @@ abbrev pub tagged_below : Look → List Item → ℕ → ℕ → Bool
 tagged_below look items count cell =
     is_given (words_of_tape items) cell && (look.has_name cell || is_referred look.is_code (words_below items count) cell)
 
--- these tell which cells are tagged
+-- these say which cells are tagged
 abbrev pub HoldsFlags : (ℕ → Bool) → List Bool → Type 0
 HoldsFlags tagged tags = (cell : ℕ) → cell < CORE → flagged_in tags cell ≡ tagged cell
 
@@ -42,7 +42,7 @@ given_by (Some table) cell = given_in table cell
 abbrev pub HoldsNames : (ℕ → Bool) → Option (List (Option (List ℕ))) → Type 0
 HoldsNames has_name names = (cell : ℕ) → cell < CORE → is_some (given_by names cell) ≡ has_name cell
 
--- ## What is told beside words, by notes or by none
+-- ## What is shown beside words, by notes or by none
 
 abbrev pub above_of : Option Notes → ℕ → List (List ℕ)
 above_of None cell = []
@@ -68,7 +68,7 @@ look_with names n is_code = record {
   has_gap = λ cell. gap_of n cell;
 }
 
--- two looks tell the same of each cell
+-- two looks show the same of each cell
 pub record SameLook (one other : Look) : Type 0 where
   pub names : (cell : ℕ) → cell < CORE → one.name cell ≡ other.name cell
   pub named : (cell : ℕ) → cell < CORE → one.has_name cell ≡ other.has_name cell
@@ -77,7 +77,7 @@ pub record SameLook (one other : Look) : Type 0 where
   pub remark : (cell : ℕ) → cell < CORE → one.remark cell ≡ other.remark cell
   pub gaps : (cell : ℕ) → cell < CORE → one.has_gap cell ≡ other.has_gap cell
 
--- a text says these words, and looks like each look that tells the same as this one
+-- a text says these words, and looks like each look that shows the same as this one
 abbrev pub SaysWords : List (Option ℕ) → Look → List ℕ → Type 0
 SaysWords words look text =
     (other : Look) (items : List Item) → IsPrefix items → HoldsMap items words → SameLook look other → AreNotes other → IsNaming other.name

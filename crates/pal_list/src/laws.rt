@@ -20,8 +20,8 @@ use bin_tape::laws::written_tape;
 use pal_asm::laws::has_words;
 use pal_names::laws::{names_are_spelled_one_way, names_are_their_own};
 
-/// The source of cells with their words assembles without a fault to just these pairs, in its order, whichever are taken for
-/// instructions, and whatever is told beside them, and however their tags are spelled. So the statement that is shown for a word at a place is that word there.
+/// The source of cells with their words assembles without a fault to just these pairs, in its order. This holds whichever are taken for instructions,
+/// whatever is shown beside them, and however their tags are spelled. So the statement that is shown for a word at a place is that word there.
 pub fn source_reads_back()
     ensures { (look : Look) (pairs : List (ℕ × ℕ)) → AreNotes look → IsNaming look.name
         → ArePairs pairs → 0 < length pairs → IsReadAs (source_with look pairs) (reverse pairs) }
@@ -36,8 +36,8 @@ pub fn tape_comes_back()
     has_words();
 }
 
-/// The cells that a tape's source tags are just those to which the tape gives a word and which have a name of their own, or which a
-/// memory reference among its instructions names.
+/// A tape's source tags a cell just where the tape gives it a word, and it has a name of its own or is named by a memory
+/// reference among the instructions.
 pub fn named_cells_are_tagged()
     ensures { (look : Look) (frames text : List ℕ)
         (source : IsSourceWith look frames text) → TagsWhatIsNamed look source.items }
@@ -51,7 +51,7 @@ pub fn tags_are_defined_once()
 {}
 
 /// At each instruction of a tape that is a memory reference whose cell has a tag, the statement of the tape's source there is a
-/// reference by that tag; and at each datum but 0 that is the address, in its own field, of a tagged cell it is that tag.
+/// reference by that tag. At each datum but 0 that is the address, in its own field, of a tagged cell, it is that tag.
 pub fn cells_are_named_by_tags()
     ensures { (look : Look) (frames text : List ℕ)
         (source : IsSourceWith look frames text) → NamesTags look text source.items }
@@ -92,8 +92,8 @@ pub fn tags_have_a_form_of_their_own()
     ensures others { (name : List ℕ) → has_tag_form name ≡ true → IsTagOf name }
 {}
 
-/// Where no cell is given a name, a source with names is the source without, as it is with an empty text; and frames that have none with
-/// an empty text have none without.
+/// Where no cell is given a name, a source with names is the source without names, as it is with an empty text. Frames that have no
+/// source with an empty text have none without names.
 pub fn no_names_change_nothing()
     ensures all { (frames names text : List ℕ) (source : IsNamedSourceOf frames names text)
         → GivesNoName source.table → IsSourceOf frames text }
@@ -108,7 +108,7 @@ pub fn no_names_change_nothing()
         → IsNamedFault frames starts [] fault → IsFlowFault frames starts fault }
 {}
 
-/// What names of group 1, or of group 2 of the operates come to is shown by names, and by no more of them.
+/// A word that names of group 1 of the operates, or of group 2, make is shown by names, and by no more of them.
 pub fn names_are_fewest()
     ensures group_1 { AreFewest group_1 }
     ensures group_2 { AreFewest group_2 }

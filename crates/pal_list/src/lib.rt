@@ -1,12 +1,12 @@
 //! PAL III source of a BIN tape: what a tape gives the cells of core, as statements that assemble to just that.
 //!
 //! A line stands for each cell that the tape gives a word, by rising field and address (PAL III Symbolic Assembler manual,
-//! and this project's profile of it). It has a statement that is the word at that place, a memory reference or permanent
-//! names where they come to the word and else its number, and a comment with the cell and the word in octal. A cell that a
-//! memory reference of the tape names has a tag, which stands for its address there. Where a program's starts are told, just the words
-//! that it reaches are taken for instructions: a datum but 0 that is a tagged cell's address is shown by the tag, and comments and empty
-//! lines tell what `pal_notes` knows of the cells. Where names are given, as `pal_names` reads them, they are the tags of their cells.
-//! What a source assembles to is proved for any comments and empty lines, and for any tags that are names of their own.
+//! and this project's profile of it). It has a statement that is the word at that place, and a comment with the cell and the word in
+//! octal. The statement is a memory reference or permanent names where they make the word, and else its number. A cell that a memory
+//! reference of the tape names has a tag, which stands for its address there. Where a program's starts are given, only the words that
+//! it reaches are taken for instructions. Then a datum but 0 that is a tagged cell's address is shown by the tag, and comments and
+//! empty lines show what `pal_notes` knows of the cells. Where names are given, as `pal_names` reads them, they are the tags of their
+//! cells. What a source assembles to is proved for any comments and empty lines, and for any tags that are names of their own.
 #![tactic(auto)]
 
 mod faults;

@@ -13,7 +13,7 @@ use pal_notes::Notes;
 use std::alloc::AllocError;
 use word12::{Cell, Word};
 
-/// Appends the lines of a cell's word behind a word for the cell before, where these cells hold instructions, these are tagged, and
+/// Appends the lines of a cell's word after a word for the cell before, where these cells hold instructions, these are tagged, and
 /// these notes stand beside their words.
 pub fn put_cell(
     text: &mut Vec<u8>,
@@ -115,7 +115,7 @@ fn put_comment(text: &mut Vec<u8>, cell: Cell, word: Word) -> Result<(), AllocEr
     Ok(())
 }
 
-/// The field that words go to behind a word for this cell, or behind none.
+/// The field that words go to after a word for this cell, or after none.
 fn field_behind(before: Option<Cell>) -> u8
     ensures { result ≡ field_behind before }
 {
@@ -125,7 +125,7 @@ fn field_behind(before: Option<Cell>) -> u8
     }
 }
 
-/// Whether a word for the cell needs no origin behind a word for the cell before.
+/// Whether a word for the cell needs no origin after a word for the cell before.
 fn is_next(before: Option<Cell>, cell: Cell) -> bool
     ensures { result ≡ is_next before cell }
 {

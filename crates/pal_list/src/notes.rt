@@ -21,7 +21,7 @@ pub fn put_above(
     }
 }
 
-/// Appends what stands in a cell's comment behind its word, if there are notes.
+/// Appends what stands in a cell's comment after its word, if there are notes.
 pub fn put_remark(
     text: &mut Vec<u8>,
     notes: &Option<Notes<'_>>,
@@ -35,7 +35,7 @@ pub fn put_remark(
     }
 }
 
-/// Appends an empty line where one stands behind a cell's.
+/// Appends an empty line where one stands after a cell's.
 pub fn put_gap(text: &mut Vec<u8>, notes: &Option<Notes<'_>>, cell: Cell) -> Result<(), AllocError>
     ensures { OnOk result (text.new.items ≡ text.old.items
         ++ (if gap_of notes.now cell then line_end else [])) }
@@ -46,7 +46,7 @@ pub fn put_gap(text: &mut Vec<u8>, notes: &Option<Notes<'_>>, cell: Cell) -> Res
     Ok(())
 }
 
-/// Whether an empty line stands behind a cell's.
+/// Whether an empty line stands after a cell's.
 fn has_gap(notes: &Option<Notes<'_>>, cell: Cell) -> bool
     ensures { result ≡ gap_of notes.now cell }
 {

@@ -77,7 +77,7 @@ const PATTERNS: [Pattern; 63] = [
     (0o7402, 0o7402, *b"HLT", 0o7402),
 ];
 
-/// Whether the names of a word's patterns come to the word.
+/// Whether the names of a word's patterns make the word.
 #[tactic(auto, unfolding(crate::specs::Patterns::patterns))]
 pub fn is_named(word: Word) -> bool
     ensures { result ≡ is_named word }
@@ -101,7 +101,7 @@ fn value_of(list: &[Pattern], word: Word) -> u16
     value
 }
 
-/// Appends the names of the patterns that a word has, the first behind a tab.
+/// Appends the names of the patterns that a word has, the first after a tab.
 #[tactic(auto, unfolding(crate::specs::Patterns::patterns))]
 pub fn put_names(text: &mut Vec<u8>, word: Word) -> Result<(), AllocError>
     ensures { OnOk result (text.new.items ≡ text.old.items ++ led 9 (names (chosen word patterns))) }
@@ -109,7 +109,7 @@ pub fn put_names(text: &mut Vec<u8>, word: Word) -> Result<(), AllocError>
     put_listed(text, &PATTERNS, word)
 }
 
-/// Appends the names of the patterns of a list that a word has, the first behind a tab.
+/// Appends the names of the patterns of a list that a word has, the first after a tab.
 fn put_listed(text: &mut Vec<u8>, list: &[Pattern], word: Word) -> Result<(), AllocError>
     ensures { OnOk result (text.new.items ≡ text.old.items ++ led 9 (names (chosen word list.now))) }
 {

@@ -22,9 +22,9 @@ use pal_notes::laws::notes_are_graphic;
 use std::alloc::{AllocError, Global};
 use word12::{CORE, Cell, Word};
 
-/// The PAL III source of a BIN tape: a line for each cell that the tape gives a word, by rising field and address, with
-/// `FIELD` where the field changes and an origin where a cell isn't the next; at last `$`. Lines end with CR and LF. A cell
-/// with a word that a memory reference among the words names is tagged, and named by its tag.
+/// The PAL III source of a BIN tape: a line for each cell that the tape gives a word, by rising field and address. It has
+/// `FIELD` where the field changes, an origin where a cell isn't the next, and `$` at its end. Lines end with CR and LF. A
+/// cell with a word that a memory reference among the words names is tagged, and named by its tag.
 ///
 /// The source assembles without a fault to the last words that the tape gives its cells. A tape that gives no cell a word
 /// is refused: the assembler has a fault for a source of no word (this project's profile).
@@ -38,12 +38,12 @@ pub fn source_of(alloc: Global, frames: &[u8]) -> Result<Vec<u8>, ListFault>
     Ok(text)
 }
 
-/// The same of a program that starts at these cells: instructions are those that it reaches, as far as their words tell, and all
-/// other words stand as data: as the tag of the cell whose address they are, in their own field, where it has one, else as numbers
-/// (this project's reading of a program's flow). Comments tell who refers to a cell and the characters of data, and an empty line stands
+/// The same of a program that starts at these cells. Instructions are those words that it reaches, as far as the words say. All other
+/// words stand as data. Such a word is the tag of the cell whose address it is, in its own field, where that has one, else a number
+/// (this project's reading of a program's flow). Comments show who refers to a cell and the characters of data, and an empty line stands
 /// where a program doesn't go on (this project's profile).
 ///
-/// A start to which the tape gives no word is refused, the first one.
+/// The first start to which the tape gives no word is refused.
 pub fn source_from(alloc: Global, frames: &[u8], starts: &[Cell]) -> Result<Vec<u8>, ListFault>
     ensures source { IfOk result (λ text. IsSourceFrom frames.now starts.now text.items) }
     ensures fault { IfErr result (λ fault. IsFlowFault frames.now starts.now fault) }
@@ -60,10 +60,10 @@ pub fn source_from(alloc: Global, frames: &[u8], starts: &[Cell]) -> Result<Vec<
     Ok(text)
 }
 
-/// The same as `source_of`'s with names for some cells, which a text gives as `pal_names` reads it: each is the tag of its cell, whatever
-/// refers to it, and stands for the cell where a tag would (PAL III Symbolic Assembler manual, and this project's profile of it).
+/// The same as `source_of`'s with names for some cells, which a text gives as `pal_names` reads it. Each is the tag of its cell, whatever
+/// refers to it. It stands for the cell where a tag would (PAL III Symbolic Assembler manual, and this project's profile of it).
 ///
-/// The first line of the names that is refused is told before a tape of no word is.
+/// The first line of the names that is refused is reported before a tape of no word is.
 pub fn named_source_of(alloc: Global, frames: &[u8], names: &[u8]) -> Result<Vec<u8>, ListFault>
     ensures source { IfOk result (λ text. IsNamedSourceOf frames.now names.now text.items) }
     ensures fault { IfErr result (λ fault. IsNamedFault frames.now [] names.now fault) }
@@ -196,7 +196,7 @@ fn words_in(alloc: Global, map: &TapeMap) -> Result<Vec<Option<Word>>, AllocErro
     Ok(words)
 }
 
-/// A tape's fault, or want of memory.
+/// A tape's fault, or that memory ran out.
 fn fault_of(fault: TapeFault) -> ListFault
     ensures { (frames : List ℕ) → IsMapFault frames fault → IsUnread frames result }
 {

@@ -19,7 +19,7 @@ use word12::{Cell, Word};
 /// The indirect bit of a memory reference.
 const INDIRECT: u16 = 0o400;
 
-/// Appends the statement of a cell's word, behind a tab, where these cells hold instructions and these are tagged.
+/// Appends the statement of a cell's word, after a tab, where these cells hold instructions and these are tagged.
 pub fn put_statement(
     text: &mut Vec<u8>,
     code: &[bool],
@@ -39,7 +39,7 @@ pub fn put_statement(
     put_datum(text, tags, cell, word)
 }
 
-/// Appends a datum, behind a tab: the tag of the cell whose address it is in its own field, where that is tagged, else its number. A zero
+/// Appends a datum, after a tab: the tag of the cell whose address it is in its own field, where that is tagged, else its number. A zero
 /// is a number.
 fn put_datum(text: &mut Vec<u8>, tags: &Tags<'_>, cell: Cell, word: Word) -> Result<(), AllocError>
     requires { length tags.now.flags.now ≡ CORE }
@@ -57,8 +57,8 @@ fn put_datum(text: &mut Vec<u8>, tags: &Tags<'_>, cell: Cell, word: Word) -> Res
     put_number(text, word)
 }
 
-/// Appends the instruction of a cell's word as a source spells it, behind a tab: a memory reference, by the tag of the cell that it
-/// names where that is tagged; names where they come to the word; else its number (PAL III Symbolic Assembler manual).
+/// Appends the instruction of a cell's word as a source spells it, after a tab. It is a memory reference, by the tag of the cell that
+/// it names where that is tagged. Else it is names where they make the word, else its number (PAL III Symbolic Assembler manual).
 pub fn put_instruction(
     text: &mut Vec<u8>,
     tags: &[bool],
@@ -98,14 +98,14 @@ fn put_instruction_by(
     put_number(text, word)
 }
 
-/// Appends a word's number, behind a tab.
+/// Appends a word's number, after a tab.
 fn put_number(text: &mut Vec<u8>, word: Word) -> Result<(), AllocError>
     ensures { OnOk result (text.new.items ≡ text.old.items ++ led 9 (octal4 word ∷ [])) }
 {
     put_piece(text, b'\t', &word.octal4())
 }
 
-/// Appends a piece behind a byte.
+/// Appends a piece after a byte.
 pub fn put_piece(text: &mut Vec<u8>, byte: u8, piece: &[u8]) -> Result<(), AllocError>
     ensures { OnOk result (text.new.items ≡ text.old.items ++ byte ∷ piece.now) }
 {
@@ -114,7 +114,7 @@ pub fn put_piece(text: &mut Vec<u8>, byte: u8, piece: &[u8]) -> Result<(), Alloc
     Ok(())
 }
 
-/// Appends a cell's tag behind a byte.
+/// Appends a cell's tag after a byte.
 fn put_tag(
     text: &mut Vec<u8>,
     byte: u8,

@@ -48,8 +48,8 @@ fn tag(cell: Cell) -> [u8; 6]
     [b'A', f, a, b, c, d]
 }
 
-/// Which cells are tagged: those with a word that are given a name, or that a memory reference among the instructions names, which are in
-/// these cells.
+/// Which cells are tagged: those with a word that are given a name, or that a memory reference among the instructions names. The
+/// instructions are in these cells.
 pub fn tags_of(
     alloc: Global,
     words: &[Option<Word>],
@@ -115,7 +115,7 @@ fn refers(is_code: bool, at: Word, word: Word) -> bool
     is_code && is_reference(at, word)
 }
 
-/// Marks the cell that a cell's word names, if the one is an instruction, a memory reference, and the other has a word.
+/// Marks the cell that a cell's word names, if the word is an instruction, a memory reference, and the named cell has a word.
 fn mark(tags: &mut [bool], words: &[Option<Word>], code: &[bool], cell: Cell)
     requires size { length tags.old ≡ CORE }
     requires words { length words.now ≡ CORE }

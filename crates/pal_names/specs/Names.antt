@@ -22,7 +22,7 @@ abbrev pub last_line : List ℕ → List (List ℕ)
 last_line [] = []
 last_line (byte ∷ bytes) = without_return (byte ∷ bytes) ∷ []
 
--- the lines of a text behind the bytes of the line in which it begins
+-- the lines of a text after the bytes of the line in which it begins
 abbrev pub lines_from : List ℕ → List ℕ → List (List ℕ)
 lines_from line [] = last_line line
 lines_from line (byte ∷ bytes) = if nat_eq byte 0o12 then without_return line ∷ lines_from [] bytes else lines_from (line ++ byte ∷ []) bytes
@@ -44,7 +44,7 @@ abbrev pub without_blanks : List ℕ → List ℕ
 without_blanks [] = []
 without_blanks (byte ∷ others) = if is_blank byte then without_blanks others else byte ∷ others
 
--- a line says a cell, five octal digits and a blank, and behind further blanks its name
+-- a line says a cell, five octal digits and a blank, and after further blanks its name
 abbrev pub cell_in : List ℕ → Option ℕ
 cell_in line = if begins_blank (drop 5 line) then octal_of 5 (take 5 line) else None
 
@@ -81,13 +81,13 @@ abbrev pub names_cell : List Entry → ℕ → Bool
 names_cell [] cell = false
 names_cell (entry ∷ older) cell = nat_eq entry.cell cell || names_cell older cell
 
--- why a name of this number isn't given a cell with this word or none, where the name or the cell was given before, or wasn't
+-- why a name of this number isn't given to a cell with this word or none, where the name or the cell was given before, or wasn't
 abbrev pub why_taken : Option ℕ → Bool → List ℕ → ℕ → Option Why
 why_taken word given name number =
     if is_taken number then Some Permanent
     else (if has_tag_form name then Some Tag else (if given then Some Twice else (if is_some word then None else Some NoCell)))
 
--- why a line with this cell and this name is refused behind lines that gave these
+-- why a line with this cell and this name is refused after lines that gave these
 abbrev pub why_refused : (ℕ → Option ℕ) → List Entry → Option ℕ → List ℕ → Option ℕ → Option Why
 why_refused words entries None name number = Some BadLine
 why_refused words entries (Some cell) name None = Some NoName
@@ -105,26 +105,26 @@ with_entry read None name None = Ok (record read { lines = read.lines + 1 })
 with_entry read (Some cell) name None = Ok (record { lines = read.lines + 1; entries = record { cell = cell; name = name } ∷ read.entries })
 with_entry read cell name (Some why) = Err (At (read.lines + 1) why)
 
--- what one more line comes to
+-- what one more line gives
 abbrev pub with_line : (ℕ → Option ℕ) → Read → List ℕ → Result Read NamesFault
 with_line words read line =
     if says_nothing line then Ok (record read { lines = read.lines + 1 })
     else with_entry read (cell_in line) (name_in line)
     (why_refused words read.entries (cell_in line) (name_in line) (short_name (name_in line)))
 
--- and further lines, of which the first that is refused is told
+-- and further lines, of which the first that is refused is reported
 abbrev pub with_lines : (ℕ → Option ℕ) → Result Read NamesFault → List (List ℕ) → Result Read NamesFault
 with_lines words read [] = read
 with_lines words (Err fault) (line ∷ lines) = Err fault
 with_lines words (Ok read) (line ∷ lines) = with_lines words (with_line words read line) lines
 
--- what a text comes to
+-- what a text gives
 abbrev pub read_of : (ℕ → Option ℕ) → List ℕ → Result Read NamesFault
 read_of words text = with_lines words (Ok (record { lines = 0; entries = [] })) (lines_from [] text)
 
 -- ## The answer
 
--- a name in six places, with 0 behind it
+-- a name in six places, with 0 after it
 abbrev pub six_places : List ℕ → List ℕ
 six_places name =
     slice_index name 0 ∷ slice_index name 1 ∷ slice_index name 2 ∷ slice_index name 3 ∷ slice_index name 4 ∷ slice_index name 5 ∷ []

@@ -21,18 +21,18 @@ abbrev pub say_either : List (List ℕ) → ℕ → ℕ → Bool
 say_either [] cell number = false
 say_either (line ∷ older) cell number = (says_name line number || says_cell line cell) || say_either older cell number
 
--- why a name isn't given to a cell behind lines
+-- why a name isn't given to a cell after lines
 abbrev pub why_behind : (ℕ → Option ℕ) → List (List ℕ) → Option ℕ → List ℕ → Option ℕ → Option Why
 why_behind words older None name number = Some BadLine
 why_behind words older (Some cell) name None = Some NoName
 why_behind words older (Some cell) name (Some number) = why_taken (words cell) (say_either older cell number) name number
 
--- why a line is refused behind these
+-- why a line is refused after these
 abbrev pub judged : (ℕ → Option ℕ) → List (List ℕ) → List ℕ → Option Why
 judged words older line =
     if says_nothing line then None else why_behind words older (cell_in line) (name_in line) (short_name (name_in line))
 
--- each of these lines, the newest first, is taken behind those before it
+-- each of these lines, the newest first, is taken after those before it
 abbrev pub AreTaken : (ℕ → Option ℕ) → List (List ℕ) → Type 0
 AreTaken words [] = Unit {0}
 AreTaken words (line ∷ older) = (judged words older line ≡ None) × AreTaken words older
@@ -49,7 +49,7 @@ pub record AreSaid (words : ℕ → Option ℕ) (lines : List (List ℕ)) (table
   pub taken : AreTaken words newest_first
   pub names : (cell : ℕ) → cell < CORE → slice_index_or table cell None ≡ name_said newest_first cell
 
--- The lines before one, the newest first, are taken, and this one is refused behind them: so it is the first that is.
+-- The lines before one, the newest first, are taken, and this one is refused after them: so it is the first that is.
 pub record IsFirstRefused (words : ℕ → Option ℕ) (lines : List (List ℕ)) (number : ℕ) (why : Why) : Type 0 where
   pub older : List (List ℕ)
   pub line : List ℕ

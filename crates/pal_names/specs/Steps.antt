@@ -1,4 +1,4 @@
--- What reading names comes to on the way, for private clauses.
+-- The steps of reading names, for private clauses.
 use Rattle.std.specs.Prelude.{◌≡◌, ℕ, suc, nat_eq, if◌then◌else◌, Option, Some, None, Result, Ok, Err, List, [], ◌∷◌, length, slice_index_or}
 use Rattle.word12.specs.declared.sizes.TheConstants.{CORE}
 use Rattle.pal_sym.specs.Permanent.{permanent}
@@ -19,7 +19,7 @@ pub record Holds (table : List (Option (List ℕ))) (given : SymbolTable) (entri
   pub names : (cell : ℕ) → slice_index_or table cell None ≡ name_at entries cell
   pub numbers : (number : ℕ) → symbol_value given number ≡ if_none (permanent number) (if names_number entries number then Some 0 else None)
 
--- what a line that is read behind others changes
+-- what a line that is read after others changes
 abbrev pub TakesLine : (ℕ → Option ℕ) → Read → List ℕ → List (Option (List ℕ)) → SymbolTable → Result (Unit {0}) NamesFault → Type 0
 TakesLine words read line table given (Ok done) = (now : Read) × (with_line words read line ≡ Ok now) × Holds table given now.entries
 TakesLine words read line table given (Err (At number why)) = with_line words read line ≡ Err (At number why)

@@ -7,11 +7,11 @@ use thiserror::Error;
 /// Why a line is refused, in the order in which it is judged.
 #[derive(Clone, Copy, PartialEq, Eq, Debug, Error)]
 pub enum Why {
-    /// It isn't a cell, five octal digits, with a blank or a tab behind it.
+    /// It isn't a cell, five octal digits, with a blank or a tab after it.
     #[error("no cell with a name")]
     BadLine,
 
-    /// What stands behind the cell isn't a letter, followed by letters and digits, six characters at most.
+    /// What stands after the cell isn't a letter, followed by letters and digits, six characters at most.
     #[error("no name")]
     NoName,
 

@@ -7,8 +7,8 @@ ghost use Rattle.pal_names.specs.Said.{AreSaid, IsFirstRefused};
 ghost use Rattle.pal_names.specs.declared.faults.NamesFault.TheVariants.{At};
 ghost use Rattle.pal_names.specs.declared.faults.Why.{Why};
 
-/// Each name that a text gives is a name as PAL has it, no symbol of the language, and no tag; its cell has a word; and no two cells have
-/// the same name, so that a listing by these names assembles to the words that it lists.
+/// Each name that a text gives is a name as PAL has it, no symbol of the language, and no tag. Its cell has a word, and no two cells have
+/// the same name. So a listing by these names assembles to the words that it lists.
 pub fn names_are_their_own()
     ensures given { (words : ℕ → Option ℕ) (text : List ℕ) (table : List (Option (List ℕ)))
         → AreNames words text table → AreGiven words table }
@@ -17,7 +17,7 @@ pub fn names_are_their_own()
 {}
 
 /// A text is taken line by line: each line is judged by those before it, and the names that are given are those that the lines say. The
-/// first line that is refused is told, with its number and why.
+/// first line that is refused is reported, with its number and why.
 pub fn lines_are_judged_by_those_before()
     ensures names { (words : ℕ → Option ℕ) (text : List ℕ) (table : List (Option (List ℕ)))
         → AreNames words text table → AreSaid words (lines_from [] text) table }
@@ -25,7 +25,7 @@ pub fn lines_are_judged_by_those_before()
         → IsFault words text (At number why) → IsFirstRefused words (lines_from [] text) number why }
 {}
 
-/// Short names that are one to the assembler are spelled alike: so a name that isn't spelled as a tag is none.
+/// Short names that the assembler takes for one name are spelled alike. So a name that isn't spelled as a tag is no tag.
 pub fn names_are_spelled_one_way()
     ensures { (x y : List ℕ) (number : ℕ) → short_name x ≡ Some number → short_name y ≡ Some number → x ≡ y }
 {}

@@ -64,7 +64,7 @@ pub fn cell_in(line: &[u8]) -> Option<Cell>
     octal_cell(digits)
 }
 
-/// What stands behind a line's cell and the blanks there.
+/// What stands after a line's cell and the blanks there.
 pub fn name_in(line: &[u8]) -> &[u8]
     requires { 5 ≤ length line.now }
     ensures { result.now ≡ name_in line.now }
@@ -122,7 +122,7 @@ pub fn has_tag_form(name: &[u8]) -> bool
     }
 }
 
-/// A name in six places, with 0 behind it.
+/// A name in six places, with 0 after it.
 pub fn six_places(name: &[u8]) -> [u8; 6]
     ensures { result ≡ six_places name.now }
 {

@@ -18,7 +18,7 @@ use std::alloc::{AllocError, Global};
 use std::marker::Model;
 use word12::{CORE, Cell, Word};
 
-/// The names of cells. A contract sees a list of one or none for each cell of core, each in six places, with 0 behind it.
+/// The names of cells. A contract sees a list of one or none for each cell of core, each in six places, with 0 after it.
 #[derive(Drop)]
 pub struct Names {
     table: Vec<Option<[u8; 6]>>,
@@ -36,7 +36,7 @@ impl Model for Names {
 }
 
 impl Names {
-    /// The name of a cell, if it has one: up to six letters and digits, with 0 behind them.
+    /// The name of a cell, if it has one: up to six letters and digits, with 0 after them.
     pub fn get(&self, cell: Cell) -> Option<[u8; 6]>
         ensures { result ≡ slice_index_or self.now cell None }
     {
@@ -44,8 +44,8 @@ impl Names {
     }
 }
 
-/// The names that a text gives cells to which a tape gives these words, one or none for each of the 0o100000 cells; or the first line
-/// that is refused, counted from 1, and why (this project's profile).
+/// The names that a text gives to cells, where a tape gives the cells these words, one or none for each of the 0o100000 cells. Else
+/// the first line that is refused, counted from 1, and why (this project's profile).
 pub fn names_of(alloc: Global, text: &[u8], words: &[Option<Word>]) -> Result<Names, NamesFault>
     requires { length words.now ≡ CORE }
     ensures names { IfOk result (λ names. AreNames (word_in words.now) text.now names) }
@@ -87,7 +87,7 @@ fn take_all(
     Ok(())
 }
 
-/// What stands behind the first byte, if there is one.
+/// What stands after the first byte, if there is one.
 fn behind_end(text: &[u8]) -> &[u8]
     ensures { result.now ≡ drop 1 text.now }
 {

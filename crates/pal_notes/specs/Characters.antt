@@ -1,5 +1,5 @@
 -- Which data is text, and how it reads (OS/8 Software Support Manual for the packed form; what counts as text is this project's
--- reading): three units one behind the other that are characters, in one field.
+-- reading). Text is three units one after the other that are characters, in one field.
 use Rattle.std.specs.Prelude.{ℕ, ◌+◌, ◌-◌, ◌*◌, ◌/◌, ◌%◌, nat_eq, nat_lt, nat_le, Bool, false, ◌&&◌, ◌||◌, if◌then◌else◌, Option, Some, None, List, [], ◌∷◌, ◌++◌}
 use Rattle.word12.specs.declared.sizes.TheConstants.{FIELD}
 use Rattle.pal_notes.specs.declared.characters.Form.{Form}
@@ -43,7 +43,7 @@ sixbit_unit (Some word) = is_sixbit (word / 0o100) && is_sixbit (word % 0o100)
 abbrev pub third : ℕ → ℕ → ℕ
 third first second = 0o20 * (first / 0o400) + second / 0o400
 
--- Three characters of one text: all have the top bit, as OS/8 writes them, or none has it. Words that are no text seldom come to this.
+-- Three characters of one text: all have the top bit, as OS/8 writes them, or none has it. Words that are no text seldom have such characters.
 abbrev pub are_alike : ℕ → ℕ → ℕ → Bool
 are_alike first second third =
     (is_graphic first && (is_graphic second && is_graphic third))
@@ -68,7 +68,7 @@ words_of Sixbit = 1
 
 -- ## Three in a run
 
--- three units from this cell on, each so many cells behind the last, and the last in the field of the first
+-- three units from this cell on, each so many cells after the one before, and the last in the field of the first
 abbrev pub three_from : (ℕ → Bool) → ℕ → ℕ → Bool
 three_from is_unit size cell =
     nat_lt (cell % FIELD + 2 * size) FIELD && (is_unit cell && (is_unit (cell + size) && is_unit (cell + 2 * size)))
@@ -101,8 +101,8 @@ packed_text None second = []
 packed_text (Some first) None = []
 packed_text (Some first) (Some second) = quoted (first % 0o200 ∷ second % 0o200 ∷ third first second % 0o200 ∷ [])
 
--- What a datum's comment has behind its word: characters of eight bits where it is text of these, else of the packed form, at the
--- first word of a pair, else of six bits.
+-- What a datum's comment has after its word. It is characters of eight bits where it is text of these, else of the packed form,
+-- at the first word of a pair, else of six bits.
 abbrev pub characters : (ℕ → Option ℕ) → ℕ → List ℕ
 characters datum cell =
     if is_text Ascii datum cell then ascii_text (datum cell)

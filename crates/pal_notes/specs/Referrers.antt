@@ -1,10 +1,10 @@
--- Who refers to a cell (PAL III Symbolic Assembler manual, Small Computer Handbook): of words, one or none for each cell, some are told
--- to be instructions.
+-- Who refers to a cell (PAL III Symbolic Assembler manual, Small Computer Handbook). There is one word or none for each cell, and some
+-- words are known to be instructions.
 use Rattle.std.specs.Prelude.{ℕ, zero, suc, ◌/◌, ◌%◌, nat_eq, nat_lt, nat_le, Bool, false, ◌&&◌, ◌||◌, not, if◌then◌else◌, Option, Some, None, List, [], ◌∷◌, ◌++◌}
 use Rattle.word12.specs.declared.sizes.TheConstants.{CORE, FIELD, PAGE}
 use Rattle.flow8.specs.Exits.{referred_cell}
 
--- Whether a word at an address is what a memory reference says: an operation below 6; on page zero the assembler leaves the
+-- Whether a word at an address is that of a memory reference: an operation below 6; on page zero the assembler leaves the
 -- page bit, 0200, clear.
 abbrev pub is_reference : ℕ → ℕ → Bool
 is_reference at word = nat_lt word 0o6000 && (nat_eq (word / 0o200 % 2) 0 || nat_le PAGE at)

@@ -1,4 +1,4 @@
--- What finding who refers to a cell comes to on the way, for private clauses.
+-- The steps of finding who refers to a cell, for private clauses.
 use Rattle.std.specs.Prelude.{◌≡◌, ℕ, ◌%◌, Bool, ◌&&◌, not, if◌then◌else◌, Option, Some, None, List, length, slice_index_or, slice_set}
 use Rattle.word12.specs.declared.sizes.TheConstants.{CORE, FIELD}
 use Rattle.flow8.specs.Exits.{referred_cell}
@@ -28,7 +28,7 @@ pub record AreUnlinked (cells : List (Option ℕ)) : Type 0 where
   pub size : length cells ≡ CORE
   pub none : (cell : ℕ) → slice_index_or cells cell None ≡ None
 
--- the tables behind a cell that names one, or none
+-- the tables after a cell that names one, or none
 abbrev pub first_with : Option ℕ → ℕ → List (Option ℕ) → List (Option ℕ)
 first_with None cell first = first
 first_with (Some named) cell first = slice_set first named (Some cell)

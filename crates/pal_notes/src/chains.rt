@@ -48,7 +48,7 @@ fn no_cells(alloc: Global, count: usize) -> Result<Vec<Option<Cell>>, AllocError
     Ok(cells)
 }
 
-/// Links the cells that refer to each cell, where none is linked before: from the highest down, so that chains rise.
+/// Links the cells that refer to each cell, where none is linked before: from the highest down, and so chains rise.
 fn link_all(
     first: &mut [Option<Cell>],
     next: &mut [Option<Cell>],
@@ -144,7 +144,7 @@ fn put_cells(
     Ok(())
 }
 
-/// Appends a cell behind a blank, its field first.
+/// Appends a cell after a blank, its field first.
 fn put_cell(text: &mut Vec<u8>, cell: Cell) -> Result<(), AllocError>
     ensures { OnOk result (text.new.items ≡ text.old.items ++ 0o40 ∷ octal5 cell) }
 {

@@ -241,7 +241,7 @@ fn put_sixbit(text: &mut Vec<u8>, word: Option<Word>) -> Result<(), AllocError>
     Ok(())
 }
 
-/// Appends characters between quotes, behind a blank.
+/// Appends characters between quotes, after a blank.
 fn put_quoted(text: &mut Vec<u8>, characters: &[u8]) -> Result<(), AllocError>
     ensures { OnOk result (text.new.items ≡ text.old.items ++ quoted characters.now) }
 {

@@ -1,8 +1,8 @@
-//! What a listing tells beside its words, in comments and empty lines (this project's profile).
+//! What a listing shows beside its words, in comments and empty lines (this project's profile).
 //!
-//! Above a cell's line stands who calls the subroutine that begins there, and who refers to the cell otherwise; in the comment of data
-//! the characters that it holds, where it is text; and behind a HLT and a JMP through a pointer an empty line. The words of a tape are
-//! a list of 0o100000, one or none for each cell of core, and so are the flags that tell which of them are instructions.
+//! Lines above a cell's line show who calls the subroutine that begins there, and who refers to the cell otherwise. The comment of
+//! data has the characters that it holds, where it is text. After a HLT and a JMP through a pointer comes an empty line. The words of
+//! a tape are a list of 0o100000, one or none for each cell of core, and so are the flags that say which of them are instructions.
 #![tactic(auto)]
 
 mod chains;

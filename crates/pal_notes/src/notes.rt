@@ -17,7 +17,7 @@ const INDIRECT_JMP: u16 = 0o13;
 /// The operates of groups 2 and 3, 7400 to 7777.
 const GROUPS_2_AND_3: u16 = 0o17;
 
-/// What a listing tells of the words of a tape, of which some are instructions. A contract sees the words and the flags.
+/// What a listing shows of the words of a tape, of which some are instructions. A contract sees the words and the flags.
 #[derive(Drop)]
 pub struct Notes<'w> {
     words: &'w [Option<Word>],
@@ -60,9 +60,9 @@ impl<'w> Notes<'w> {
         })
     }
 
-    /// Appends the comments that stand above a cell's line, each as a line of its own with CR and LF: the cells, by their fields and
-    /// addresses, whose instructions call the subroutine that begins there, and those whose instructions refer to it otherwise, eight at
-    /// most of each (this project's profile).
+    /// Appends the comments that stand above a cell's line, each as a line of its own with CR and LF. They give the cells, by their
+    /// fields and addresses, whose instructions call the subroutine that begins there, and those whose instructions refer to it
+    /// otherwise. There are eight at most of each (this project's profile).
     pub fn put_above(&self, text: &mut Vec<u8>, cell: Cell) -> Result<(), AllocError>
         ensures { OnOk result (text.new.items ≡ text.old.items
             ++ note_lines (above (word_in self.now.words) (flagged_in self.now.code) cell)) }
@@ -73,7 +73,7 @@ impl<'w> Notes<'w> {
         Ok(())
     }
 
-    /// Appends what stands in a cell's comment behind its word: the characters of a datum, where it is text (this project's profile).
+    /// Appends what stands in a cell's comment after its word: the characters of a datum, where it is text (this project's profile).
     pub fn put_remark(&self, text: &mut Vec<u8>, cell: Cell) -> Result<(), AllocError>
         ensures { OnOk result (text.new.items ≡ text.old.items
             ++ remark (word_in self.now.words) (flagged_in self.now.code) cell) }
@@ -81,7 +81,7 @@ impl<'w> Notes<'w> {
         put_characters(text, self.words, self.code, cell)
     }
 
-    /// Whether an empty line stands behind a cell's: its word is an instruction, and a HLT or a JMP through a pointer (this project's
+    /// Whether an empty line stands after a cell's: its word is an instruction, and a HLT or a JMP through a pointer (this project's
     /// profile).
     pub fn has_gap(&self, cell: Cell) -> bool
         ensures { result ≡ has_gap (word_in self.now.words) (flagged_in self.now.code) cell }
@@ -90,7 +90,7 @@ impl<'w> Notes<'w> {
     }
 }
 
-/// Whether a program doesn't go on behind this word.
+/// Whether a program doesn't go on after this word.
 fn is_last(word: Option<Word>) -> bool
     ensures { result ≡ is_last word }
 {

@@ -21,7 +21,7 @@ pub(crate) enum Kind {
 /// A direct JMS without its page bit and its offset, 4000 to 4377.
 const DIRECT_JMS: u16 = 0o10;
 
-/// Whether a word at an address is what a memory reference says: its operation is below 6, and on page zero the page bit, 0200, is
+/// Whether a word at an address is that of a memory reference: its operation is below 6. On page zero the page bit, 0200, is
 /// clear, as the assembler leaves it there (PAL III Symbolic Assembler manual).
 pub fn is_reference(at: Word, word: Word) -> bool
     ensures { result ≡ is_reference at word }
@@ -62,7 +62,7 @@ fn is_of_kind(kind: Kind, word: Word) -> bool
     }
 }
 
-/// Whether an instruction of this word calls a subroutine that its word tells.
+/// Whether an instruction of this word calls a subroutine that its word names.
 fn is_call(word: Word) -> bool
     ensures { result ≡ is_call (Some word) }
 {

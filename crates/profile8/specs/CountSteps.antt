@@ -1,7 +1,7 @@
 -- Counts on the way, for private clauses.
 use Rattle.std.specs.Prelude.{ℕ, ◌+◌, Bool, true, false, List, slice_index_or, slice_set}
 
--- the counts once a cell's was made one more, if its word was fetched
+-- the counts after a cell's count rose by one, if its word was fetched
 abbrev pub counted : List ℕ → ℕ → Bool → List ℕ
 counted counts cell true = slice_set counts cell (slice_index_or counts cell 0 + 1)
 counted counts cell false = counts

@@ -1,4 +1,4 @@
--- The lines of a profile (this project's profile): the cells that were fetched, the dearest first, and those of the tape that never were.
+-- The lines of a profile (this project's profile): the cells that were fetched, the most often fetched first, and those of the tape that never were.
 use Rattle.std.specs.Prelude.{◌≡◌, ◌↔◌, ◌⊎◌, ℕ, zero, suc, ◌+◌, ◌-◌, ◌%◌, ◌<◌, Bool, false, ◌&&◌, ◌||◌, not, nat_eq, if◌then◌else◌, List, [], ◌∷◌, ◌++◌, codes, decimal, slice_index_or}
 use Rattle.word12.specs.declared.sizes.TheConstants.{CORE, FIELD}
 use Rattle.word12.specs.Octal.{octal5}
@@ -20,7 +20,7 @@ AreInOrder counts [] = Unit {0}
 AreInOrder counts (first ∷ []) = Unit {0}
 AreInOrder counts (first ∷ second ∷ others) = StandsBefore counts first second × AreInOrder counts (second ∷ others)
 
--- these are the cells that were fetched, the dearest first
+-- these are the cells that were fetched, the most often fetched first
 pub record AreFetched (counts cells : List ℕ) : Type 0 where
   pub all : (cell : ℕ) → IsAmong cell cells ↔ (0 < count_of counts cell)
   pub order : AreInOrder counts cells

@@ -1,4 +1,4 @@
-//! The cells that were fetched, the dearest first.
+//! The cells that were fetched, the most often fetched first.
 
 ghost use Rattle.std.specs.Prelude.{◌≡◌, ◌++◌, IfOk, OnOk, length};
 ghost use Rattle.word12.specs.declared.sizes.TheConstants.{CORE};

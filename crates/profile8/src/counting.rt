@@ -32,7 +32,7 @@ fn zeros(alloc: Global, count: usize) -> Result<Vec<u64>, AllocError>
     Ok(counts)
 }
 
-/// A step of a terminal, and the count of the cell whose word it fetches becomes one more.
+/// A step of a terminal. The count of the cell whose word it fetches rises by one.
 #[inline(always)]
 pub(crate) fn count_step(terminal: &mut Terminal<'_>, counts: &mut [u64]) -> Stepped
     requires since { terminal.old.since + 1 < 2 ^ 64 }
@@ -51,7 +51,7 @@ pub(crate) fn count_step(terminal: &mut Terminal<'_>, counts: &mut [u64]) -> Ste
     did
 }
 
-/// The count of a cell becomes one more, if its word was fetched.
+/// The count of a cell rises by one, if its word was fetched.
 #[inline(always)]
 fn count(counts: &mut [u64], cell: Cell, fetched: bool)
     requires size { length counts.old ≡ CORE }

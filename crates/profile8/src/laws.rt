@@ -15,7 +15,7 @@ pub fn one_profile()
         → IsProfile counts given other → text ≡ other }
 {}
 
-/// The counts of steps behind others are those of the first, plus those of the others from where the first end.
+/// The counts of steps after others are those of the first, plus those of the others from where the first end.
 pub fn counts_add()
     ensures { (a b : ℕ) (t : Terminal) (cell : ℕ)
         → fetch_count (a + b) t cell ≡ fetch_count a t cell + fetch_count b (later a t) cell }

@@ -12,9 +12,9 @@ use terminal8::{Ended, Terminal, Why, stop_of};
 /// Makes at most n steps of a terminal, each an instruction or an interrupt, and counts for each cell how often its word was fetched
 /// (this project's profile). Counts are 0 before, one for each of the 0o100000 cells of core.
 ///
-/// It ends at a HLT, or where the machine stands stopped; at an unassigned word, which was fetched; where the keys have ended and
-/// the machine waits for one for ever; or behind n steps. It takes no memory. Each round of the loop is one step, and then, for speed
-/// alone, several at once.
+/// It ends at a HLT, where the machine stands stopped, or at an unassigned word, which was fetched. It also ends where the keys have
+/// ended and the machine waits for one for ever, or after n steps. It takes no memory. Each round of the loop is one step, and then,
+/// for speed alone, several at once.
 pub fn count_fetches(terminal: &mut Terminal<'_>, n: u64, counts: &mut [u64]) -> Ended
     requires size { length counts.old ≡ CORE }
     requires zero { AreZero counts.old }

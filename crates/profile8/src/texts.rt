@@ -10,12 +10,12 @@ use crate::unfetched::put_unfetched;
 use std::alloc::{AllocError, Global};
 use word12::Cell;
 
-/// The profile of these counts, for a tape that gives the flagged cells a word (this project's profile): one count and one flag for
-/// each of the 0o100000 cells of core.
+/// The profile of these counts, for a tape that gives the flagged cells a word (this project's profile). There are one count and
+/// one flag for each of the 0o100000 cells of core.
 ///
-/// A line for each cell that was fetched, with five octal digits and how often, the dearest first and of as many the lower
-/// first; then `NEVER` and the first and the last cell of each run of cells of the tape, in one field, that never were. Where memory
-/// is refused the answer is that error.
+/// A line for each cell that was fetched, with five octal digits and how often. The most often fetched come first, and of as many
+/// the lower first. Then come `NEVER` and the first and the last cell of each run of cells of the tape, in one field, that never
+/// were. Where memory is refused the answer is that error.
 pub fn profile_text(alloc: Global, counts: &[u64], given: &[bool]) -> Result<Vec<u8>, AllocError>
     requires counts { length counts.now ≡ CORE }
     requires given { length given.now ≡ CORE }

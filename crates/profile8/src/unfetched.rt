@@ -72,7 +72,7 @@ fn put_bound(
     Ok(())
 }
 
-/// Ends the line of a run behind its last cell.
+/// Ends the line of a run after its last cell.
 fn put_end(text: &mut Vec<u8>, is_last: bool) -> Result<(), AllocError>
     ensures { OnOk result (text.new.items ≡ text.old.items ++ end_text is_last) }
 {

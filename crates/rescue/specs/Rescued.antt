@@ -63,7 +63,7 @@ pub record IsRefused (refusal : Refusal) (place : ℕ) (f : KeptFile) : Type 0 w
   pub new : Mounted
   pub why : Keeps old f place (Err refusal) new
 
--- the file at the place that a refusal tells is refused so
+-- the file at the place that a refusal gives is refused so
 pub record IsRefusedOf (kept : List KeptFile) (refusal : Refusal) : Type 0 where
   pub place : ℕ
   pub at : IsAt kept place (IsRefused refusal place)
@@ -84,7 +84,7 @@ kept_of (f ∷ fs) [] = []
 kept_of (f ∷ fs) (None ∷ refusals) = f ∷ kept_of fs refusals
 kept_of (f ∷ fs) (Some refusal ∷ refusals) = kept_of fs refusals
 
--- a refusal is one of the file, and not for want of memory
+-- a refusal is one of the file, and not that memory ran out
 abbrev pub IsOfFile : Refusal → Type 0
 IsOfFile (NoName at) = Unit {0}
 IsOfFile (NotWhole at) = Unit {0}
@@ -101,7 +101,7 @@ pub record HasNoPlace (info capacity : ℕ) (kept : List KeptFile) (place : ℕ)
   pub of_file : IsOfFile refusal
   pub why : Keeps old f place (Err refusal) new
 
--- behind files that are kept each of these is kept too, or is refused by the volume with those kept before it
+-- after files that are kept each of these is kept too, or is refused by the volume with those kept before it
 abbrev pub AreJudged : ℕ → ℕ → List KeptFile → ℕ → List KeptFile → List (Option Refusal) → Type 0
 AreJudged info capacity kept place [] [] = Unit {0}
 AreJudged info capacity kept place [] (refusal ∷ refusals) = ⊥

@@ -1,4 +1,4 @@
--- What steps of the code come to. No contract of a public function cites these.
+-- What steps of the code do. No contract of a public function cites these.
 use Rattle.std.specs.Prelude.{◌≡◌, ◌-◌, ℕ, Option, None, Some, Result, Ok, Err, List, [], ◌∷◌, ◌++◌}
 use Rattle.std.specs.FinMap.{from_entries}
 use Rattle.os8_dir.specs.Files.{capacity_of, files_of}

@@ -4,7 +4,7 @@ ghost use Rattle.rescue.specs.declared.faults.RescueFault.TheVariants as rescue;
 use thiserror::Error;
 use volume_image::ImageFault;
 
-/// Why a file is not kept: the first of these that holds, each with the file's place among those told, counted from 0.
+/// Why a file is not kept: the first of these that holds, each with the file's place among those given, counted from 0.
 #[derive(Clone, Copy, PartialEq, Eq, Debug, Error)]
 pub enum Refusal {
     /// It has no name: the first of its words is 0.
@@ -35,7 +35,7 @@ pub enum RescueFault {
     #[error("{0}")]
     Image(ImageFault),
 
-    /// The new volume could not be read, for want of memory.
+    /// The new volume could not be read, as memory ran out.
     #[error("the new volume could not be read")]
     Unread,
 

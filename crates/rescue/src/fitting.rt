@@ -20,9 +20,9 @@ pub struct FittedVolume {
     pub refusals: Vec<Option<Refusal>>,
 }
 
-/// The image of a new volume of 8 to 4095 blocks with what fits of these files, in their order from block 7 on, each with its words and,
+/// The image of a new volume of 8 to 4095 blocks with what fits of these files, in their order from block 7 on. Each has its words and,
 /// as far as a new directory has room for them, its information words. A file that has no name, is no whole blocks, or finds too few
-/// blocks or no entry is left out, and those behind it are still put (OS/8 Software Support Manual; the faults and their order are this
+/// blocks or no entry is left out. Those after it are still put (OS/8 Software Support Manual; the faults and their order are this
 /// project's profile).
 pub fn volume_of_what_fits(
     alloc: Global,

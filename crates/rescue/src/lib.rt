@@ -1,5 +1,5 @@
-//! A new volume with just the files that are told, for a volume whose directory is damaged: their words, their information words and
-//! whatever names they have, in their order.
+//! A new volume with just the files that are given, for a volume whose directory is damaged. It has their words, their information
+//! words and whatever names they have, in their order.
 //!
 //! In each contract a name is one number, and a volume's files are a map from name to information words and words, as `os8_dir` has them.
 #![tactic(auto)]

@@ -21,9 +21,9 @@ pub struct KeptFile {
     pub info: [Word; 10],
 }
 
-/// The image of a new volume of 8 to 4095 blocks with just these files, in their order from block 7 on, each with its words and, as far
+/// The image of a new volume of 8 to 4095 blocks with just these files, in their order from block 7 on. Each has its words and, as far
 /// as a new directory has room for them, its information words (OS/8 Software Support Manual; the faults and their order are this
-/// project's profile). The last of two files of one name counts. The first file that is refused is told by its place.
+/// project's profile). The last of two files of one name counts. The first file that is refused is reported by its place.
 pub fn volume_of_files(
     alloc: Global,
     blocks: usize,

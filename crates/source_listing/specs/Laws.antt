@@ -21,7 +21,7 @@ word_count [] = 0
 word_count (row ∷ rows) = row.words + word_count rows
 
 -- The words that stand at the lines of a listing, one line after the other, are those of the join of the sources, in their
--- order and no others, and each line has as many as stand there.
+-- order and no others. Each line has as many as stand there.
 abbrev pub WordsAreListed : Type 0
 WordsAreListed =
     (sources : List (Bor (List ℕ))) → fault_of (newest_first sources) ≡ None
@@ -35,7 +35,7 @@ abbrev pub in_front : ℕ → List (List ℕ) → List (List ℕ)
 in_front b [] = (b ∷ []) ∷ []
 in_front b (line ∷ lines) = (b ∷ line) ∷ lines
 
--- the lines of a source: LF ends one, each CR is left out, and behind the last LF there is one more, which may be empty
+-- the lines of a source: LF ends one, each CR is left out, and after the last LF there is one more, which may be empty
 abbrev pub lines : List ℕ → List (List ℕ)
 lines [] = [] ∷ []
 lines (b ∷ source) = if nat_eq b 0o15 then lines source else (if nat_eq b 0o12 then [] ∷ lines source else in_front b (lines source))

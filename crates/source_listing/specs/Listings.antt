@@ -37,7 +37,7 @@ AreSymbols Cross sources text =
     (by_name : List Mention) × AreByName (mentions_of sources) by_name
     × (text ≡ cross_text (are_several sources) (values (statements (newest_first sources))) None by_name)
 
--- The sources have no fault, and this is their listing: their lines with their words, and behind an empty line their symbols.
+-- The sources have no fault, and this is their listing: their lines with their words, and after an empty line their symbols.
 abbrev pub IsListed : ListingForm → List (Bor (List ℕ)) → List ℕ → Type 0
 IsListed form sources text =
     (fault_of (newest_first sources) ≡ None) × ((symbols : List ℕ) × AreSymbols form sources symbols × (text ≡ lines_text sources ++ symbols))

@@ -55,7 +55,7 @@ newest_names [] = []
 newest_names (Err fault ∷ older) = []
 newest_names (Ok s ∷ older) = s.tags ++ body_names s.body
 
--- the names in the statement that a byte behind a text ends
+-- the names in the statement that a byte after a text ends
 abbrev pub names_ended : List ℕ → ℕ → List ℕ
 names_ended older b = if ends_statement older b then newest_names (statements (b ∷ older)) else []
 
@@ -71,7 +71,7 @@ mentions spot (b ∷ older) = mentions spot older ++ mentioned (spot (length old
 
 -- ## Their text
 
--- a line, behind the number of its source where there are several
+-- a line, after the number of its source where there are several
 abbrev pub spot_text : Bool → Spot → List ℕ
 spot_text several spot = (if several then decimal spot.source ++ codes ":" else []) ++ decimal spot.line
 
@@ -82,7 +82,7 @@ opening_text several last mention = symbol_text (mention.name, unwrap_or (last m
 abbrev pub is_same_spot : Spot → Spot → Bool
 is_same_spot a b = nat_eq a.source b.source && nat_eq a.line b.line
 
--- a mention behind another one, if there is one: the name begins a line, or goes on there with a further one
+-- a mention after another one, if there is one: the name begins a line, or goes on there with a further one
 abbrev pub mention_text : Bool → Known → Option Mention → Mention → List ℕ
 mention_text several last None mention = opening_text several last mention
 mention_text several last (Some before) mention =

@@ -15,7 +15,7 @@ is_newest_word [] = false
 is_newest_word (Err fault ∷ older) = false
 is_newest_word (Ok s ∷ older) = is_word s.body
 
--- a byte behind a text ends the statement of a word
+-- a byte after a text ends the statement of a word
 abbrev pub ends_word : List ℕ → ℕ → Bool
 ends_word older b = ends_statement older b && is_newest_word (statements (b ∷ older))
 
@@ -42,7 +42,7 @@ first_end (false ∷ ends) = 0
 unfoldable pub two_ends : List Bool → ℕ
 two_ends ends = first_end ends + first_end (drop 1 ends)
 
--- The rows of a source behind the beginning of a line, at which so many words stand. Each byte but CR has its end in the
+-- The rows of a source after the beginning of a line, at which so many words stand. Each byte but CR has its end in the
 -- text, and LF has two, that of its CR and its own.
 abbrev pub rows : List ℕ → ℕ → List ℕ → List Bool → List Row
 rows line words [] ends = record { line = line; words = words; ended = false } ∷ []
@@ -51,13 +51,13 @@ rows line words (b ∷ source) ends =
     else (if nat_eq b 0o12 then record { line = line; words = words + two_ends ends; ended = true } ∷ rows [] 0 source (drop 2 ends)
     else rows (line ++ b ∷ []) (words + first_end ends) source (drop 1 ends))
 
--- what is said of the bytes of a source of which so many are in a join, where counts come for this and further ones; all of
--- it where none comes
+-- What is given for the bytes of a source of which so many are in a join, by the counts for this and further ones. It is
+-- all where there is no count.
 abbrev pub own_ends : {A : Type 0} → List ℕ → List A → List A
 own_ends [] ends = ends
 own_ends (count ∷ counts) ends = take count ends
 
--- the ends of the sources behind it
+-- the ends of the sources after it
 abbrev pub later_ends : List ℕ → List Bool → List Bool
 later_ends [] ends = []
 later_ends (count ∷ counts) ends = drop count ends
@@ -83,12 +83,12 @@ abbrev pub margin : List ℕ → List ℕ
 margin [] = []
 margin (b ∷ line) = codes "                "
 
--- a line of a source behind its first word, and the others below
+-- a line of a source after its first word, and the others below
 abbrev pub line_text : List ℕ → List (ℕ × ℕ) → List ℕ
 line_text line [] = margin line ++ line ++ codes "\n"
 line_text line (pair ∷ pairs) = word_text pair ++ codes "     " ++ line ++ codes "\n" ++ below_text pairs
 
--- what stands behind the last LF of a source is no line if it is empty
+-- what stands after the last LF of a source is no line if it is empty
 abbrev pub last_text : List ℕ → List (ℕ × ℕ) → List ℕ
 last_text [] pairs = []
 last_text (b ∷ line) pairs = line_text (b ∷ line) pairs

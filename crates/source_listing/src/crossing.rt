@@ -44,7 +44,7 @@ fn put_ending(text: &mut Vec<u8>, before: Option<Mention>) -> Result<(), AllocEr
     }
 }
 
-/// Puts a mention behind another one, if there is one.
+/// Puts a mention after another one, if there is one.
 fn put_mention(
     text: &mut Vec<u8>,
     several: bool,
@@ -95,7 +95,7 @@ fn put_opening(
     Ok(())
 }
 
-/// Puts a line, behind the number of its source where there are several.
+/// Puts a line, after the number of its source where there are several.
 fn put_spot(text: &mut Vec<u8>, several: bool, spot: Spot) -> Result<(), AllocError>
     ensures { OnOk result (text.new.items ≡ text.old.items ++ spot_text several spot) }
 {

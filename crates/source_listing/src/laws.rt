@@ -1,4 +1,4 @@
-//! Laws about listings, which hold whatever tells them. A call of one does nothing, and lets its caller use it.
+//! Laws about listings, which hold whatever prints them. A call of one does nothing, and lets its caller use it.
 
 ghost use Rattle.source_listing.specs.Laws.{WordsAreListed, LinesAreListed, WordsStand};
 

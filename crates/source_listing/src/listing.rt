@@ -16,7 +16,7 @@ use bin_tape::tape_of;
 use pal_asm::laws::has_words;
 use std::alloc::Global;
 
-/// What a listing has behind its lines.
+/// What a listing has after its lines.
 #[derive(Clone, Copy, PartialEq, Eq, Debug)]
 pub enum ListingForm {
     /// Each symbol with its last value.
@@ -37,10 +37,10 @@ pub struct Listing {
 /// The listing of sources of the host that are assembled as one, and their tape; or their first fault, with the place of the statement
 /// that has it.
 ///
-/// Each line of each source stands behind the cell and the word of the first of its words, five digits and four, or behind as
-/// many blanks; its further words stand below it. Behind an empty line there are the names that the sources define, in
-/// their order, each with its last value, and in a cross reference with the lines of the statements that name it, each
-/// behind the number of its source where there are several (PAL III Symbolic Assembler manual and PAL8, and this
+/// Each line of each source stands after the cell and the word of the first of its words, five digits and four, or after as
+/// many blanks. Its further words stand below it. After an empty line come the names that the sources define, in their
+/// order, each with its last value. In a cross reference each also has the lines of the statements that name it. Each line
+/// stands after the number of its source where there are several (PAL III Symbolic Assembler manual and PAL8, and this
 /// project's profile of them). `Memory` is answered where memory runs out.
 pub fn list_sources(
     alloc: Global,

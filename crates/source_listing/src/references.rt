@@ -23,7 +23,7 @@ pub struct Mention {
 }
 
 /// The names in the statements of a text with no fault that the first pass meets, but for the permanent ones, in the order of the
-/// text, where its bytes stand there. The only fault is `Memory`.
+/// text. These are the spots of its bytes. The only fault is `Memory`.
 pub(crate) fn mentions(
     alloc: Global,
     text: &[u8],

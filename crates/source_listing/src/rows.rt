@@ -30,7 +30,7 @@ pub(crate) fn put_rows(
     Ok(())
 }
 
-/// What is said of the bytes of a source that are in the join, where counts come for it and further ones.
+/// What is given for the bytes of a source that are in the join, by the counts for it and further ones.
 pub(crate) fn own_ends<'a, T>(counts: &[usize], ends: &'a [T]) -> &'a [T]
     ensures { result.now ≡ own_ends counts.now ends.now }
 {
@@ -40,7 +40,7 @@ pub(crate) fn own_ends<'a, T>(counts: &[usize], ends: &'a [T]) -> &'a [T]
     }
 }
 
-/// The ends of the sources behind it.
+/// The ends of the sources after it.
 fn later_ends<'a>(counts: &[usize], ends: &'a [bool]) -> &'a [bool]
     ensures { result.now ≡ later_ends counts.now ends.now }
 {
@@ -50,7 +50,7 @@ fn later_ends<'a>(counts: &[usize], ends: &'a [bool]) -> &'a [bool]
     }
 }
 
-/// So many from the beginning, or all, and those behind them.
+/// So many from the beginning, or all, and those after them.
 pub(crate) fn split<T>(items: &[T], count: usize) -> (&[T], &[T])
     ensures first { result.0.now ≡ take count items.now }
     ensures others { result.1.now ≡ drop count items.now }
@@ -102,7 +102,7 @@ fn put_source<'a>(
     Ok(later)
 }
 
-/// Puts the line behind the last LF of a source, if there is any.
+/// Puts the line after the last LF of a source, if there is any.
 fn put_last(text: &mut Vec<u8>, line: &[u8], pairs: &[(Cell, Word)]) -> Result<(), AllocError>
     ensures { OnOk result (text.new.items ≡ text.old.items ++ last_text line.now pairs.now) }
 {
@@ -132,7 +132,7 @@ fn two_ends(ends: &[bool]) -> usize
     first_end(ends) + first_end(split(ends, 1).1)
 }
 
-/// Puts a line of a source behind its first word, and the others below.
+/// Puts a line of a source after its first word, and the others below.
 fn put_line(text: &mut Vec<u8>, line: &[u8], pairs: &[(Cell, Word)]) -> Result<(), AllocError>
     ensures { OnOk result (text.new.items ≡ text.old.items ++ line_text line.now pairs.now) }
 {

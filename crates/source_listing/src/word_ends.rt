@@ -31,7 +31,7 @@ pub(crate) fn word_ends(alloc: Global, text: &[u8]) -> Result<Vec<bool>, SourceF
     Ok(ends)
 }
 
-/// Puts an end behind others.
+/// Puts an end after others.
 fn put_end(ends: &mut Vec<bool>, word: bool) -> Result<(), AllocError>
     ensures { OnOk result (ends.new.items ≡ ends.old.items ++ word ∷ []) }
 {

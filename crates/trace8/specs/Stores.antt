@@ -17,7 +17,7 @@ stored_cell s w =
     else (if nat_eq (w / 0o1000) 4 then Some (place s.instruction_buffer (effective_address s w))
     else None))
 
--- a pointer and the cell behind it, which are told once where they are the same
+-- a pointer and the cell after it, which are listed once where they are the same
 abbrev pub cells_of : Option ℕ → Option ℕ → List ℕ
 cells_of None None = []
 cells_of None (Some stored) = stored ∷ []

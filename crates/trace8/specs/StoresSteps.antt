@@ -1,4 +1,4 @@
--- What a line tells of the machine before its step, for private clauses.
+-- What a line shows of the machine before its step, for private clauses.
 use Rattle.std.specs.Prelude.{◌≡◌, ℕ, Bool, codes, nat_eq, if◌then◌else◌, Option, Some, None, List, [], ◌∷◌, ◌++◌, option_to_list, slice_index}
 use Rattle.word12.specs.Octal.{octal4, octal5}
 use Rattle.cpu8.specs.State.{State, next_cell}

@@ -47,7 +47,7 @@ printed_text Interrupted = []
 printed_text Halted = []
 printed_text (Unassigned word) = []
 
--- The line of a step: what it was, AC and L behind it, the cells whose words it changed, and the character that it printed.
+-- The line of a step: what it was, AC and L after it, the cells whose words it changed, and the character that it printed.
 abbrev pub step_line : (ℕ → Bool) → State → Stepped → State → List ℕ
 step_line tagged s did s' =
     step_text tagged s did ++ registers_text s' ++ changes_text s.core s'.core (changing_cells s (fetched s) did) ++ printed_text did ++ 10 ∷ []

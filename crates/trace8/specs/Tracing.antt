@@ -1,4 +1,4 @@
--- What tracing a run comes to.
+-- What tracing a run does.
 use Rattle.std.specs.Prelude.{◌≡◌, ℕ, ◌≤◌, ◌<◌, Bool, List, Option, Result, Ok, Err}
 use Rattle.std.specs.Io.KnownBytes.{Appends}
 use Rattle.terminal8.specs.Terminal.{Terminal, later, GoesOn, IsRun}
@@ -13,7 +13,7 @@ pub record IsTraced (tagged : ℕ → Bool) (n : ℕ) (t t' : Terminal) (w w' : 
   pub terminal : t' ≡ later ended.steps t
   pub lines : Appends w w' (trace_lines tagged ended.steps t)
 
--- A fault came behind so many steps. Where it was want of memory a writer has got the lines of the first of them.
+-- A fault came after so many steps. Where memory ran out a writer has got the lines of the first of them.
 pub record IsCut (tagged : ℕ → Bool) (n : ℕ) (t t' : Terminal) (w w' : Option (List ℕ)) (fault : TraceFault) : Type 0 where
   pub steps : ℕ
   pub within : steps ≤ n
@@ -23,7 +23,7 @@ pub record IsCut (tagged : ℕ → Bool) (n : ℕ) (t t' : Terminal) (w w' : Opt
   pub first : written ≤ steps
   pub lines : fault ≡ Memory → Appends w w' (trace_lines tagged written t)
 
--- What a trace of at most n steps comes to.
+-- What a trace of at most n steps does.
 abbrev pub Traces : (ℕ → Bool) → ℕ → Terminal → Terminal → Option (List ℕ) → Option (List ℕ) → Result Ended TraceFault → Type 0
 Traces tagged n t t' w w' (Ok ended) = IsTraced tagged n t t' w w' ended
 Traces tagged n t t' w w' (Err fault) = IsCut tagged n t t' w w' fault

@@ -1,4 +1,4 @@
--- What tracing comes to on the way, for private clauses.
+-- The steps of tracing, for private clauses.
 use Rattle.std.specs.Prelude.{◌≡◌, ◌⊎◌, ℕ, ◌≤◌, Bool, List, [], ◌++◌, Option, Result, Ok, Err}
 use Rattle.std.specs.Io.KnownBytes.{Appends}
 use Rattle.terminal8.specs.Terminal.{Terminal, later, IsRun}
@@ -24,7 +24,7 @@ pub record IsTracedInto (tagged : ℕ → Bool) (n : ℕ) (t t' : Terminal) (w w
   pub terminal : t' ≡ later ended.steps t
   pub lines_are : AreLines tagged t w w' lines ended.steps
 
--- what a trace comes to whose last lines may wait
+-- what a trace does whose last lines may wait
 abbrev pub TracesInto : (ℕ → Bool) → ℕ → Terminal → Terminal → Option (List ℕ) → Option (List ℕ) → List ℕ → Result Ended TraceFault → Type 0
 TracesInto tagged n t t' w w' lines (Ok ended) = IsTracedInto tagged n t t' w w' lines ended
 TracesInto tagged n t t' w w' lines (Err fault) = IsCut tagged n t t' w w' fault

@@ -15,14 +15,14 @@ ghost use Rattle.trace8.specs.Trace.{trace_lines};
 
 use terminal8::laws::later_steps;
 
-/// A cell whose word a step changes is among those whose changes its line tells.
+/// A cell whose word a step changes is among those whose changes its line shows.
 pub fn changes_are_told()
     ensures { (t : Terminal) (cell : ℕ)
         → slice_index (stepped t).0.core cell ≢ slice_index t.machine.core cell
         → IsAmong cell (changing_cells t.machine (fetched t.machine) (stepped t).1) }
 {}
 
-/// The lines of steps behind others are those of the terminal that the others left.
+/// The lines of steps after others are those of the terminal that the others left.
 pub fn lines_follow_steps()
     ensures { (tagged : ℕ → Bool) (a b : ℕ) (t : Terminal) → trace_lines tagged (a + b) t
         ≡ trace_lines tagged a t ++ trace_lines tagged b (later a t) }

@@ -1,5 +1,5 @@
-//! The trace of a program: a line for each step that a machine at a terminal makes, which tells the cell, its word, the instruction
-//! as a source spells it, AC and L behind the step, the cells whose words it changed, and the character that it printed.
+//! The trace of a program: a line for each step that a machine at a terminal makes. It shows the cell, its word, the instruction as a
+//! source spells it, and AC and L after the step. It also shows the cells whose words it changed, and the character that it printed.
 //!
 //! The lines wait in a list that takes its memory once, and go to a writer some hundreds at a time.
 #![tactic(auto)]

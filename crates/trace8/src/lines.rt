@@ -13,7 +13,7 @@ use pal_list::put_instruction;
 use std::alloc::AllocError;
 use word12::{Cell, Word};
 
-/// Appends the line of a step that did this, by what stood before it and the machine behind it.
+/// Appends the line of a step that did this, by what stood before it and the machine after it.
 pub(crate) fn put_line(
     lines: &mut Vec<u8>,
     tags: &[bool],
@@ -134,7 +134,7 @@ fn put_printed(lines: &mut Vec<u8>, did: &Stepped) -> Result<(), AllocError>
     }
 }
 
-/// Appends a character behind a tab: between quotes without its top bit where it is a graphic one, else by its code in octal.
+/// Appends a character after a tab: between quotes without its top bit where it is a graphic one, else by its code in octal.
 fn put_character(lines: &mut Vec<u8>, character: u8) -> Result<(), AllocError>
     ensures { OnOk result (lines.new.items ≡ lines.old.items ++ 0o11 ∷ character_text character) }
 {

@@ -12,7 +12,7 @@ use cpu8::Machine;
 use cpu8::decoding::{CURRENT_PAGE, INDIRECT, has};
 use word12::{Cell, PAGE, Word};
 
-/// What the line of a step tells of the machine before it.
+/// What the line of a step shows of the machine before it.
 #[derive(Drop)]
 pub(crate) struct Before {
     /// The cell of the next instruction, and its word.
@@ -62,7 +62,7 @@ fn word_at(core: &Core, cell: &Option<Cell>) -> Word
     }
 }
 
-/// The pointer, where it is another cell than the one where is stored.
+/// The pointer, where it is another cell than the one that is stored to.
 #[inline]
 fn apart(pointer: Option<Cell>, stored: &Option<Cell>) -> Option<Cell>
     ensures { option_to_list result ++ option_to_list stored.now ≡ cells_of pointer stored.now }

@@ -18,9 +18,9 @@ use std::alloc::{AllocError, Global};
 use std::io::Write;
 use terminal8::{Ended, Terminal, Why, stop_of};
 
-/// Makes steps of a terminal, at most n of them, and hands the line of each on to a writer, with these cells tagged: the k-th line is
-/// that of the k-th step (this project's profile). It ends as a run does: at a HLT, or where the machine stands stopped; at an
-/// unassigned word; where no key is left and the machine waits for one for ever; or behind n steps.
+/// Makes steps of a terminal, at most n of them, and hands the line of each on to a writer, with these cells tagged. The k-th line is
+/// that of the k-th step (this project's profile). It ends as a run does: at a HLT, where the machine stands stopped, or at an
+/// unassigned word. It also ends where no key is left and the machine waits for one for ever, or after n steps.
 ///
 /// Memory is taken once, before the first step, unless lines are longer than any that is known. The answer is `Writer` where the
 /// writer fails.

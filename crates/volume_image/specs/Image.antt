@@ -42,7 +42,7 @@ pub record IsImageOf (bytes : List ℕ) (blocks : List (List ℕ)) : Type 0 wher
   pub range : (k : ℕ) → image_word bytes k < 0o10000
   pub words : (n k : ℕ) → n < length blocks → k < BLOCK → block_word blocks n k ≡ image_word bytes (BLOCK * n + k)
 
--- what is answered where bytes are to be read as an image: want of memory is told of an image only
+-- what is answered where bytes are to be read as an image: `Memory` is reported for an image only
 abbrev pub ReadsImage : List ℕ → Result InMemory ImageFault → Type 0
 ReadsImage bytes (Ok volume) = IsImageOf bytes volume.blocks × (volume.reads ≡ 0) × (volume.writes ≡ 0)
 ReadsImage bytes (Err NotWhole) = length bytes % 512 ≢ 0
@@ -55,9 +55,9 @@ ReadsImage bytes (Err Memory) = IsImage bytes
 abbrev pub minus : ℕ → ℕ
 minus n = (0o10000 - n) % 0o10000
 
--- block 1 of an empty volume begins with these words (OS/8 Software Support Manual): minus the number of entries, the
--- first block of files, no next segment, no flag word, minus the number of information words, and one entry, which is
--- empty and has minus its length
+-- Block 1 of an empty volume begins with these words (OS/8 Software Support Manual). They are minus the number of
+-- entries, the first block of files, no next segment, no flag word, minus the number of information words, and one
+-- entry. This is empty and has minus its length.
 abbrev pub new_directory : ℕ → List ℕ
 new_directory blocks = minus 1 ∷ FIRST_FILE_BLOCK ∷ 0 ∷ 0 ∷ minus 1 ∷ 0 ∷ minus (blocks - FIRST_FILE_BLOCK) ∷ []
 

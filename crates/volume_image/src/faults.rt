@@ -5,7 +5,7 @@ use std::alloc::AllocError;
 use thiserror::Error;
 
 /// Why bytes are no image of a volume, or why none was made: 1 `NotWhole`, 2 `TooSmall`, 3 `TooLarge`, 4 `BadWord`, 5
-/// `Memory`, of which the first that fits is told.
+/// `Memory`. The first that fits is reported.
 #[derive(Clone, Copy, PartialEq, Eq, Debug, Error)]
 pub enum ImageFault {
     /// The length is not a multiple of 512 bytes.

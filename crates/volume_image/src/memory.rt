@@ -80,7 +80,7 @@ impl MemoryVolume {
         Ok(())
     }
 
-    /// An empty volume of 8 to 4095 blocks: block 1 begins a directory of one segment with one empty entry from block 7
+    /// An empty volume of 8 to 4095 blocks. Block 1 begins a directory of one segment with one empty entry from block 7
     /// on, and all other words are 0 (OS/8 Software Support Manual).
     pub fn create(alloc: Global, blocks: usize) -> Result<MemoryVolume, ImageFault>
         ensures { Creates blocks result }

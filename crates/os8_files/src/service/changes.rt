@@ -14,7 +14,7 @@ use os8_dir::{DirFault, Directory, Name};
 use std::alloc::{AllocError, Global};
 use volume_image::BlockStore;
 
-/// What a change of a directory made; it fails for want of memory alone.
+/// What a change of a directory made; it fails only where memory runs out.
 pub(crate) fn changed(made: Result<Directory, DirFault>) -> Result<Directory, AllocError>
     ensures { IfOk result (λ directory. made ≡ Ok directory) }
 {

@@ -16,7 +16,7 @@ use volume_image::BlockStore;
 
 impl<S: BlockStore> FileService<S> {
     /// Gives a file a name that no file has, and writes that: one write for each of blocks 1 to 6 whose words change. It lies where
-    /// it lay, with its information words (this project's profile). `BadName` is for a new name whose first word is 0; then come
+    /// it lay, with its information words (this project's profile). `BadName` is for a new name whose first word is 0. Then come
     /// `TentativeOpen` while a file is written, `NotFound`, `Busy` where one of the names is held, and `DirectoryFull` where the
     /// list is too long.
     pub fn rename(&mut self, alloc: Global, name: &Name, new_name: Name) -> Result<(), FileFault>

@@ -19,10 +19,10 @@ use volume_image::BlockStore;
 
 impl<S: BlockStore> FileService<S> {
     /// Moves the lowest file with an empty directly below it down by that empty's blocks, with one read and one write for
-    /// each of its blocks, and writes the directory, with one write for each of blocks 1 to 6 whose words change; where
-    /// there is none it is `Nothing` (this project's profile). A held file is moved too. While a file is written it is
-    /// `TentativeOpen`; then comes `DirectoryFull` where the new list is too long. All blocks of the file are read before
-    /// the first is written, so a read that fails changes nothing.
+    /// each of its blocks. Then writes the directory, with one write for each of blocks 1 to 6 whose words change. Where
+    /// there is no such file it is `Nothing` (this project's profile). A held file is moved too. While a file is written
+    /// it is `TentativeOpen`; then comes `DirectoryFull` where the new list is too long. All blocks of the file are read
+    /// before the first is written, so a read that fails changes nothing.
     pub fn squeeze_turn(&mut self, alloc: Global) -> Result<Squeezed, FileFault>
         ensures { Squeezes self.old result self.new }
     {
