@@ -31,7 +31,7 @@ pub enum FileEntry {
 /// An entry of jobs.
 #[derive(Drop)]
 pub enum JobEntry {
-    /// `ASSEMBLE`: begins a job that assembles 1 to 8 sources, one behind the other, to a tape in a file.
+    /// `ASSEMBLE`: begins a job that assembles 1 to 8 sources, one after the other, to a tape in a file.
     Assemble { to: Bytes, from: Names },
 
     /// `LOAD`: begins a job that loads the tape of a file into core.
