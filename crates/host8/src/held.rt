@@ -43,8 +43,8 @@ pub fn hold_within<R: Files<File = File> + Clock + AllocGlobal>(
     hold(rt, name)
 }
 
-/// Holds a file that is there, through links: `Busy` where another program holds it, `Absent` where there is none, and `Unwritable`
-/// where it may not be written, or is a pipe.
+/// Holds a file that is there, through links. The answer is `Busy` where another program holds it, `Absent` where there is none,
+/// and `Unwritable` where it may not be written, or is a pipe.
 pub fn hold<R: Files<File = File> + AllocGlobal>(
     rt: &R,
     name: &str,
