@@ -19,7 +19,7 @@ use script8::SessionFault;
 use std::alloc::Global;
 use task8::{CopyForm, ImageForm};
 
-/// Copies a file of the volume in an image file to the volume in another, or under a new name in the same one, and tells of it.
+/// Copies a file of the volume in an image file to the volume in another, or under a new name in the same one, and reports it.
 pub fn copy_file<H: Host>(host: &mut H, alloc: Global, form: &CopyForm) -> Result<(), Ending>
     ensures { Copies form.now (H.history host.old) result (H.history host.new) }
 {
