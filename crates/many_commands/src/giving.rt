@@ -22,7 +22,7 @@ use std::alloc::Global;
 use task8::GetManyForm;
 use volume_commands::print;
 
-/// Writes a file of a volume to the folder and tells of it, and answers whether it is there.
+/// Writes a file of a volume to the folder and reports it, and answers whether it is there.
 pub(crate) fn give_file<H: Host>(
     host: &mut H,
     alloc: Global,

@@ -23,7 +23,7 @@ use task8::PutManyForm;
 use volume_commands::{Image, refuse_image, store, tell_note};
 use word12::Word;
 
-/// Makes files of the host files of the volume in an image file, all or none, and tells of each.
+/// Makes files of the host files of the volume in an image file, all or none, and reports each.
 pub fn put_files<H: Host>(host: &mut H, alloc: Global, form: &PutManyForm) -> Result<(), Ending>
     ensures { PutsMany form.now (H.history host.old) result (H.history host.new) }
 {
