@@ -1,6 +1,6 @@
 -- What is refused of a command line that `clap` takes: the first that is wrong with it, in this order. First come two arguments that exclude
--- each other, and one that is missing. Then come standard input named twice and an argument too many. Then come values that are none of their
--- kind, by the order of the table, and last the two numbers of `get --blocks`.
+-- each other, then one that is missing, then standard input named twice, and then an argument too many. Then comes a value that is none of its
+-- kind, by the order of the table. The two numbers of `get --blocks` come last.
 use Rattle.std.specs.Prelude.{◌+◌, ◌&&◌, ◌||◌, not, Bool, false, if◌then◌else◌, ℕ, nat_lt, codes, is_some, List, [], ◌∷◌, Option, None, Some, option_map, unwrap_or}
 use Rattle.std.specs.Str.{bytes_eq}
 use Rattle.clap.specs.Words.{Row, Text, first_of}

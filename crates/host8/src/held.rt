@@ -71,7 +71,7 @@ pub fn hold<R: Files<File = File> + AllocGlobal>(
     Err(HoldFault::Busy)
 }
 
-/// Whether a name leads to a pipe, whose end is never seen by who may write it.
+/// Whether a name leads to a pipe. A program that may write it never sees its end.
 fn is_pipe<R: Files<File = File>>(rt: &R, path: &str) -> bool {
     match fs::metadata(rt, path) {
         Ok(named) => named.file_type().is_fifo(),

@@ -20,8 +20,8 @@ use Rattle.index_commands.specs.Volumes.{IsImageAt, IsNoImage, body_of, layouts_
 
 -- ## A volume
 
--- The lines of the files that are wanted of the volume that lies so in these bytes, or why there are none. It doesn't lie there, or is refused as a
--- plain list of it is.
+-- The lines of the files that are wanted of the volume that lies so in these bytes, or why there are none. The reason is that it doesn't lie there,
+-- or is refused as a plain list of it is.
 abbrev pub GivesIndex : IndexStyle → List ℕ → List ℕ → Option Layout → Result (Vec ℕ) Ending → Type 0
 GivesIndex style name bytes layout (Ok lines) = (image : List ℕ) × IsImageAt layout bytes image × GivesLines style name (number_of layout) image (Ok lines)
 GivesIndex style name bytes layout (Err ending) = IsNoImage layout bytes ending

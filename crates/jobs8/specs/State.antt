@@ -57,7 +57,7 @@ AreIn files (name ∷ names) = IsIn files name × AreIn files names
 abbrev pub AreThere : State → List ℕ → Type 0
 AreThere s names = AreIn s.files names
 
--- of one of the names there is no file
+-- one of the names has no file
 abbrev pub IsOneOut : Files → List ℕ → Type 0
 IsOneOut files [] = ⊥
 IsOneOut files (name ∷ names) = (get files name ≡ None) ⊎ IsOneOut files names

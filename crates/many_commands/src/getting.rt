@@ -81,7 +81,7 @@ fn make_folder<H: Host>(host: &mut H, folder: &str) -> Result<(), Ending>
     }
 }
 
-/// How the command ends whose folder is not made (this project's profile).
+/// How the command ends if its folder is not made (this project's profile).
 fn ending_of_folder(fault: HostFault) -> Ending
     ensures { (result ≡ Line HostWrite) ⊎ (result ≡ Fault session.Memory) }
 {

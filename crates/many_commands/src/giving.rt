@@ -133,7 +133,7 @@ fn lay_file<H: Host>(
     }
 }
 
-/// Prints the line of a file that is laid; of one that is not its name, and why.
+/// Prints the line of a file that is laid. Of one that is not it prints the name, and why.
 fn tell_laid<H: Host>(
     host: &mut H,
     alloc: Global,

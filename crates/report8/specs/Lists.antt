@@ -16,7 +16,7 @@ pub record IsListed (frames text : List ℕ) : Type 0 where
   pub is_tape : IsTape frames items
   pub lines : text ≡ lines_below items CORE
 
--- The result of listing a reader's tape: its lines are written and nothing else; on a fault of the tape, of the reader or of memory
+-- The result of listing a reader's tape: its lines are written and nothing else. On a fault of the tape, of the reader or of memory
 -- nothing is written.
 abbrev pub ListsTape : Option (List ℕ) → Option (List ℕ) → Option (List ℕ) → Option (List ℕ) → Result (Unit {0}) SessionFault → Type 0
 ListsTape r r' w w' (Ok nothing) = (frames : List ℕ) × (text : List ℕ) × IsRead r r' frames × IsListed frames text × Appends w w' text

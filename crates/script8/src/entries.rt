@@ -1,7 +1,7 @@
 use crate::{Bytes, Names};
 use word12::{Cell, Word};
 
-/// What a session is asked to do: of its files, of its jobs, or at its console. Names are the bytes of the line; whether they name a
+/// What a session is asked to do: of its files, of its jobs, or at its console. Names are the bytes of the line. Whether they name a
 /// file is judged where the entry is done.
 #[derive(Drop)]
 pub enum Entry {

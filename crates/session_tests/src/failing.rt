@@ -6,7 +6,7 @@ use session8::Session;
 use std::alloc::Global;
 use volume_image::{BlockStore, FuseVolume, MemoryVolume};
 
-/// A number of items or block calls that none comes to.
+/// A number of items or block calls that none reaches.
 const NONE: u32 = 1000;
 
 /// A fresh volume of 20 blocks that fails at the read and the write of these numbers, counted from 0.
@@ -93,8 +93,8 @@ fn read_lost(alloc: Global, script: &[u8], number: u32) -> Option<bool> {
     Some(image? == before && (done == 0 || out.starts_with(b"JOB ")))
 }
 
-/// Whether each file of an image stands in another one in full: at its old blocks, or where it came to stand after the entry that
-/// was begun. Where the directory is the old one, only a file that is being moved may be missing.
+/// Whether each file of an image stands in another one in full: at its old blocks, or where it stands after the entry that was
+/// begun. Where the directory is the old one, only a file that is being moved may be missing.
 fn stand_in(old: &[u8], new: &[u8], before: &Directory, behind: &Directory) -> bool {
     let same = blocks_of(old, 1, 6) == blocks_of(new, 1, 6);
     for entry in before.entries() {

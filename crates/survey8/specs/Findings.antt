@@ -1,5 +1,5 @@
--- What is found in a directory that may be damaged, in its order. The OS/8 Software Support Manual says how segments and entries stand;
--- the report of damage is this project's profile.
+-- What is found in a directory that may be damaged, in its order. The OS/8 Software Support Manual says how segments and entries stand.
+-- The report of damage is this project's profile.
 use Rattle.std.specs.Prelude.{ℕ, zero, suc, ◌+◌, ◌==◌, Bool, false, not, nat_lt, if◌then◌else◌, Option, Some, None, Result, Ok, Err, List, [], ◌∷◌, ◌++◌, length, drop}
 use Rattle.os8_dir.specs.declared.entries.DirEntry.{DirEntry}
 use Rattle.os8_dir.specs.declared.entries.DirEntry.TheVariants as entry

@@ -174,7 +174,7 @@ fn write_to<R: Files<File = File> + Print + Eprint + AllocGlobal>(
     make_file(rt, name, bytes, content)
 }
 
-/// How a command ends whose sources have a fault, which is printed.
+/// How a command ends if its sources have a fault, which is printed.
 fn refusal<R: Eprint + AllocGlobal>(
     rt: &R,
     form: &AssembleForm,

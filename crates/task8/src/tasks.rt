@@ -140,8 +140,8 @@ pub enum Task {
     /// List the files of this volume.
     List(ImageForm),
 
-    /// List them in the order of the directory, with their first blocks, their information words and their dates. These mean the eight years
-    /// up to this last one, 1977 to 9999, if it is given.
+    /// List them in the order of the directory, with their first blocks, their information words and their dates. These dates mean the eight
+    /// years up to this last one, 1977 to 9999, if it is given.
     ListLong(ImageForm, Option<usize>),
 
     /// Write what the file has, on this volume.

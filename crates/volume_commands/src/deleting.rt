@@ -58,7 +58,7 @@ fn image_without<H: Host>(
     }
 }
 
-/// How the command ends of which a file is refused, or its image of so many bytes. What may help is printed.
+/// How the command ends if a file of it is refused, or its image of so many bytes. What may help is printed.
 fn refuse_file<H: Host>(
     host: &mut H,
     alloc: Global,

@@ -111,7 +111,7 @@ fn new_image<H: Host>(
     }
 }
 
-/// How the command ends whose file is refused, or its image of so many bytes. What may help is printed.
+/// How the command ends if its file is refused, or its image of so many bytes. What may help is printed.
 fn refuse_put<H: Host>(
     host: &mut H,
     alloc: Global,
