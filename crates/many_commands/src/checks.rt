@@ -87,7 +87,7 @@ fn check_several<H: Host>(
     print_count(host, alloc, files.len(), refused)
 }
 
-/// Reports on several images, prints the progress, and answers how many are refused.
+/// Reports on several images, with what is printed of the progress, and answers how many are refused.
 fn count_refused<H: Host>(
     host: &mut H,
     alloc: Global,

@@ -93,7 +93,7 @@ fn ending_of_folder(fault: HostFault) -> Ending
     }
 }
 
-/// Gives what is asked for, prints the progress, and answers whether all is there.
+/// Gives what is asked for, with what is printed of the progress, and answers whether all is there.
 fn give_all<H: Host>(
     host: &mut H,
     alloc: Global,
