@@ -28,7 +28,7 @@ EachBeginsAtABlock = (blocks : List (List ℕ)) (name : ℕ) (file : FileData) �
 abbrev pub WhatBeginsIsThere : Type 0
 WhatBeginsIsThere = (blocks : List (List ℕ)) (place name : ℕ) → asked_name blocks (AtBlock place) ≡ Some name → (file : FileData) × (get (files_of blocks) name ≡ Some file)
 
--- a file's line of a list tells where it begins just where no text spells its name
+-- a file's line of a list shows where it begins just where no text spells its name
 abbrev pub TypableIsSpelled : Type 0
 TypableIsSpelled = (name : ℕ) → (is_typable name ≡ true) ↔ ((text : List ℕ) × (parsed_name text ≡ Some name))
 

@@ -1,4 +1,4 @@
--- What steps of the code that looks for a file come to. No contract of a public function cites these.
+-- What steps of the code that looks for a file do. No contract of a public function cites these.
 use Rattle.std.specs.Prelude.{◌≡◌, ℕ, ◌+◌, ◌==◌, if◌then◌else◌, Option, Some, None, Result, Ok, Err, List, [], ◌∷◌}
 use Rattle.os8_dir.specs.declared.entries.DirEntry.{DirEntry}
 use Rattle.os8_dir.specs.Entries.{name_in, size_of}

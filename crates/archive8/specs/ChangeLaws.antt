@@ -95,7 +95,7 @@ abbrev pub RenamedLeavesOthers : Type 0
 RenamedLeavesOthers = (image other : List ℕ) (one wanted : Wanted) (file : FileData) (new : RenamedImage) (blocks : List (List ℕ)) → RenamesFile image wanted other (Ok new) → IsImageOf image blocks
     → asked_name blocks one ≢ Some new.old_name → asked_name blocks one ≢ Some new.new_name → HasFile image one file → HasFile new.bytes.items one file
 
--- With its old name again the directory has the same list, the files are the same, and block 0 and all blocks from 7 on have the
+-- With its old name again the directory has the same list, and the files are the same. Block 0 and all blocks from 7 on have the
 -- words that they had.
 pub record IsAsBefore (blocks again : List (List ℕ)) : Type 0 where
   pub directory : directory_of again ≡ directory_of blocks

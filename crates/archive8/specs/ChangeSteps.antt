@@ -1,4 +1,4 @@
--- What steps of the code that deletes, squeezes, renames and copies come to. No contract of a public function cites these.
+-- What steps of the code that deletes, squeezes, renames and copies do. No contract of a public function cites these.
 use Rattle.std.specs.Prelude.{◌≡◌, ◌⊎◌, ℕ, ◌<◌, Option, Some, None, Result, Ok, Err, List, length}
 use Rattle.std.specs.Global.{Vec}
 use Rattle.std.specs.FinMap.{get}

@@ -1,4 +1,4 @@
--- What a check of an image tells: its blocks, the segments of its directory, and what the directory covers, in order of blocks.
+-- What a check of an image lists: its blocks, the segments of its directory, and what the directory covers, in order of blocks.
 use Rattle.std.specs.Prelude.{◌≡◌, ℕ, zero, suc, ◌+◌, ◌-◌, codes, decimal, nat_lt, if◌then◌else◌, Result, Ok, Err, List, [], ◌∷◌, ◌++◌, length}
 use Rattle.std.specs.Global.{Vec}
 use Rattle.word12.specs.declared.sizes.TheConstants.{FIRST_FILE_BLOCK}
@@ -19,7 +19,7 @@ extent_text place size = decimal place ++ 0o40 ∷ decimal size ++ 0o12 ∷ []
 abbrev pub blocks_line : ℕ → List ℕ
 blocks_line count = codes "BLOCKS " ++ decimal count ++ 0o12 ∷ []
 
--- the line of a segment in a block: how many entries its first word tells (OS/8 Software Support Manual: minus their number)
+-- the line of a segment in a block: how many entries its first word gives (OS/8 Software Support Manual: minus their number)
 abbrev pub segment_line : ℕ → ℕ → List ℕ
 segment_line number first = codes "SEGMENT " ++ extent_text number (minus first)
 

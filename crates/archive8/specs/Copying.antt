@@ -1,4 +1,4 @@
--- What copying a file from one image into another comes to.
+-- The result of copying a file from one image into another.
 use Rattle.std.specs.Prelude.{◌≡◌, ℕ, Option, Some, None, Result, Ok, Err, List}
 use Rattle.os8_dir.specs.Names.{padded, parsed_name}
 use Rattle.os8_dir.specs.Files.{FileData}

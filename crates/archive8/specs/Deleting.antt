@@ -1,4 +1,4 @@
--- What taking files out of an image comes to.
+-- The result of taking files out of an image.
 use Rattle.std.specs.Prelude.{◌≡◌, ℕ, ◌<◌, false, Some, Result, Ok, Err, List, [], ◌∷◌, ◌++◌, length}
 use Rattle.std.specs.FinMap.{remove}
 use Rattle.volume_image.specs.Image.{IsImageOf}
@@ -26,8 +26,8 @@ abbrev pub without : Files → List ℕ → Files
 without files [] = files
 without files (name ∷ names) = without (remove files name) names
 
--- The new image is that of the volume without the files that were wanted of it, whose names are told: all others keep their words,
--- their information words and their places, and block 0 and all blocks behind the directory's, from 7 on, keep their words.
+-- The new image is that of the volume without the files that were wanted of it, whose names are answered. All others keep their
+-- words, their information words and their places. Block 0 and all blocks after the directory's, from 7 on, keep their words.
 pub record HasDeletedFrom (image : List ℕ) (wanted : List Wanted) (new : DeletedImage) : Type 0 where
   pub before : Mounted
   pub after : Mounted
@@ -39,8 +39,8 @@ pub record HasDeletedFrom (image : List ℕ) (wanted : List Wanted) (new : Delet
   pub blocks : KeepsBlocks before.blocks after.blocks 0 0
   pub is_image : IsImageOf new.bytes.items after.blocks
 
--- a file that was wanted of a volume is not taken out of it now: what was typed is no name, it is not there, or the directory without it
--- has too many entries
+-- a file that was wanted of a volume isn't taken out now: what was typed is no name, it isn't there, or the directory without it has too
+-- many entries
 abbrev pub IsRefusedName : List (List ℕ) → Mounted → Wanted → FileFault → Type 0
 IsRefusedName was m wanted BadName = IsBadName wanted
 IsRefusedName was m wanted NotFound = IsMissing was m.blocks wanted

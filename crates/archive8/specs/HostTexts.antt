@@ -16,13 +16,13 @@ with_returns (byte ∷ others) = if nat_eq byte 0o12 then 0o15 ∷ 0o12 ∷ with
 abbrev pub file_text : List ℕ → List ℕ
 file_text host = with_returns (line_feeds host)
 
--- the words of a text in a file: the fewest blocks, with control Z and zeros behind it
+-- the words of a text in a file: the fewest blocks, with control Z and zeros after it
 abbrev pub text_words : List ℕ → List ℕ
 text_words chars = packed_blocks (text_frames chars)
 
 -- ## Lines
 
--- lines with an end behind each, and what comes behind the last end
+-- lines with an end after each, and what comes after the last end
 abbrev pub lines_text : List ℕ → List (List ℕ) → List ℕ → List ℕ
 lines_text end [] last = last
 lines_text end (line ∷ lines) last = line ++ (end ++ lines_text end lines last)
@@ -39,7 +39,7 @@ AreUnbroken (line ∷ lines) = (is_unbroken line ≡ true) × AreUnbroken lines
 
 -- ## Where a text can't be put
 
--- The place of the byte that comes behind these: its line and its byte of the line, both counted from 1. An LF is the last byte of its
+-- The place of the byte that comes after these: its line and its byte of the line, both counted from 1. An LF is the last byte of its
 -- line.
 pub record IsPlaceBehind (before : List ℕ) (at : TextPlace) : Type 0 where
   pub lines : List (List ℕ)

@@ -1,4 +1,4 @@
--- What holds of a file that was put into an image and is got from the new one, and of what a check tells.
+-- What holds of a file that was put into an image and is got from the new one, and of what a check lists.
 use Rattle.std.specs.Prelude.{◌≡◌, ◌≢◌, ℕ, zero, suc, ◌+◌, ◌-◌, ◌*◌, ◌<◌, ◌≤◌, ◌&&◌, not, nat_eq, nat_le, nat_lt, Bool, true, false, if◌then◌else◌, Option, Result, Ok, MatchResult, List, [], ◌∷◌, ◌++◌, All, codes, length, replicate}
 use Rattle.std.specs.Global.{Vec}
 use Rattle.char_pack.specs.Packing.{block_count, block_frames}
@@ -26,7 +26,7 @@ use Rattle.archive8.specs.Getting.{Gets, IsFile, IsTapeOf, line_feeds}
 use Rattle.archive8.specs.HostTexts.{is_unbroken, lines_text, text_words}
 use Rattle.archive8.specs.Putting.{PutsFile}
 
--- bytes, and zeros behind them to the end of their last block
+-- bytes, and zeros after them to the end of their last block
 abbrev pub filled_up : List ℕ → List ℕ
 filled_up bytes = bytes ++ replicate (block_frames * block_count (length bytes) - length bytes) 0
 
@@ -34,7 +34,7 @@ filled_up bytes = bytes ++ replicate (block_frames * block_count (length bytes) 
 abbrev pub GivesOrLacks : List ℕ → Result (Vec ℕ) ArchiveFault → Type 0
 GivesOrLacks bytes answer = MatchResult answer (λ given. given.items ≡ bytes) (λ fault. fault ≡ Refused Memory)
 
--- bytes come back, with zeros behind them
+-- bytes come back, with zeros after them
 abbrev pub FramesComeBack : Type 0
 FramesComeBack = (image name bytes : List ℕ) (info : Option (List ℕ)) (new : NewImage) (answer : Result (Vec ℕ) ArchiveFault) → All (λ byte. byte < 256) bytes
     → PutsFile image name put_as.Frames bytes info (Ok new) → Gets new.bytes.items (OfName name) get_as.Frames answer → GivesOrLacks (filled_up bytes) answer
@@ -87,7 +87,7 @@ OthersStay = (image name bytes : List ℕ) (one : Wanted) (info : Option (List �
     → Gets image one form (Ok before) → Gets new.bytes.items one form answer
     → GivesOrLacks before.items answer
 
--- ## The extents that a check tells
+-- ## The extents that a check lists
 
 -- an extent: what its line begins with, its first block, and how many blocks it has
 pub record Extent : Type 0 where
@@ -134,8 +134,8 @@ abbrev pub count_having : ℕ → List Extent → ℕ
 count_having block [] = 0
 count_having block (e ∷ es) = if has_block e block then suc (count_having block es) else count_having block es
 
--- behind the lines of the blocks and the segments a text tells extents that follow one another from block 7 to the image's end:
--- each block from 7 on is in just one
+-- After the lines of the blocks and the segments a text lists extents. They follow one another from block 7 to the image's end:
+-- each block from 7 on is in just one.
 pub record TellsEachBlock (image text : List ℕ) : Type 0 where
   pub blocks : List (List ℕ)
   pub is_image : IsImageOf image blocks
@@ -145,19 +145,19 @@ pub record TellsEachBlock (image text : List ℕ) : Type 0 where
   pub follow : FollowOneAnother FIRST_FILE_BLOCK (length blocks) (extents (length blocks) directory)
   pub once : (block : ℕ) → FIRST_FILE_BLOCK ≤ block → block < length blocks → count_having block (extents (length blocks) directory) ≡ 1
 
--- a check tells each block from 7 on just once
+-- a check lists each block from 7 on just once
 abbrev pub ChecksTellEachBlock : Type 0
 ChecksTellEachBlock = (image : List ℕ) (text : Vec ℕ) → Checks image (Ok text) → TellsEachBlock image text.items
 
--- ## The segments that a check tells
+-- ## The segments that a check lists
 
--- Segments follow one another from a link on: each stands in the block that the link before it names, one of 1 to 6, and the last has
--- the link 0 (OS/8 Software Support Manual).
+-- Segments follow one another from a link on: each stands in the block that the link before it names, one of 1 to 6. The last has the
+-- link 0 (OS/8 Software Support Manual).
 abbrev pub AreLinked : List (List ℕ) → ℕ → List ℕ → Type 0
 AreLinked blocks link [] = link ≡ 0
 AreLinked blocks link (number ∷ numbers) = (number ≡ link) × (0 < number) × (number < FIRST_FILE_BLOCK) × AreLinked blocks (word (block blocks number) 2) numbers
 
--- what a directory is read as with the segments in these blocks behind one another
+-- what a directory is read as with the segments in these blocks, one after another
 abbrev pub read_on : List (List ℕ) → Listed → List ℕ → Result Listed DirFault
 read_on blocks d [] = Ok d
 read_on blocks d (number ∷ numbers) = with_segment (length blocks) d number (block blocks number) >>= (λ more. read_on blocks more numbers)
@@ -167,7 +167,7 @@ abbrev pub lines_of_segments : List (List ℕ) → List ℕ → List ℕ
 lines_of_segments blocks [] = []
 lines_of_segments blocks (number ∷ numbers) = segment_line number (word (block blocks number) 0) ++ lines_of_segments blocks numbers
 
--- behind the line of the blocks a text tells the segments of which the directory was read, each once, in the order of their links
+-- after the line of the blocks a text lists the segments of which the directory was read, each once, in the order of their links
 pub record TellsEachSegment (image text : List ℕ) : Type 0 where
   pub blocks : List (List ℕ)
   pub is_image : IsImageOf image blocks
@@ -181,6 +181,6 @@ pub record TellsEachSegment (image text : List ℕ) : Type 0 where
   pub read_of : read_on blocks head numbers ≡ Ok directory
   pub lines : text ≡ blocks_line (length blocks) ++ lines_of_segments blocks numbers ++ extent_lines (extents (length blocks) directory)
 
--- a check tells each segment that was read, and no other
+-- a check lists each segment that was read, and no other
 abbrev pub ChecksTellEachSegment : Type 0
 ChecksTellEachSegment = (image : List ℕ) (text : Vec ℕ) → Checks image (Ok text) → TellsEachSegment image text.items

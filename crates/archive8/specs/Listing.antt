@@ -1,4 +1,4 @@
--- What the list of an image's files tells: the lines of `DIRECT`, and where a file begins that no typed name asks for (this project's
+-- What the list of an image's files shows: the lines of `DIRECT`, and where a file begins that no typed name asks for (this project's
 -- profile).
 use Rattle.std.specs.Prelude.{◌≡◌, ℕ, ◌+◌, codes, decimal, if◌then◌else◌, Option, Some, None, Result, Ok, Err, List, [], ◌∷◌, ◌++◌}
 use Rattle.std.specs.Global.{Vec}
@@ -18,7 +18,7 @@ abbrev pub at_text : Option (ℕ × ℕ) → List ℕ
 at_text None = []
 at_text (Some (place, size)) = codes " AT " ++ decimal place
 
--- what the line of a file of a directory tells behind its length: where it begins, if no text spells its name
+-- what the line of a file of a directory shows after its length: where it begins, if no text spells its name
 abbrev pub place_text : Listed → ℕ → List ℕ
 place_text d name = if is_typable name then [] else at_text (extent_of (find name (files_at d.first d.entries)))
 

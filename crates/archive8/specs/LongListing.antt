@@ -1,4 +1,4 @@
--- What a long list of an image's files tells: where each lies, and its information words (this project's profile).
+-- What a long list of an image's files shows: where each lies, and its information words (this project's profile).
 use Rattle.std.specs.Prelude.{◌≡◌, ℕ, decimal, Result, Ok, Err, List, [], ◌∷◌, ◌++◌, take}
 use Rattle.std.specs.Global.{Vec}
 use Rattle.word12.specs.Octal.{octal4}

@@ -1,4 +1,4 @@
--- What the parts of getting a file and of putting one come to.
+-- What the parts of getting a file and of putting one do.
 use Rattle.std.specs.Prelude.{◌≡◌, ℕ, ◌+◌, ◌*◌, ◌<◌, Option, Some, None, Result, Ok, Err, List, length}
 use Rattle.std.specs.Global.{Vec}
 use Rattle.std.specs.FinMap.{get}
@@ -57,7 +57,7 @@ MakesWords form bytes (Err (File file.NothingWritten)) = IsUnfit form bytes (Fil
 MakesWords form bytes (Err session.BadText) = IsUnfit form bytes session.BadText
 MakesWords form bytes (Err fault) = fault ≡ Memory
 
--- what putting words with these information words comes to
+-- the result of putting words with these information words
 abbrev pub PutsInformed : Mounted → ℕ → Option (List ℕ) → List ℕ → Result (Unit {0}) FileFault → Mounted → Type 0
 PutsInformed old name info words result new = PutsFileWith old name (information_for old name info) words result new
 

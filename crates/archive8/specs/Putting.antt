@@ -1,4 +1,4 @@
--- What putting a file into an image comes to.
+-- The result of putting a file into an image.
 use Rattle.std.specs.Prelude.{◌≡◌, ℕ, ◌<◌, true, false, Option, None, Some, Result, Ok, Err, List, [], length}
 use Rattle.std.specs.FinMap.{get, insert}
 use Rattle.volume_image.specs.Image.{IsImageOf}
@@ -27,7 +27,7 @@ pub record IsMounted (image : List ℕ) (m : Mounted) : Type 0 where
   pub ready : IsReady m
   pub free : m.holds ≡ []
 
--- the words of bytes in a file: the fewest blocks, with zeros behind the last byte
+-- the words of bytes in a file: the fewest blocks, with zeros after the last byte
 abbrev pub put_words : PutForm → List ℕ → List ℕ
 put_words Frames bytes = packed_blocks bytes
 put_words Text bytes = text_words (file_text bytes)
@@ -53,7 +53,7 @@ abbrev pub information_for : Mounted → ℕ → Option (List ℕ) → List ℕ
 information_for m name (Some given) = given
 information_for m name None = words_or_none (information_of (get (files_of m.blocks) name))
 
--- the new image is that of the volume with the file of a name, and the reply tells of it
+-- the new image is that of the volume with the file of a name, and the reply reports it
 pub record HasPutUnder (image : List ℕ) (name : Option ℕ) (info : Option (List ℕ)) (words : List ℕ) (new : NewImage) : Type 0 where
   pub before : Mounted
   pub after : Mounted

@@ -1,4 +1,4 @@
--- What giving a file of an image another name comes to.
+-- The result of giving a file of an image another name.
 use Rattle.std.specs.Prelude.{◌≡◌, ◌⊎◌, ℕ, ◌<◌, Some, None, Result, Ok, Err, List}
 use Rattle.std.specs.FinMap.{get}
 use Rattle.volume_image.specs.Image.{IsImageOf}
@@ -19,7 +19,7 @@ use Rattle.archive8.specs.Opening.{IsOpened, IsUnopened}
 use Rattle.archive8.specs.Putting.{IsMounted}
 use Rattle.archive8.specs.Getting.{IsNoFile}
 
--- the new image is that of the volume in which the file that is wanted has the new name, and all else is as it was; both names are told
+-- the new image is that of the volume in which the file that is wanted has the new name, and all else is as it was; both names are answered
 pub record HasRenamedIn (image : List ℕ) (wanted : Wanted) (other : List ℕ) (new : RenamedImage) : Type 0 where
   pub before : Mounted
   pub after : Mounted

@@ -11,7 +11,7 @@ abbrev pub are_zeros : List ℕ → Bool
 are_zeros [] = true
 are_zeros (code ∷ codes) = nat_eq code 0 && are_zeros codes
 
--- codes of letters and digits, and zeros behind them
+-- codes of letters and digits, and zeros after them
 abbrev pub are_spelled : List ℕ → Bool
 are_spelled [] = true
 are_spelled (code ∷ codes) = if is_coded code then are_spelled codes else are_zeros (code ∷ codes)

@@ -1,4 +1,4 @@
--- What squeezing the volume of an image comes to.
+-- The result of squeezing the volume of an image.
 use Rattle.std.specs.Prelude.{◌≡◌, ℕ, zero, suc, ◌<◌, Some, Result, Ok, Err, List}
 use Rattle.volume_image.specs.Image.{IsImageOf}
 use Rattle.os8_dir.specs.Reading.{directory_of}
@@ -34,7 +34,7 @@ pub record HasSqueezed (image : List ℕ) (new : SqueezedImage) : Type 0 where
   pub info : info_of after.blocks ≡ info_of before.blocks
   pub is_image : IsImageOf new.bytes.items after.blocks
 
--- behind some turns the directory has no room for the entries that the next turn makes
+-- after some turns the directory has no room for the entries that the next turn makes
 pub record IsStuck (image : List ℕ) : Type 0 where
   pub before : Mounted
   pub next : Mounted

@@ -1,4 +1,4 @@
--- What steps of the code come to. No contract of a public function cites these.
+-- What steps of the code do. No contract of a public function cites these.
 use Rattle.std.specs.Prelude.{◌≡◌, ℕ, ◌+◌, ◌*◌, Bool, true, false, Result, Ok, Err, Some, List, [], ◌∷◌, ◌++◌, length}
 use Rattle.std.specs.FinMap.{get}
 use Rattle.bin_tape.specs.Items.{Item}
@@ -28,7 +28,7 @@ pub record IsReading (reader : Progress) (file : List ℕ) : Type 0 where
   pub read : HasRead reader file out
   pub going : IsGoing file out
 
--- behind one more frame: the frames are a tape for the first time, or may still go on as one, or have a fault whatever follows
+-- after one more frame: the frames are a tape for the first time, or may still go on as one, or have a fault whatever follows
 abbrev pub TakesFrame : List ℕ → ℕ → Result Bool TapeFault → Progress → Type 0
 TakesFrame file frame (Ok true) reader = ((items : List Item) × IsTape (file ++ frame ∷ []) items) × ((others : List Item) → IsTape file others → ⊥)
 TakesFrame file frame (Ok false) reader = IsReading reader (file ++ frame ∷ [])

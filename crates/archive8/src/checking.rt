@@ -16,9 +16,9 @@ use std::alloc::{AllocError, Global};
 use volume_image::{BlockStore, MemoryVolume};
 use word12::{FIRST_FILE_BLOCK, Word};
 
-/// Tells of an image, that is accepted or refused as a mount does, its blocks, the segments of its directory, each file and empty
-/// with its first block and its length, and the blocks that the directory does not cover (OS/8 Software Support Manual; the lines
-/// are this project's profile).
+/// Checks an image, which is accepted or refused as by a mount (OS/8 Software Support Manual; the lines are this project's
+/// profile). The report shows its blocks and the segments of its directory. It lists each file and empty with its first block and
+/// its length, and the blocks that the directory does not cover.
 pub fn check(alloc: Global, image: &[u8]) -> Result<Vec<u8>, ArchiveFault>
     ensures { Checks image.now result }
 {

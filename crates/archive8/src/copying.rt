@@ -18,7 +18,7 @@ use script8::SessionFault;
 use std::alloc::Global;
 use word12::Word;
 
-/// The name of a file, its information words with zeros behind them, and its words.
+/// The name of a file, its information words with zeros after them, and its words.
 #[derive(Drop)]
 struct FileWords {
     name: Name,
@@ -26,9 +26,9 @@ struct FileWords {
     words: Vec<Word>,
 }
 
-/// The image into which a file of another image is put, with its words and its information words, under a new name or its own, in
-/// place of an older file of that name there; both images that are handed in stay as they are (OS/8 Software Support Manual; the
-/// faults and their order are this project's profile).
+/// The image into which a file of another image is put, under a new name or its own. The file has its words and its information
+/// words, and stands in place of an older file of that name there. Both images that are handed in stay as they are (OS/8 Software
+/// Support Manual; the faults and their order are this project's profile).
 pub fn copy(
     alloc: Global,
     from: &[u8],

@@ -23,8 +23,9 @@ pub struct DeletedImage {
     pub names: Vec<Name>,
 }
 
-/// The image without some files, of all that are asked for or of none; the image that is handed in stays as it is (OS/8 Software
-/// Support Manual; the faults and their order are this project's profile). The first that is refused is told by its place.
+/// The image without some files: all that are asked for are taken out, or none. The image that is handed in stays as it is (OS/8
+/// Software Support Manual; the faults and their order are this project's profile). The place of the first that is refused is
+/// given.
 pub fn delete(alloc: Global, image: &[u8], asked: &[Asked]) -> Result<DeletedImage, DeleteFault>
     ensures { DeletesFiles image.now (map asked_for asked.now) result }
 {
@@ -74,7 +75,7 @@ fn keep(names: &mut Vec<Name>, name: Name) -> Result<(), AllocError>
     Ok(())
 }
 
-/// Takes a file out of a volume, that is asked for of the volume of this directory, and answers its name.
+/// Takes a file out of a volume and answers its name. The file is asked for of the volume of this directory.
 fn delete_one(
     alloc: Global,
     files: &mut FileService<MemoryVolume>,

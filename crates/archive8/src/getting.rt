@@ -18,8 +18,8 @@ use std::alloc::Global;
 use volume_image::{BlockStore, MemoryVolume};
 use word12::{BLOCK, Word};
 
-/// What a file of an image has: its frames, its text, or the tape that it begins with (OS/8 Software Support Manual; PAL III
-/// Symbolic Assembler manual, BIN format; the faults and their order are this project's profile).
+/// What a file of an image has: its frames, its text, or the tape that it begins with (OS/8 Software Support Manual; PAL III Symbolic
+/// Assembler manual, BIN format). The faults and their order are this project's profile.
 pub fn get(
     alloc: Global,
     image: &[u8],
@@ -34,8 +34,8 @@ pub fn get(
     Ok(bytes)
 }
 
-/// What is given of a file of these words: their frames, their text, or the tape that they begin with (OS/8 Software Support Manual; PAL
-/// III Symbolic Assembler manual, BIN format).
+/// What a file of these words gives: their frames, their text, or the tape that they begin with (OS/8 Software Support Manual; PAL III
+/// Symbolic Assembler manual, BIN format).
 pub fn given(alloc: Global, words: &[Word], form: GetForm) -> Result<Vec<u8>, SessionFault>
     ensures { GivesFile form words.now result }
 {

@@ -12,7 +12,7 @@ use script8::text_lines::{TextLine, put, put_name, put_number};
 use std::alloc::{AllocError, Global};
 
 /// The lines of `DIRECT` for the volume of an image: the files in name order with their lengths in blocks, and the free blocks. The
-/// line of a file that no text spells tells its first block too, counted from 0 (this project's profile).
+/// line of a file that no text spells shows its first block too, counted from 0 (this project's profile).
 pub fn list(alloc: Global, image: &[u8]) -> Result<Vec<u8>, ArchiveFault>
     ensures { ListsFiles image.now result }
 {

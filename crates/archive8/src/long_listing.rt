@@ -14,9 +14,9 @@ use script8::text_lines::{TextLine, put, put_name, put_number};
 use std::alloc::{AllocError, Global};
 use word12::Word;
 
-/// Tells of each file of the volume of an image, in order of their blocks, its name, its length in blocks, its first block, counted
-/// from 0, and its information words in octal, and then the free blocks; an image is refused as `list` does it (OS/8 Software Support
-/// Manual; the lines are this project's profile).
+/// Lists each file of the volume of an image, in order of their blocks, and then the free blocks. It shows the file's name, its
+/// length in blocks, its first block, counted from 0, and its information words in octal. An image is refused as `list` does it (OS/8
+/// Software Support Manual; the lines are this project's profile).
 pub fn list_long(alloc: Global, image: &[u8]) -> Result<Vec<u8>, ArchiveFault>
     ensures { ListsLong image.now result }
 {

@@ -15,8 +15,8 @@ pub struct TextPlace {
     pub byte: usize,
 }
 
-/// The place of the first byte that may not stand in a text, one above 0177 or a control Z (this project's profile); none where
-/// the bytes can be put as a text.
+/// The place of the first byte that may not stand in a text, one above 0177 or a control Z (this project's profile). There is
+/// none where the bytes can be put as a text.
 pub fn bad_text_at(bytes: &[u8]) -> Option<TextPlace>
     ensures { FindsBad bytes.now result }
 {
@@ -39,7 +39,7 @@ fn may_stand(byte: u8) -> bool
     byte < 0o200 && byte != CONTROL_Z
 }
 
-/// The place behind a byte that stands at a place.
+/// The place after a byte that stands at a place.
 fn behind(place: TextPlace, byte: u8) -> TextPlace
     requires line { place.line + 1 ≤ 18446744073709551615 }
     requires byte { place.byte + 1 ≤ 18446744073709551615 }

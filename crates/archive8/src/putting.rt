@@ -25,8 +25,9 @@ pub struct NewImage {
     pub blocks: usize,
 }
 
-/// The image with a file of the fewest blocks for some bytes, zeros behind the last, in place of an older file of the name. It gets
-/// the information words that are given, or keeps those of the older file; missing ones are 0. The image that is handed in stays as it is (OS/8 Software Support Manual; the faults and their order are this project's profile).
+/// The image with a file of the fewest blocks for some bytes, zeros after the last, in place of an older file of the name. It gets the information
+/// words that are given, or keeps those of the older file; missing ones are 0. The image that is handed in stays as it is (OS/8 Software Support
+/// Manual; the faults and their order are this project's profile).
 pub fn put(
     alloc: Global,
     image: &[u8],
@@ -48,8 +49,8 @@ pub fn put(
     }
 }
 
-/// The words of bytes in a file, whole blocks of 256 with zeros behind the last byte: frames, of which there is one at least, or a text
-/// of the host (OS/8 Software Support Manual; what is refused is this project's profile).
+/// The words of bytes in a file, whole blocks of 256 with zeros after the last byte. The bytes are frames, of which there is one at least, or a
+/// text of the host (OS/8 Software Support Manual; what is refused is this project's profile).
 pub fn stored_words(alloc: Global, bytes: &[u8], form: PutForm) -> Result<Vec<Word>, SessionFault>
     ensures { MakesWords form bytes.now result }
 {
@@ -82,8 +83,8 @@ fn stored(alloc: Global, text: &[u8]) -> Result<Vec<Word>, SessionFault>
     Ok(words)
 }
 
-/// The image with a file of these words, of whole blocks of 256, and the information words that are given or those of the older file of
-/// the name, which no file that is held has (OS/8 Software Support Manual; the faults and their order are this project's profile).
+/// The image with a file of these words, of whole blocks of 256. It has the information words that are given, or those of the older file of the
+/// name, which no file that is held has (OS/8 Software Support Manual). The faults and their order are this project's profile.
 pub fn put_words(
     alloc: Global,
     mut files: FileService<MemoryVolume>,
@@ -108,8 +109,8 @@ pub fn put_words(
     })
 }
 
-/// Makes a file of these words, of whole blocks of 256, with the information words that are given or those of the older file of the
-/// name (OS/8 Software Support Manual; the faults and their order are this project's profile).
+/// Makes a file of these words, of whole blocks of 256. It has the information words that are given or those of the older file of the name (OS/8
+/// Software Support Manual). The faults and their order are this project's profile.
 pub fn put_informed(
     alloc: Global,
     files: &mut FileService<MemoryVolume>,

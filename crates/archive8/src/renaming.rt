@@ -25,8 +25,8 @@ pub struct RenamedImage {
     pub new_name: Name,
 }
 
-/// The image in which a file has another name, that no file has; the image that is handed in stays as it is (OS/8 Software Support
-/// Manual; the faults and their order are this project's profile).
+/// The image in which a file has another name, which no file has. The image that is handed in stays as it is (OS/8 Software
+/// Support Manual; the faults and their order are this project's profile).
 pub fn rename(
     alloc: Global,
     image: &[u8],

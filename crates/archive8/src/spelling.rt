@@ -3,8 +3,8 @@ ghost use Rattle.archive8.specs.Spelling as spec;
 
 use os8_dir::Name;
 
-/// Whether some text spells a name, by the codes of its four words: those of letters and digits, one at least, and zeros behind them,
-/// in the first three and in the last (OS/8 Software Support Manual; what may be typed is this project's profile).
+/// Whether some text spells a name, by the codes of its four words (OS/8 Software Support Manual; what may be typed is this project's
+/// profile). They are those of letters and digits, one at least, and zeros after them, in the first three and in the last.
 pub fn is_typable(name: Name) -> bool
     ensures { result ≡ spec.is_typable name }
 {
@@ -22,7 +22,7 @@ pub fn is_typable(name: Name) -> bool
     a / 0o100 != 0 && are_spelled(&stem) && are_spelled(&behind)
 }
 
-/// Whether these are codes of letters and digits, and zeros behind them.
+/// Whether these are codes of letters and digits, and zeros after them.
 fn are_spelled(codes: &[u16]) -> bool
     ensures { result ≡ spec.are_spelled codes.now }
 {

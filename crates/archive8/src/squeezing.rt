@@ -18,9 +18,9 @@ pub struct SqueezedImage {
     pub moved: usize,
 }
 
-/// The image with the same files, moved down so that none has a free block below it; the image that is handed in stays as it is
-/// (OS/8 Software Support Manual; the order of the moves is this project's profile). Where the directory has no room for the entries
-/// of a move it is refused.
+/// The image with the same files, moved down so none has a free block below it. The image that is handed in stays as it is (OS/8
+/// Software Support Manual; the order of the moves is this project's profile). Where the directory has no room for the entries of a
+/// move it is refused.
 pub fn squeeze(alloc: Global, image: &[u8]) -> Result<SqueezedImage, ArchiveFault>
     ensures { SqueezesFiles image.now result }
 {
@@ -37,7 +37,7 @@ pub fn squeeze(alloc: Global, image: &[u8]) -> Result<SqueezedImage, ArchiveFaul
     }
 }
 
-/// Moves files down until none has a free block below it, and tells how many.
+/// Moves files down until none has a free block below it, and answers how many.
 fn move_all(alloc: Global, files: &mut FileService<MemoryVolume>) -> Result<usize, FileFault>
     requires ready { IsReady files.old }
     requires free { files.old.holds ≡ [] }

@@ -55,7 +55,7 @@ fn is_before_lf(rest: &[u8]) -> bool
     }
 }
 
-/// The frames of a text of the host in a file, with control Z behind them.
+/// The frames of a text of the host in a file, with control Z after them.
 pub fn text_frames(alloc: Global, text: &[u8]) -> Result<Vec<u8>, AllocError>
     requires { is_storable text.now ≡ true }
     ensures { IfOk result (λ frames. frames.items ≡ text_frames (file_text text.now)) }

@@ -1,4 +1,4 @@
--- What steps of the code that lists dates come to. No contract of a public function cites these.
+-- What steps of the code that lists dates do. No contract of a public function cites these.
 use Rattle.std.specs.Prelude.{ℕ, ◌+◌, List, [], ◌∷◌, ◌++◌}
 use Rattle.os8_dir.specs.declared.entries.DirEntry.{DirEntry}
 use Rattle.os8_dir.specs.declared.entries.DirEntry.TheVariants.{File, Empty}

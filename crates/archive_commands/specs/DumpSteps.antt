@@ -1,4 +1,4 @@
--- What steps of the code that shows blocks come to. No contract of a public function cites these.
+-- What steps of the code that shows blocks do. No contract of a public function cites these.
 use Rattle.std.specs.Prelude.{◌≡◌, Result, Ok, Err, []}
 use Rattle.std.specs.Global.{Vec}
 use Rattle.archive8.specs.declared.faults.ArchiveFault.{ArchiveFault}

@@ -25,8 +25,9 @@ use volume_commands::{look_at, print, refuse_image};
 use volume_index::last_in;
 use word12::Word;
 
-/// Lists the files of the volume in an image file, in order of their blocks, with where they lie, their information words, and the date that
-/// the first of these means among the eight years up to the one that is given, or else up to the one that the volume gives.
+/// Lists the files of the volume in an image file, in order of their blocks, with where they lie, their information words and their dates. A
+/// date is what the first information word means among the eight years up to the one that is given, or else up to the one that the volume
+/// gives.
 pub fn list_dates<H: Host>(
     host: &mut H,
     alloc: Global,

@@ -16,8 +16,9 @@ use task8::ImageForm;
 use volume_commands::{look_at, print};
 use word12::{BLOCK, Word};
 
-/// Shows blocks of the volume in an image file, which may be damaged: of each its number, the file that has it, its words of more than twelve
-/// bits, and its words with their characters, of sixbit or of a text. They are those from the first to the last that are given, else all.
+/// Shows blocks of the volume in an image file, which may be damaged. Of each it shows its number, the file that has it, its words of more
+/// than twelve bits, and its words with their characters, of sixbit or of a text. They are those from the first to the last that are given,
+/// else all.
 pub fn dump_blocks<H: Host>(
     host: &mut H,
     alloc: Global,

@@ -65,7 +65,7 @@ fn patched_bytes<H: Host>(
     }
 }
 
-/// How the command ends whose word is not patched for this.
+/// How the command ends if its word is not patched for this.
 fn refuse_patch<H: Host>(host: &mut H, alloc: Global, fault: PatchFault) -> Ending
     ensures { RefusesPatch fault (H.history host.old) result (H.history host.new) }
 {

@@ -1,6 +1,6 @@
--- What is refused of a command line that `clap` takes: the first that is wrong with it. Two arguments that exclude each other come before one
--- that is missing, that before standard input named twice, that before an argument too many, and that before a value that is none of its
--- kind, by the order of the table; the two numbers of `get --blocks` come last.
+-- What is refused of a command line that `clap` takes: the first that is wrong with it, in this order. First come two arguments that exclude
+-- each other, then one that is missing, then standard input named twice, and then an argument too many. Then comes a value that is none of its
+-- kind, by the order of the table. The two numbers of `get --blocks` come last.
 use Rattle.std.specs.Prelude.{◌+◌, ◌&&◌, ◌||◌, not, Bool, false, if◌then◌else◌, ℕ, nat_lt, codes, is_some, List, [], ◌∷◌, Option, None, Some, option_map, unwrap_or}
 use Rattle.std.specs.Str.{bytes_eq}
 use Rattle.clap.specs.Words.{Row, Text, first_of}

@@ -1,4 +1,4 @@
--- What the parts of `task` come to, for private clauses.
+-- What the parts of `task` do, for private clauses.
 use Rattle.std.specs.Prelude.{◌≡◌, ⊤, false, List, Option, None, Some, Result, Ok, Err}
 use Rattle.clap.specs.Words.{Row, Text}
 use Rattle.task8.specs.declared.tasks.Task.{Task}

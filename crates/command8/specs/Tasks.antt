@@ -1,5 +1,5 @@
--- What a command line asks of the program. The words are read as the library `clap` reads them: its own definitions
--- say which words a command takes, what they come to, and the kinds of error that others meet.
+-- What a command line asks of the program. The words are read as the library `clap` reads them: its own definitions say which words a command
+-- takes, what they mean, and the kinds of error that others meet.
 use Rattle.std.specs.Prelude.{◌≡◌, ◌≢◌, ◌≤◌, ◌<◌, ◌+◌, ⊤, true, false, if◌then◌else◌, ℕ, codes, List, [], ◌∷◌, Option, None, Some, Result, Ok, Err, is_some, length, map, option_and_then, option_map}
 use Rattle.clap.specs.Words.{Row, Text, all_of, first_of, fault_of, kind_of, one_of, subcommand_of, IsAmong}
 use Rattle.clap.specs.declared.error.Error.{Error}
@@ -324,9 +324,10 @@ abbrev pub Refuses : Option (Text × List Row) → Text → Refusal → Type 0
 Refuses None line refusal = ⊥
 Refuses (Some met) line refusal = RefusesOf (entry_named met.0) met.1 line refusal
 
--- a new volume has 8 to 4095 blocks; blocks 0 to 4094 and their number are 1 to 4095; at least one file is put or taken out; 1
--- to 4095 volumes are checked, and an index is made of 1 to 1000000 images; a word of a block has a number below 256; there are 1 to 8 sources, of those of the host one at most standard input, a listing where there are
--- cross references, and a volume where one gets the tape; a limit of instructions is 1 up
+-- A new volume has 8 to 4095 blocks. Blocks are 0 to 4094, and their number is 1 to 4095. At least one file is put or taken out. 1 to 4095 volumes
+-- are checked, and an index is made of 1 to 1000000 images. A word of a block has a number below 256. There are 1 to 8 sources, of those of the host
+-- one at most standard input. There is a listing where there are cross references, and a volume where one gets the tape. A limit of instructions is 1
+-- up.
 abbrev pub HasFitBlocks : Task → Type 0
 HasFitBlocks (Create form blocks) = (8 ≤ blocks) × (blocks ≤ MOST_BLOCKS)
 HasFitBlocks (GetBlocks form) = (form.first ≤ 4094) × (1 ≤ form.count) × (form.count ≤ MOST_BLOCKS)
@@ -349,9 +350,8 @@ IsFaultOf error (Words same) = (same ≡ error) × (kind_of error ≢ OutOfMemor
 IsFaultOf error Memory = kind_of error ≡ OutOfMemory
 IsFaultOf error (Refused line refusal) = ⊥
 
--- The command line with these words, the program's own name first, is answered so: a task where `clap` finds no fault
--- in the words and they ask for it, an error of `clap` of a kind that the words meet, a refusal of the arguments of a
--- subcommand, or want of memory.
+-- The answer to the command line with these words, the program's own name first. It is a task where `clap` finds no fault in the words and they
+-- ask for it. Else it is an error of `clap` of a kind that the words meet, a refusal of the arguments of a subcommand, or want of memory.
 abbrev pub Answers : List Text → Result Task TaskFault → Type 0
 Answers words (Ok task) = (fault_of pdp8 words ≡ []) × Asks (subcommand_of pdp8 words) task × HasFitBlocks task
 Answers words (Err (Words error)) = IsAmong (kind_of error) (fault_of pdp8 words) × (kind_of error ≢ OutOfMemory)

@@ -18,8 +18,8 @@ use clap::ArgMatches;
 use std::alloc::Global;
 use word12::MOST_BLOCKS;
 
-/// Refuses the arguments where two exclude each other, one is missing, standard input is named twice, there is one too many, or a value is
-/// none of its argument's kind: the first of these in this order.
+/// Refuses the arguments for the first of these, in this order. Two exclude each other, one is missing, standard input is named twice,
+/// there is one too many, or a value is none of its argument's kind.
 pub fn judged(alloc: Global, found: &ArgMatches<'_>, entry: &'static Entry) -> Result<(), TaskFault>
     ensures passed { IfOk result (λ _. refusal_of entry.now.verb (rows_of (found_of found.now)) ≡ None) }
     ensures refused { IfErr result (IsRefusedBy (entry_of entry.now) (rows_of (found_of found.now))) }
@@ -241,8 +241,8 @@ pub fn blocks_word<'a>(found: &ArgMatches<'a>, index: usize) -> &'a str
     }
 }
 
-/// An argument too many: the third after an image whose blocks are got, the last where `--at` stands for a name, or the second file where
-/// one is given a name.
+/// An argument too many. It is the third after an image whose blocks are got, the last where `--at` stands for a name, or the second file
+/// where one is given a name.
 fn unexpected_of<'a>(found: &ArgMatches<'a>) -> Option<&'a str>
     ensures { option_map (λ text. text.now) result ≡ spec.unexpected_of (rows_of (found_of found.now)) }
 {

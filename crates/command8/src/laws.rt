@@ -87,7 +87,7 @@ pub fn plain_words()
         (alone (codes "dectape") ∷ []) ∷ [])) }
 {}
 
-/// A law: what the options of a command come to, and what holds where none is given (this project's profile).
+/// A law: what the options of a command mean, and what holds where none is given (this project's profile).
 pub fn options()
     ensures run { (saving_of (given (codes "run") []) ≡ AtEnd) × (saving_of (given (codes "run") (alone (codes "look") ∷ [])) ≡ Never)
         × (saving_of (given (codes "run") (alone (codes "keep") ∷ [])) ≡ Always) }

@@ -177,7 +177,7 @@ fn delete_missing(found: &ArgMatches<'_>) -> Option<What>
     Some(What::Name)
 }
 
-/// What is missing of a file and the argument after it, which stands in the place of the name where `--at` tells the file.
+/// What is missing of a file and the argument after it, which stands in the place of the name where `--at` gives the file.
 fn moved_missing(found: &ArgMatches<'_>, id: &str, one: What, both: What) -> Option<What>
     ensures { result ≡ spec.moved_missing id.now one both (rows_of (found_of found.now)) }
 {

@@ -18,9 +18,9 @@ use clap::ArgMatches;
 use std::alloc::{AllocError, Global};
 use task8::Task;
 
-/// What the arguments of a command line ask for, the program's own name first (this project's profile). Which there are, what each takes and
-/// which exclude each other, the table of `table.rt` says. A request for help or the version comes back as an error of `clap`, as it gives
-/// it; what `clap` takes is refused where a `TaskFault` says so, and nothing is done before all of it is judged.
+/// What the arguments of a command line ask for, the program's own name first (this project's profile). The table of `table.rt` says which
+/// there are, what each takes and which exclude each other. A request for help or the version comes back as an error of `clap`, as it gives
+/// it. What `clap` takes is refused where a `TaskFault` says so, and nothing is done before all of it is judged.
 pub fn task(alloc: Global, words: &[&str]) -> Result<Task, TaskFault>
     ensures answer { Answers (map (λ given. given.now) words.now) result }
     ensures taken { takes pdp8 (map (λ given. given.now) words.now) ≡ true
@@ -31,7 +31,7 @@ pub fn task(alloc: Global, words: &[&str]) -> Result<Task, TaskFault>
     asked(alloc, &matches)
 }
 
-/// What the subcommand that was met comes to.
+/// The result of the subcommand that was met.
 fn asked(alloc: Global, matches: &ArgMatches<'_>) -> Result<Task, TaskFault>
     requires { HasMet (subcommand_rows_of matches.now) }
     ensures { GivesMet (subcommand_rows_of matches.now) result }
@@ -42,7 +42,7 @@ fn asked(alloc: Global, matches: &ArgMatches<'_>) -> Result<Task, TaskFault>
     }
 }
 
-/// What the subcommand of a name comes to, with what was found for it.
+/// The result of the subcommand of a name, with what was found for it.
 fn asked_of(alloc: Global, name: &str, found: &ArgMatches<'_>) -> Result<Task, TaskFault>
     requires { IsWhole name.now (rows_of (found_of found.now)) }
     ensures { Gives name.now (rows_of (found_of found.now)) result }

@@ -50,7 +50,7 @@ The help of a command, as pdp8 help get, has its arguments and two examples. The
 or 1 after a fault, or 2 for a command line that is refused.
 ";
 
-/// The forms of a script's lines, one a line after the first, each with what it does (docs/SCRIPT.md).
+/// The forms of a script's lines, one a line after the first, each with what it does (docs/using/scripts.md).
 pub const SCRIPT_LINES: &str = "\
 Lines of a script:
   STORE NAME N           stores the N lines after it as a text file

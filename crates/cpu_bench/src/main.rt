@@ -1,6 +1,6 @@
 //! Runs a program by the debugger, to measure it: the BIN tape on standard input is loaded, started at 00200 and run until
 //! it stops. The printer ends its character at once. With any argument there is a break in field 0, at a cell that no
-//! program comes to. Then AC, L and PC with its field are printed.
+//! program reaches. Then AC, L and PC with its field are printed.
 //!
 //! A tape of three frames, which is no program, strikes a key first: so the compiler can't know that no interrupt is ever
 //! requested.

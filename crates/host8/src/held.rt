@@ -43,8 +43,8 @@ pub fn hold_within<R: Files<File = File> + Clock + AllocGlobal>(
     hold(rt, name)
 }
 
-/// Holds a file that is there, through links: `Busy` where another program holds it, `Absent` where there is none, and `Unwritable`
-/// where it may not be written, or is a pipe.
+/// Holds a file that is there, through links. The answer is `Busy` where another program holds it, `Absent` where there is none,
+/// and `Unwritable` where it may not be written, or is a pipe.
 pub fn hold<R: Files<File = File> + AllocGlobal>(
     rt: &R,
     name: &str,
@@ -71,7 +71,7 @@ pub fn hold<R: Files<File = File> + AllocGlobal>(
     Err(HoldFault::Busy)
 }
 
-/// Whether a name leads to a pipe, whose end is never seen by who may write it.
+/// Whether a name leads to a pipe. A program that may write it never sees its end.
 fn is_pipe<R: Files<File = File>>(rt: &R, path: &str) -> bool {
     match fs::metadata(rt, path) {
         Ok(named) => named.file_type().is_fifo(),

@@ -12,8 +12,8 @@ use std::os::unix::fs::MetadataExt;
 /// How many names beside a file are tried.
 const TRIES: u16 = 1000;
 
-/// Makes a file that holds these bytes, where there is none of this name, or of the one that a link of this name leads to: `Busy` where
-/// another program has made one meanwhile. The file is there whole or not at all.
+/// Makes a file that holds these bytes, where there is none of this name, or of the one that a link of this name leads to. The answer
+/// is `Busy` where another program has made one meanwhile. The file is there whole or not at all.
 pub fn make<R: Files<File = File> + AllocGlobal>(
     rt: &R,
     name: &str,
@@ -29,8 +29,8 @@ pub fn make<R: Files<File = File> + AllocGlobal>(
     Ok(sync_folder(rt, &name))
 }
 
-/// Writes a new file whole, and gives it a name that none has. Its lock is held meanwhile, so that no writer comes to it before its
-/// name beside that is gone.
+/// Writes a new file whole, and gives it a name that none has. Its lock is held meanwhile, so no writer comes to it before its name
+/// beside that is gone.
 fn put_named<R: Files<File = File>>(
     rt: &R,
     file: &mut File,
@@ -102,7 +102,7 @@ pub fn give_name<R: Files<File = File>>(rt: &R, beside: &str, name: &str) -> Res
     }
 }
 
-/// Changes a file's name to one that none may have. An empty file takes that first, so that no file of another program is replaced.
+/// Changes a file's name to one that none may have. An empty file takes that first, so no file of another program is replaced.
 fn rename_new<R: Files<File = File>>(rt: &R, beside: &str, name: &str) -> Result<(), HoldFault> {
     let empty = match create_new(rt, name) {
         Ok(empty) => empty,

@@ -1,5 +1,5 @@
-//! `host_trial` has each call of a host in memory fail in turn, and tells what that leaves. `host_trial WHAT PATH` saves standard input as a
-//! file of the system: by `save` one that is there, by `make` one that is not, by `lay` either.
+//! `host_trial` has each call of a host in memory fail in turn, and prints what that leaves. `host_trial WHAT PATH` saves standard input as
+//! a file of the system: by `save` one that is there, by `make` one that is not, by `lay` either.
 #![tactic(auto)]
 
 mod rows;

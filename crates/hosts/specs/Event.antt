@@ -67,7 +67,7 @@ numbered call name ok number bytes = record { call = call; ok = ok; name = name;
 abbrev pub resolve_call : List ℕ → Bool → List ℕ → Event
 resolve_call name ok path = event_at Resolve name ok path
 
--- the file of a path was held, so that no other program writes it
+-- the file of a path was held, so no other program writes it
 abbrev pub hold_call : List ℕ → Bool → Event
 hold_call path ok = event_at Hold path ok []
 

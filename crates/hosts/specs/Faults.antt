@@ -1,4 +1,4 @@
--- The numbers by which the history tells of faults and streams.
+-- The numbers of faults and streams in the history.
 use Rattle.std.specs.Prelude.{ℕ}
 use Rattle.hosts.specs.declared.faults.RenameFault.{RenameFault}
 use Rattle.hosts.specs.declared.faults.RenameFault.TheVariants as rename

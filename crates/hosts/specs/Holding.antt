@@ -4,7 +4,7 @@ use Rattle.std.specs.Str.{bytes_eq}
 use Rattle.hosts.specs.Event.{Event}
 use Rattle.hosts.specs.Event as event
 
--- what one of two programs did: it asked to hold the file, and was or was not let; it read the file; it changed it; it ended, and holds it no more
+-- what one of two programs did: it asked to hold the file, and could or could not; it read it; it changed it; it ended, and holds it no more
 pub data Turn : Type 0 where
   Hold : (who : Bool) (ok : Bool) → Turn
   Look : (who : Bool) → Turn

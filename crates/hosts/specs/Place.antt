@@ -1,4 +1,4 @@
--- What the calls of a host come to for the file of one path. This page is what a reader believes of a file system.
+-- What the calls of a host do to the file of one path. This page is what a reader believes of a file system.
 use Rattle.std.specs.Prelude.{◌≡◌, ℕ, zero, suc, Bool, true, false, List, [], ◌∷◌, ◌++◌, length, take, drop, if◌then◌else◌, Option, None, Some, ◌⊎◌}
 use Rattle.std.specs.Str.{bytes_eq}
 use Rattle.hosts.specs.Event.{Event, Call, Change, Alter, MakeBeside, OwnBeside, WriteBeside, SyncBeside, DropBeside, Rename, LinkNew, Claim, DropClaim, SyncFolder, WriteOver, FinishOver}
@@ -49,7 +49,7 @@ abbrev pub Leaves : List Left → Option (List ℕ) → Type 0
 Leaves [] file = ⊥
 Leaves (left ∷ others) file = Allows left file ⊎ Leaves others file
 
--- what was known, with these bytes behind it
+-- what was known, with these bytes after it
 abbrev pub appended : Left → List ℕ → Left
 appended (Just (Some old)) bytes = Just (Some (old ++ bytes))
 appended (Just None) bytes = Anything
@@ -81,9 +81,9 @@ with_file seen on_disk earlier p = record { seen = seen; on_disk = on_disk; besi
 abbrev pub with_path : Place → Place
 with_path p = record { seen = p.beside; on_disk = p.beside_on_disk; beside = Just None; beside_on_disk = Just None; earlier = p.on_disk ∷ p.earlier }
 
--- A place after a change. One that fails may have gone half its way, so that nothing is known of what was being written; but a name is
--- given or not given. What was written is on the disk only after a sync, and what a failed sync leaves is not known, nor ever again. A file
--- that was renamed, or linked to its path, gets no more bytes by the name beside that.
+-- A place after a change. One that fails may have gone half its way, so nothing is known of what was being written; but a name is given or
+-- not given. What was written is on the disk only after a sync, and what a failed sync leaves is not known, nor ever again. A file that was
+-- renamed, or linked to its path, gets no more bytes by the name beside that.
 abbrev pub after : Change → Bool → ℕ → List ℕ → Place → Place
 after MakeBeside ok number bytes p = with_beside (if ok then Just (Some []) else p.beside) (if ok then Anything else p.beside_on_disk) p
 after OwnBeside ok number bytes p = p

@@ -1,4 +1,4 @@
--- What it comes to that a path is to have other bytes. `old` and `new` are the changes of the path before and after.
+-- What becomes of a path that is to have other bytes. `old` and `new` are the changes of the path before and after.
 use Rattle.std.specs.Prelude.{◌≡◌, ℕ, ◌+◌, Bool, true, false, List, [], ◌∷◌, None, Some, Result, Ok, Err, ◌⊎◌}
 use Rattle.hosts.specs.Event.{Change, Claim, Rename, WriteOver}
 use Rattle.hosts.specs.Place.{Place, Step, Left, Just, replay, ever}
@@ -82,8 +82,8 @@ AnyMoment bytes old new = (start : Place) → IsOldOrNew bytes (ever start old) 
 abbrev pub AnyMomentOf : Bool → List ℕ → List Step → List Step → Type 0
 AnyMomentOf is bytes old new = (start : Place) → IsOldOrNew bytes (ever start old) (ever start new) ⊎ (is ≡ false)
 
--- what it comes to where no file is made: the path is as it was, or has no file, or an empty one that could not be taken away, where the
--- file system has no further names
+-- What becomes of a path where no file is made. It is as it was, or has no file, or an empty one that could not be taken away, where the
+-- file system has no further names.
 abbrev pub IsUnmade : Place → Place → Type 0
 IsUnmade before p = IsAsItWas before p ⊎ ((p.seen ≡ Just None) ⊎ (p.seen ≡ Just (Some [])))
 
@@ -114,8 +114,8 @@ with_replacement Rename true true before = before
 with_replacement Rename false is before = before
 with_replacement _ ok is before = before
 
--- how often a file took the path where another may have had it: a rename does that, unless an empty file has just taken the path as one that
--- no file had
+-- How often a file took the path where another may have had it. A rename does that, unless an empty file has just taken the path as one that
+-- no file had.
 abbrev pub replacements : List Step → ℕ
 replacements [] = 0
 replacements (s ∷ earlier) = with_replacement s.change s.ok (has_claim earlier) (replacements earlier)

@@ -1,4 +1,4 @@
--- What the steps of a save come to. No contract of a public function cites these.
+-- What the steps of a save do. No contract of a public function cites these.
 use Rattle.std.specs.Prelude.{◌≡◌, ℕ, ◌<◌, true, false, List, ◌∷◌, Result, Ok, Err}
 use Rattle.std.specs.Str.{bytes_eq}
 use Rattle.hosts.specs.Event.{Event, make_call, own_call, lock_call, write_call, sync_call}

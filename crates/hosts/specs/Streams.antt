@@ -1,4 +1,4 @@
--- What the calls of a host come to for its streams, and for what was asked of it.
+-- What the calls of a host mean for its streams, and for what was asked of it.
 use Rattle.std.specs.Prelude.{ℕ, zero, suc, ◌+◌, Bool, true, false, List, [], ◌∷◌, ◌++◌}
 use Rattle.hosts.specs.Event.{Event, Call, Alter, Rename, LinkNew, Look, TakeInput, Alone, There, Free, Print, Tell, Terminal}
 
@@ -40,7 +40,7 @@ abbrev pub read : List Event → List Event
 read [] = []
 read (e ∷ earlier) = with_read e.call e (read earlier)
 
--- a call that failed, or that told of a path that it leads to the held file no more; another answer to a question is no failure
+-- a call that failed, or that answered that a path no longer leads to the held file; another answer to a question is no failure
 abbrev pub with_failure : Call → Bool → ℕ → ℕ
 with_failure There ok before = before
 with_failure Terminal ok before = before
@@ -61,7 +61,7 @@ abbrev pub freed : List Event → List ℕ
 freed [] = []
 freed (e ∷ earlier) = with_freed e.call e.bytes (freed earlier)
 
--- an answer stands until it is asked again, or a rename shows that the path is a mount's; where the host can't tell, nothing is written
+-- an answer stands until it is asked again, or a rename shows that the path is a mount's; where the host doesn't know, nothing is written
 abbrev pub with_alone : Call → Bool → ℕ → Bool → Bool
 with_alone Alone true (suc zero) before = true
 with_alone Alone true zero before = false
@@ -69,7 +69,7 @@ with_alone Alone false number before = true
 with_alone (Alter Rename) false (suc zero) before = false
 with_alone _ ok number before = before
 
--- whether, as the host told last, a new file may take the path with nothing lost
+-- whether, as the host said last, a new file may take the path with nothing lost
 abbrev pub may_replace : List Event → Bool
 may_replace [] = true
 may_replace (e ∷ earlier) = with_alone e.call e.ok e.number (may_replace earlier)
@@ -80,7 +80,7 @@ with_links (Alter LinkNew) false zero before = true
 with_links (Alter LinkNew) false (suc number) before = false
 with_links _ ok number before = before
 
--- whether, as the host told last, the file system has further names for a file
+-- whether, as the host said last, the file system has further names for a file
 abbrev pub has_links : List Event → Bool
 has_links [] = true
 has_links (e ∷ earlier) = with_links e.call e.ok e.number (has_links earlier)

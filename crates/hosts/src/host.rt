@@ -6,7 +6,7 @@ use crate::{HostFault, LinkFault, PrintFault, RenameFault, Stream};
 use std::alloc::Global;
 
 /// What a program may ask of the system that it runs in. Each call adds itself, with its answer, to a history that no memory holds: a
-/// contract that speaks of it tells which calls were made, in which order. A path is what `resolve` or `free_path` gave; calls on a file
+/// contract that speaks of it says which calls were made, in which order. A path is what `resolve` or `free_path` gave; calls on a file
 /// that is held, or on the one beside it, name its path.
 pub trait Host {
     /// Each call so far with its answer, the newest first.
@@ -18,9 +18,8 @@ pub trait Host {
             (λ path. history self.new ≡ resolve_call name.now true path.bytes.items ∷ history self.old)
             (λ _. history self.new ≡ resolve_call name.now false [] ∷ history self.old) };
 
-    /// Holds the file of a path, so that no other program writes it, until another one is held or the program ends. It must still have that
-    /// path once it is held, and be no pipe. The answer tells whether its file system has locks. The memory for the names beside it is taken
-    /// here.
+    /// Holds the file of a path, so no other program writes it, until another one is held or the program ends. It must still have that path
+    /// once it is held, and be no pipe. The answer says whether its file system has locks. The memory for the names beside it is taken here.
     fn hold(&mut self, alloc: Global, path: &str) -> Result<bool, HostFault>
         ensures { history self.new ≡ hold_call path.now (is_ok result) ∷ history self.old };
 

@@ -1,4 +1,4 @@
-//! What the definitions of a file system come to, as laws.
+//! What follows from the definitions of a file system, as laws.
 ghost use Rattle.std.specs.Prelude.{◌≡◌, ℕ, Bool, true, false, List, [], ◌∷◌, ◌++◌, Option, Some};
 ghost use Rattle.std.specs.Str.{bytes_eq};
 ghost use Rattle.hosts.specs.Event.{Event, Change, Rename, WriteBeside, SyncFolder};
@@ -7,7 +7,7 @@ ghost use Rattle.hosts.specs.Saving.{IsSaved};
 ghost use Rattle.hosts.specs.Laws.{IsSound};
 ghost use Rattle.hosts.specs.Holding.{holder, turns, IsLawful, GoesOn, AllOwn};
 
-/// What a crash may leave at a moment is among what `ever` tells at it and at each later one.
+/// What a crash may leave at a moment is among what `ever` gives at it and at each later one.
 pub fn moments()
     ensures { (start : Place) (later earlier : List Step) (file : Option (List ℕ))
         → Leaves (may_leave (replay start earlier)) file → Leaves (ever start (later ++ earlier)) file }
@@ -25,7 +25,7 @@ pub fn disks()
         → IsSound p → IsSound (after change ok number bytes p) }
 {}
 
-/// Bytes that are written and not synced are not on the disk; a file of them that takes a path may be torn by a crash, and the sync of its
+/// Bytes that are written and not synced are not on the disk. A file of them that takes a path may be torn by a crash, and the sync of its
 /// folder doesn't change that.
 pub fn unsynced_bytes()
     ensures written { (ok : Bool) (bytes : List ℕ) (p : Place) → (after WriteBeside ok 0 bytes p).beside_on_disk ≡ Anything }
@@ -44,7 +44,7 @@ pub fn saved_files()
     ensures { (bytes : List ℕ) (p : Place) (file : Option (List ℕ)) → IsSaved bytes p → Leaves (may_leave p) file → file ≡ Some bytes }
 {}
 
-/// Of two programs that hold a file before they read it and while they change it, none loses the other's change: from where one holds it
+/// Of two programs that hold a file before they read it and while they change it, none loses the other's change. From where one holds it
 /// until it ends or holds another, each change is its own, so what it read is what it changes.
 pub fn lost_updates()
     ensures { (path : List ℕ) (who : Bool) (later earlier : List (Bool × Option Event)) → IsLawful (turns path (later ++ earlier))

@@ -1,5 +1,5 @@
-//! What a program may ask of the system that it runs in, what these calls come to for files and streams, and files that are written whole
-//! or not at all.
+//! What a program may ask of the system that it runs in, what these calls do to files and streams, and files that are written whole or
+//! not at all.
 #![tactic(auto)]
 
 mod faults;

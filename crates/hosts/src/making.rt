@@ -9,8 +9,9 @@ use crate::saving::give_up;
 use crate::{Durability, Host, HostFault, LinkFault};
 use std::alloc::Global;
 
-/// Makes a file of these bytes, where there is none of this name, or of the one that a link of this name leads to: `Busy` where another
-/// program has made one meanwhile. The file is there whole or not at all. Its path is the one that the host gives for the name.
+/// Makes a file of these bytes, where there is none of this name, or of the one that a link of this name leads to. The answer is `Busy`
+/// where another program has made one meanwhile. The file is there whole or not at all. Its path is the one that the host gives for the
+/// name.
 pub fn make<H: Host>(
     host: &mut H,
     alloc: Global,
@@ -34,8 +35,8 @@ pub fn make<H: Host>(
 }
 
 /// Makes a file of these bytes at a path that no file has, whole or not at all: `Busy` where another program has made one meanwhile. It is
-/// made beside the path and comes to the disk, and then gets that as a further name, if no file has it. Its lock is held meanwhile, so that
-/// no writer comes to it before its name beside is gone.
+/// made beside the path and comes to the disk, and then gets that as a further name, if no file has it. Its lock is held meanwhile, so no
+/// writer comes to it before its name beside is gone.
 pub fn make_at<H: Host>(
     host: &mut H,
     alloc: Global,
@@ -82,7 +83,7 @@ pub fn make_at<H: Host>(
     }
 }
 
-/// Gives the file beside a path that, which no file may have: an empty file takes it first, so that no file of another program is replaced.
+/// Gives the file beside a path that, which no file may have: an empty file takes it first, so no file of another program is replaced.
 /// Where it can't, both are taken away.
 pub(crate) fn take_path<H: Host>(host: &mut H, path: &str) -> Result<(), HostFault>
     ensures replaced { replacements (about path.now (H.history host.new)) ≡ replacements (about path.now (H.history host.old)) }

@@ -9,7 +9,7 @@ ghost use Rattle.hosts.specs.Streams.{output, errors, read, failures, may_replac
 use crate::{Durability, Host, HostFault, RenameFault, Unwritten};
 use std::alloc::Global;
 
-/// Has the path of the held file lead to a file of these bytes, whole or not at all: a file beside it is written and comes to the disk, and
+/// Has the path of the held file lead to a file of these bytes, whole or not at all. A file beside it is written and comes to the disk, and
 /// then takes the path. No memory is taken.
 pub fn save<H: Host>(
     host: &mut H,
@@ -114,8 +114,8 @@ pub fn write_over<H: Host>(
     Ok(())
 }
 
-/// Has the held file hold these bytes: whole or not at all where a new file may take its path, and else in its place, those from `first` on
-/// before the others. No memory is taken.
+/// Has the held file hold these bytes, whole or not at all where a new file may take its path. Else it is written in its place, those from
+/// `first` on before the others. No memory is taken.
 pub fn save_file<H: Host>(
     host: &mut H,
     alloc: Global,

@@ -44,7 +44,7 @@ pub fn answer_of<T: Drop, R: Eprint>(
     }
 }
 
-/// How a command ends whose image, of so many bytes, or a file of it is refused. What may help is printed.
+/// How a command ends if its image, of so many bytes, or a file of it is refused. What may help is printed.
 pub fn refusal<R: Eprint>(rt: &R, size: usize, fault: ArchiveFault) -> Ending {
     if let Some(note) = image_note(size, &fault) {
         tell(rt, Note::Plain(note));

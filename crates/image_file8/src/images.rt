@@ -21,10 +21,10 @@ pub struct Image {
     /// The whole file, where it holds more than the image.
     disk: Option<DiskFile>,
 
-    /// Whether it was told that the file is written in its place.
+    /// Whether it was said that the file is written in its place.
     is_place_told: bool,
 
-    /// Whether it was told that its folder can't be brought to the disk.
+    /// Whether it was said that its folder can't be brought to the disk.
     is_folder_told: bool,
 }
 
@@ -104,7 +104,7 @@ impl Image {
     }
 }
 
-/// Has an image file hold these bytes, and then prints the lines that tell of the change.
+/// Has an image file hold these bytes, and then prints the lines that report the change.
 pub fn save_and_print<R: Files<File = File> + Print + Eprint>(
     rt: &R,
     held: &mut Image,

@@ -14,14 +14,14 @@ pub fn print_bytes<R: Print>(rt: &R, bytes: &[u8]) -> Result<(), Ending> {
     Ok(())
 }
 
-/// Prints the line of what is told of a name or of a file, with that before it.
+/// Prints the line of the report of a name or of a file, with that before it.
 pub fn print_of<R: Print + AllocGlobal>(rt: &R, name: &str, text: &[u8]) -> Result<(), Ending> {
     let prefix = format!(in rt.alloc(); "{name}: ")?;
     let lines = with_prefix(rt.alloc(), prefix.as_bytes(), text)?;
     print_bytes(rt, &lines)
 }
 
-/// Tells a line on standard error that is no fault.
+/// Prints on standard error a line that is no fault.
 pub fn tell_line<R: Eprint + AllocGlobal>(rt: &R, line: &ProgramLine) -> Result<(), Ending> {
     let mut text = Vec::new(rt.alloc());
     put_program(line, &mut text)?;

@@ -1,22 +1,22 @@
-//! How far a long command is: told on a terminal whose owner sees no line of it, since standard output goes elsewhere.
+//! How far a long command is: printed on a terminal whose owner sees no line of it, since standard output goes elsewhere.
 
 use std::fs::{File, Files, OpenOptions};
 use std::io::IsTerminal;
 use std::time::{Clock, Instant};
 
-/// How many seconds a command works before it is told how far it is.
+/// How many seconds a command works before it prints how far it is.
 const PATIENCE: u64 = 2;
 
-/// What is told on standard error, from two seconds on and once a second, on one line that is written over.
+/// What is printed on standard error, from two seconds on and once a second, on one line that is written over.
 #[derive(Drop)]
 pub struct Progress<'a, R> {
     rt: &'a R,
 
-    /// When the command began, if it is told of at all.
+    /// When the command began, if its progress is printed at all.
     start: Option<Instant>,
     all: usize,
 
-    /// The second at which it was told last.
+    /// The second at which it was printed last.
     last: u64,
 }
 
@@ -33,7 +33,7 @@ impl<'a, R: Files<File = File> + Eprint + Clock> Progress<'a, R> {
         }
     }
 
-    /// Tells that so many are done.
+    /// Prints that so many are done.
     pub fn tell(&mut self, done: usize) {
         let Some(start) = self.start else {
             return;
@@ -48,7 +48,7 @@ impl<'a, R: Files<File = File> + Eprint + Clock> Progress<'a, R> {
         }
     }
 
-    /// Takes away what was told.
+    /// Takes away what was printed.
     pub fn end(&self) {
         if self.last > 0 {
             let _ = self.rt.eprint("\r\x1b[K");

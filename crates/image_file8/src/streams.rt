@@ -21,7 +21,7 @@ impl<'a, R: Print> Output<'a, R> {
         }
     }
 
-    /// How a command ends whose output failed.
+    /// How a command ends if its output failed.
     pub fn ending(&self) -> Ending {
         ending_of_output(self.fault)
     }

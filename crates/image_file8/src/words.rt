@@ -1,4 +1,4 @@
-//! What the words of a command line tell, as functions take it.
+//! What the words of a command line say, as functions take it.
 
 use std::alloc::{AllocError, Global};
 

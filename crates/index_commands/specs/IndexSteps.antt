@@ -1,4 +1,4 @@
--- What steps of the code that indexes images come to. No contract of a public function cites these.
+-- What steps of the code that indexes images do. No contract of a public function cites these.
 use Rattle.std.specs.Prelude.{ℕ, ◌-◌, Some, Result, Ok, Err, List, drop, length, take}
 use Rattle.std.specs.Global.{Vec}
 use Rattle.disk8.specs.declared.layouts.Layout.{Layout}

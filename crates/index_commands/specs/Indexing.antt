@@ -20,7 +20,8 @@ use Rattle.index_commands.specs.Volumes.{IsImageAt, IsNoImage, body_of, layouts_
 
 -- ## A volume
 
--- the lines of the files that are wanted of the volume that lies so in these bytes, or why there are none: it doesn't lie there, or is refused as a plain list of it is
+-- The lines of the files that are wanted of the volume that lies so in these bytes, or why there are none. The reason is that it doesn't lie there,
+-- or is refused as a plain list of it is.
 abbrev pub GivesIndex : IndexStyle → List ℕ → List ℕ → Option Layout → Result (Vec ℕ) Ending → Type 0
 GivesIndex style name bytes layout (Ok lines) = (image : List ℕ) × IsImageAt layout bytes image × GivesLines style name (number_of layout) image (Ok lines)
 GivesIndex style name bytes layout (Err ending) = IsNoImage layout bytes ending
@@ -67,7 +68,7 @@ IndexesImage style layout name = Then (Purely (IsWholeFile name)) (λ form. Read
 
 -- ## The command
 
--- what a command comes to that refused an image, or none
+-- the result of a command that refused an image, or none
 abbrev pub ended : Bool → Result (Unit {0}) Ending
 ended true = Err Failure
 ended false = Ok tt

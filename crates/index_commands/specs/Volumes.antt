@@ -38,7 +38,7 @@ abbrev pub layouts_by : Option ImageKind → List (Option Layout)
 layouts_by None = None ∷ []
 layouts_by (Some kind) = layouts_of kind.form
 
--- where each volume lies: as it is given, or else as the file's length and its directory tell
+-- where each volume lies: as it is given, or else as the file's length and its directory show
 abbrev pub layouts_in : Option Layout → List ℕ → List (Option Layout)
 layouts_in (Some layout) file = Some layout ∷ []
 layouts_in None file = layouts_by (kind_of file)

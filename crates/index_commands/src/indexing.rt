@@ -16,7 +16,7 @@ use volume_commands::{look_at, print};
 use volume_index::{IndexStyle, index_volume};
 
 /// Prints the index of the volumes in image files: a line for each file of each that is wanted, images as they are given and files as they
-/// lie. Images are read one at a time, and no file changes. Where no layout is given, each file's length and directory tell which volumes it
+/// lie. Images are read one at a time, and no file changes. Where no layout is given, each file's length and directory show which volumes it
 /// has. What is refused is said on standard error, the rest goes on, and the command ends with a refusal. Where the word that chooses files is
 /// no name and no pattern, nothing is read (this project's profile).
 pub fn index_images<H: Host>(

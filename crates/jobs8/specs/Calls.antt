@@ -55,8 +55,8 @@ pub record StoodStopped (old new : Mounted) : Type 0 where
   pub writes : new.failed_writes ≡ old.failed_writes
   pub blocks : new.blocks ≡ old.blocks
 
--- What an answer tells of the block calls. `Device` comes just where one failed, and `Stopped` just where a write had failed before;
--- behind any other answer none failed.
+-- What an answer says of the block calls. `Device` comes just where one failed, and `Stopped` just where a write had failed before;
+-- after any other answer none failed.
 abbrev pub TellsFailures : Mounted → Answer → Mounted → Type 0
 TellsFailures old (Err (fault.File file.Device)) new = ReadFailed old new ⊎ WriteFailed old new
 TellsFailures old (Err (fault.File file.Stopped)) new = StoodStopped old new
@@ -90,14 +90,14 @@ abbrev pub PutsThere : ℕ → Mounted → Mounted → Type 0
 PutsThere name old new = (words : List ℕ) × (call : Result (Unit {0}) FileFault) × (mid : Mounted) × PutsFile old name words call mid × (new ≡ record mid { holds = new.holds })
 
 -- The calls that a turn of a job makes. One that loads reads one block at most and writes none; so does one that assembles, but
--- for its last, which reads none and puts its target; one that squeezes makes one call.
+-- for its last, which reads none and puts its target. One that squeezes makes one call.
 abbrev pub WorkCalls : Work → ℕ → Mounted → Mounted → Type 0
 WorkCalls (work.Assembling it) left old new = ReadsAtMost old new ⊎ ((left ≡ 1) × PutsThere it.to old new)
 WorkCalls (work.Loading it) left old new = ReadsAtMost old new
 WorkCalls (work.Squeezing clean) left old new = (call : Result tokens.Squeezed FileFault) × Squeezes old call new
 
--- What the answer of a job that squeezes, with so many turns left, tells of its one call: Working, that a file was moved and a turn
--- is left; Squeezed, that one was moved at the last turn, or that none was to be moved; and a refusal is that of the call.
+-- What the answer of a job that squeezes, with so many turns left, says of its one call. Working says that a file was moved and a
+-- turn is left. Squeezed says that one was moved at the last turn, or that none was to be moved. A refusal is that of the call.
 abbrev pub TellsSqueeze : ℕ → Mounted → Answer → Mounted → Type 0
 TellsSqueeze left old (Ok Working) new = (2 ≤ left) × (name : ℕ) × Squeezes old (Ok (token.Moved name)) new
 TellsSqueeze left old (Ok Squeezed) new = ((left ≡ 1) × (name : ℕ) × Squeezes old (Ok (token.Moved name)) new) ⊎ Squeezes old (Ok token.Nothing) new
@@ -111,7 +111,7 @@ IfFile has (Ok turned) = Unit {0}
 IfFile has (Err (fault.File why)) = has why
 IfFile has (Err why) = Unit {0}
 
--- What a refusal of a job's target tells of the store's blocks, of which the map of files says nothing.
+-- What a refusal of a job's target says of the store's blocks, of which the map of files says nothing.
 abbrev pub WorkTellsRoom : plain.Work → Mounted → FileFault → Type 0
 WorkTellsRoom (plain.Assembling to from) old why = TellsRoom old.blocks to (assembled_words (words_in (files_of old.blocks) from)) why
 WorkTellsRoom (plain.Loading from) old why = Unit {0}
@@ -146,7 +146,7 @@ abbrev pub CallsOf : Option Job → Mounted → Mounted → Type 0
 CallsOf None old new = new ≡ old
 CallsOf (Some it) old new = WorkCalls it.work it.left old new
 
--- What a turn of the job of a number comes to, over a volume with core and the jobs of a session.
+-- The result of a turn of the job of a number, over a volume with core and the jobs of a session.
 pub record TakesTurn (old : Mounted) (core : List ℕ) (jobs : List (Option Job)) (number : ℕ) (answer : Answer) (new : Mounted) (core' : List ℕ) (jobs' : List (Option Job)) : Type 0 where
   pub settled : IsSettled new jobs'
   pub step : NoCallFailed old new → Turns (state_over old core (plain_jobs jobs)) number answer (state_over new core' (plain_jobs jobs'))
@@ -164,17 +164,17 @@ pub record StartsOver (old : Mounted) (jobs : List (Option Job)) (answer : Begun
   pub others : new ≡ record old { holds = new.holds }
   pub stopped : old.stopped ≡ true → (answer ≡ Err (fault.File file.Stopped)) × (new ≡ old) × (jobs' ≡ jobs)
 
--- what beginning to load comes to
+-- the result of beginning to load
 pub record StartsLoading (old : Mounted) (jobs : List (Option Job)) (name : ℕ) (answer : Begun) (new : Mounted) (jobs' : List (Option Job)) : Type 0 where
   pub over : StartsOver old jobs answer new jobs'
   pub step : old.stopped ≡ false → (core : List ℕ) → LoadStarts (state_over old core (plain_jobs jobs)) name answer (state_over new core (plain_jobs jobs'))
 
--- what beginning to assemble comes to
+-- the result of beginning to assemble
 pub record StartsAssembling (old : Mounted) (jobs : List (Option Job)) (target : ℕ) (from : List ℕ) (answer : Begun) (new : Mounted) (jobs' : List (Option Job)) : Type 0 where
   pub over : StartsOver old jobs answer new jobs'
   pub step : old.stopped ≡ false → (core : List ℕ) → AssembleStarts (state_over old core (plain_jobs jobs)) target from answer (state_over new core (plain_jobs jobs'))
 
--- what beginning to squeeze comes to
+-- the result of beginning to squeeze
 pub record StartsSqueezing (old : Mounted) (jobs : List (Option Job)) (answer : Begun) (new : Mounted) (jobs' : List (Option Job)) : Type 0 where
   pub over : StartsOver old jobs answer new jobs'
   pub step : old.stopped ≡ false → (core : List ℕ) → SqueezeStarts (state_over old core (plain_jobs jobs)) answer (state_over new core (plain_jobs jobs'))

@@ -13,8 +13,8 @@ use Rattle.jobs8.specs.declared.loading.Loading.{Loading}
 use Rattle.pal_blocks.specs.Blocks.{blocks_in, first_blocks, block_at}
 use Rattle.jobs8.specs.Schedule.{loading_turns}
 
--- The frames that a job has taken of a file: those of so many first blocks, and of the next block as many as were taken
--- before want of memory broke a turn off.
+-- The frames that a job has taken of a file: those of so many first blocks. Of the next block they are as many as were
+-- taken before want of memory broke a turn off.
 abbrev pub frames_taken : List ℕ → ℕ → ℕ → List ℕ
 frames_taken words done offset = frames (first_blocks done words) ++ take offset (frames (block_at done words))
 
@@ -29,7 +29,7 @@ pub record HasTaken (loader : load.Loading) (given : List ℕ) : Type 0 where
 abbrev pub HasWords : Files → ℕ → List ℕ → Type 0
 HasWords files name words = (info : List ℕ) × (get files name ≡ Some (info, words))
 
--- A job that loads a file of these words stands so with so many turns left: it has read the beginning of the file, and it has
+-- A job that loads a file of these words stands so with so many turns left. It has read the beginning of the file, and it has
 -- found it to be a tape where one turn is left.
 pub record IsLoading (words : List ℕ) (job : Loading) (left : ℕ) : Type 0 where
   pub whole : BLOCK * blocks_in words ≡ length words

@@ -1,4 +1,4 @@
--- What a job that assembles holds, and what it comes to.
+-- What a job that assembles holds, and what it does.
 use Rattle.std.specs.Prelude.{◌≡◌, ℕ, ◌≤◌, false, Option, Some, None, List, [], ◌∷◌}
 use Rattle.os8_dir.specs.Entries.{contains, IsNamed}
 use Rattle.os8_dir.specs.Files.{files_of}
@@ -14,7 +14,7 @@ names_of [] = []
 names_of (None ∷ places) = names_of places
 names_of (Some name ∷ places) = name ∷ names_of places
 
--- no place behind an empty one holds a file
+-- no place after an empty one holds a file
 abbrev pub AreFirst : List (Option ℕ) → Type 0
 AreFirst [] = Unit {0}
 AreFirst (None ∷ places) = (names_of places ≡ []) × AreFirst places

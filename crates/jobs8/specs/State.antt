@@ -57,7 +57,7 @@ AreIn files (name ∷ names) = IsIn files name × AreIn files names
 abbrev pub AreThere : State → List ℕ → Type 0
 AreThere s names = AreIn s.files names
 
--- of one of the names there is no file
+-- one of the names has no file
 abbrev pub IsOneOut : Files → List ℕ → Type 0
 IsOneOut files [] = ⊥
 IsOneOut files (name ∷ names) = (get files name ≡ None) ⊎ IsOneOut files names
@@ -73,8 +73,8 @@ pub record IsCrowded (s : State) (wanted largest : ℕ) : Type 0 where
   pub most : s.capacity ≤ used_of s.files + largest * (count_of s.files + 1)
   pub tight : s.tight ≡ true → largest + used_of s.files ≡ s.capacity
 
--- The directory may have fewer entries than the files after a change with an empty below each and one above all; where no
--- file had a free block below it, fewer than the files before and two more.
+-- The directory may have fewer entries than the files after a change with an empty below each and one above all. Where no
+-- file had a free block below it, they are fewer than the files before and two more.
 pub record IsFull (s : State) (after : Files) : Type 0 where
   pub files : s.limit < 2 * count_of after + 1
   pub tight : s.tight ≡ true → s.limit < count_of s.files + 2
@@ -83,7 +83,7 @@ pub record IsFull (s : State) (after : Files) : Type 0 where
 abbrev pub plain_file : State → List ℕ → FileData
 plain_file s words = (padded s.info [], words)
 
--- the state behind a file put under a name, new or old, where the jobs come to be others
+-- the state after a file is put under a name, new or old, where the jobs become others
 pub record HasPut (old : State) (name : ℕ) (words : List ℕ) (jobs : List (Option Job)) (new : State) : Type 0 where
   pub free : contains (held_by old.jobs) name ≡ false
   pub tight : get old.files name ≡ None → old.tight ≡ true → new.tight ≡ true

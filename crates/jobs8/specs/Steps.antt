@@ -1,4 +1,4 @@
--- What the small steps of a turn come to, for private clauses.
+-- What the small steps of a turn do, for private clauses.
 use Rattle.std.specs.Prelude.{◌≡◌, ◌≤◌, ◌<◌, ◌⊎◌, ℕ, ◌+◌, ◌-◌, false, true, Bool, Option, Some, None, Result, Ok, Err, List, [], ◌∷◌, ◌++◌, take, ◌*◌, length, slice_set}
 use Rattle.word12.specs.declared.sizes.TheConstants.{BLOCK, MOST_BLOCKS}
 use Rattle.std.specs.FinMap.{get}
@@ -64,8 +64,8 @@ is_assembled (Err why) = false
 
 -- ## Loading
 
--- What taking the other frames of a block comes to, behind frames before it: all are taken, or a fault is met, or memory
--- runs out where so many are taken.
+-- The result of taking the other frames of a block, after frames before it: all are taken, a fault is met, or memory runs out
+-- where so many are taken.
 abbrev pub TakesFrames : List ℕ → List ℕ → Result (Unit {0}) TapeFault → load.Loading → ℕ → Type 0
 TakesFrames before block (Ok nothing) loader offset = HasTaken loader (before ++ frames block) × (offset ≡ BLOCK_FRAMES)
 TakesFrames before block (Err Memory) loader offset = HasTaken loader (before ++ take offset (frames block)) × (offset < BLOCK_FRAMES)
@@ -74,13 +74,13 @@ TakesFrames before block (Err NoOrigin) loader offset = IsFault (before ++ frame
 TakesFrames before block (Err (CheckSum found computed)) loader offset = IsFault (before ++ frames block) (CheckSum found computed)
 TakesFrames before block (Err NoTrailer) loader offset = ⊥
 
--- what the end of frames that are a tape, or may go on as one, comes to
+-- the result of the end of frames that are a tape, or may go on as one
 abbrev pub EndsTape : List ℕ → Result (Unit {0}) JobFault → Type 0
 EndsTape given (Ok nothing) = (items : List Item) × IsTape given items
 EndsTape given (Err (fault.Tape why)) = (why ≡ NoTrailer) × IsFault given NoTrailer
 EndsTape given (Err why) = ⊥
 
--- What a turn that reads a block comes to.
+-- The result of a turn that reads a block.
 abbrev pub ReadsBlock : List ℕ → Loading → ℕ → Result (Unit {0}) JobFault → Loading → Type 0
 ReadsBlock words old left (Ok nothing) new = IsLoading words new (left - 1) × (new.hold ≡ old.hold) × IsMetNone words (old.done + 1)
 ReadsBlock words old left (Err fault.Memory) new = IsLoading words new left × (new.hold ≡ old.hold)
@@ -177,7 +177,7 @@ BeginsAssembly old target from (Err (fault.File (file.Busy other))) new =
 BeginsAssembly old target from (Err fault.Memory) new = HoldsAgain old new
 BeginsAssembly old target from (Err why) new = ⊥
 
--- What a turn that reads a block of the sources, of these words, comes to.
+-- The result of a turn that reads a block of the sources, of these words.
 abbrev pub ReadsSource : List (List ℕ) → Mounted → ℕ → Result (Unit {0}) JobFault → Mounted → Assembly → Type 0
 ReadsSource sources old left (Ok nothing) new it = HasReadOne old new × TakesBlock sources left (Ok tt) it.assembling
 ReadsSource sources old left (Err fault.Memory) new it = HasReadOne old new × IsAssembling sources it.assembling left
@@ -209,7 +209,7 @@ abbrev pub names_in : Option Job → List ℕ
 names_in None = []
 names_in (Some it) = held_by_work (work_of it.work)
 
--- the jobs behind a turn, where its end may have changed the directory
+-- the jobs after a turn, where its end may have changed the directory
 abbrev pub jobs_after : Bool → List (Option Job) → List (Option Job)
 jobs_after true jobs = disturbed jobs
 jobs_after false jobs = jobs
@@ -235,7 +235,7 @@ pub record LeavesHold (old : Mounted) (hold : ℕ) (after : Option Job) (new : M
   pub reads : ReadsOne old new
   pub others : new ≡ record old { reads = new.reads; failed_reads = new.failed_reads; holds = left_holds hold after old.holds }
 
--- What a turn of a job that loads comes to, with so many turns left: it answers, and hands the job back where it isn't at its
+-- The result of a turn of a job that loads, with so many turns left: it answers, and hands the job back where it isn't at its
 -- end.
 pub record TurnsLoading (old : Mounted) (core : List ℕ) (job : Loading) (left : ℕ) (answer : Answer) (after : Option Job) (new : Mounted) (core' : List ℕ) : Type 0 where
   pub kind : is_assembled answer ≡ false
@@ -249,7 +249,7 @@ pub record TurnsLoading (old : Mounted) (core : List ℕ) (job : Loading) (left 
   pub fits : FitsAfter job.hold after
   pub fewer : (answer ≡ Err fault.Memory → ⊥) → left_of after < left
 
--- What a turn of any job comes to: it answers, and hands the job back where it isn't at its end. A job that goes on holds what it
+-- The result of a turn of any job: it answers, and hands the job back where it isn't at its end. A job that goes on holds what it
 -- held, and one that ends holds nothing. Files that are held keep their words, and no more files have a free block below them,
 -- but where a target was put.
 pub record TurnsJob (old : Mounted) (core : List ℕ) (job : Job) (answer : Answer) (after : Option Job) (new : Mounted) (core' : List ℕ) : Type 0 where
@@ -270,7 +270,7 @@ pub record TurnsJob (old : Mounted) (core : List ℕ) (job : Job) (answer : Answ
   pub squeezed : (clean : Bool) → job.work ≡ work.Squeezing clean → TellsSqueeze job.left old answer new
   pub room : IfFile (WorkTellsRoom (work_of job.work) old) answer
 
--- What beginning a job that loads comes to.
+-- The result of beginning a job that loads.
 pub record HasBegunLoading (old : Mounted) (name : ℕ) (it : Loading) (left : ℕ) (new : Mounted) : Type 0 where
   pub running : old.stopped ≡ false
   pub words : List ℕ

@@ -36,8 +36,8 @@ pub record HasLoaded (old : State) (number from : ℕ) (new : State) : Type 0 wh
   pub laid : IsLoaded (frames (words_of old from)) old.core new.core
   pub others : new ≡ record old { core = new.core; jobs = with_job number None old.jobs }
 
--- Turn t of a job that loads a file of n blocks reads block t, and ends the job where the blocks so far show a fault;
--- turn n + 1 lays the tape over core.
+-- Turn t of a job that loads a file of n blocks reads block t, and ends the job where the blocks so far show a fault.
+-- Turn n + 1 lays the tape over core.
 abbrev pub LoadingAt : State → ℕ → ℕ → ℕ → ℕ → Answer → State → Type 0
 LoadingAt old number from left turn (Ok Working) new = IsMetNone (words_of old from) turn × HasWorked old number (loading from left) new
 LoadingAt old number from left turn (Ok (Loaded name)) new = (name ≡ from) × (left ≡ 1) × HasLoaded old number from new
@@ -57,7 +57,7 @@ pub record HasAssembled (old : State) (number to : ℕ) (sources : List (List �
   pub means : IsTapeOfSources sources (assembled_words sources)
   pub put : HasPut old to (assembled_words sources) (with_job number None old.jobs) new
 
--- Turn t of a job that assembles n blocks reads block t up to t = n, and then block t - n again; it ends the job where the
+-- Turn t of a job that assembles n blocks reads block t up to t = n, and then block t - n again. It ends the job where the
 -- blocks so far show a fault. Turn 2n + 1 puts the target.
 abbrev pub AssemblingAt : State → ℕ → ℕ → List ℕ → ℕ → List (List ℕ) → ℕ → Answer → State → Type 0
 AssemblingAt old number to from left sources turn (Ok Working) new = (known_at turn sources ≡ None) × HasWorked old number (assembling to from left) new

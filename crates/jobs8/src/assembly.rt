@@ -26,8 +26,8 @@ pub struct Assembly {
 }
 
 impl Assembly {
-    /// Begins to assemble files to another one. Each is held from now on, as often as it is named; and the turns that the job
-    /// may take: two for each block of them, and one more (this project's profile). Where one isn't there it is `NotFound`; then
+    /// Begins to assemble files to another one. Each is held from now on, as often as it is named. The turns that the job may
+    /// take are two for each block of them, and one more (this project's profile). Where one isn't there it is `NotFound`; then
     /// comes `Busy` with the target, where that is held or among them. Where it is refused, names are held as often as before.
     pub(crate) fn begin<S: BlockStore>(
         alloc: Global,

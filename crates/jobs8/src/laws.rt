@@ -34,8 +34,8 @@ pub fn job_put()
         → job_of other (with_job number job jobs) ≡ job_of other jobs }
 {}
 
-/// What stands between entries stays behind calls that keep the holds, and by which no more files have a free block below them;
-/// and where the jobs are told that the directory has changed, behind all calls that keep the holds.
+/// What stands between entries stays after calls that keep the holds, and by which no more files have a free block below them.
+/// Where it is noted for the jobs that the directory has changed, it stays after all calls that keep the holds.
 pub fn settled_calls()
     ensures kept { (old new : Mounted) (jobs : List (Option kept.Job)) → IsSettled old jobs
         → KeepsHolds old new → new.tentative ≡ None
@@ -54,13 +54,13 @@ pub fn held_names()
     counted_holds();
 }
 
-/// The jobs that are told of a change are those of the system machine that it has disturbed.
+/// The jobs for which a change is noted are those of the system machine that it has disturbed.
 pub fn disturbed_jobs()
     ensures { (jobs : List (Option kept.Job)) → plain_jobs (settled.disturbed jobs)
         ≡ disturbed (plain_jobs jobs) }
 {}
 
-/// A turn of a job that assembles or loads reads one block of the store at most; only one that squeezes changes the place of a
+/// A turn of a job that assembles or loads reads one block of the store at most. Only one that squeezes changes the place of a
 /// file that it doesn't put, and of one file at most.
 pub fn job_calls()
     ensures reads { (old new : Mounted) (it : Work) (left : ℕ) → WorkCalls it left old new

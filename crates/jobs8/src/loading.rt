@@ -36,7 +36,7 @@ pub struct Loading {
 }
 
 impl Loading {
-    /// Begins to load a file, which is held from now on; and the turns that the job may take: one for each block of the
+    /// Begins to load a file, which is held from now on. The turns that the job may take are one for each block of the
     /// file, and one more (this project's profile).
     pub(crate) fn begin<S: BlockStore>(
         alloc: Global,
@@ -198,7 +198,7 @@ pub(crate) fn loading_turn<S: BlockStore>(
     }
 }
 
-/// Takes the frames of a block from an offset on. Where memory runs out the offset tells how many were taken.
+/// Takes the frames of a block from an offset on. Where memory runs out the offset shows how many were taken.
 fn take_frames(loader: &mut Loader, block: &[Word], offset: &mut usize) -> Result<(), TapeFault>
     requires block { length block.now ≡ BLOCK }
     requires offset { offset.old ≤ BLOCK_FRAMES }

@@ -30,9 +30,9 @@ impl Jobs {
     }
 
     /// Begins a job that assembles files to another one: its number, the least that has no job. Each of them is held from now on,
-    /// as often as it is named, and the job has two turns for each of their blocks and one more. Where there are eight jobs it
-    /// is `TooManyJobs`; then come `NotFound` for a file that isn't there, and `Busy` with the target where a job holds it or it
-    /// is one of them (this project's profile).
+    /// as often as it is named, and the job has two turns for each of their blocks and one more. Where there are eight jobs it is
+    /// `TooManyJobs`. Then come `NotFound` for a file that isn't there, and `Busy` with the target where a job holds it or it is
+    /// one of them (this project's profile).
     pub fn assemble<S: BlockStore>(
         &mut self,
         alloc: Global,

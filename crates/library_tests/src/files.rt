@@ -108,8 +108,8 @@ fn while_writing<S: BlockStore>(alloc: Global, files: &mut FileService<S>) -> [u
     }
 }
 
-/// In an empty volume of 20 blocks: what a file of no name, calls while a file is written, a file of no blocks, one that is too
-/// long, one of all blocks and one more are refused as; and the length of the file 1 behind them.
+/// The refusals of calls in an empty volume of 20 blocks. They are a file of no name, calls while a file is written, a file
+/// of no blocks, one that is too long, one of all blocks and one more. Last comes the length of the file 1 after them.
 fn refused(alloc: Global) -> Option<[usize; 9]> {
     let mut files = mounted(alloc, MemoryVolume::create(alloc, 20).ok()?)?;
     let unnamed = begun(&mut files, Name::of([Word::ZERO; 4]));

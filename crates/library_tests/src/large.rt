@@ -50,7 +50,7 @@ fn last_tokens(alloc: Global, source: &[u8]) -> usize {
 #[test]
 fn many_statements_and_terms(rt: HostRuntime) {
     let bytes = source(rt.alloc());
-    // the last word is 20,000 modulo 4096, behind one in 0300
+    // the last word is 20,000 modulo 4096, after one in 0300
     let sum = (MANY + 1, 0o301, 0o7040);
     assert_eq!(rt; last_tokens(rt.alloc(), &bytes), 2 * MANY);
     assert_eq!(rt; seen(assemble(rt.alloc(), &bytes)), sum);

@@ -8,7 +8,7 @@ use std::alloc::Global;
 use std::test::Fail;
 use word12::Word;
 
-/// So many letters and the line's end are, with its CR and the control Z behind it, the characters of 4088 blocks.
+/// So many letters and the line's end are, with its CR and the control Z after it, the characters of 4088 blocks.
 const LETTERS: usize = 1_569_789;
 
 /// How many frames words have, and whether these are packed in the words, and in whole blocks, that they came from.

@@ -48,7 +48,7 @@ fn relink(volume: &mut MemoryVolume) {
 }
 
 /// How many blocks of a volume are read and written where it is mounted and its first file deleted, and where it is mounted
-/// again and the file is stored; nothing where one of these is refused.
+/// again and the file is stored. There is nothing where one of these is refused.
 fn counted(alloc: Global, volume: MemoryVolume) -> Option<[u64; 4]> {
     let mut files = mounted(alloc, CountVolume::new(volume))?;
     files.delete(alloc, &numbered(1)).ok()?;
@@ -82,7 +82,7 @@ fn segments_that_change(rt: HostRuntime) {
 }
 
 /// The least of blocks 1 to 6 that a failed write has filled, where the first file of a relinked volume is deleted and a write
-/// fails behind so many; 0 where none has.
+/// fails after so many. It is 0 where none has.
 fn filled_block(alloc: Global, passes: u32) -> Option<usize> {
     let mut relinked = hundred(alloc)?;
     relink(&mut relinked);

@@ -5,8 +5,8 @@ use std::alloc::Global;
 use std::slice;
 
 /// Sources, in which a bar stands for CR and LF, `^` for LF, and `~` stands between several sources that are one. Each of their
-/// statements has its line, its source, and of each token the places of its first byte and behind its last one, with an `x` for a
-/// name, a number or `.`, and a point for another. A fault has no statement.
+/// statements has its line, its source, and of each token the places of its first byte and after its last one. There an `x`
+/// stands for a name, a number or `.`, and a point for another. A fault has no statement.
 const ROWS: &str = "\
 1;^ T^AD \t I 17/;| -> ;01/00x00-01;01/00x04-08.08-09x11-12.12-13x13-15
 A, B = 1 - 2 + 3$ -> ;01/00x00-01.01-02x03-04.05-06x07-08.09-10x11-12.13-14x15-16
@@ -75,7 +75,7 @@ fn put_all(text: &mut Vec<u8>, lexer: &mut Lexer, bytes: &[u8]) {
     }
 }
 
-/// Whether the statements and tokens of a line's source are those that it tells.
+/// Whether the statements and tokens of a line's source are those that it gives.
 fn is_so(alloc: Global, line: &str) -> bool {
     let (source, wanted) = halves(line);
     let mut bytes = Vec::new(alloc);

@@ -1,4 +1,4 @@
--- What steps of the code that reads lists of extensions come to. No contract of a public function cites these.
+-- What steps of the code that reads lists of extensions do. No contract of a public function cites these.
 use Rattle.std.specs.Prelude.{ℕ, ◌==◌, if◌then◌else◌, List, [], ◌∷◌}
 use Rattle.many8.specs.Extensions.{items_of}
 
@@ -7,7 +7,7 @@ abbrev pub before_comma : List ℕ → List ℕ
 before_comma [] = []
 before_comma (character ∷ list) = if character == 0o54 then [] else character ∷ before_comma list
 
--- the items behind what stands from a comma on
+-- the items after what stands from a comma on
 abbrev pub items_behind : List ℕ → List (List ℕ)
 items_behind [] = []
 items_behind (comma ∷ list) = items_of list

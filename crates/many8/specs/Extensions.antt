@@ -1,4 +1,4 @@
--- Whether a file is a text by its name's extension, and lists of extensions (OS/8 Software Support Manual: a name's fourth word is its
+-- Texts by the extensions of their names, and lists of extensions (OS/8 Software Support Manual: a name's fourth word is its
 -- extension; the lists are this project's profile).
 use Rattle.std.specs.Prelude.{◌≡◌, ℕ, ◌+◌, ◌*◌, ◌%◌, ◌==◌, ◌&&◌, ◌||◌, Bool, true, false, if◌then◌else◌, codes, Option, Some, None, List, [], ◌∷◌, ◌++◌, length}
 use Rattle.std.specs.Option.{is_some}

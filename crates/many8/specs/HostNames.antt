@@ -28,7 +28,7 @@ has_no_slash (character ∷ text) = if is_slash character then false else has_no
 abbrev pub IsFolder : List ℕ → Type 0
 IsFolder folder = (folder ≡ []) ⊎ ((before : List ℕ) × (folder ≡ before ++ 0o57 ∷ []))
 
--- what stands behind the last slash of a path
+-- what stands after the last slash of a path
 pub record IsLastPart (path part : List ℕ) : Type 0 where
   pub folder : List ℕ
   pub path_is : path ≡ folder ++ part

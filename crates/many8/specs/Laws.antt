@@ -43,7 +43,7 @@ PutAreGot = (image : List ℕ) (before behind : List NewFile) (file : NewFile) (
     → PutsAll image (before ++ file ∷ behind) info (Ok new) → IsNoneOf file.name behind → OpensVolume new.bytes.items (Ok blocks) → found.name ≡ file.name
     → GetsFile blocks found form (Ok bytes) → IsGiven form (words_in file) bytes.items
 
--- so frames that were put are got again, with zeros behind them to the end of their last block
+-- so frames that were put are got again, with zeros after them to the end of their last block
 abbrev pub PutFramesAreGot : Type 0
 PutFramesAreGot = (image : List ℕ) (before behind : List NewFile) (file : NewFile) (info : Option (List ℕ)) (new : ManyImage) (blocks : List (List ℕ)) (found : VolumeFile) (bytes : Vec ℕ)
     → PutsAll image (before ++ file ∷ behind) info (Ok new) → IsNoneOf file.name behind → OpensVolume new.bytes.items (Ok blocks) → found.name ≡ file.name
@@ -72,7 +72,7 @@ SpelledAlone = (word : List ℕ) (spelled name : ℕ) → parsed_name word ≡ S
 
 -- ## Files of a volume
 
--- each file that is told of a volume lies on it where it is told
+-- each file that is listed of a volume lies on it where the list says
 abbrev pub EachLies : Type 0
 EachLies = (blocks : List (List ℕ)) (before behind : List VolumeFile) (file : VolumeFile) → files_on blocks ≡ before ++ file ∷ behind → (held : FileData) × LiesOn blocks file held
 

@@ -1,4 +1,4 @@
--- What steps of the code that matches names come to. No contract of a public function cites these.
+-- What steps of the code that matches names do. No contract of a public function cites these.
 use Rattle.std.specs.Prelude.{ℕ, Bool, true, List, [], ◌∷◌}
 use Rattle.many8.specs.Patterns.{are_within, is_none_left, like}
 

@@ -22,7 +22,7 @@ abbrev pub code_before : ℕ → List ℕ → List ℕ
 code_before code [] = if is_zero code then [] else code ∷ []
 code_before code (next ∷ codes) = code ∷ next ∷ codes
 
--- codes without the zeros behind the last other one
+-- codes without the zeros after the last other one
 abbrev pub without_zeros : List ℕ → List ℕ
 without_zeros [] = []
 without_zeros (code ∷ codes) = code_before code (without_zeros codes)
@@ -69,7 +69,7 @@ abbrev pub begins_so : (ℕ → Bool) → (List ℕ → Bool) → List ℕ → B
 begins_so first behind [] = false
 begins_so first behind (code ∷ codes) = first code && behind codes
 
--- some end of the codes fits: all of them, or those behind the first, and so on to none
+-- some end of the codes fits: all of them, or those after the first, and so on to none
 abbrev pub ends_so : (List ℕ → Bool) → List ℕ → Bool
 ends_so fits [] = fits []
 ends_so fits (code ∷ codes) = fits (code ∷ codes) || ends_so fits codes
@@ -79,7 +79,7 @@ abbrev pub like : List ℕ → List ℕ → Bool
 like [] = is_none_left
 like (character ∷ pattern) = if is_any character then ends_so (like pattern) else begins_so (stands_for character) (like pattern)
 
--- an extension is like what stands behind a dot; where no dot stands, there is none
+-- an extension is like what stands after a dot; where no dot stands, there is none
 abbrev pub like_extension : Option (List ℕ) → List ℕ → Bool
 like_extension None = is_none_left
 like_extension (Some pattern) = like pattern
@@ -104,7 +104,7 @@ are_of_pattern (character ∷ word) = (is_letter character || (is_digit characte
 abbrev pub are_within : ℕ → List ℕ → Bool
 are_within most part = nat_le 1 (length part) && (nat_le (length part) most && are_of_pattern part)
 
--- up to four behind a dot, where one stands
+-- up to four after a dot, where one stands
 abbrev pub is_extension_pattern : Option (List ℕ) → Bool
 is_extension_pattern None = true
 is_extension_pattern (Some part) = are_within 4 part

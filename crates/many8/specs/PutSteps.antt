@@ -1,4 +1,4 @@
--- What steps of the code that puts many files come to. No contract of a public function cites these.
+-- What steps of the code that puts many files do. No contract of a public function cites these.
 use Rattle.std.specs.Prelude.{◌≡◌, ℕ, ◌+◌, ◌<◌, Option, Result, Ok, Err, List, ◌++◌, length, map}
 use Rattle.os8_files.specs.Mounted.{Mounted}
 use Rattle.os8_dir.specs.declared.file_faults.FileFault.TheVariants.{Device}

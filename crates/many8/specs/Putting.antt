@@ -1,4 +1,4 @@
--- What putting many files into an image at once comes to.
+-- The result of putting many files into an image at once.
 use Rattle.std.specs.Prelude.{◌≡◌, ◌⊎◌, ℕ, ◌/◌, ◌<◌, ◌≤◌, Option, Result, Ok, Err, List, [], ◌∷◌, ◌++◌, length, map}
 use Rattle.word12.specs.declared.sizes.TheConstants.{FIRST_FILE_BLOCK}
 use Rattle.volume_image.specs.Image.{IsImageOf}
@@ -41,8 +41,8 @@ pub record KeepsUncovered (d : Listed) (old new : List (List ℕ)) : Type 0 wher
   pub first : block new 0 ≡ block old 0
   pub outside : (k : ℕ) → FIRST_FILE_BLOCK ≤ k → (k < d.first) ⊎ (end_of d ≤ k) → block new k ≡ block old k
 
--- The new image is that of the volume with all new files, and tells how many blocks each has. Block 0 and the blocks that the
--- directory does not cover keep their words.
+-- The new image is that of the volume with all new files, and the answer says how many blocks each has. Block 0 and the blocks
+-- that the directory does not cover keep their words.
 pub record HasPutAll (image : List ℕ) (files : List NewFile) (info : Option (List ℕ)) (new : ManyImage) : Type 0 where
   pub before : Mounted
   pub after : Mounted

@@ -6,8 +6,8 @@ use crate::{ChoiceFault, VolumeFile};
 use std::alloc::{AllocError, Global};
 
 /// The files that a word chooses, in their order: that of a typed name, or all that are like a pattern. A pattern is 1 to 12 capital
-/// letters, digits and signs, then nothing, or a dot and 1 to 4 more, where `*` stands for any characters, also none, and `?` for one;
-/// without a dot it is of names with no extension (this project's profile).
+/// letters, digits and signs, then nothing, or a dot and 1 to 4 more (this project's profile). In it `*` stands for any characters,
+/// also none, and `?` for one. Without a dot it is of names with no extension.
 pub fn chosen(
     alloc: Global,
     files: &[VolumeFile],

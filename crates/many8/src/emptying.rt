@@ -5,8 +5,8 @@ ghost use Rattle.many8.specs.Emptying as spec;
 use crate::VolumeFile;
 use os8_dir::Name;
 
-/// Whether bytes that are put under a name on a volume with these files would leave a file there without its words: there are none of
-/// them, and one of the files has the name (this project's profile).
+/// Whether bytes that are put under a name on a volume with these files would leave a file there without its words (this project's
+/// profile). That is so where there are no bytes, and one of the files has the name.
 pub fn empties(files: &[VolumeFile], name: Name, bytes: &[u8]) -> bool
     ensures { result ≡ spec.empties files.now name bytes.now }
 {

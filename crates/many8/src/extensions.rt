@@ -10,8 +10,8 @@ use word12::{Word, sixbit};
 /// The extensions of texts.
 const USUAL: &[u8] = b"BA,BI,FT,HL,LS,MA,PA,RA,SB,TX";
 
-/// Whether a file of a name is a text by its extension: by those that are usual, BA BI FT HL LS MA PA RA SB TX, and by lists such as
-/// `PA,TX`, in which an empty item means no extension (this project's profile).
+/// Whether a file of a name is a text by its extension (this project's profile). It counts by those that are usual, BA BI FT HL LS
+/// MA PA RA SB TX, and by lists such as `PA,TX`. An empty item of a list means no extension.
 pub fn is_text(name: Name, usual: bool, lists: &[String]) -> bool
     ensures { result ≡ spec.is_text name usual (map (λ list. list.bytes.items) lists.now) }
 {

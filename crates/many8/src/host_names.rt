@@ -13,8 +13,8 @@ use std::alloc::{AllocError, Global};
 /// The most bytes of a typed name.
 const MOST: usize = 9;
 
-/// The name of the host's file for a file of a volume: as it is typed, or for a name that no typed text spells `at-42` by its first
-/// block, which is no typed name (this project's profile).
+/// The name of the host's file for a file of a volume, as it is typed (this project's profile). For a name that no typed text
+/// spells it is `at-42` by its first block, which is no typed name.
 pub fn host_name(alloc: Global, file: &VolumeFile) -> Result<String, AllocError>
     ensures { IfOk result (λ text. NamesHost file.now text.bytes.items) }
 {
@@ -47,7 +47,7 @@ fn by_place(alloc: Global, place: usize) -> Result<String, AllocError>
     format!(in alloc; "at-{place}")
 }
 
-/// The name of a volume's file for a path of the host: what stands behind its last slash, with small letters raised, where that
+/// The name of a volume's file for a path of the host: what stands after its last slash, with small letters raised, where that
 /// spells a name (this project's profile).
 pub fn volume_name(path: &[u8]) -> Option<Name>
     ensures { NamesVolume path.now result }
@@ -55,7 +55,7 @@ pub fn volume_name(path: &[u8]) -> Option<Name>
     raised_name(last_part(path))
 }
 
-/// What stands behind the last slash of a path.
+/// What stands after the last slash of a path.
 fn last_part(path: &[u8]) -> &[u8]
     ensures { IsLastPart path.now result.now }
 {

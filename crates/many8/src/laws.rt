@@ -5,9 +5,9 @@ use char_pack::laws::packed_bytes;
 use os8_dir::laws::{files_found, sound_directory};
 use volume_image::image_round_trip;
 
-/// A law: of files that were put at once, one whose name no later one has is in the new image with the words of its bytes, of which
-/// what is got there is given: frames with zeros behind them to the end of their last block. Any other file is there as it was, and
-/// lies where it lay.
+/// A law: of files that were put at once, one whose name no later one has is in the new image with the words of its bytes. What is
+/// got there is given of these words: frames with zeros after them to the end of their last block. Any other file is there as it
+/// was, and lies where it lay.
 pub fn put_many_is_got()
     ensures there { PutAreThere }
     ensures got { PutAreGot }
@@ -26,7 +26,7 @@ pub fn words_choose()
     ensures one { SpelledAlone }
 {}
 
-/// A law: each file that is told of a volume lies on it where it is told, so it can be got.
+/// A law: each file that is listed of a volume lies on it where the list says, so it can be got.
 pub fn files_lie()
     ensures { EachLies }
 {

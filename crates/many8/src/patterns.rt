@@ -83,7 +83,7 @@ fn is_extension_like(pattern: &[u8], extension: Word) -> bool
     }
 }
 
-/// How many codes stand before the zeros behind the last other one.
+/// How many codes stand before the zeros after the last other one.
 fn code_count(codes: &[u16]) -> usize
     ensures codes { take result codes.now ≡ spec.without_zeros codes.now }
     ensures range { result ≤ length codes.now }

@@ -31,9 +31,9 @@ pub struct ManyImage {
     pub blocks: Vec<usize>,
 }
 
-/// The image with some files, put one after the other as `archive8::put` does it, all or none: each in place of an older file of its
-/// name, whose information words it keeps where none are given. The image that is handed in stays as it is (OS/8 Software Support
-/// Manual; the faults and their order are this project's profile). The first file that is refused is told by its place.
+/// The image with some files, put one after the other as `archive8::put` does it, all or none. Each is in place of an older file of
+/// its name, whose information words it keeps where none are given. The image that is handed in stays as it is (OS/8 Software
+/// Support Manual; the faults and their order are this project's profile). The place of the first file that is refused is given.
 pub fn put_all(
     alloc: Global,
     image: &[u8],
@@ -93,7 +93,7 @@ fn push_count(blocks: &mut Vec<usize>, count: usize) -> Result<(), AllocError>
     Ok(())
 }
 
-/// Puts a file that has a name into a volume, and tells how many blocks it has.
+/// Puts a file that has a name into a volume, and answers how many blocks it has.
 fn put_file(
     alloc: Global,
     service: &mut FileService<MemoryVolume>,

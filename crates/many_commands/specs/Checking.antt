@@ -1,4 +1,4 @@
--- The command that tells of the volumes in image files.
+-- The command that reports on the volumes in image files.
 use Rattle.std.specs.Prelude.{◌≡◌, ◌⊎◌, ℕ, ◌+◌, Bool, true, false, nat_eq, Option, None, Some, Result, Ok, Err, List, [], ◌∷◌, ◌++◌, codes, length, map}
 use Rattle.std.specs.Global.{Vec}
 use Rattle.hosts.specs.Event.{Event}
@@ -28,7 +28,7 @@ use Rattle.volume_commands.specs.Saving.{Prints}
 use Rattle.many_commands.specs.Progressing.{TellsProgress, WithProgress}
 use Rattle.many_commands.specs.declared.reports.Report.{Report}
 
--- ## What is told of an image
+-- ## The report of an image
 
 -- bytes that are no image are refused
 abbrev pub fault_of_image : ImageFault → ArchiveFault
@@ -38,17 +38,17 @@ fault_of_image image.TooLarge = archive.Image image.TooLarge
 fault_of_image (image.BadWord number) = archive.Image (image.BadWord number)
 fault_of_image image.Memory = archive.Refused Memory
 
--- all that the directory of an image still tells; the image is sound where this has no fault
+-- all that the directory of an image still shows; the image is sound where this has no fault
 abbrev pub SurveysAll : List ℕ → Result Report ArchiveFault → Type 0
 SurveysAll bytes (Ok report) = (survey : Survey) × IsSurveyed bytes survey × (report.text.items ≡ survey.text.items) × (report.is_sound ≡ nat_eq survey.faults 0)
 SurveysAll bytes (Err fault) = (why : ImageFault) × ReadsImage bytes (Err why) × (fault ≡ fault_of_image why)
 
--- what the directory of a sound image tells
+-- what the directory of a sound image shows
 abbrev pub ChecksSound : List ℕ → Result Report ArchiveFault → Type 0
 ChecksSound bytes (Ok report) = Checks bytes (Ok report.text) × (report.is_sound ≡ true)
 ChecksSound bytes (Err fault) = Checks bytes (Err fault)
 
--- what is told of an image of these bytes, with each fault or with the first alone
+-- the report of an image of these bytes, with each fault or with the first alone
 abbrev pub Reports : Bool → List ℕ → Result Report ArchiveFault → Type 0
 Reports true bytes result = SurveysAll bytes result
 Reports false bytes result = ChecksSound bytes result
@@ -71,7 +71,7 @@ EndsSound false (Err ending) = ending ≡ Failure
 abbrev pub PrintsReport : Report → List Event → Result (Unit {0}) Ending → List Event → Type 0
 PrintsReport report = Then (Prints report.text.items) (λ it. Purely (EndsSound report.is_sound))
 
--- An image file is looked at, and what is told of its bytes is printed. Where it is refused the command ends with that.
+-- An image file is looked at, and the report of its bytes is printed. Where it is refused the command ends with that.
 abbrev pub ChecksOne : Bool → Option Layout → List ℕ → List Event → Result (Unit {0}) Ending → List Event → Type 0
 ChecksOne is_all layout file = Then (Purely (IsImageOf file layout)) (λ form. Then (LooksAt form) (λ bytes. Then (Answers (Reports is_all bytes.items) (length bytes.items)) PrintsReport))
 
@@ -88,7 +88,7 @@ line_in FullOutput = None
 line_in NoReader = None
 line_in Misuse = None
 
--- an image that is refused with a line is told by that, and is not sound; any other ending ends the command
+-- an image that is refused with a line is reported by that, and is not sound; any other ending ends the command
 abbrev pub TellsLine : Option ProgramLine → Ending → Result Report Ending → Type 0
 TellsLine (Some it) ending (Ok report) = (report.text.items ≡ program_line it) × (report.is_sound ≡ false)
 TellsLine (Some it) ending (Err other) = other ≡ Fault Memory
@@ -98,7 +98,7 @@ TellsLine None ending (Err other) = other ≡ ending
 abbrev pub TellsRefusal : Ending → Result Report Ending → Type 0
 TellsRefusal ending = TellsLine (line_in ending) ending
 
--- what is told of bytes of an image among others
+-- the report of bytes of an image among others
 abbrev pub ReportsAmong : Bool → List ℕ → Result Report Ending → Type 0
 ReportsAmong is_all bytes result = ((report : Report) × Reports is_all bytes (Ok report) × (result ≡ Ok report))
     ⊎ ((fault : ArchiveFault) × Reports is_all bytes (Err fault) × TellsRefusal (ending_of_archive fault) result)
@@ -116,7 +116,7 @@ named_lines file text = prefixed (file ++ codes ": ") text
 abbrev pub PrintsNamed : List ℕ → Report → List Event → Result Bool Ending → List Event → Type 0
 PrintsNamed file report = Then (Purely (AreLines (named_lines file report.text.items))) (λ lines. Then (Prints lines.items) (λ it. Purely (λ result. result ≡ Ok report.is_sound)))
 
--- one of several images is told of
+-- one of several images is reported
 abbrev pub ChecksNext : CheckForm → Bool → ℕ → ℕ → List ℕ → List Event → Result Bool Ending → List Event → Type 0
 ChecksNext form is_told done all file = Then (TellsProgress is_told done all) (λ it. Then (Purely (IsImageOf file form.layout)) (λ one. Then (LooksAmong form.is_all one) (PrintsNamed file)))
 
@@ -125,7 +125,7 @@ abbrev pub with_refusal : Bool → ℕ → ℕ
 with_refusal true refused = refused
 with_refusal false refused = refused + 1
 
--- the images are told of in their order, and it is counted how many are refused
+-- the images are reported in their order, and it is counted how many are refused
 abbrev pub ChecksEach : CheckForm → Bool → ℕ → ℕ → ℕ → List (List ℕ) → List Event → Result ℕ Ending → List Event → Type 0
 ChecksEach form is_told done all refused [] = Purely (λ result. result ≡ Ok refused)
 ChecksEach form is_told done all refused (file ∷ files) = Then (ChecksNext form is_told done all file) (λ is_sound. ChecksEach form is_told (done + 1) all (with_refusal is_sound refused) files)
@@ -137,7 +137,7 @@ PrintsCount count refused = Then (Purely (AreLines (program_line (line.Images co
 abbrev pub ChecksSeveral : CheckForm → List (List ℕ) → List Event → Result (Unit {0}) Ending → List Event → Type 0
 ChecksSeveral form files = Then (WithProgress (λ is_told. ChecksEach form is_told 0 (length files) 0 files)) (PrintsCount (length files))
 
--- one file is told of as it is, and others with a line that counts them
+-- one file is reported as it is, and others with a line that counts them
 abbrev pub ChecksFiles : CheckForm → List (List ℕ) → List Event → Result (Unit {0}) Ending → List Event → Type 0
 ChecksFiles form [] = ChecksSeveral form []
 ChecksFiles form (file ∷ []) = ChecksOne form.is_all form.layout file

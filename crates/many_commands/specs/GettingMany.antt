@@ -58,7 +58,7 @@ pub record HasLaid (path bytes : List ℕ) (is_forced : Bool) (result : Result (
   pub tells : errors new ≡ errors old
   pub only : TouchesOnly path old new
 
--- a call failed, or it was told that there is a file of the path
+-- a call failed, or it was reported that there is a file of the path
 abbrev pub IsRefused : List ℕ → List Event → List Event → Type 0
 IsRefused path old new = (failures old < failures new) ⊎ (new ≡ there_call path true ∷ old)
 
@@ -71,7 +71,7 @@ LaysFile path bytes is_forced old (Err fault) new = HasLaid path bytes is_forced
 abbrev pub PrintsAnswer : Bool → List ℕ → List Event → Result Bool Ending → List Event → Type 0
 PrintsAnswer is_there text = Then (Purely (AreLines text)) (λ lines. Then (Prints lines.items) (λ it. Purely (λ result. result ≡ Ok is_there)))
 
--- what becomes of a file that is laid, or not: its line is printed; one that is not there is told after its name
+-- what becomes of a file that is laid, or not: its line is printed; one that is not there is reported after its name
 abbrev pub TellsLaid : VolumeFile → List ℕ → Result (Unit {0}) HostFault → List Event → Result Bool Ending → List Event → Type 0
 TellsLaid file name (Ok it) = PrintsAnswer true (program_line (line.Got file.name file.blocks))
 TellsLaid file name (Err host.Busy) = PrintsAnswer false (named_lines name (program_line line.HostExists))
@@ -103,19 +103,19 @@ abbrev pub IsPath : List ℕ → List ℕ → Result (String Global) Ending → 
 IsPath folder name (Ok path) = path.bytes.items ≡ path_in folder name
 IsPath folder name (Err ending) = ending ≡ Fault Memory
 
--- a file of the volume is written to the folder, and told; it is answered whether it is there
+-- a file of the volume is written to the folder, and reported; it is answered whether it is there
 abbrev pub GivesFile : GetManyForm → List (List ℕ) → VolumeFile → List Event → Result Bool Ending → List Event → Type 0
 GivesFile form blocks file = Then (Purely (TakesFile blocks file (get_form form.texts file.name))) (λ bytes. Then (Purely (IsHostName file)) (λ name.
     Then (Purely (IsPath form.folder.bytes.items name.bytes.items)) (λ path. LaysAndTells form file name.bytes.items path.bytes.items bytes.items)))
 
 -- ## What is asked for
 
--- the word is told with why it is refused
+-- the word is printed with why it is refused
 abbrev pub RefusesWord : Option (List ℕ) → FileFault → List Event → Result Bool Ending → List Event → Type 0
 RefusesWord None why = Purely (λ result. result ≡ Ok false)
 RefusesWord (Some word) why = PrintsAnswer false (named_lines word (fault_line (File why)))
 
--- a file is given, and before that it is told which of all it is; or a word, or a block, is refused
+-- a file is given, and before that it is printed which of all it is; or a word, or a block, is refused
 abbrev pub GivesWish : GetManyForm → List (List ℕ) → Bool → ℕ → ℕ → Wish → List Event → Result Bool Ending → List Event → Type 0
 GivesWish form blocks is_told all done (wish.File file) = Then (TellsProgress is_told (done + 1) all) (λ it. GivesFile form blocks file)
 GivesWish form blocks is_told all done (wish.BadWord place) = RefusesWord (slice_get (words_of form) place) BadName
@@ -152,7 +152,7 @@ GivesAsked form blocks = Then (Purely (AreFilesOn blocks)) (λ files. Then (Pure
     Then (WithProgress (λ is_told. GivesEach form blocks is_told (length files.items) 0 true wishes.items)) (λ are_there. Purely (EndsSound are_there)))))
 
 -- An image file is looked at, and the folder is made. Each file that is asked for is laid there, and its line is printed before the next one
--- is: it has its bytes whole, or is as it was, and it is refused where there is one of its name, unless older ones may go. A file that can't
--- be laid, and a word that asks for none, are told, and the work goes on.
+-- is. It has its bytes whole, or is as it was. It is refused where there is one of its name, unless older ones may go. A file that can't be
+-- laid, and a word that asks for none, are reported, and the work goes on.
 abbrev pub GetsMany : GetManyForm → List Event → Result (Unit {0}) Ending → List Event → Type 0
 GetsMany form = Then (TakesLists form.texts) (λ it. Then (LooksAt form.image) (λ image. Then (Answers (OpensVolume image.items) (length image.items)) (GivesAsked form)))

@@ -1,4 +1,4 @@
--- What steps of putting several files come to. No contract of a public function cites these.
+-- What steps of putting several files do. No contract of a public function cites these.
 use Rattle.std.specs.Prelude.{◌≡◌, ◌⊎◌, ℕ, List, slice_get}
 use Rattle.hosts.specs.Event.{Event}
 use Rattle.script8.specs.declared.faults.SessionFault.{SessionFault}
@@ -10,7 +10,7 @@ use Rattle.outcome.specs.declared.endings.Ending.TheVariants.{Fault}
 use Rattle.volume_commands.specs.Putting.{is_bad}
 use Rattle.many_commands.specs.PuttingMany.{RefusesMany, TellsPath, TellsText, WantsMemory}
 
--- why no file is put; where memory is wanted for what is told, that
+-- why no file is put; where memory is wanted for what is printed, that
 abbrev pub IsNotPut : List (List ℕ) → List NewFile → ManyFault → ℕ → List Event → Ending → List Event → Type 0
 IsNotPut paths files fault size old ending new = RefusesMany paths files fault size old ending new ⊎ WantsMemory paths fault old ending new
 

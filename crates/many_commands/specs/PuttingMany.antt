@@ -41,15 +41,15 @@ abbrev pub has_name : ℕ → List NewFile → Bool
 has_name name [] = false
 has_name name (file ∷ files) = nat_eq file.name name || has_name name files
 
--- the path is told, and what names are
+-- the path is printed, and what names are
 abbrev pub RefusesPath : List ℕ → List Event → Ending → List Event → Type 0
 RefusesPath path old ending new = (ending ≡ Fault (File BadName)) × (ok : Bool) × (other : Bool) × (new ≡ tell_call other (plain_text FileNames) ∷ tell_call ok (name_text NotPut path) ∷ old)
 
--- the path is told
+-- the path is printed
 abbrev pub RefusesName : List ℕ → List Event → Ending → List Event → Type 0
 RefusesName path old ending new = (ending ≡ Line SameName) × (ok : Bool) × (new ≡ tell_call ok (name_text NotPut path) ∷ old)
 
--- why a path gives no name: it spells none, an earlier file has it, or memory is wanted; the path is told
+-- why a path gives no name: it spells none, an earlier file has it, or memory is wanted; the path is printed
 abbrev pub IsNoName : List NewFile → List ℕ → List Event → Ending → List Event → Type 0
 IsNoName files path old ending new = (NamesVolume path None × RefusesPath path old ending new)
     ⊎ (((name : ℕ) × NamesVolume path (Some name) × (has_name name files ≡ true) × RefusesName path old ending new) ⊎ ((ending ≡ Fault Memory) × (new ≡ old)))
@@ -59,7 +59,7 @@ abbrev pub TakesName : List NewFile → List ℕ → List Event → Result ℕ E
 TakesName files path old (Ok name) new = NamesVolume path (Some name) × (has_name name files ≡ false) × (new ≡ old)
 TakesName files path old (Err ending) new = IsNoName files path old ending new
 
--- a file that is not read is told, unless memory is wanted for that
+-- a file that is not read is reported, unless memory is wanted for that
 abbrev pub TellsUnread : List ℕ → Ending → List Event → Ending → List Event → Type 0
 TellsUnread path why old ending new = ((ending ≡ why) × (ok : Bool) × (new ≡ tell_call ok (name_text NotPut path) ∷ old)) ⊎ ((ending ≡ Fault Memory) × (new ≡ old))
 
@@ -89,7 +89,7 @@ ReadsEach texts files (path ∷ paths) = Then (ReadsNext texts files path) (λ f
 
 -- ## What is refused
 
--- the place of the first file of no byte that would replace a file of the volume, where that of the first is told
+-- the place of the first file of no byte that would replace a file of the volume, where that of the first is given
 abbrev pub loss_from : List VolumeFile → ℕ → List NewFile → Option ℕ
 loss_from older place [] = None
 loss_from older place (file ∷ files) = if empties older file.name file.bytes.items then Some place else loss_from older (place + 1) files
@@ -100,12 +100,12 @@ FindsFiles image old (Ok files) new = (blocks : List (List ℕ)) × OpensVolume 
 FindsFiles image old (Err ending) new = ((fault : ArchiveFault) × OpensVolume image (Err fault) × Refuses fault (length image) old ending new)
     ⊎ ((ending ≡ Fault Memory) × (new ≡ old))
 
--- the path of a file of no byte is told
+-- the path of a file of no byte is printed
 abbrev pub TellsEmpty : Option (List ℕ) → List Event → List Event → Type 0
 TellsEmpty None old new = new ≡ old
 TellsEmpty (Some path) old new = (ok : Bool) × (new ≡ tell_call ok (name_text Empty path) ∷ old)
 
--- a file of no byte that would replace one is told, and none is put
+-- a file of no byte that would replace one is reported, and none is put
 abbrev pub RefusesLoss : List (List ℕ) → Option ℕ → List Event → Result (Unit {0}) Ending → List Event → Type 0
 RefusesLoss paths None old result new = IsDone result × (new ≡ old)
 RefusesLoss paths (Some place) old (Ok it) new = ⊥
@@ -131,23 +131,23 @@ KeepsWords form files image = KeepsIf (form.may_empty || not (has_empty files)) 
 
 -- ## The image with the files
 
--- the path of a file that is refused is told
+-- the path of a file that is refused is printed
 abbrev pub TellsPath : Option (List ℕ) → List Event → List Event → Type 0
 TellsPath None old new = new ≡ old
 TellsPath (Some path) old new = (ok : Bool) × (new ≡ tell_call ok (name_text NotPut path) ∷ old)
 
--- where a text is refused, it is told where it has the first byte that may not stand in one
+-- where a text is refused, it is printed where it has the first byte that may not stand in one
 abbrev pub TellsText : Bool → Option NewFile → List Event → List Event → Type 0
 TellsText false file old new = new ≡ old
 TellsText true None old new = new ≡ old
 TellsText true (Some file) old new = TellsBad file.bytes.items old new
 
--- why no file is put on the volume in an image of so many bytes; which file is refused is told
+-- why no file is put on the volume in an image of so many bytes; which file is refused is printed
 abbrev pub RefusesMany : List (List ℕ) → List NewFile → ManyFault → ℕ → List Event → Ending → List Event → Type 0
 RefusesMany paths files (many.Archive fault) size old ending new = Refuses fault size old ending new
 RefusesMany paths files (many.File place fault) size old ending new = (ending ≡ Fault fault) × (between : List Event) × TellsPath (slice_get paths place) old between × TellsText (is_bad fault) (slice_get files place) between new
 
--- memory is wanted for what is told, of which a part may be printed
+-- memory is wanted for what is printed, of which a part may be printed
 abbrev pub WantsMemory : List (List ℕ) → ManyFault → List Event → Ending → List Event → Type 0
 WantsMemory paths (many.Archive fault) old ending new = (ending ≡ Fault Memory) × (new ≡ old)
 WantsMemory paths (many.File place fault) old ending new = (ending ≡ Fault Memory) × ((new ≡ old) ⊎ TellsPath (slice_get paths place) old new)

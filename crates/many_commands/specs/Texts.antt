@@ -21,12 +21,12 @@ lists_of texts = map (λ list. list.bytes.items) texts.extensions.items
 abbrev pub is_one_of : TextsForm → ℕ → Bool
 is_one_of texts name = is_text name texts.is_usual (lists_of texts)
 
--- a note tells which word is no list, if it is known
+-- a note says which word is no list, if it is known
 abbrev pub TellsBadList : Option (List ℕ) → List Event → List Event → Type 0
 TellsBadList None old new = new ≡ old
 TellsBadList (Some list) old new = (ok : Bool) × (new ≡ tell_call ok (name_text BadExtensions list) ∷ old)
 
--- the words that are given are lists of extensions; the first that is none is told, and ends the command
+-- the words that are given are lists of extensions; the first that is none is printed, and ends the command
 abbrev pub TakesLists : TextsForm → List Event → Result (Unit {0}) Ending → List Event → Type 0
 TakesLists texts old (Ok it) new = AreLists (lists_of texts) × (new ≡ old)
 TakesLists texts old (Err ending) new = ((ending ≡ Misuse) × (place : ℕ) × IsFirstBad (lists_of texts) place × TellsBadList (slice_get (lists_of texts) place) old new)

@@ -1,4 +1,4 @@
-//! The command that tells of the volumes in image files. No file changes.
+//! The command that reports on the volumes in image files. No file changes.
 ghost use Rattle.std.specs.Prelude.{◌≡◌, ◌<◌, length, map};
 ghost use Rattle.report8.specs.Program.{program_line};
 ghost use Rattle.report8.specs.declared.programs.ProgramLine.TheVariants as line;
@@ -18,14 +18,14 @@ use std::alloc::Global;
 use task8::CheckForm;
 use volume_commands::{look_at, print};
 
-/// Tells of the volumes in image files. Of several each line has the name of the file before it, and the last line counts them.
+/// Reports on the volumes in image files. Of several each line has the name of the file before it, and the last line counts them.
 pub fn check_images<H: Host>(host: &mut H, alloc: Global, form: &CheckForm) -> Result<(), Ending>
     ensures { ChecksImages form.now (H.history host.old) result (H.history host.new) }
 {
     check_files(host, alloc, form, &form.images)
 }
 
-/// Tells of the images in these files.
+/// Reports on the images in these files.
 fn check_files<H: Host>(
     host: &mut H,
     alloc: Global,
@@ -40,7 +40,7 @@ fn check_files<H: Host>(
     }
 }
 
-/// Tells of the one image that is asked of.
+/// Reports on the one image that is asked for.
 fn check_one<H: Host>(
     host: &mut H,
     alloc: Global,
@@ -56,7 +56,7 @@ fn check_one<H: Host>(
     print_report(host, &report)
 }
 
-/// Prints what is told of an image, and ends the command.
+/// Prints the report of an image, and ends the command.
 fn print_report<H: Host>(host: &mut H, report: &Report) -> Result<(), Ending>
     ensures { PrintsReport report.now (H.history host.old) result (H.history host.new) }
 {
@@ -74,7 +74,7 @@ pub(crate) fn end_sound(is_sound: bool) -> Result<(), Ending>
     Err(Ending::Failure)
 }
 
-/// Tells of several images, and counts them.
+/// Reports on several images, and counts them.
 fn check_several<H: Host>(
     host: &mut H,
     alloc: Global,
@@ -87,7 +87,7 @@ fn check_several<H: Host>(
     print_count(host, alloc, files.len(), refused)
 }
 
-/// Tells of several images, with what is told of the progress, and answers how many are refused.
+/// Reports on several images, with what is printed of the progress, and answers how many are refused.
 fn count_refused<H: Host>(
     host: &mut H,
     alloc: Global,
@@ -102,7 +102,7 @@ fn count_refused<H: Host>(
     counted
 }
 
-/// Tells of each of several images, and answers how many are refused.
+/// Reports on each of several images, and answers how many are refused.
 fn check_each<H: Host>(
     host: &mut H,
     alloc: Global,
@@ -136,7 +136,7 @@ fn with_refusal(is_sound: bool, refused: usize) -> usize
     refused + 1
 }
 
-/// Tells of one of several images, of which so many are done, and answers whether it is sound.
+/// Reports on one of several images, of which so many are done, and answers whether it is sound.
 fn check_next<H: Host>(
     host: &mut H,
     alloc: Global,
@@ -155,7 +155,7 @@ fn check_next<H: Host>(
     print_named(host, alloc, file, &report)
 }
 
-/// Prints what is told of an image, each line with the name of its file before it, and answers whether it is sound.
+/// Prints the report of an image, each line with the name of its file before it, and answers whether it is sound.
 fn print_named<H: Host>(
     host: &mut H,
     alloc: Global,

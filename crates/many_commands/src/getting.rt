@@ -28,7 +28,7 @@ use std::alloc::{AllocError, Global};
 use task8::GetManyForm;
 use volume_commands::{look_at, refuse_image};
 
-/// Writes files of the volume in an image file to a folder, and tells of each. The image file doesn't change.
+/// Writes files of the volume in an image file to a folder, and reports each. The image file doesn't change.
 pub fn get_files<H: Host>(host: &mut H, alloc: Global, form: &GetManyForm) -> Result<(), Ending>
     ensures { GetsMany form.now (H.history host.old) result (H.history host.new) }
 {
@@ -81,7 +81,7 @@ fn make_folder<H: Host>(host: &mut H, folder: &str) -> Result<(), Ending>
     }
 }
 
-/// How the command ends whose folder is not made (this project's profile).
+/// How the command ends if its folder is not made (this project's profile).
 fn ending_of_folder(fault: HostFault) -> Ending
     ensures { (result ≡ Line HostWrite) ⊎ (result ≡ Fault session.Memory) }
 {
@@ -93,7 +93,7 @@ fn ending_of_folder(fault: HostFault) -> Ending
     }
 }
 
-/// Gives what is asked for, with what is told of the progress, and answers whether all is there.
+/// Gives what is asked for, with what is printed of the progress, and answers whether all is there.
 fn give_all<H: Host>(
     host: &mut H,
     alloc: Global,
@@ -176,7 +176,7 @@ fn give_wish<H: Host>(
     }
 }
 
-/// Gives a file, and tells before that which of all it is.
+/// Gives a file, and prints before that which of all it is.
 fn give_next<H: Host>(
     host: &mut H,
     alloc: Global,

@@ -22,7 +22,7 @@ use std::alloc::Global;
 use task8::GetManyForm;
 use volume_commands::print;
 
-/// Writes a file of a volume to the folder and tells of it, and answers whether it is there.
+/// Writes a file of a volume to the folder and reports it, and answers whether it is there.
 pub(crate) fn give_file<H: Host>(
     host: &mut H,
     alloc: Global,
@@ -133,7 +133,7 @@ fn lay_file<H: Host>(
     }
 }
 
-/// Prints the line of a file that is laid; of one that is not its name, and why.
+/// Prints the line of a file that is laid. Of one that is not it prints the name, and why.
 fn tell_laid<H: Host>(
     host: &mut H,
     alloc: Global,

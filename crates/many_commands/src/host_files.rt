@@ -46,7 +46,7 @@ fn add(files: &mut Vec<NewFile>, file: NewFile) -> Result<(), AllocError>
     Ok(())
 }
 
-/// The file of a path, whose name none of those has that are known; it is known from then on.
+/// The file of a path, whose name is none of those that are known. It is known from then on.
 fn read_next<H: Host>(
     host: &mut H,
     alloc: Global,
@@ -68,7 +68,7 @@ fn read_next<H: Host>(
     })
 }
 
-/// The name that a path gives a file, which none of those is that are known; it is known from then on.
+/// The name that a path gives a file, which is none of those that are known. It is known from then on.
 fn take_name<H: Host>(
     host: &mut H,
     alloc: Global,

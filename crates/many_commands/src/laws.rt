@@ -46,7 +46,7 @@ pub fn refused_changes()
 {}
 
 /// A command that gets several files to a folder changes no path but those of the folder, and replaces no file there unless that is asked
-/// for: what was there before is as it was. So no image changes.
+/// for. What was there before is as it was. So no image changes.
 pub fn gotten_files()
     ensures folder { (form : GetMany) → ChangesIn form.folder.bytes.items (GetsMany form) }
     ensures older { (form : GetMany) → form.is_forced ≡ false → NeverReplaces (GetsMany form) }

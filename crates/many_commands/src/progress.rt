@@ -1,23 +1,23 @@
-//! How far a long command is: told on a terminal whose owner sees no line of it, since standard output goes elsewhere.
+//! How far a long command is: printed on a terminal whose owner sees no line of it, since standard output goes elsewhere.
 ghost use Rattle.std.specs.Prelude.{◌≡◌};
 ghost use Rattle.many_commands.specs.Progressing.{BeginsProgress, EndsProgress, TellsDone};
 
 use hosts::{Host, Stream};
 use script8::text_lines::{TextLine, put, put_number};
 
-/// How many seconds a command works before it is told how far it is.
+/// How many seconds a command works before it prints how far it is.
 const PATIENCE: u64 = 2;
 
-/// What is told on standard error, from two seconds on and once a second, on one line that is written over. No memory is taken.
+/// What is printed on standard error, from two seconds on and once a second, on one line that is written over. No memory is taken.
 #[derive(Drop)]
 pub struct Progress {
-    /// Whether it is told at all.
+    /// Whether it is printed at all.
     pub is_told: bool,
 
     /// How many things the command has to do.
     pub all: usize,
 
-    /// The second at which it was told last.
+    /// The second at which it was printed last.
     last: u64,
 }
 
@@ -35,7 +35,7 @@ impl Progress {
         }
     }
 
-    /// Tells that so many are done.
+    /// Prints that so many are done.
     pub fn tell<H: Host>(&mut self, host: &mut H, done: usize)
         ensures tells { TellsDone self.old.is_told done self.old.all (H.history host.old) (H.history host.new) }
         ensures told { self.new.is_told ≡ self.old.is_told }
@@ -60,7 +60,7 @@ impl Progress {
         }
     }
 
-    /// Takes away what was told.
+    /// Takes away what was printed.
     pub fn end<H: Host>(&self, host: &mut H)
         ensures { EndsProgress self.now.is_told (H.history host.old) (H.history host.new) }
     {
@@ -70,7 +70,7 @@ impl Progress {
     }
 }
 
-/// Whether progress is told; then the clock is begun.
+/// Whether progress is printed; then the clock is begun.
 fn begin_clock<H: Host>(host: &mut H) -> bool
     ensures { BeginsProgress result (H.history host.old) (H.history host.new) }
 {

@@ -23,7 +23,7 @@ use task8::PutManyForm;
 use volume_commands::{Image, refuse_image, store, tell_note};
 use word12::Word;
 
-/// Makes files of the host files of the volume in an image file, all or none, and tells of each.
+/// Makes files of the host files of the volume in an image file, all or none, and reports each.
 pub fn put_files<H: Host>(host: &mut H, alloc: Global, form: &PutManyForm) -> Result<(), Ending>
     ensures { PutsMany form.now (H.history host.old) result (H.history host.new) }
 {
@@ -173,7 +173,7 @@ fn image_with<H: Host>(
     }
 }
 
-/// How the command ends of which a file is refused, or its image of so many bytes. What may help is printed.
+/// How the command ends if a file of it is refused, or its image of so many bytes. What may help is printed.
 fn refuse_many<H: Host>(
     host: &mut H,
     alloc: Global,

@@ -1,4 +1,4 @@
-//! What is told of an image.
+//! The report of an image.
 ghost use Rattle.std.specs.Prelude.{◌≡◌, length};
 ghost use Rattle.volume_commands.specs.Answers.{Answers};
 ghost use Rattle.outcome.specs.declared.endings.Ending.TheVariants.{Line};
@@ -16,14 +16,14 @@ use task8::ImageForm;
 use volume_commands::{look_at, refuse_image};
 use volume_image::ImageFault;
 
-/// What is told of an image: its lines, and whether it has no fault.
+/// The report of an image: its lines, and whether it has no fault.
 #[derive(Drop)]
 pub struct Report {
     pub text: Vec<u8>,
     pub is_sound: bool,
 }
 
-/// What is told of the one image that is asked of. Where it is refused, what may help is printed.
+/// The report of the one image that is asked for. Where it is refused, what may help is printed.
 pub(crate) fn report_on<H: Host>(
     host: &mut H,
     alloc: Global,
@@ -38,7 +38,7 @@ pub(crate) fn report_on<H: Host>(
     }
 }
 
-/// What is told of the image in one of several files: a refusal by its line.
+/// The report of the image in one of several files: a refusal by its line.
 pub(crate) fn report_among<H: Host>(
     host: &mut H,
     alloc: Global,
@@ -53,7 +53,7 @@ pub(crate) fn report_among<H: Host>(
     }
 }
 
-/// What is told of an image among others.
+/// The report of an image among others.
 fn report_or_line(alloc: Global, image: &[u8], is_all: bool) -> Result<Report, Ending>
     ensures { ReportsAmong is_all image.now result }
 {
@@ -63,7 +63,7 @@ fn report_or_line(alloc: Global, image: &[u8], is_all: bool) -> Result<Report, E
     }
 }
 
-/// What is told of an image that is refused so: its line, if it has one of its own.
+/// The report of an image that is refused so: its line, if it has one of its own.
 fn refusal_report(alloc: Global, ending: Ending) -> Result<Report, Ending>
     ensures { TellsRefusal ending result }
 {
@@ -90,7 +90,7 @@ fn line_report(alloc: Global, line: ProgramLine) -> Result<Report, Ending>
     })
 }
 
-/// What is told of an image: what its directory says, or all that is left of one that is not sound.
+/// The report of an image: what its directory says, or all that is left of one that is not sound.
 fn report_of(alloc: Global, image: &[u8], is_all: bool) -> Result<Report, ArchiveFault>
     ensures { Reports is_all image.now result }
 {

@@ -1,10 +1,10 @@
-//! What a person at a terminal is told of a line of a script that is none.
+//! What is printed at a terminal for a line of a script that is none.
 
 use command8::SCRIPT_LINES;
 use outcome::command_hint;
 
-/// What a line of a script is told that is none: the form of the command that its first word names, in letters of either size, with
-/// what it does; else all commands.
+/// What is printed for a line of a script that is none. It is the form of the command that its first word names, in letters of
+/// either size, with what it does; else all commands.
 pub fn line_hint(line: &[u8]) -> &'static str {
     let word = first_word(line);
     for form in SCRIPT_LINES.lines().skip(1) {

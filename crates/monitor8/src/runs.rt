@@ -57,8 +57,8 @@ fn session_over<R: Eprint + AllocGlobal>(
     }
 }
 
-/// What goes on beside a script: its image is written when it is to be, refusals are seen, and a person at a terminal is told the form of
-/// a bad line.
+/// What goes on beside a script. Its image is written when it is to be, refusals are seen, and a person at a terminal is shown the form
+/// of a bad line.
 #[derive(Drop)]
 struct Run<'a, R> {
     rt: &'a R,
@@ -134,7 +134,7 @@ impl<'a, R: Files<File = File> + Eprint> Watcher<MemoryVolume> for Run<'a, R> {
     }
 }
 
-/// Whether the image may be another behind this answer; it is not where the console or a list of files was asked for, or a job was begun.
+/// Whether the image may be another after this answer; it is not where the console or a list of files was asked for, or a job was begun.
 fn may_have_changed(answer: &Result<Reply, SessionFault>) -> bool {
     match answer {
         Ok(Reply::Report(_)) => false,

@@ -31,7 +31,7 @@ refusal true note line = record { output = []; errors = note ++ line; status = 1
 abbrev pub silence : ℕ → Said
 silence status = record { output = []; errors = []; status = status }
 
--- standard output takes no more, which standard error is told
+-- standard output takes no more, and a line on standard error says so
 abbrev pub full_output : Said
 full_output = record { output = []; errors = fault_line Writer; status = 1 }
 

@@ -5,12 +5,12 @@ use Rattle.task8.specs.declared.tasks.Task.TheVariants as task
 use Rattle.task8.specs.declared.tasks.RimForm.{RimForm}
 use Rattle.task8.specs.declared.tasks.RimForm.TheVariants.{Lines, Bin}
 
--- A BIN tape is data, and the words of a RIM tape are lines. What is assembled onto a volume is told by a line.
+-- A BIN tape is data, and the words of a RIM tape are lines. What is assembled onto a volume is reported by a line.
 abbrev pub rim_is_data : RimForm → Bool
 rim_is_data Bin = true
 rim_is_data Lines = false
 
--- Whether what a task puts on standard output is data, so that no refusal is printed there.
+-- Whether what a task puts on standard output is data, so no refusal is printed there.
 abbrev pub gives_data : Task → Bool
 gives_data (task.Rim tape form) = rim_is_data form
 gives_data (task.Source form) = true

@@ -139,7 +139,7 @@ impl From<io::Error> for Ending {
     }
 }
 
-/// How a command ends whose call for what is read failed by a fault of this kind.
+/// How a command ends if its call for what is read failed by a fault of this kind.
 fn ending_of_input(kind: ErrorKind) -> Ending
     ensures { result ≡ ending_of_input kind }
 {

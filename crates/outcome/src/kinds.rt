@@ -8,8 +8,8 @@ use report8::ProgramLine;
 use script8::SessionFault;
 use std::io::ErrorKind;
 
-/// How a command ends whose output failed by a fault of this kind: silently where it is a pipe that nobody reads any more, as behind
-/// `| head`, and else with a line on standard error (this project's profile).
+/// How a command ends if its output failed by a fault of this kind (this project's profile). It ends silently where the output is
+/// a pipe that nobody reads any more, as with `| head`, and else with a line on standard error.
 pub fn ending_of_output(kind: ErrorKind) -> Ending
     ensures { result ≡ spec.ending_of_output kind }
 {
@@ -19,7 +19,7 @@ pub fn ending_of_output(kind: ErrorKind) -> Ending
     }
 }
 
-/// How a command ends whose image can't be held, or can't be read (this project's profile).
+/// How a command ends if its image can't be held, or can't be read (this project's profile).
 pub fn ending_of_read(fault: HoldFault) -> Ending
     ensures { result ≡ spec.ending_of_read fault }
 {
@@ -32,7 +32,7 @@ pub fn ending_of_read(fault: HoldFault) -> Ending
     }
 }
 
-/// How a command ends whose file for this can't be held to be written, and is as it was (this project's profile).
+/// How a command ends if its file for this can't be held to be written, and is as it was (this project's profile).
 pub fn ending_of_write(content: Content, fault: HoldFault) -> Ending
     ensures { result ≡ spec.ending_of_write content fault }
 {

@@ -1,4 +1,4 @@
-//! Room for the last line of a command, which is taken before its work is begun, so that the line never wants memory.
+//! Room for the last line of a command, which is taken before its work is begun, so the line never wants memory.
 ghost use Rattle.std.specs.Prelude.{◌≡◌, ◌≤◌, [], vec_len, vec_capacity};
 ghost use Rattle.script8.specs.Replies.{fault_line};
 ghost use Rattle.script8.specs.declared.faults.SessionFault.TheVariants.{Memory};

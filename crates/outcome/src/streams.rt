@@ -4,7 +4,7 @@ ghost use Rattle.outcome.specs.Streams.{gives_data};
 
 use task8::{RimForm, Task};
 
-/// Whether what a task puts on standard output is data, so that no refusal is printed there (this project's profile).
+/// Whether what a task puts on standard output is data, so no refusal is printed there (this project's profile).
 pub fn gives_data(task: &Task) -> bool
     ensures { result ≡ gives_data task.now }
 {

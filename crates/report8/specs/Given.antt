@@ -4,7 +4,7 @@ use Rattle.word12.specs.declared.sizes.TheConstants.{CORE}
 use Rattle.bin_tape.specs.Items.{Item, tape_map}
 use Rattle.bin_tape.specs.Tape.{IsTape}
 
--- the frames are a tape, and these flags, one for each cell of core, tell to which it gives a word
+-- the frames are a tape, and these flags, one for each cell of core, say to which it gives a word
 pub record AreGiven (frames : List ℕ) (flags : List Bool) : Type 0 where
   pub items : List Item
   pub is_tape : IsTape frames items

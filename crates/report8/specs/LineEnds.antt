@@ -1,7 +1,7 @@
 -- The ends of the lines of a text of the host (this project's profile).
 use Rattle.std.specs.Prelude.{ℕ, nat_eq, Bool, false, ◌&&◌, if◌then◌else◌, List, [], ◌∷◌, ◌++◌}
 
--- what a byte becomes, behind a CR or not: a CR ends a line as LF does, and the LF of CR LF ends no further one
+-- what a byte becomes, after a CR or not: a CR ends a line as LF does, and the LF of CR LF ends no further one
 abbrev pub line_end_of : Bool → ℕ → List ℕ
 line_end_of behind_return byte = if nat_eq byte 0o12 && behind_return then [] else if nat_eq byte 0o15 then 0o12 ∷ [] else byte ∷ []
 

@@ -16,8 +16,8 @@ pub record IsListed (frames text : List ℕ) : Type 0 where
   pub is_tape : IsTape frames items
   pub lines : text ≡ lines_below items CORE
 
--- What listing a reader's tape comes to: its lines are written and nothing else; on a fault of the tape, of the reader
--- or of memory nothing is written.
+-- The result of listing a reader's tape: its lines are written and nothing else. On a fault of the tape, of the reader or of memory
+-- nothing is written.
 abbrev pub ListsTape : Option (List ℕ) → Option (List ℕ) → Option (List ℕ) → Option (List ℕ) → Result (Unit {0}) SessionFault → Type 0
 ListsTape r r' w w' (Ok nothing) = (frames : List ℕ) × (text : List ℕ) × IsRead r r' frames × IsListed frames text × Appends w w' text
 ListsTape r r' w w' (Err (Tape fault)) = (frames : List ℕ) × IsRead r r' frames × IsFault frames fault × Keeps w w'
@@ -26,7 +26,7 @@ ListsTape r r' w w' (Err Memory) = Keeps w w'
 ListsTape r r' w w' (Err Writer) = (frames : List ℕ) × (text : List ℕ) × IsRead r r' frames × IsListed frames text
 ListsTape r r' w w' (Err fault) = ⊥
 
--- What listing frames comes to: the lines of a tape are written and nothing else; on a fault of the tape or of memory nothing is written.
+-- The result of listing frames: the lines of a tape are written and nothing else; on a fault of the tape or of memory nothing is written.
 abbrev pub ListsFrames : List ℕ → Option (List ℕ) → Option (List ℕ) → Result (Unit {0}) SessionFault → Type 0
 ListsFrames frames w w' (Ok nothing) = (text : List ℕ) × IsListed frames text × Appends w w' text
 ListsFrames frames w w' (Err (Tape fault)) = IsFault frames fault × Keeps w w'

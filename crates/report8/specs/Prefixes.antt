@@ -5,7 +5,7 @@ use Rattle.std.specs.Prelude.{ℕ, nat_eq, Bool, true, if◌then◌else◌, List
 abbrev pub prefixed_byte : List ℕ → Bool → ℕ → List ℕ
 prefixed_byte prefix begins byte = (if begins then prefix else []) ++ byte ∷ []
 
--- behind each LF a line begins
+-- after each LF a line begins
 abbrev pub prefixed_from : List ℕ → Bool → List ℕ → List ℕ
 prefixed_from prefix begins [] = []
 prefixed_from prefix begins (byte ∷ bytes) = prefixed_byte prefix begins byte ++ prefixed_from prefix (nat_eq byte 0o12) bytes

@@ -23,7 +23,7 @@ abbrev pub IsRimWritten : RimForm → List ℕ → List ℕ → Type 0
 IsRimWritten Bin frames bytes = IsBinOf frames bytes
 IsRimWritten Lines frames bytes = IsRimListed frames bytes
 
--- What writing a reader's RIM tape comes to: the tape or its lines are written and nothing else; on a fault of the tape, of the reader
+-- The result of writing a reader's RIM tape: the tape or its lines are written and nothing else. On a fault of the tape, of the reader
 -- or of memory nothing is written.
 abbrev pub WritesRim : RimForm → Option (List ℕ) → Option (List ℕ) → Option (List ℕ) → Option (List ℕ) → Result (Unit {0}) RimTextFault → Type 0
 WritesRim form r r' w w' (Ok nothing) = (frames : List ℕ) × (bytes : List ℕ) × IsRead r r' frames × IsRimWritten form frames bytes × Appends w w' bytes

@@ -17,7 +17,7 @@ fault_of_list (list.NoStart start) = NoStart start
 fault_of_list (list.Names line why) = Names line why
 fault_of_list list.Memory = Session Memory
 
--- a text is the source of frames: with the instructions that a program reaches, where its starts are told, else with all words as such
+-- a text is the source of frames: with the instructions that a program reaches, where its starts are given, else with all words as such
 abbrev pub IsPlainText : List ℕ → List ℕ → List ℕ → Type 0
 IsPlainText frames [] text = IsSourceOf frames text
 IsPlainText frames (start ∷ starts) text = IsSourceFrom frames (start ∷ starts) text
@@ -37,7 +37,7 @@ abbrev pub IsTextFault : List ℕ → List ℕ → Option (List ℕ) → ListFau
 IsTextFault frames starts None fault = IsFlowFault frames starts fault
 IsTextFault frames starts (Some names) fault = IsNamedFault frames starts names fault
 
--- What writing such a source comes to: it is written and nothing else; on a fault of the tape, of a start, of the names or of memory
+-- The result of writing such a source: it is written and nothing else; on a fault of the tape, of a start, of the names or of memory
 -- nothing is.
 abbrev pub PutsSource : List ℕ → List ℕ → Option (List ℕ) → Option (List ℕ) → Option (List ℕ) → Result (Unit {0}) SourceFault → Type 0
 PutsSource frames starts names w w' (Ok nothing) = (text : List ℕ) × IsSourceText frames starts names text × Appends w w' text

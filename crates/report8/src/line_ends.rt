@@ -18,7 +18,7 @@ pub fn with_line_feeds(alloc: Global, bytes: &[u8]) -> Result<Vec<u8>, AllocErro
     Ok(text)
 }
 
-/// Appends what a byte becomes, behind a CR or not.
+/// Appends what a byte becomes, after a CR or not.
 fn put_byte(text: &mut Vec<u8>, behind_return: bool, byte: u8) -> Result<(), AllocError>
     ensures { OnOk result (text.new.items ≡ text.old.items ++ line_end_of behind_return byte) }
 {

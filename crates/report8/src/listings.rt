@@ -14,8 +14,8 @@ use std::alloc::{AllocError, Global};
 use std::io::{Read, Write};
 use word12::{CORE, Cell, Word};
 
-/// Reads a BIN tape to the reader's end, and writes a line `F AAAA WWWW` for each cell that it gives a word, by rising
-/// field and address, with the last word that it gives it.
+/// Reads a BIN tape to the reader's end, and writes a line `F AAAA WWWW` for each cell that it gives a word. The lines
+/// stand by rising field and address, with the last word that it gives the cell.
 ///
 /// At most 16,777,217 bytes are taken; where the last of these comes the answer is `Reader`.
 pub fn tape_text<R: Read, W: Write>(

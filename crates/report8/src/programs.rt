@@ -188,7 +188,7 @@ fn put_line(text: &mut TextLine, line: ProgramLine)
     }
 }
 
-/// Puts of how many images how many were refused, into an empty line.
+/// Puts how many of how many images were refused into an empty line.
 fn put_images(text: &mut TextLine, count: usize, refused: usize)
     requires { array_vec_len text.old ≡ 0 }
     ensures text { text.new.items ≡ text.old.items ++ spec.images_text count refused }

@@ -72,10 +72,10 @@ pub fn source_text<R: Read, W: Write>(
     Ok(())
 }
 
-/// Writes the PAL III source of a BIN tape: it assembles without a fault to the last words that the tape gives its cells (PAL III
-/// Symbolic Assembler manual, and this project's profile of it). Where a program is to start at some cells, just the words that it
-/// reaches stand as instructions, and the first of these cells to which the tape gives no word is refused. Where a text gives cells
-/// names, a line `FAAAA NAME` each, these are their tags, and its first line that is refused is told.
+/// Writes the PAL III source of a BIN tape (PAL III Symbolic Assembler manual, and this project's profile of it). It assembles
+/// without a fault to the last words that the tape gives its cells. Where a program is to start at some cells, just the words that
+/// it reaches stand as instructions. The first of these cells to which the tape gives no word is refused. Where a text gives cells
+/// names, a line `FAAAA NAME` each, these are their tags, and its first line that is refused is reported.
 pub fn put_source<W: Write>(
     alloc: Global,
     frames: &[u8],
@@ -91,7 +91,7 @@ pub fn put_source<W: Write>(
     Ok(())
 }
 
-/// The source of frames, by where a program starts, if it is told, and with names, if some are given.
+/// The source of frames, by where a program starts, if it is given, and with names, if some are given.
 fn text_of(
     alloc: Global,
     frames: &[u8],
@@ -109,7 +109,7 @@ fn text_of(
     }
 }
 
-/// The source of frames, by where a program starts, if it is told.
+/// The source of frames, by where a program starts, if it is given.
 fn plain_text(alloc: Global, frames: &[u8], starts: &[Cell]) -> Result<Vec<u8>, ListFault>
     ensures source { IfOk result (λ text. IsPlainText frames.now starts.now text.items) }
     ensures fault { IfErr result (λ fault. IsFlowFault frames.now starts.now fault) }

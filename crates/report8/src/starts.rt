@@ -12,8 +12,8 @@ use word12::{Cell, Word};
 /// Where programs mostly begin.
 const USUAL: u16 = 0o200;
 
-/// The cell at which a tape's program is started where nothing else is said: 00200 if the tape gives it a word, else the cell of its
-/// first word; none where it gives none (this project's profile). Of frames that are no tape nothing is claimed.
+/// The cell at which a tape's program is started where nothing else is said (this project's profile). It is 00200 if the tape gives
+/// it a word, else the cell of its first word; none where it gives none. Of frames that are no tape nothing is claimed.
 pub fn start_cell(frames: &[u8]) -> Option<Cell>
     ensures { (items : List Item) → IsTape frames.now items → result ≡ start_cell (words_of items) }
 {
@@ -38,7 +38,7 @@ fn gives_word(frames: &[u8], cell: Cell) -> bool
     is_given
 }
 
-/// Whether a cell has a word behind one more frame.
+/// Whether a cell has a word after one more frame.
 fn is_given_behind(is_given: bool, came: Result<Tape, TapeFault>, cell: Cell) -> bool
     ensures { (out : List (ℕ × ℕ)) → is_given ≡ gives_word out cell
         → result ≡ gives_word (out ++ words_in came) cell }
@@ -59,8 +59,8 @@ fn is_word_of(came: Result<Tape, TapeFault>, cell: Cell) -> bool
     }
 }
 
-/// The cell of the first word that a tape gives; none where it gives none, as one of an origin and a check sum alone (this project's
-/// profile: a program begins there where nothing else is said). Of frames that are no tape nothing is claimed.
+/// The cell of the first word that a tape gives (this project's profile: a program begins there where nothing else is said). There
+/// is none where it gives none, as one of an origin and a check sum alone. Of frames that are no tape nothing is claimed.
 pub fn first_cell(frames: &[u8]) -> Option<Cell>
     ensures { (items : List Item) → IsTape frames.now items → result ≡ first_cell (words_of items) }
 {
@@ -73,7 +73,7 @@ pub fn first_cell(frames: &[u8]) -> Option<Cell>
     first
 }
 
-/// The cell of the first word behind one more frame.
+/// The cell of the first word after one more frame.
 fn first_behind(first: Option<Cell>, came: Result<Tape, TapeFault>) -> Option<Cell>
     ensures { (out : List (ℕ × ℕ)) → first ≡ first_cell out → result ≡ first_cell (out ++ words_in came) }
 {

@@ -20,7 +20,7 @@ AreFilesThere info there blocks (f ∷ files) (None ∷ refusals) =
     (get there f.name ≡ Some (padded info f.info, run blocks f.place f.size)) × AreFilesThere info there blocks files refusals
 AreFilesThere info there blocks (f ∷ files) (Some refusal ∷ refusals) = AreFilesThere info there blocks files refusals
 
--- each file that a survey tells as sound, and that is not refused, is a file of the new volume with the same words
+-- each file that a survey reports as sound, and that is not refused, is a file of the new volume with the same words
 abbrev pub EachFileIsThere : Type 0
 EachFileIsThere = (image : List ℕ) (salvage : Salvage) (s : IsSalvaged image salvage)
     → AreFilesThere (info_of s.of_blocks.fitted.rescued.blocks) (files_of s.of_blocks.fitted.rescued.blocks) s.blocks (files_found (findings s.blocks)) s.of_blocks.volume.refusals.items

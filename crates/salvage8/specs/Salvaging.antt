@@ -1,4 +1,4 @@
--- The files that a damaged volume still tells, in a new one (this project's profile).
+-- The files that a damaged volume still shows, in a new one (this project's profile).
 use Rattle.std.specs.Prelude.{◌≡◌, ℕ, ◌+◌, ◌&&◌, Bool, true, nat_eq, if◌then◌else◌, codes, decimal, Option, None, Some, Result, Ok, Err, List, [], ◌∷◌, ◌++◌, length, drop}
 use Rattle.volume_image.specs.Image.{IsImageOf, ReadsImage}
 use Rattle.os8_dir.specs.Files.{run}
@@ -75,8 +75,8 @@ rescued_line files = codes "RESCUED " ++ decimal files ++ 0o12 ∷ []
 
 -- ## The new volume
 
--- Of a volume of these blocks each file that a survey tells as sound is put into a new one of as many blocks, with its words. What the
--- survey tells of faults, and what is not put or not whole, is in the lines.
+-- Of a volume of these blocks each file that a survey reports as sound is put into a new one of as many blocks, with its words. What
+-- the survey reports of faults, and what is not put or not whole, is in the lines.
 pub record IsSalvageOf (blocks : List (List ℕ)) (salvage : Salvage) : Type 0 where
   pub kept : List KeptFile
   pub files : AreFilesOf blocks (files_found (findings blocks)) kept
@@ -107,6 +107,6 @@ Salvages image (Err fault) = IsNoImage image fault
 abbrev pub rescued_text : Salvage → List ℕ
 rescued_text salvage = salvage.losses.items ++ rescued_line salvage.files
 
--- no line tells a loss
+-- no line reports a loss
 abbrev pub is_complete : Salvage → Bool
 is_complete salvage = nat_eq (length salvage.losses.items) 0

@@ -78,7 +78,7 @@ kind_text Core = codes "CORE"
 kind_text Bin = codes "BIN"
 kind_text Rim = codes "RIM"
 
--- of a text what its first line begins with, behind a blank
+-- of a text what its first line begins with, after a blank
 abbrev pub detail : List ℕ → Piece → PieceKind → List ℕ
 detail all piece Text = 0o40 ∷ first_line (from_graphic (drop (BLOCK_FRAMES * piece.place) all))
 detail all piece Core = []

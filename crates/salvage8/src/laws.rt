@@ -4,8 +4,8 @@ ghost use Rattle.salvage8.specs.Laws.{EachFileIsThere, OtherFilesAreNot};
 use rescue::laws::just_these_files;
 use survey8::laws::sound_files;
 
-/// A law: each file that a survey of the volume tells as sound is one of the new volume, with the same words, unless its refusal is told;
-/// and there is no other file.
+/// A law: each file that a survey of the volume reports as sound is one of the new volume, with the same words, unless its refusal is
+/// reported. There is no other file.
 pub fn salvaged_files()
     ensures there { EachFileIsThere }
     ensures others { OtherFilesAreNot }

@@ -1,5 +1,5 @@
-//! A new volume with the files that a damaged one still tells, and the lines of what is lost; the lines of what blocks hold where no
-//! directory tells.
+//! A new volume with the files that a damaged one still shows, and the lines of what is lost; the lines of what blocks hold where no
+//! directory shows it.
 //!
 //! In each contract an image is the list of its bytes, and a block the list of its words.
 #![tactic(auto)]

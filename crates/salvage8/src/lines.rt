@@ -88,7 +88,7 @@ fn put_place(head: &[u8], file: &FoundFile, out: &mut Vec<u8>) -> Result<(), All
     out.extend_from_slice(line.as_slice())
 }
 
-/// Whether a file has no information word behind the first, or these are 0.
+/// Whether a file has no information word after the first, or these are 0.
 fn is_whole(file: &FoundFile) -> bool
     ensures { result ≡ spec.is_whole file.now }
 {

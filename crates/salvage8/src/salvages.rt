@@ -1,4 +1,4 @@
-//! The files that a damaged volume still tells, in a new one.
+//! The files that a damaged volume still shows, in a new one.
 ghost use Rattle.std.specs.Prelude.{◌≡◌, IfErr, IfOk};
 ghost use Rattle.volume_image.specs.Image.{IsImageOf};
 ghost use Rattle.rescue.specs.Rescued.{IsFitted};
@@ -39,7 +39,7 @@ impl Salvage {
         Ok(lines)
     }
 
-    /// Whether no line tells a loss.
+    /// Whether no line reports a loss.
     pub fn is_complete(&self) -> bool
         ensures { result ≡ is_complete_salvage self.now }
     {
@@ -47,9 +47,9 @@ impl Salvage {
     }
 }
 
-/// A new volume of as many blocks with each file that the directory of an image, which may be damaged, still tells: its name, its words
-/// and its first information word, which has its date, in their order (OS/8 Software Support Manual; which entries are sound, and the
-/// lines, are this project's profile). Bytes that are no image are refused.
+/// A new volume of as many blocks with each file that the directory of an image, which may be damaged, still shows, in their order.
+/// Each has its name, its words and its first information word, which has its date (OS/8 Software Support Manual; which entries are
+/// sound, and the lines, are this project's profile). Bytes that are no image are refused.
 pub fn salvage_image(alloc: Global, image: &[u8]) -> Result<Salvage, ArchiveFault>
     ensures { Salvages image.now result }
 {
@@ -72,7 +72,7 @@ pub(crate) fn volume_of(alloc: Global, image: &[u8]) -> Result<MemoryVolume, Arc
     }
 }
 
-/// A new volume with each file that a volume's directory still tells.
+/// A new volume with each file that a volume's directory still shows.
 fn salvage_volume(alloc: Global, volume: &MemoryVolume) -> Result<Salvage, AllocError>
     requires { IsVolume volume.now.blocks }
     ensures { IfOk result (IsSalvageOf volume.now.blocks) }

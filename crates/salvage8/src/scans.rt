@@ -26,8 +26,8 @@ pub struct Scan {
 }
 
 impl Scan {
-    /// The lines of all pieces: what each holds, its first block, how many blocks it has, and of a text what its first line with a graphic
-    /// character begins with (this project's profile).
+    /// The lines of all pieces: what each holds, its first block, and how many blocks it has (this project's profile). Of a text they show
+    /// what its first line with a graphic character begins with.
     pub fn lines(&self, alloc: Global) -> Result<Vec<u8>, AllocError>
         ensures { IfOk result (λ lines. lines.items ≡ scan_text self.now) }
     {
@@ -46,9 +46,9 @@ impl Scan {
     }
 }
 
-/// What the blocks of an image hold, whatever its directory says: the whole texts, and the core images, BIN tapes and RIM tapes (OS/8
-/// Software Support Manual, PAL III Symbolic Assembler manual, Small Computer Handbook; where they are looked for is this project's
-/// profile). Bytes that are no image are refused.
+/// What the blocks of an image hold, whatever its directory says: the whole texts, and the core images, BIN tapes and RIM tapes. Their
+/// forms are those of the OS/8 Software Support Manual, the PAL III Symbolic Assembler manual and the Small Computer Handbook; where
+/// they are looked for is this project's profile. Bytes that are no image are refused.
 pub fn scan_image(alloc: Global, image: &[u8]) -> Result<Scan, ArchiveFault>
     ensures { Scans image.now result }
 {

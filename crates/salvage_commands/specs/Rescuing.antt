@@ -1,4 +1,4 @@
--- The command that makes a new volume of what a damaged one still tells (this project's profile).
+-- The command that makes a new volume of what a damaged one still shows (this project's profile).
 use Rattle.std.specs.Prelude.{ℕ, Bool, true, false, Result, Ok, Err, List, length}
 use Rattle.hosts.specs.Event.{Event}
 use Rattle.task8.specs.declared.forms.ImageForm.{ImageForm}

@@ -1,4 +1,4 @@
-//! The command that makes a new volume of what a damaged one still tells.
+//! The command that makes a new volume of what a damaged one still shows.
 ghost use Rattle.std.specs.Prelude.{length};
 ghost use Rattle.salvage8.specs.Salvaging.{Salvages, rescued_text};
 ghost use Rattle.volume_commands.specs.Answers.{Answers, AreLines};
@@ -11,9 +11,9 @@ use std::alloc::Global;
 use task8::ImageForm;
 use volume_commands::{look_at, make_first, print, refuse_image};
 
-/// Makes the file of a new volume with the files that the volume in an image file still tells, if there is none of its name. The image
-/// file is only looked at. What is lost is printed, and how many files are kept, once the new file is there whole; where a line tells a
-/// loss the command ends with the status of a refusal.
+/// Makes the file of a new volume with the files that the volume in an image file still shows, if there is none of its name. The image
+/// file is only looked at. What is lost is printed, and how many files are kept, once the new file is there whole. Where a line reports
+/// a loss the command ends with the status of a refusal.
 pub fn rescue_image<H: Host>(
     host: &mut H,
     alloc: Global,

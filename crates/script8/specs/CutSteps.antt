@@ -14,7 +14,7 @@ abbrev pub part_of : ℕ → List ℕ → List ℕ
 part_of mark [] = []
 part_of mark (b ∷ bs) = if b == mark then [] else b ∷ part_of mark bs
 
--- a text behind bytes of a line, or behind none, with an LF at its end
+-- a text after bytes of a line, or after none, with an LF at its end
 abbrev pub ended_behind : Bool → List ℕ → List ℕ
 ended_behind begun [] = if begun then 0o12 ∷ [] else []
 ended_behind begun (b ∷ bs) = if b == 0o12 then b ∷ ended_behind false bs else b ∷ ended_behind true bs
@@ -23,7 +23,7 @@ ended_behind begun (b ∷ bs) = if b == 0o12 then b ∷ ended_behind false bs el
 abbrev pub ended : List ℕ → List ℕ
 ended text = ended_behind false text
 
--- the lines of a text that goes on begin with these, and those of the rest come behind them, whatever follows
+-- the lines of a text that goes on begin with these, and those of the rest come after them, whatever follows
 pub record HasPrefix (text : List ℕ) (prefix : List (List ℕ)) (rest : List ℕ) : Type 0 where
   pub script : (more : List ℕ) → lines_of (text ++ more) ≡ prefix ++ lines_of (rest ++ more)
   pub whole : (more : List ℕ) → ended_lines (text ++ more) ≡ prefix ++ ended_lines (rest ++ more)

@@ -32,7 +32,7 @@ abbrev pub text_of : List (List ℕ) → List ℕ
 text_of [] = []
 text_of (line ∷ lines) = line ++ 0o12 ∷ text_of lines
 
--- the items that a line gives, with the lines behind it; a STORE whose lines are not all there gives `cut`
+-- the items that a line gives, with the lines after it; a STORE whose lines are not all there gives `cut`
 abbrev pub items_of_line : List Item → Result Line SessionFault → List (List ℕ) → List Item
 items_of_line cut (Ok line.Empty) lines = []
 items_of_line cut (Ok line.Finish) lines = Finish ∷ []
@@ -42,7 +42,7 @@ items_of_line cut (Ok (line.Store name count)) lines =
 items_of_line cut (Ok (line.Whole entry)) lines = Do entry ∷ []
 items_of_line cut (Err fault) lines = Refused fault ∷ []
 
--- how many lines behind a line belong to it
+-- how many lines after a line belong to it
 abbrev pub lines_taken : Result Line SessionFault → ℕ
 lines_taken (Ok line.Empty) = 0
 lines_taken (Ok line.Finish) = 0
@@ -65,12 +65,12 @@ script_of text = items_of (Refused BadLine ∷ []) 0 (lines_of text)
 unfoldable pub whole_of : List ℕ → List Item
 whole_of text = items_of [] 0 (ended_lines text)
 
--- the items of a text that goes on begin with these, and those of the rest come behind them, whatever follows
+-- the items of a text that goes on begin with these, and those of the rest come after them, whatever follows
 pub record LeadsWith (text : List ℕ) (items : List Item) (rest : List ℕ) : Type 0 where
   pub script : (more : List ℕ) → script_of (text ++ more) ≡ items ++ script_of (rest ++ more)
   pub whole : (more : List ℕ) → whole_of (text ++ more) ≡ items ++ whole_of (rest ++ more)
 
--- a text gives these items and then those of what stands behind so many bytes; where it goes on, whatever follows
+-- a text gives these items and then those of what stands after so many bytes; where it goes on, whatever follows
 pub record GivesItems (text : List ℕ) (is_end : Bool) (items : List Item) (bytes : ℕ) : Type 0 where
   pub some : 0 < bytes
   pub within : bytes ≤ length text

@@ -242,6 +242,6 @@ HasName (Ok (Store name lines)) = Unit {0}
 HasName (Ok (Whole it)) = KeepsNames it
 HasName (Err fault) = ⊥
 
--- What a line says is told; where it has a name, memory for it may be refused.
+-- What a line says is answered. Where it has a name, memory for it may be refused.
 abbrev pub Parses : Result Line SessionFault → Result Line SessionFault → Type 0
 Parses meaning result = (result ≡ meaning) ⊎ ((result ≡ Err Memory) × HasName meaning)

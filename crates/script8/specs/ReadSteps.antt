@@ -1,11 +1,11 @@
--- What reading to the reader's end comes to on the way, for private clauses.
+-- The steps of reading to the reader's end, for private clauses.
 use Rattle.std.specs.Prelude.{◌≡◌, ℕ, ◌≤◌, ◌⊎◌, Result, Ok, Err, Option, Bool, true, false, List, length}
 use Rattle.std.specs.Io.KnownBytes.{Consumes}
 use Rattle.script8.specs.Reading.{TakesBytes, IsReadWithin}
 use Rattle.script8.specs.declared.faults.SessionFault.{SessionFault}
 use Rattle.script8.specs.declared.faults.SessionFault.TheVariants.{Reader, Memory}
 
--- What reading so many bytes at most comes to: the end of the reader, all those bytes, or a fault; where that is the
+-- The result of reading so many bytes at most: the end of the reader, all those bytes, or a fault. Where that is the
 -- reader's, the bytes are all that were taken.
 abbrev pub ReadsWithin : ℕ → Option (List ℕ) → Option (List ℕ) → List ℕ → Result Bool SessionFault → Type 0
 ReadsWithin most old new bytes (Ok true) = IsReadWithin most old new bytes

@@ -28,7 +28,7 @@ pub record IsReadFault (most : ℕ) (old new : Option (List ℕ)) (fault : Sessi
   pub last : count ≡ most + 1 → fault ≡ Reader
   pub kind : (fault ≡ Reader) ⊎ (fault ≡ Memory)
 
--- What one read of so many bytes at most comes to, behind bytes that were read: the end of the reader, more bytes, or a fault that
+-- The result of one read of so many bytes at most, after bytes that were read: the end of the reader, more bytes, or a fault that
 -- leaves the bytes.
 abbrev pub ReadsOnce : ℕ → Option (List ℕ) → Option (List ℕ) → List ℕ → List ℕ → Result Bool SessionFault → Type 0
 ReadsOnce room old new before after (Ok true) = IsRead old new [] × (after ≡ before)

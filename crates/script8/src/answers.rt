@@ -12,7 +12,7 @@ use std::alloc::AllocError;
 /// Appends the lines of an answer, each with its LF (this project's profile). The entry is that of the answer, where it
 /// belongs to one.
 ///
-/// `Memory` comes only where the vector could not grow, and then it is unchanged; where it has room for 80 bytes, no
+/// `Memory` comes only where the vector could not grow, and then it is unchanged. Where it has room for 80 bytes, no
 /// memory is taken for an answer of one line.
 pub fn put_reply(
     entry: Option<&Entry>,

@@ -57,7 +57,7 @@ fn target_and_sources(alloc: Global, to: &[u8], from: &[u8]) -> Result<Line, Ses
     })))
 }
 
-/// Puts the names of a list behind others.
+/// Puts the names of a list after others.
 fn put_names(alloc: Global, list: &[u8], names: &mut Vec<Bytes>) -> Result<(), AllocError>
     ensures { OnOk result (names.new.items ≡ names.old.items ++ listed list.now) }
 {

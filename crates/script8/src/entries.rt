@@ -1,7 +1,7 @@
 use crate::{Bytes, Names};
 use word12::{Cell, Word};
 
-/// What a session is asked to do: of its files, of its jobs, or at its console. Names are the bytes of the line; whether they name a
+/// What a session is asked to do: of its files, of its jobs, or at its console. Names are the bytes of the line. Whether they name a
 /// file is judged where the entry is done.
 #[derive(Drop)]
 pub enum Entry {
@@ -31,7 +31,7 @@ pub enum FileEntry {
 /// An entry of jobs.
 #[derive(Drop)]
 pub enum JobEntry {
-    /// `ASSEMBLE`: begins a job that assembles 1 to 8 sources, one behind the other, to a tape in a file.
+    /// `ASSEMBLE`: begins a job that assembles 1 to 8 sources, one after the other, to a tape in a file.
     Assemble { to: Bytes, from: Names },
 
     /// `LOAD`: begins a job that loads the tape of a file into core.

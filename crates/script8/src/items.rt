@@ -36,7 +36,7 @@ pub enum Next {
     Item { item: Item, bytes: usize },
 }
 
-/// What a text begins with, where it is the end of a script, or goes on. The lines of a STORE are taken with it; where they are
+/// What a text begins with, where it is the end of a script, or goes on. The lines of a STORE are taken with it. Where they are
 /// not all there, it is refused as `BadLine` at a script's end, and is no whole item otherwise (this project's profile). So a text
 /// that comes in parts needs no second look before the lines that are wanted have come.
 pub fn next_item(alloc: Global, text: &[u8], is_end: bool) -> Result<Next, SessionFault>
@@ -48,7 +48,7 @@ pub fn next_item(alloc: Global, text: &[u8], is_end: bool) -> Result<Next, Sessi
     }
 }
 
-/// How many lines a text wants yet that wanted so many, behind these bytes of it.
+/// How many lines a text that wanted so many still wants after these bytes of it.
 pub fn lines_left(lines: u32, bytes: &[u8]) -> u32
     ensures number { result ≡ lines - length (ended_lines bytes.now) }
     ensures waits { (text : List ℕ) → WaitsForLines text lines → WaitsForLines (text ++ bytes.now) result }
@@ -69,7 +69,7 @@ fn ends_in(text: &[u8]) -> usize
     ends
 }
 
-/// What a text begins with whose first line has so many bytes, its LF with them.
+/// What a text begins with if its first line has so many bytes, its LF with them.
 fn line_item(alloc: Global, text: &[u8], bytes: usize, is_end: bool) -> Result<Next, SessionFault>
     requires { Cuts text.now is_end 1 bytes }
     ensures { BeginsWith text.now is_end result }
@@ -96,7 +96,7 @@ fn line_item(alloc: Global, text: &[u8], bytes: usize, is_end: bool) -> Result<N
     }
 }
 
-/// What a text begins with whose first line is a STORE, and has so many bytes.
+/// What a text begins with if its first line is a STORE, and has so many bytes.
 fn store_item(
     alloc: Global,
     text: &[u8],
@@ -122,7 +122,7 @@ fn store_item(
     }
 }
 
-/// What a text begins with that is a STORE for which lines are missing.
+/// What a text begins with if it is a STORE for which lines are missing.
 fn cut_off(text: &[u8], missing: u32, is_end: bool) -> Next
     ensures over { is_end ≡ true → result ≡ next.Item (Refused BadLine) (length text.now) }
     ensures on { is_end ≡ false → result ≡ next.End missing }
@@ -142,7 +142,7 @@ pub fn one_line_wanted()
 {}
 
 /// How many bytes so many lines have, the LFs with them, or how many are missing; the last line of a script may lack its own.
-/// Where several are wanted yet, a block that ends fewer, and has bytes behind it, needs no closer look.
+/// Where several are still wanted, a block that ends fewer, and has bytes after it, needs no closer look.
 fn lines_length(text: &[u8], lines: u32, is_end: bool) -> Result<usize, u32>
     ensures { Cut text.now is_end lines result }
 {

@@ -29,7 +29,7 @@ pub fn octal_as_shown()
         → character_of (character_text character) ≡ Some character }
 {}
 
-/// An `ASSEMBLE` is read as it is written, with `<` behind its target and commas between its sources.
+/// An `ASSEMBLE` is read as it is written, with `<` after its target and commas between its sources.
 #[tactic(auto, using(crate::proofs::WrittenLemmas::assemble_as_written))]
 pub fn assemble_as_written()
     ensures { AssembleAsWritten }

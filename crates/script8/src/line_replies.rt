@@ -113,7 +113,7 @@ fn put_why(line: &mut ArrayVec<u8, 80>, why: Why)
     }
 }
 
-/// Puts whether a break is set, behind a blank.
+/// Puts whether a break is set, after a blank.
 fn put_setting(line: &mut ArrayVec<u8, 80>, is_on: bool)
     requires { array_vec_len line.old ≤ 40 }
     ensures text { line.new.items ≡ line.old.items ++ 0o40 ∷ setting_text is_on }

@@ -9,7 +9,7 @@ pub enum Line {
     /// `FINISH`: turns of the lowest job until no job is left.
     Finish,
 
-    /// `STORE` of so many lines, 0 to 999,999, which stand behind it.
+    /// `STORE` of so many lines, 0 to 999,999, which stand after it.
     Store { name: Bytes, lines: u32 },
 
     /// An entry, with no further lines.

@@ -8,8 +8,8 @@ use crate::{ConsoleEntry, Entry, FileEntry, JobEntry, Line, SessionFault};
 use std::alloc::Global;
 use word12::{octal_cell, octal_word};
 
-/// What a line of a script says: one CR at its end is dropped, an empty line is nothing, and a line of none of the forms, or
-/// with a number out of its limits, is `BadLine` (this project's profile).
+/// What a line of a script says (this project's profile). One CR at its end is dropped, and an empty line is nothing. A line
+/// of none of the forms, or with a number out of its limits, is `BadLine`.
 #[tactic(auto, unfolding(crate::specs::Lines::says))]
 pub fn parse_line(alloc: Global, line: &[u8]) -> Result<Line, SessionFault>
     ensures { Parses (says line.now) result }

@@ -4,7 +4,7 @@ ghost use Rattle.std.specs.List.{position};
 ghost use Rattle.script8.specs.CutSteps.{part_of, is_mark};
 ghost use Rattle.script8.specs.Lines.{parts_of};
 
-/// The first part of a text, whether it is the last, and what stands behind its mark.
+/// The first part of a text, whether it is the last, and what stands after its mark.
 pub(crate) fn first_part(text: &[u8], mark: u8) -> (&[u8], bool, &[u8])
     ensures parts { parts_of mark text.now
         ≡ result.0.now ∷ (if result.1 then [] else parts_of mark result.2.now) }

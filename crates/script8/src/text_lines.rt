@@ -11,7 +11,7 @@ use word12::Word;
 /// A line that is built before it is appended. No line of a single answer is longer.
 pub type TextLine = ArrayVec<u8, 80>;
 
-/// Puts bytes behind a line; there must be room for them.
+/// Puts bytes after a line; there must be room for them.
 pub fn put(line: &mut ArrayVec<u8, 80>, bytes: &[u8])
     requires { array_vec_len line.old + length bytes.now ≤ 80 }
     ensures items { line.new.items ≡ line.old.items ++ bytes.now }

@@ -1,4 +1,4 @@
--- What an entry of the console comes to, for private clauses.
+-- The result of an entry of the console, for private clauses.
 use Rattle.std.specs.Prelude.{◌≡◌, Result, Ok, Err}
 use Rattle.debug8.specs.declared.faults.DebugFault.{DebugFault}
 use Rattle.debug8.specs.declared.faults.DebugFault.TheVariants.{TooManyBreaks, Memory}
@@ -7,7 +7,7 @@ use Rattle.script8.specs.declared.replies.Reply.{Reply}
 use Rattle.session8.specs.State.{Console}
 use Rattle.session8.specs.Console.{ConsoleReplies, IsBreakTooMany, TakesMemory}
 
--- What doing an entry at the console comes to.
+-- The result of doing an entry at the console.
 abbrev pub ConsoleDoes : ConsoleEntry → Console → Result Reply DebugFault → Console → Type 0
 ConsoleDoes entry old (Ok reply) new = ConsoleReplies old entry reply new
 ConsoleDoes entry old (Err TooManyBreaks) new = IsBreakTooMany old entry × (new ≡ old)

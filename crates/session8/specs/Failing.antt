@@ -1,4 +1,4 @@
--- What an entry comes to where a write has failed before.
+-- The result of an entry where a write has failed before.
 use Rattle.std.specs.Prelude.{◌≡◌, ◌⊎◌, ℕ, true, false, Some, None, List, Ok, Err}
 use Rattle.char_pack.specs.Texts.{is_storable}
 use Rattle.os8_dir.specs.Names.{parsed_name}
@@ -45,7 +45,7 @@ JobsStopFor s (job.Turn number) NoJob = job_of number s.jobs ≡ None
 JobsStopFor s (job.Turn number) (File file.Stopped) = (it : Job) × (job_of number s.jobs ≡ Some it)
 JobsStopFor s entry why = ⊥
 
--- What an entry comes to where a write has failed before: at the console the step that it always is, and any other is refused. A
+-- The result of an entry where a write has failed before: at the console the step that it always is, and any other is refused. A
 -- refused turn ends its job.
 abbrev pub MayAnswerStopped : State → Entry → Answer → State → Type 0
 MayAnswerStopped old (entry.Console it) answer new = MayAnswer old (entry.Console it) answer new

@@ -1,4 +1,4 @@
--- What reading a script comes to on the way, for private clauses.
+-- The steps of reading a script, for private clauses.
 use Rattle.std.specs.Prelude.{◌≡◌, ℕ, ◌+◌, ◌≤◌, ◌⊎◌, Result, Ok, Err, Option, Bool, true, false, List, [], ◌++◌, length}
 use Rattle.std.specs.Io.KnownBytes.{Consumes}
 use Rattle.script8.specs.Items.{WaitsForLines}
@@ -6,8 +6,8 @@ use Rattle.script8.specs.Reading.{IsRead}
 use Rattle.script8.specs.declared.faults.SessionFault.{SessionFault}
 use Rattle.script8.specs.declared.faults.SessionFault.TheVariants.{Reader, Memory}
 
--- What one read comes to where so many bytes of a script may be read, and so many were: the reader's end, more bytes, of which
--- so many lines are wanted, or a fault.
+-- The result of one read where so many bytes of a script may be read, and so many were. It is the reader's end, more bytes, of
+-- which so many lines are wanted, or a fault.
 abbrev pub ReadsPiece : ℕ → Option (List ℕ) → Option (List ℕ) → List ℕ → ℕ → List ℕ → ℕ → ℕ
     → Result Bool SessionFault → Type 0
 ReadsPiece most old new before count after lines' count' (Ok true) = IsRead old new [] × (after ≡ before)

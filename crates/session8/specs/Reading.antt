@@ -2,7 +2,7 @@
 use Rattle.std.specs.Prelude.{◌≡◌, ℕ, ◌≤◌, ◌⊎◌, Option, List, [], ◌++◌, length}
 use Rattle.std.specs.Io.KnownBytes.{Consumes}
 
--- the reader gave these bytes, so many at most, and one more only behind so many
+-- the reader gave these bytes, so many at most, and one more only after so many
 pub record IsTaken (most : ℕ) (old new : Option (List ℕ)) (bytes : List ℕ) : Type 0 where
   pub more : List ℕ
   pub taken : Consumes old new (bytes ++ more)

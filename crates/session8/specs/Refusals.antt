@@ -89,7 +89,7 @@ abbrev pub after_refusal : State → Entry → State
 after_refusal old entry = record old { jobs = jobs_without (job_of_entry entry) old.jobs }
 
 -- The machine may lack memory for a text that can be stored under a name that is one and that no job holds, and for the list of the
--- files. A bad name takes none to tell, and neither does a file to be deleted that is not there, or held.
+-- files. A bad name takes none to report, and neither does a file to be deleted that is not there, or held.
 abbrev pub FilesMayLack : State → FileEntry → Type 0
 FilesMayLack old (files.Store name text) =
     (n : ℕ) × (parsed_name name ≡ Some n) × (is_storable text ≡ true) × IsUnheld (job_state old) n
@@ -97,8 +97,8 @@ FilesMayLack old (files.Delete name) =
     (n : ℕ) × (parsed_name name ≡ Some n) × IsThere (job_state old) n × IsUnheld (job_state old) n
 FilesMayLack old files.Direct = Unit {0}
 
--- It may lack it for a job that assembles or loads where there is a number for it, and the file to be loaded is there, and for the
--- turn of a job that is there.
+-- It may lack it for a job that assembles or loads where there is a number for it, and the file to be loaded is there. It may lack
+-- it for the turn of a job that is there.
 abbrev pub JobsMayLack : State → JobEntry → Type 0
 JobsMayLack old (job.Assemble to from) =
     NamesFiles to from (λ target sources.

@@ -16,7 +16,7 @@ use Rattle.session8.specs.State.{Console, State}
 use Rattle.session8.specs.System.{Answer, Run, MayAnswer}
 use Rattle.session8.specs.Work.{job_state, with_core}
 
--- ## What answers tell
+-- ## What answers say
 
 -- the file of a name was written or taken out
 abbrev pub changes_file : ℕ → Answer → Bool
@@ -30,7 +30,7 @@ abbrev pub is_loaded : Answer → Bool
 is_loaded (Ok (Line (Loaded number name))) = true
 is_loaded answer = false
 
--- no answer tells this
+-- no answer says this
 abbrev pub NoneTells : (Answer → Bool) → List Answer → Type 0
 NoneTells tells [] = Unit {0}
 NoneTells tells (answer ∷ answers) = (tells answer ≡ false) × NoneTells tells answers

@@ -1,5 +1,5 @@
--- What a refusal for want of room tells of the store's blocks, of which the system machine, to which a volume is a map of files, says
--- bounds alone.
+-- What a refusal for want of room says of the store's blocks. To the system machine a volume is a map of files, and of those blocks
+-- it gives bounds alone.
 use Rattle.std.specs.Prelude.{◌≡◌, ℕ, Some, List, Ok, Err}
 use Rattle.char_pack.specs.Texts.{stored}
 use Rattle.os8_dir.specs.Names.{parsed_name}
@@ -21,8 +21,8 @@ IfFile has (Ok reply) = Unit {0}
 IfFile has (Err (File why)) = has why
 IfFile has (Err fault) = Unit {0}
 
--- Where a text is stored, and where a turn puts a target, NO ROOM tells the blocks of the store's largest empty, and DIRECTORY FULL that
--- the list of its entries would be too long with the file.
+-- Where a text is stored, and where a turn puts a target, NO ROOM gives the blocks of the store's largest empty. DIRECTORY FULL says
+-- that the list of its entries would be too long with the file.
 abbrev pub StoreTellsRoom : List ℕ → List ℕ → Seen → Answer → Type 0
 StoreTellsRoom bytes text old answer =
     (name : ℕ) → parsed_name bytes ≡ Some name

@@ -1,4 +1,4 @@
--- What the steps of a run of a script come to, for private clauses.
+-- What the steps of a run of a script do, for private clauses.
 use Rattle.std.specs.Prelude.{◌≡◌, ◌≢◌, ℕ, Bool, true, false, Result, Ok, Err, Option, List, [], ◌∷◌, ◌++◌, drop, ◌<◌, ◌≤◌, ◌⊎◌, length}
 use Rattle.std.specs.Io.KnownBytes.{Appends, Consumes}
 use Rattle.script8.specs.Items.{script_of, whole_of, LeadsWith, GivesItems, HasNoItem}
@@ -18,8 +18,8 @@ use Rattle.session8.specs.declared.endings.Ending.TheVariants.{Reader, Writer, M
 use Rattle.session8.specs.declared.pending.Begun.{Begun}
 use Rattle.session8.specs.declared.pending.Begun.TheVariants.{Ran, Waiting}
 
--- What running items comes to: the lines of the answers to all of them are written; where want of memory ends the run, those
--- of a prefix of them; where the writer failed, the last line may be unwritten.
+-- The result of running items: the lines of the answers to all of them are written. Where want of memory ends the run, they
+-- are those of a prefix of them. Where the writer failed, the last line may be unwritten.
 abbrev pub RunsItems : List Item → State → State → Option (List ℕ) → Option (List ℕ)
     → Result (Unit {0}) Ending → Type 0
 RunsItems items old new w w' (Ok nothing) = WritesAnswers old items new w w' []
@@ -27,7 +27,7 @@ RunsItems items old new w w' (Err Memory) = WritesPrefix old items new w w' []
 RunsItems items old new w w' (Err Writer) = (bytes : List ℕ) × AnswersPrefix old items new bytes
 RunsItems items old new w w' (Err Reader) = ⊥
 
--- What running a turn of the lowest job comes to; the line of a turn that leaves the job is not shown.
+-- The result of running a turn of the lowest job; the line of a turn that leaves the job is not shown.
 abbrev pub RunsTurn : ℕ → State → State → Option (List ℕ) → Option (List ℕ) → Result (Unit {0}) Ending
     → Type 0
 RunsTurn number old new w w' (Ok nothing) =
@@ -43,12 +43,12 @@ abbrev pub items_in : List ℕ → Bool → List Item
 items_in text true = script_of text
 items_in text false = whole_of text
 
--- a text begins with these items, and the rest stands behind them; where it goes on, whatever follows
+-- a text begins with these items, and the rest stands after them; where it goes on, whatever follows
 abbrev pub StartsWithItems : List ℕ → Bool → List Item → List ℕ → Type 0
 StartsWithItems text true prefix rest = script_of text ≡ prefix ++ script_of rest
 StartsWithItems text false prefix rest = LeadsWith text prefix rest
 
--- What running the first item of a text comes to, where it is a script's end or goes on: so many bytes of it are run, or no item,
+-- The result of running the first item of a text, where it is a script's end or goes on. So many bytes of it are run; or no item,
 -- or no whole one, is there, and so many lines are wanted.
 abbrev pub RunsNext : List ℕ → Bool → State → State → Option (List ℕ) → Option (List ℕ) → Result Begun Ending
     → Type 0
@@ -66,7 +66,7 @@ abbrev pub IsBegun : List ℕ → Bool → Begun → Type 0
 IsBegun text is_end (Ran bytes) = (0 < bytes) × (bytes ≤ length text)
 IsBegun text is_end (Waiting lines) = HasNoItem text is_end lines
 
--- What running a text comes to, where it is a script's end or goes on: so many bytes of it are run, no item, or no whole one, is
+-- The result of running a text, where it is a script's end or goes on. So many bytes of it are run, no item, or no whole one, is
 -- left, and so many lines are wanted.
 abbrev pub RunsPrefix : List ℕ → Bool → State → State → Option (List ℕ) → Option (List ℕ)
     → Result (ℕ × ℕ) Ending → Type 0
@@ -78,7 +78,7 @@ RunsPrefix text is_end old new w w' (Err Writer) =
     (bytes : List ℕ) × AnswersPrefix old (items_in text is_end) new bytes
 RunsPrefix text is_end old new w w' (Err Reader) = ⊥
 
--- What running the whole items of bytes comes to that a reader gave and may go on from: these are left.
+-- The result of running the whole items of bytes that a reader gave and may go on from: these are left.
 abbrev pub RunsGiven : List ℕ → List ℕ → State → State → Option (List ℕ) → Option (List ℕ)
     → Result (Unit {0}) Ending → Type 0
 RunsGiven text rest old new w w' (Ok nothing) =
@@ -96,7 +96,7 @@ pub record IsRunTo (old new : State) (r r' w w' : Option (List ℕ)) (count : �
   pub leads : LeadsWith text prefix rest
   pub writes : WritesAnswers old prefix new w w' []
 
--- What reading a script and running it comes to, before the line of a fault is written.
+-- The result of reading a script and running it, before the line of a fault is written.
 abbrev pub RunsRead : ℕ → State → State → Option (List ℕ) → Option (List ℕ) → Option (List ℕ)
     → Option (List ℕ) → Result (Unit {0}) Ending → Type 0
 RunsRead most old new r r' w w' (Ok nothing) =

@@ -36,7 +36,7 @@ IsAlike one two = unsqueezed one ≡ unsqueezed two
 abbrev pub IsLasting : ℕ → State → Type 0
 IsLasting number s = lasting_job (job_of number s.jobs) ≡ job_of number s.jobs
 
--- An entry has nothing to do with squeezing jobs in two states: the job of a turn squeezes in neither, and where a job is to be
+-- An entry has nothing to do with squeezing jobs in two states: the job of a turn squeezes in neither. Where a job is to be
 -- begun, or refused, the least free number is the same in both.
 abbrev pub JobIsApart : JobEntry → State → State → Type 0
 JobIsApart (job.Assemble to from) one two = least_free one.jobs ≡ least_free two.jobs

@@ -1,4 +1,4 @@
--- What a script comes to: the answers to its items, and the lines that are written.
+-- The result of a script: the answers to its items, and the lines that are written.
 use Rattle.std.specs.Prelude.{◌≡◌, ◌≢◌, ◌⊎◌, ℕ, Bool, true, false, if◌then◌else◌, Result, Ok, Err, Option, Some, None, List, [], ◌∷◌, ◌++◌}
 use Rattle.std.specs.Io.KnownBytes.{Appends, IsAtEnd}
 use Rattle.script8.specs.Items.{script_of, whole_of}
@@ -48,7 +48,7 @@ AnswersItems old (Finish ∷ items) (line ∷ lines) new =
 AnswersItems old (Refused why ∷ items) (line ∷ lines) new = (line ≡ fault_line why) × AnswersItems old items lines new
 AnswersItems old items lines new = ⊥
 
--- the lines of items, one behind another
+-- the lines of items, one after another
 abbrev pub all_lines : List (List ℕ) → List ℕ
 all_lines [] = []
 all_lines (line ∷ lines) = line ++ all_lines lines
@@ -92,10 +92,10 @@ IsPrefixOf prefix items = (rest : List Item) × (items ≡ prefix ++ rest)
 abbrev pub AreDue : Option (List ℕ) → List ℕ → List Item → Type 0
 AreDue r text items = (items ≡ whole_of text) ⊎ (IsAtEnd r × (items ≡ script_of text))
 
--- What running the script of a reader comes to. On Ok the reader was read to its end, and the lines of the answers to all items are
--- written. Where the reader ends the run, they are those of the whole items that were taken, and where want of memory does, those of
--- a prefix of the items of the bytes that were taken; the line of the fault is written last. Where the writer failed, the last line
--- may be unwritten.
+-- The result of running the script of a reader. On Ok the reader was read to its end, and the lines of the answers to all items are
+-- written. Where the reader ends the run, they are those of the whole items that were taken. Where want of memory does, they are
+-- those of a prefix of the items of the bytes that were taken. The line of the fault is written last. Where the writer failed, the
+-- last line may be unwritten.
 abbrev pub RunsText : ℕ → State → State → Option (List ℕ) → Option (List ℕ) → Option (List ℕ)
     → Option (List ℕ) → Result (Unit {0}) SessionFault → Type 0
 RunsText most old new r r' w w' (Ok nothing) =

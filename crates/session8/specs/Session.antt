@@ -48,14 +48,14 @@ pub record IsSame (old new : Seen) : Type 0 where
   pub reads : new.volume.failed_reads ≡ old.volume.failed_reads
   pub writes : new.volume.failed_writes ≡ old.volume.failed_writes
 
--- A block call failed in an entry: a read, and no block was written, or a write, behind which all writing has stopped. A turn has
--- ended its job, and nothing else is changed but what the blocks hold behind a failed write.
+-- A block call failed in an entry: a read, and no block was written, or a write, after which all writing has stopped. A turn has
+-- ended its job, and nothing else is changed but what the blocks hold after a failed write.
 pub record HasFailed (entry : Entry) (old new : Seen) : Type 0 where
   pub call : ReadFailed old.volume new.volume ⊎ WriteFailed old.volume new.volume
   pub jobs : new.jobs ≡ (after_refusal (state_of old) entry).jobs
   pub console : new.console ≡ old.console
 
--- What an answer tells of the block calls where no write has failed before: `Device` comes just where one failed.
+-- What an answer says of the block calls where no write has failed before: `Device` comes just where one failed.
 abbrev pub TellsBlockCalls : Entry → Seen → Answer → Seen → Type 0
 TellsBlockCalls entry old (Err (File file.Device)) new = HasFailed entry old new
 TellsBlockCalls entry old answer new = NoCallFailed old new

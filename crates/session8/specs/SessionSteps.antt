@@ -1,4 +1,4 @@
--- What doing an entry comes to, for private clauses.
+-- The result of doing an entry, for private clauses.
 use Rattle.script8.specs.declared.entries.Entry.{Entry}
 use Rattle.session8.specs.Session.{Seen, state_of, NoCallFailed, IsLater, IsSame, TellsBlockCalls, IsReply, IsSteadied}
 use Rattle.session8.specs.Interleaving.{EntryReads, EntryPlaces}
@@ -23,8 +23,8 @@ pub record LeavesAlone (entry : Entry) (old new : Seen) : Type 0 where
 
 -- ## Session
 
--- What doing an entry comes to: a step of the system machine where no block call fails, or where there is a reply, and nothing
--- for want of memory; and what is refused where one fails, or a write has failed before.
+-- The result of doing an entry: a step of the system machine where no block call fails, or where there is a reply, and nothing
+-- for want of memory. It is also what is refused where one fails, or a write has failed before.
 pub record DoesEntry (entry : Entry) (old : Seen) (answer : Answer) (new : Seen) : Type 0 where
   pub step : NoCallFailed old new → MayAnswer (state_of old) entry answer (state_of new)
   pub later : IsLater old new

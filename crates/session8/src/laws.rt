@@ -14,7 +14,7 @@ ghost use Rattle.session8.specs.System.{Answer, Run, MayAnswer};
 
 use bin_tape::laws::{no_fault, one_reading};
 
-/// A refused entry changes no file, no word of core, no register, no break and no character printed; and where it is no turn of a
+/// A refused entry changes no file, no word of core, no register, no break and no character printed. Where it is no turn of a
 /// job, it changes nothing at all (this project's profile).
 pub fn refusals()
     ensures others { (old new : State) (entry : Entry) (why : SessionFault)
@@ -25,10 +25,10 @@ pub fn refusals()
 {}
 
 /// When the turns of squeezing jobs fall matters to nothing but the refusals that speak of room and the numbers free for new jobs
-/// (this project's profile). Such a turn changes its own job alone, and what is known of free blocks below files. In two states
-/// that are the same but for those, an entry that is a turn of a squeezing job in neither may get the same answer, and leaves them
-/// so, but for a refusal for want of free blocks or of room in the directory; where it is to begin a job, the least free number
-/// must be the same in both.
+/// (this project's profile). Such a turn changes its own job alone, and what is known of free blocks below files. Take two states
+/// that are the same but for those, and an entry that is a turn of a squeezing job in neither. It may get the same answer, and
+/// leaves them so, but for a refusal for want of free blocks or of room in the directory. Where it is to begin a job, the least
+/// free number must be the same in both.
 pub fn interleavings()
     ensures own { (old new : State) (number : ℕ) (clean : Bool) (left : ℕ) (answer : Answer)
         → job_of number old.jobs ≡ Some (squeezing clean left)
@@ -44,10 +44,10 @@ pub fn interleavings()
 {}
 
 /// The road of a program: from the sources that a job assembled to a file, to the processor that runs with it (this project's
-/// profile). A file keeps its words until an answer tells that it was written or taken out. So long as none does, a load of a file
-/// that a job made from sources meets no fault of a tape; where it ends, core is what it was before, overlaid with what the sources,
-/// as they were when they were assembled, put into it; and from there on, up to the next load, the console does what its entries do
-/// on that core, whatever the files and the other jobs are.
+/// profile). A file keeps its words until an answer says that it was written or taken out. So long as none does, a load of a file
+/// that a job made from sources meets no fault of a tape. Where it ends, core is what it was before, overlaid with what the sources,
+/// as they were when they were assembled, put into it. From there on, up to the next load, the console does what its entries do on
+/// that core, whatever the files and the other jobs are.
 pub fn road()
     ensures kept { (old new : State) (name : ℕ) (entries : List Entry) (answers : List Answer)
         (stopped : Bool) → Run old entries answers stopped new → NoneTells (changes_file name) answers

@@ -112,9 +112,9 @@ impl<S: BlockStore> Session<S> {
     }
 
     /// Does an entry: one step of the system machine, where no block call fails. After `Memory` all is as before; `Reader` and
-    /// `Writer` are never answered. `Device` is answered just where a block call failed in this entry; after a failed write an entry
-    /// of files or jobs is `Stopped`, but for a bad form, name or text and a turn of no job, and one of the console goes on. No
-    /// steps, and more than 1,000,000, are a `BadLine`.
+    /// `Writer` are never answered. `Device` is answered just where a block call failed in this entry. After a failed write an entry
+    /// of files or jobs is `Stopped`, but for a bad form, name or text and a turn of no job. One of the console goes on. No steps,
+    /// and more than 1,000,000, are a `BadLine`.
     pub fn enter(&mut self, alloc: Global, entry: Entry) -> Result<Reply, SessionFault>
         ensures step { NoCallFailed self.old self.new
             → MayAnswer (state_of self.old) entry result (state_of self.new) }

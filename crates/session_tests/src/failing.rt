@@ -6,7 +6,7 @@ use session8::Session;
 use std::alloc::Global;
 use volume_image::{BlockStore, FuseVolume, MemoryVolume};
 
-/// A number of items or block calls that none comes to.
+/// A number of items or block calls that none reaches.
 const NONE: u32 = 1000;
 
 /// A fresh volume of 20 blocks that fails at the read and the write of these numbers, counted from 0.
@@ -15,8 +15,8 @@ fn fuse(alloc: Global, read: u32, write: u32) -> Option<FuseVolume> {
     Some(FuseVolume::new(volume, Some(read), Some(write)))
 }
 
-/// Does items of a script over a store until a block call fails or so many are done: how many were, 0 where the mount was refused,
-/// and the image behind that; the replies to the last one are in `out`.
+/// Does items of a script over a store until a block call fails or so many are done. It gives how many were, 0 where the mount was
+/// refused, and the image after that. The replies to the last one are in `out`.
 fn done_on(
     alloc: Global,
     store: FuseVolume,
@@ -34,7 +34,7 @@ fn done_on(
     }
 }
 
-/// The image behind the first items of a script, where no block call fails.
+/// The image after the first items of a script, where no block call fails.
 fn image_behind(alloc: Global, script: &[u8], count: usize) -> Option<Vec<u8>> {
     let mut out = Vec::new(alloc);
     done_on(alloc, fuse(alloc, NONE, NONE)?, script, count, &mut out).1
@@ -81,8 +81,8 @@ const LONG: &[u8] =
     b"STORE F1 1\n1#\n~STORE F2 1\n2####\n~STORE F3 1\n3\n~STORE F3 1\n4\n~DELETE F1\n~SQUEEZE\n~TURN 1\n~TURN 1\n~\
     DELETE F2\n~TURN 1\n~TURN 1\n";
 
-/// Whether a session whose read of a number fails was refused at its mount with the image as it was, or behind the turn in which
-/// it failed has the image that was there before; nothing where no read failed.
+/// Whether a session whose read of a number fails was refused at its mount with the image unchanged, or after the failed turn
+/// has the image that was there before. It gives nothing where no read failed.
 fn read_lost(alloc: Global, script: &[u8], number: u32) -> Option<bool> {
     let mut out = Vec::new(alloc);
     let (done, image) = done_on(alloc, fuse(alloc, number, NONE)?, script, 99, &mut out);
@@ -93,8 +93,8 @@ fn read_lost(alloc: Global, script: &[u8], number: u32) -> Option<bool> {
     Some(image? == before && (done == 0 || out.starts_with(b"JOB ")))
 }
 
-/// Whether each file of an image stands in another one in full: at its old blocks, or where it came to stand behind the entry that
-/// was begun; where the directory is the old one, only a file that is being moved may be missing.
+/// Whether each file of an image stands in another one in full: at its old blocks, or where it stands after the entry that was
+/// begun. Where the directory is the old one, only a file that is being moved may be missing.
 fn stand_in(old: &[u8], new: &[u8], before: &Directory, behind: &Directory) -> bool {
     let same = blocks_of(old, 1, 6) == blocks_of(new, 1, 6);
     for entry in before.entries() {
@@ -153,8 +153,8 @@ fn each_call_failed(rt: HostRuntime) {
     assert_eq!(rt; failed_calls(alloc, LONG, true), 25);
 }
 
-/// What a script writes where its calls of these numbers fail, and what is said of the volume when it is mounted again: the free
-/// blocks, or 1000 where its first segment has a bad count.
+/// What a script writes where its calls of these numbers fail, and what is said of the volume when it is mounted again. That is
+/// the free blocks, or 1000 where its first segment has a bad count.
 fn remounted(
     alloc: Global,
     read: u32,
@@ -170,7 +170,7 @@ fn remounted(
     }
 }
 
-/// A text that is stored, and what asks for files and for none behind it.
+/// A text that is stored, and what asks for files and for none after it.
 const STORED: &[u8] = b"STORE A.TX 0\nDIRECT\nEXAMINE 00000\n";
 
 /// A file that is moved down.

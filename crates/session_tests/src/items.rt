@@ -4,7 +4,7 @@ use session8::Session;
 use std::alloc::Global;
 use volume_image::BlockStore;
 
-/// The bytes of a script in which `#` stands for 388 times the character before it, which with it takes more than a block, and `@`
+/// The bytes of a script. In it `#` stands for 388 times the character before it, which with it takes more than a block, and `@`
 /// for 180 words of a source.
 pub(crate) fn expanded(alloc: Global, text: &[u8]) -> Vec<u8> {
     let mut bytes = Vec::new(alloc);
@@ -28,12 +28,12 @@ fn put_many(bytes: &mut Vec<u8>, part: &[u8], count: usize) {
     }
 }
 
-/// Whether lines tell of a failed block call.
+/// Whether lines report a failed block call.
 pub(crate) fn tells_device(lines: &[u8]) -> bool {
     lines.ends_with(b"? 4.8 DEVICE\n")
 }
 
-/// Does the items of a script, which `~` separates, until a block call fails or so many are done, and gives how many were; the
+/// Does the items of a script, which `~` separates, until a block call fails or so many are done, and gives how many were. The
 /// replies to the last one are in `out`.
 pub(crate) fn do_items<S: BlockStore>(
     alloc: Global,

@@ -8,7 +8,7 @@ use std::test::Fail;
 use volume_image::{CountVolume, MemoryVolume};
 
 /// Scripts, whose items `~` separates, and the reads and writes that a session over a fresh volume of 20 blocks has made when it is
-/// mounted, and behind each item. A turn of a job reads a block at most, and only what changes files writes.
+/// mounted, and after each item. A turn of a job reads a block at most, and only what changes files writes.
 const COUNTS: [(&[u8], &str); 3] = [
     (
         b"DIRECT\n~STORE A 0\n~STORE B 1\nA#\n~DELETE A\n~SQUEEZE\n~TURN 1\n",
@@ -24,7 +24,7 @@ const COUNTS: [(&[u8], &str); 3] = [
     ),
 ];
 
-/// Puts down how many reads and writes a session has made behind the first items of a script.
+/// Puts down how many reads and writes a session has made after the first items of a script.
 fn put_count(alloc: Global, script: &[u8], most: usize, text: &mut String) {
     if let Ok(volume) = MemoryVolume::create(alloc, 20) {
         if let Ok(session) = Session::mount(alloc, CountVolume::new(volume)) {

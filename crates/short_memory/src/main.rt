@@ -1,7 +1,7 @@
-//! Runs the script on standard input over a fresh volume of 20 blocks, an item at a time, where memory may run out once. Then a
-//! second session does what was done before the item, and the two must show the same; the item is done again, and its answer is
-//! what is printed. With one argument, or three, the run ends there, and the files of the two are compared, block by block. With two or
-//! three the refused item also leaves the session spoiled, which must be told.
+//! Runs the script on standard input over a fresh volume of 20 blocks, an item at a time, where memory may run out once. Then a second
+//! session does what was done before the item, and the two must show the same; the item is done again, and its answer is what is
+//! printed. With one argument, or three, the run ends there, and the files of the two are compared, block by block. With two or three
+//! the refused item also leaves the session spoiled, which must be found.
 //!
 //! The status is 0; 3 where memory ran out outside a session; 4 where the two differ; and 5 where the item was refused again.
 #![tactic(auto)]
@@ -24,7 +24,7 @@ const MOST: usize = 16384;
 /// What spoils a session: a cell and a file that it is not to have.
 const SPOILING: &[u8] = b"DEPOSIT 77777 7777\nSTORE SPOILT.PA 0\n";
 
-/// What is done behind an item that was refused.
+/// What is done after an item that was refused.
 #[derive(Clone, Copy)]
 struct Behind {
     spoils: bool,
@@ -143,7 +143,7 @@ fn refused(
     None
 }
 
-/// Does an item again that was refused behind a prefix of the script; the status.
+/// Does an item again that was refused after a prefix of the script; the status.
 fn again(
     alloc: Global,
     session: &mut Session<MemoryVolume>,

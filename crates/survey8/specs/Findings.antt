@@ -1,5 +1,5 @@
--- What is found in a directory that may be damaged, in its order (OS/8 Software Support Manual says how segments and entries stand; what
--- is told of damage is this project's profile).
+-- What is found in a directory that may be damaged, in its order. The OS/8 Software Support Manual says how segments and entries stand.
+-- The report of damage is this project's profile.
 use Rattle.std.specs.Prelude.{ℕ, zero, suc, ◌+◌, ◌==◌, Bool, false, not, nat_lt, if◌then◌else◌, Option, Some, None, Result, Ok, Err, List, [], ◌∷◌, ◌++◌, length, drop}
 use Rattle.os8_dir.specs.declared.entries.DirEntry.{DirEntry}
 use Rattle.os8_dir.specs.declared.entries.DirEntry.TheVariants as entry
@@ -18,7 +18,7 @@ abbrev pub part_of : ℕ → DirEntry → Part
 part_of place (entry.File name info size) = File name info place size
 part_of place (entry.Empty size) = Empty place size
 
--- an entry from a block on, and the words behind it; none where it goes past its segment
+-- an entry from a block on, and the words after it; none where it goes past its segment
 abbrev pub seen : ℕ → Result (DirEntry × List ℕ) DirFault → Option (Part × List ℕ)
 seen place (Ok p) = Some (part_of place p.0, p.1)
 seen place (Err fault) = None
@@ -30,7 +30,7 @@ blocks_of (Fault fault) = 0
 blocks_of (File name info place size) = size
 blocks_of (Empty place size) = size
 
--- an entry that begins at a block, and those behind it; one that goes past its segment ends that
+-- an entry that begins at a block, and those after it; one that goes past its segment ends that
 abbrev pub with_those : ℕ → Option (Part × List ℕ) → (ℕ → List ℕ → List Part) → List Part
 with_those place (Some p) behind = p.0 ∷ behind (place + blocks_of p.0) p.1
 with_those place None behind = Fault EntryPastSegment ∷ []
@@ -59,7 +59,7 @@ first_of words = word words 1
 unfoldable pub segment_entries : List ℕ → List Part
 segment_entries words = if nat_lt 10 (info_of words) then [] else entries_at (count_of words) (info_of words) (first_of words) (drop 5 words)
 
--- the block behind the last entry that was read of a segment
+-- the block after the last entry that was read of a segment
 abbrev pub segment_end : List ℕ → ℕ
 segment_end words = first_of words + blocks_in (segment_entries words)
 
@@ -95,14 +95,14 @@ later_segments (suc left) blocks info read from end (suc n) =
 abbrev pub first_segment : ℕ → List ℕ → List Part
 first_segment volume words = Segment 1 (count_of words) ∷ first_faults volume words ++ segment_entries words
 
--- all segments, and five more may come behind the first
+-- all segments, and five more may come after the first
 unfoldable pub parts : List (List ℕ) → List Part
 parts blocks = first_segment (length blocks) (block blocks 1)
     ++ later_segments 5 blocks (info_of (block blocks 1)) (1 ∷ []) 1 (segment_end (block blocks 1)) (word (block blocks 1) 2)
 
 -- ## Which entries are sound
 
--- what is told of a directory: a part as it stands, or an unsound entry with its fault
+-- what is reported of a directory: a part as it stands, or an unsound entry with its fault
 pub data Finding : Type 0 where
   Told : Part → Finding
   Unsound : DirFault → Part → Finding
@@ -111,19 +111,19 @@ pub data Finding : Type 0 where
 abbrev pub why_unsound : ℕ → ℕ → ℕ → Bool → Option DirFault
 why_unsound volume place size known = if nat_lt volume (place + size) then Some PastVolume else if known then Some SameName else None
 
--- what is told of an entry, by why it is unsound
+-- the report of an entry, by why it is unsound
 abbrev pub with_verdict : Option DirFault → Part → List Finding
 with_verdict (Some fault) part = Unsound fault part ∷ []
 with_verdict None part = Told part ∷ []
 
--- what is told of a part, where earlier sound entries have these names; an entry of length 0 is nothing
+-- the report of a part, where earlier sound entries have these names; an entry of length 0 is nothing
 abbrev pub finding_of : ℕ → List ℕ → Part → List Finding
 finding_of volume names (Segment number count) = Told (Segment number count) ∷ []
 finding_of volume names (Fault fault) = Told (Fault fault) ∷ []
 finding_of volume names (File name info place size) = if is_zero size then [] else with_verdict (why_unsound volume place size (contains names name)) (File name info place size)
 finding_of volume names (Empty place size) = if is_zero size then [] else with_verdict (why_unsound volume place size false) (Empty place size)
 
--- a sound file's name is known behind it
+-- a sound file's name is known after it
 abbrev pub with_name : Option DirFault → List ℕ → ℕ → List ℕ
 with_name (Some fault) names name = names
 with_name None names name = names ++ name ∷ []
@@ -134,7 +134,7 @@ names_behind volume names (Fault fault) = names
 names_behind volume names (File name info place size) = if is_zero size then names else with_name (why_unsound volume place size (contains names name)) names name
 names_behind volume names (Empty place size) = names
 
--- what is told of parts, where sound entries before them have these names
+-- the report of parts, where sound entries before them have these names
 abbrev pub judged : ℕ → List ℕ → List Part → List Finding
 judged volume names [] = []
 judged volume names (part ∷ rest) = finding_of volume names part ++ judged volume (names_behind volume names part) rest
@@ -152,7 +152,7 @@ file_of (Fault fault) = []
 file_of (File name info place size) = record { name = name; info = info; place = place; size = size } ∷ []
 file_of (Empty place size) = []
 
--- the files that are told as sound, in order
+-- the files that are reported as sound, in order
 abbrev pub files_found : List Finding → List FoundFile
 files_found [] = []
 files_found (Told part ∷ rest) = file_of part ++ files_found rest

@@ -10,7 +10,7 @@ use Rattle.survey8.specs.declared.answers.Survey.{Survey}
 use Rattle.survey8.specs.Findings.{Finding, Told, Unsound, findings, files_found}
 use Rattle.survey8.specs.Surveying.{IsSurveyed}
 
--- the first fault that is told
+-- the first fault that is reported
 abbrev pub first_fault : List Finding → Option DirFault
 first_fault [] = None
 first_fault (Told (Segment number count) ∷ rest) = first_fault rest
@@ -24,11 +24,11 @@ abbrev pub fault_of : Result Listed DirFault → Option DirFault
 fault_of (Ok d) = None
 fault_of (Err fault) = Some fault
 
--- the first fault that a survey tells is the one with which the directory is refused, and of a sound directory it tells none
+-- the first fault that a survey reports is the one with which the directory is refused, and of a sound directory it reports none
 abbrev pub FirstFaultIsTold : Type 0
 FirstFaultIsTold = (image : List ℕ) (survey : Survey) (s : IsSurveyed image survey) → first_fault (findings s.blocks) ≡ fault_of (directory_of s.blocks)
 
--- a survey tells no fault just where the directory is sound
+-- a survey reports no fault just where the directory is sound
 abbrev pub NoFaultIsSound : Type 0
 NoFaultIsSound = (image : List ℕ) (survey : Survey) (s : IsSurveyed image survey) → (survey.faults ≡ 0) ↔ Sound s.blocks
 
@@ -37,7 +37,7 @@ abbrev pub placed_files : List Placed → List FoundFile
 placed_files [] = []
 placed_files (f ∷ fs) = record { name = f.name; info = f.info; place = f.place; size = f.size } ∷ placed_files fs
 
--- of a sound directory a survey tells each file with its information words, and no other, in their order
+-- of a sound directory a survey lists each file with its information words, and no other, in their order
 abbrev pub FilesAreTold : Type 0
 FilesAreTold = (image : List ℕ) (survey : Survey) (s : IsSurveyed image survey) (d : Listed) → directory_of s.blocks ≡ Ok d
     → files_found (findings s.blocks) ≡ placed_files (files_at d.first d.entries)

@@ -34,13 +34,13 @@ loss_line (Fault fault) = fault_line fault
 loss_line (File name info place size) = []
 loss_line (Empty place size) = []
 
--- those of what is found that tell a fault
+-- those of what is found that report a fault
 abbrev pub loss_lines : List Finding → List ℕ
 loss_lines [] = []
 loss_lines (Told part ∷ rest) = loss_line part ++ loss_lines rest
 loss_lines (Unsound fault part ∷ rest) = fault_line fault ++ codes "UNSOUND " ++ part_line part ++ loss_lines rest
 
--- how many faults are told
+-- how many faults are reported
 abbrev pub fault_count : Part → ℕ
 fault_count (Segment number count) = 0
 fault_count (Fault fault) = 1
@@ -71,13 +71,13 @@ claims (Unsound fault part ∷ rest) block = claims rest block
 abbrev pub is_twice : List Finding → ℕ → Bool
 is_twice found block = nat_lt 1 (claims found block)
 
--- how many blocks pass a test one behind the other, from a block on and among so many
+-- how many blocks pass a test one after the other, from a block on and among so many
 abbrev pub run_length : (ℕ → Bool) → ℕ → ℕ → ℕ
 run_length test zero block = 0
 run_length test (suc more) block = if test block then suc (run_length test more (suc block)) else 0
 
--- the lines of the longest runs of blocks that pass a test, from a block on and among so many; where the block before it passes, the
--- first of them began before
+-- the lines of the longest runs of blocks that pass a test, from a block on and among so many. Where the block before it passes, the
+-- first of them began before.
 abbrev pub run_lines : (ℕ → Bool) → Bool → ℕ → ℕ → List ℕ
 run_lines test before zero block = []
 run_lines test before (suc more) block =
@@ -89,11 +89,11 @@ abbrev pub count_runs : (ℕ → Bool) → Bool → ℕ → ℕ → ℕ
 count_runs test before zero block = 0
 count_runs test before (suc more) block = (if test block && not before then 1 else 0) + count_runs test (test block) more (suc block)
 
--- the text of a volume, and how many faults it tells
+-- the text of a volume, and how many faults it reports
 unfoldable pub survey_text : List (List ℕ) → List ℕ
 survey_text blocks = finding_lines (findings blocks) ++ run_lines (is_twice (findings blocks)) false (length blocks) 0
 
--- those of its lines that tell a fault
+-- those of its lines that report a fault
 unfoldable pub survey_losses : List (List ℕ) → List ℕ
 survey_losses blocks = loss_lines (findings blocks) ++ run_lines (is_twice (findings blocks)) false (length blocks) 0
 

@@ -1,4 +1,4 @@
--- What steps of the code come to. No contract of a public function cites these.
+-- What steps of the code do. No contract of a public function cites these.
 use Rattle.std.specs.Prelude.{◌≡◌, ℕ, zero, suc, ◌+◌, min, Bool, false, nat_lt, if◌then◌else◌, Option, Some, None, List, [], ◌∷◌, slice_index}
 use Rattle.std.specs.Ordering.{nat_cmp}
 use Rattle.std.specs.BTreeSet.{BTreeSet}
@@ -12,7 +12,7 @@ use Rattle.survey8.specs.declared.parts.Part.{Part}
 use Rattle.survey8.specs.declared.parts.Part.TheVariants.{Segment, Fault, File, Empty}
 use Rattle.survey8.specs.Findings.{Finding, Told, Unsound, why_unsound}
 
--- an entry with the words behind it
+-- an entry with the words after it
 abbrev pub shown_entry : Option (Part × Bor (List ℕ)) → Option (Part × List ℕ)
 shown_entry (Some p) = Some (p.0, p.1.now)
 shown_entry None = None
@@ -30,20 +30,20 @@ abbrev pub verdict_by : Option DirFault → Verdict
 verdict_by (Some fault) = verdict.Unsound fault
 verdict_by None = verdict.Sound
 
--- the verdict on a part; what is no entry is told as it stands
+-- the verdict on a part; what is no entry is reported as it stands
 abbrev pub verdict_of : ℕ → List ℕ → Part → Verdict
 verdict_of volume names (Segment number count) = verdict.Sound
 verdict_of volume names (Fault fault) = verdict.Sound
 verdict_of volume names (File name info place size) = if is_zero size then verdict.Nothing else verdict_by (why_unsound volume place size (contains names name))
 verdict_of volume names (Empty place size) = if is_zero size then verdict.Nothing else verdict_by (why_unsound volume place size false)
 
--- what is told by a verdict
+-- what a verdict reports
 abbrev pub told_by : Verdict → Part → List Finding
 told_by verdict.Nothing part = []
 told_by verdict.Sound part = Told part ∷ []
 told_by (verdict.Unsound fault) part = Unsound fault part ∷ []
 
--- a count behind so many claims more of one part: up to two
+-- a count after so many claims more of one part: up to two
 abbrev pub counted : ℕ → ℕ → ℕ
 counted zero count = count
 counted (suc more) count = min 2 (count + 1)

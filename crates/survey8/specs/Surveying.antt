@@ -1,4 +1,4 @@
--- What a survey of an image tells.
+-- What a survey of an image reports.
 use Rattle.std.specs.Prelude.{◌≡◌, ℕ, List, Result, Ok, Err}
 use Rattle.volume_image.specs.Image.{IsImageOf, ReadsImage}
 use Rattle.volume_image.specs.declared.faults.ImageFault.{ImageFault}
@@ -6,7 +6,7 @@ use Rattle.survey8.specs.declared.answers.Survey.{Survey}
 use Rattle.survey8.specs.Findings.{findings, files_found}
 use Rattle.survey8.specs.Lines.{survey_text, survey_losses, survey_faults}
 
--- the lines of a volume's directory, those of them that tell faults, its sound files, and how many faults it tells
+-- the lines of a volume's directory, those of them that report faults, its sound files, and how many faults it reports
 pub record IsSurveyOf (blocks : List (List ℕ)) (survey : Survey) : Type 0 where
   pub text : survey.text.items ≡ survey_text blocks
   pub losses : survey.losses.items ≡ survey_losses blocks

@@ -1,8 +1,8 @@
 use os8_dir::Name;
 use word12::Word;
 
-/// A file that a directory which may be damaged still tells: its name, its information words with zeros behind them, its first block, and
-/// how many blocks it has.
+/// A file that a directory, which may be damaged, still shows: its name, its information words with zeros after them, its first block,
+/// and how many blocks it has.
 #[derive(Clone, Copy, Debug)]
 pub struct FoundFile {
     pub name: Name,
@@ -11,7 +11,7 @@ pub struct FoundFile {
     pub size: usize,
 }
 
-/// What a directory tells.
+/// What a directory shows.
 #[derive(Drop)]
 pub struct Survey {
     /// The lines of all of it.

@@ -32,7 +32,7 @@ fn claim_extent(place: u32, size: u32, counts: &mut [u8])
     claim_range(from, end, counts);
 }
 
-/// Counts what is told of a part as a claim of its blocks.
+/// Counts the report of a part as a claim of its blocks.
 pub(crate) fn claim(verdict: Verdict, part: &Part, counts: &mut [u8])
     ensures { (k : ℕ) → k < length counts.old → slice_index counts.new k
         ≡ counted (claims (told_by verdict part.now) k) (slice_index counts.old k) }
@@ -56,7 +56,7 @@ fn is_two(counts: &[u8], block: usize) -> bool
     counts[block] > 1
 }
 
-/// How many blocks have two claims one behind the other, from a block on.
+/// How many blocks have two claims one after the other, from a block on.
 fn run_length(counts: &[u8], block: usize) -> usize
     requires { block ≤ length counts.now }
     ensures { result ≡ length_of_run (is_two_of counts.now) (length counts.now - block) block }

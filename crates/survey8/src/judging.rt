@@ -11,7 +11,7 @@ use os8_dir::{DirFault, Name};
 use std::alloc::AllocError;
 use std::collections::BTreeSet;
 
-/// What is told of a part.
+/// The report of a part.
 #[derive(Clone, Copy)]
 pub enum Verdict {
     /// Nothing.
@@ -75,7 +75,7 @@ fn judge_file(
     Ok(Some(DirFault::SameName))
 }
 
-/// What is told of a part, where earlier sound entries have the names that are known; a sound one's name is known from then on.
+/// The report of a part, where earlier sound entries have the names that are known; a sound one's name is known from then on.
 pub(crate) fn judge(
     volume: usize,
     part: &Part,
@@ -114,7 +114,7 @@ pub(crate) fn judge(
     }
 }
 
-/// Appends the lines of what is told of a part.
+/// Appends the lines of the report of a part.
 pub(crate) fn put_told(verdict: Verdict, part: &Part, out: &mut Vec<u8>) -> Result<(), AllocError>
     ensures { OnOk result (out.new.items ≡ out.old.items ++ finding_lines (told_by verdict part.now)) }
 {
@@ -129,7 +129,7 @@ pub(crate) fn put_told(verdict: Verdict, part: &Part, out: &mut Vec<u8>) -> Resu
     }
 }
 
-/// Appends the lines of what is told of a part, where that is a fault.
+/// Appends the lines of the report of a part, where that is a fault.
 pub(crate) fn put_loss(verdict: Verdict, part: &Part, out: &mut Vec<u8>) -> Result<(), AllocError>
     ensures { OnOk result (out.new.items ≡ out.old.items ++ loss_lines (told_by verdict part.now)) }
 {
@@ -177,7 +177,7 @@ pub(crate) fn put_found(
     }
 }
 
-/// How many faults are told of a part.
+/// How many faults of a part are reported.
 pub(crate) fn faults_told(verdict: Verdict, part: &Part) -> usize
     ensures count { result ≡ count_faults (told_by verdict part.now) }
     ensures one { result ≤ 1 }

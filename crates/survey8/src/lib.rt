@@ -1,4 +1,4 @@
-//! What the directory of a damaged volume still tells: each of its faults in order, and each entry that is sound.
+//! What the directory of a damaged volume still shows: each of its faults in order, and each entry that is sound.
 //!
 //! In each contract an image is the list of its bytes, and a block the list of its words.
 #![tactic(auto)]

@@ -4,7 +4,7 @@ use word12::Word;
 /// A part of a directory as it stands (OS/8 Software Support Manual), or a fault (this project's profile).
 #[derive(Clone, Copy)]
 pub enum Part {
-    /// A segment in a block, and how many entries it tells.
+    /// A segment in a block, and how many entries it gives.
     Segment {
         number: usize,
         count: usize,
@@ -13,7 +13,7 @@ pub enum Part {
     /// A fault.
     Fault(DirFault),
 
-    /// The entry of a file: its name, its information words with zeros behind them, its first block, and how many blocks it has.
+    /// The entry of a file: its name, its information words with zeros after them, its first block, and how many blocks it has.
     File {
         name: Name,
         info: [Word; 10],

@@ -24,7 +24,7 @@ fn minus(word: Word) -> usize
     usize::from(Word::ZERO.minus(word).get())
 }
 
-/// So many words, with zeros behind them.
+/// So many words, with zeros after them.
 fn information(words: &[Word], info: usize) -> [Word; 10]
     requires few { info ≤ 10 }
     requires there { info ≤ length words.now }
@@ -37,7 +37,7 @@ fn information(words: &[Word], info: usize) -> [Word; 10]
     kept
 }
 
-/// The empty entry from a block on whose words these are behind its first, and the words behind it.
+/// The empty entry from a block on whose words these are after its first, and the words after it.
 #[tactic(auto, unfolding(os8_dir::specs::Reading::empty_at))]
 fn empty_at(words: &[Word], place: u32) -> Option<(Part, &[Word])>
     ensures entry { shown_entry result ≡ seen place (empty_of words.now) }
@@ -51,7 +51,7 @@ fn empty_at(words: &[Word], place: u32) -> Option<(Part, &[Word])>
     Some((Part::Empty { place, size }, behind))
 }
 
-/// The file's entry from a block on that the words begin with, and the words behind it.
+/// The file's entry from a block on that the words begin with, and the words after it.
 #[tactic(auto, unfolding(os8_dir::specs::Reading::file_at))]
 fn file_at(words: &[Word], info: usize, place: u32) -> Option<(Part, &[Word])>
     requires { info ≤ 10 }
@@ -75,7 +75,7 @@ fn file_at(words: &[Word], info: usize, place: u32) -> Option<(Part, &[Word])>
     Some((entry, behind))
 }
 
-/// The entry from a block on that the words begin with, and the words behind it.
+/// The entry from a block on that the words begin with, and the words after it.
 #[tactic(auto, unfolding(os8_dir::specs::Reading::entry_at))]
 fn entry_at(words: &[Word], info: usize, place: u32) -> Option<(Part, &[Word])>
     requires { info ≤ 10 }
@@ -103,7 +103,7 @@ fn blocks_of(part: &Part) -> u32
     }
 }
 
-/// Appends so many entries, the first of which begins at a block, and gives the block behind the last.
+/// Appends so many entries, the first of which begins at a block, and gives the block after the last.
 fn put_entries(
     count: usize,
     info: usize,
@@ -139,7 +139,7 @@ fn put_entries(
     Ok(place)
 }
 
-/// Appends the entries of a segment, and gives the block behind the last that was read.
+/// Appends the entries of a segment, and gives the block after the last that was read.
 #[tactic(auto, unfolding(crate::specs::Findings::segment_entries))]
 fn put_segment_entries(words: &[Word], out: &mut Vec<Part>) -> Result<u32, AllocError>
     requires { length words.now ≡ BLOCK }
@@ -175,7 +175,7 @@ fn put_segment(number: usize, words: &[Word], out: &mut Vec<Part>) -> Result<(),
     push_item(out, Part::Segment { number, count })
 }
 
-/// Appends the first segment of a volume of so many blocks, and gives the block behind its last entry.
+/// Appends the first segment of a volume of so many blocks, and gives the block after its last entry.
 fn put_first(volume: usize, words: &[Word], out: &mut Vec<Part>) -> Result<u32, AllocError>
     requires { length words.now ≡ BLOCK }
     ensures segment { OnOk result (out.new.items ≡ out.old.items ++ first_segment volume words.now) }
@@ -196,7 +196,7 @@ fn put_first(volume: usize, words: &[Word], out: &mut Vec<Part>) -> Result<u32, 
     put_segment_entries(words, out)
 }
 
-/// Appends a later segment, and gives the block behind its last entry.
+/// Appends a later segment, and gives the block after its last entry.
 fn put_later(
     info: usize,
     end: u32,

@@ -13,9 +13,9 @@ use std::alloc::{AllocError, Global};
 use std::collections::BTreeSet;
 use volume_image::{BlockStore, ImageFault, MemoryVolume};
 
-/// Tells of an image, that is accepted or refused as a mount does, what its directory still holds: each segment that the links lead
-/// to, each fault in order, each entry with its first block and its length, and the blocks that two sound entries claim (OS/8
-/// Software Support Manual; the faults, their order and the lines are this project's profile).
+/// Reports what the directory of an image still holds. The image is accepted or refused as by a mount (OS/8 Software Support Manual;
+/// the faults, their order and the lines are this project's profile). It lists each segment that the links lead to, each fault in
+/// order, each entry with its first block and its length, and the blocks that two sound entries claim.
 pub fn survey(alloc: Global, image: &[u8]) -> Result<Survey, ImageFault>
     ensures { Surveys image.now result }
 {
@@ -26,8 +26,8 @@ pub fn survey(alloc: Global, image: &[u8]) -> Result<Survey, ImageFault>
     }
 }
 
-/// Tells what the directory of a volume still holds, as [`survey`] does, and which files are sound, each with its whole information words
-/// (OS/8 Software Support Manual).
+/// Reports what the directory of a volume still holds, as [`survey`] does, and which files are sound, each with its whole information
+/// words (OS/8 Software Support Manual).
 #[tactic(auto, unfolding(crate::specs::Findings::findings, crate::specs::Lines::survey_text, crate::specs::Lines::survey_losses, crate::specs::Lines::survey_faults))]
 pub fn survey_volume(alloc: Global, volume: &MemoryVolume) -> Result<Survey, AllocError>
     requires { IsVolume volume.now.blocks }
@@ -56,8 +56,8 @@ pub fn survey_volume(alloc: Global, volume: &MemoryVolume) -> Result<Survey, All
     })
 }
 
-/// Appends the lines of what is told of parts, and of the blocks that two sound entries claim, those of them that tell faults, and the
-/// sound files, and gives how many faults that are; each block of the volume has a count, which is 0.
+/// Appends the lines of the report of parts, and of the blocks that two sound entries claim. It also appends those of the lines that
+/// report faults, and the sound files, and answers how many faults there are. Each block of the volume has a count, which is 0.
 fn put_all(
     alloc: Global,
     volume: usize,
@@ -94,8 +94,8 @@ fn zeros(alloc: Global, count: usize) -> Result<Vec<u8>, AllocError>
     Ok(counts)
 }
 
-/// Appends the lines of what is told of parts, those of them that tell faults, and the sound files; counts the claims of each block up to
-/// two, and gives how many faults are told.
+/// Appends the lines of the report of parts, those of them that report faults, and the sound files. It counts the claims of each block up
+/// to two, and answers how many faults are reported.
 fn put_findings(
     alloc: Global,
     volume: usize,

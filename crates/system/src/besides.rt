@@ -3,7 +3,7 @@
 use std::alloc::{AllocError, Global};
 use std::path::Path;
 
-/// How many characters of an image's own name a name beside it has at most, so that it is not too long for a folder.
+/// How many characters of an image's own name a name beside it has at most, so it is not too long for a folder.
 const MOST_OF_NAME: usize = 60;
 
 /// The names beside a file, which no file of a user has: `.NAME.pdp8-000` and so on, in its folder.

@@ -64,7 +64,7 @@ pub(crate) fn held_at<R: Files<File = File>>(
     Err(HostFault::Busy)
 }
 
-/// Whether a path leads to a pipe, whose end is never seen by who may write it.
+/// Whether a path leads to a pipe. A program that may write it never sees its end.
 fn is_pipe<R: Files<File = File>>(rt: &R, path: &str) -> bool {
     match fs::metadata(rt, path) {
         Ok(named) => named.file_type().is_fifo(),

@@ -21,7 +21,7 @@ use task8::{AssembleForm, ImageForm};
 /// The name of a standard stream where a file's may stand.
 const STANDARD: &str = "-";
 
-/// How many further faults are told at most.
+/// How many further faults are printed at most.
 const MOST_FURTHER: usize = 20;
 
 /// Assembles the sources in files, of the host or of a volume, to a tape, and lists them if that is asked for. Nothing is written where they
@@ -174,7 +174,7 @@ fn write_to<R: Files<File = File> + Print + Eprint + AllocGlobal>(
     make_file(rt, name, bytes, content)
 }
 
-/// How a command ends whose sources have a fault, which is told.
+/// How a command ends if its sources have a fault, which is printed.
 fn refusal<R: Eprint + AllocGlobal>(
     rt: &R,
     form: &AssembleForm,
@@ -187,7 +187,7 @@ fn refusal<R: Eprint + AllocGlobal>(
     }
 }
 
-/// Tells the fault of sources on standard error, and further words that have one each.
+/// Prints the fault of sources on standard error, and further words that have one each.
 fn tell_faults<R: Eprint + AllocGlobal>(
     rt: &R,
     form: &AssembleForm,
@@ -226,7 +226,7 @@ fn tell_sign<R: Eprint + AllocGlobal>(rt: &R, about: About) -> Result<(), AllocE
     Ok(())
 }
 
-/// Tells the words with a fault behind the first, if that is one of a word.
+/// Prints the words with a fault after the first, if that is one of a word.
 fn tell_further_faults<R: Eprint + AllocGlobal>(
     rt: &R,
     sources: &[&[u8]],
@@ -247,7 +247,7 @@ fn tell_further_faults<R: Eprint + AllocGlobal>(
     Ok(())
 }
 
-/// Tells the lines of a further fault without the numbered one, which is that of the first fault alone.
+/// Prints the lines of a further fault without the numbered one, which is that of the first fault alone.
 fn tell_without_number<R: Eprint>(rt: &R, text: &[u8]) {
     if let Ok(text) = str::from_utf8(text) {
         for line in text.lines().take(3) {

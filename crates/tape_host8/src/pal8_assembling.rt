@@ -25,7 +25,7 @@ pub(crate) fn assemble_pal8<R: Files<File = File> + Input + Print + Eprint + All
     }
 }
 
-/// How a command ends whose source has a fault, which is printed.
+/// How a command ends if its source has a fault, which is printed.
 fn refusal<R: Eprint + AllocGlobal>(
     rt: &R,
     name: &str,

@@ -10,7 +10,7 @@ use std::io::Input;
 use task8::SourceForm;
 use word12::Cell;
 
-/// Writes the source of a tape. The program of a core image starts where that tells, unless other cells are given.
+/// Writes the source of a tape. The program of a core image starts where that says, unless other cells are given.
 pub fn write_source<R: Files + Input + Print + Eprint + AllocGlobal>(
     rt: &R,
     form: &SourceForm,

@@ -13,7 +13,7 @@ use word12::Cell;
 /// How the name of a core image ends.
 const CORE_IMAGE: &str = ".SV";
 
-/// The BIN tape of a program, and the cell where it starts, if that is told.
+/// The BIN tape of a program, and the cell where it starts, if that is given.
 pub fn program_of<R: Files + Eprint + AllocGlobal>(
     rt: &R,
     tape: &TapeForm,

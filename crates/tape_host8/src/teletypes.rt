@@ -87,7 +87,7 @@ fn usual_start<R: Eprint + AllocGlobal>(
     Ok(Some(start))
 }
 
-/// Tells on standard error why a machine goes no further: a HLT and the end of the keys are ends of a program's own.
+/// Prints on standard error why a machine goes no further: a HLT and the end of the keys are ends of a program's own.
 fn tell_end<R: Eprint + AllocGlobal>(rt: &R, machine: &Machine, why: Why) -> Result<(), Ending> {
     let cell = machine.next_cell();
     let line = match why {

@@ -1,4 +1,4 @@
-//! A program of a tape whose steps are told or counted.
+//! A program of a tape whose steps are printed or counted.
 
 use crate::tapes::program_of;
 use crate::teletypes::machine_of;
@@ -14,7 +14,7 @@ use task8::TraceForm;
 use terminal8::{Form, Terminal, keys_of};
 use trace8::{TraceFault, trace};
 
-/// How many steps are told where nothing else is said.
+/// How many steps are printed where nothing else is said.
 const TRACED: u64 = 1_000;
 
 /// How many are counted: some three seconds of the machine.

@@ -156,7 +156,7 @@ pub struct CopyForm {
     pub new: Option<String>,
 }
 
-/// Of which volumes is told.
+/// Which volumes are reported.
 #[derive(Drop)]
 pub struct CheckForm {
     /// The files of the host that hold them, 1 to 4095.
@@ -165,6 +165,6 @@ pub struct CheckForm {
     /// Where in each, if they hold more than images.
     pub layout: Option<Layout>,
 
-    /// Whether each fault is told, and not the first alone.
+    /// Whether each fault is reported, and not the first alone.
     pub is_all: bool,
 }

@@ -1,4 +1,4 @@
-//! What can be asked of the program: the tasks, as the words of a command line tell them. No words are read here, and no task is done.
+//! What can be asked of the program: the tasks, as the words of a command line name them. No words are read here, and no task is done.
 #![tactic(auto)]
 
 mod archives;

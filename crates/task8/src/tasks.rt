@@ -42,8 +42,8 @@ pub struct RunForm {
 /// How sources are assembled (PAL III manual; PAL8 in this project's profile).
 #[derive(Drop)]
 pub struct AssembleForm {
-    /// The names of the 1 to 8 sources, in their order: files of the host, where `-` is standard input and stands once at most, or files
-    /// of the volume, in capital letters.
+    /// The names of the 1 to 8 sources, in their order. They are files of the host, where `-` is standard input and stands once at most,
+    /// or files of the volume, in capital letters.
     pub sources: Vec<String>,
 
     /// The volume that has the sources, if one is named.
@@ -58,7 +58,7 @@ pub struct AssembleForm {
     /// The file that gets the listing, if one is named.
     pub list: Option<String>,
 
-    /// Whether a table of cross references goes behind the listing; there is a listing then.
+    /// Whether a table of cross references goes after the listing; there is a listing then.
     pub is_cross: bool,
 
     /// Whether the source is PAL8; there is one source then, and no listing.
@@ -97,7 +97,7 @@ pub struct TeletypeForm {
     pub is_live: bool,
 }
 
-/// How the processor runs while its steps are told or counted (this project's profile).
+/// How the processor runs while its steps are printed or counted (this project's profile).
 #[derive(Drop)]
 pub struct TraceForm {
     /// The program's tape or core image.
@@ -140,8 +140,8 @@ pub enum Task {
     /// List the files of this volume.
     List(ImageForm),
 
-    /// List them in the order of the directory, with their first blocks, their information words and their dates, which mean the eight years
-    /// up to this last one, 1977 to 9999, if it is given.
+    /// List them in the order of the directory, with their first blocks, their information words and their dates. These dates mean the eight
+    /// years up to this last one, 1977 to 9999, if it is given.
     ListLong(ImageForm, Option<usize>),
 
     /// Write what the file has, on this volume.
@@ -174,7 +174,7 @@ pub enum Task {
     /// Move the files together on this volume.
     Squeeze(ImageForm),
 
-    /// Tell of volumes, their directories and where their files lie.
+    /// Report on volumes, their directories and where their files lie.
     Check(CheckForm),
 
     /// Show blocks of a volume.
@@ -198,9 +198,9 @@ pub enum Task {
     /// Run a tape with the terminal as the Teletype.
     Teletype(TeletypeForm),
 
-    /// Run a tape, and tell of each step.
+    /// Run a tape, and print each step.
     Trace(TraceForm),
 
-    /// Run a tape, and tell how often each cell was fetched.
+    /// Run a tape, and print how often each cell was fetched.
     Profile(TraceForm),
 }

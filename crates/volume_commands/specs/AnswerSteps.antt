@@ -1,4 +1,4 @@
--- What steps of answers come to. No contract of a public function cites these.
+-- What steps of answers do. No contract of a public function cites these.
 use Rattle.std.specs.Prelude.{◌≡◌, ℕ, Result, Ok, Err, List}
 use Rattle.hosts.specs.Event.{Event}
 use Rattle.archive8.specs.declared.faults.ArchiveFault.{ArchiveFault}

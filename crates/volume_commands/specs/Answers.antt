@@ -1,4 +1,4 @@
--- What a call on the bytes of an image comes to for a command.
+-- The result of a call on the bytes of an image for a command.
 use Rattle.std.specs.Prelude.{◌≡◌, ℕ, Result, Ok, Err, List}
 use Rattle.std.specs.Global.{Vec}
 use Rattle.hosts.specs.Event.{Event}

@@ -17,7 +17,7 @@ use Rattle.volume_commands.specs.Reading.{Opens}
 use Rattle.volume_commands.specs.Answers.{Answers, AreLines, Refuses}
 use Rattle.volume_commands.specs.Saving.{Stores}
 
--- An image file is held and read. The new image that its bytes give is saved, and only then the lines are printed that tell of it.
+-- An image file is held and read. The new image that its bytes give is saved, and only then the lines are printed that report it.
 abbrev pub Changes : {A : Type 0} → (List ℕ → List Event → Result A Ending → List Event → Type 0) → (A → List ℕ) → (A → List ℕ) → ImageForm → List Event → Result (Unit {0}) Ending → List Event → Type 0
 Changes answers image_of lines_of form = Then (Opens form) (λ image. Then (answers image.bytes.items) (λ made. Then (Purely (AreLines (lines_of made))) (λ lines. Stores image (image_of made) lines.items)))
 

@@ -1,4 +1,4 @@
--- What a step of copying comes to. No contract of a public function cites these.
+-- What a step of copying does. No contract of a public function cites these.
 use Rattle.std.specs.Prelude.{◌≡◌, ◌⊎◌, ℕ, List}
 use Rattle.hosts.specs.Event.{Event}
 use Rattle.script8.specs.declared.faults.SessionFault.TheVariants.{Memory}

@@ -69,7 +69,7 @@ is_want_of (archive.Image fault) = false
 is_want_of (archive.Directory fault) = false
 is_want_of (archive.Refused fault) = is_want fault
 
--- which of two images refuses is told, unless memory is wanted
+-- which of two images refuses is printed, unless memory is wanted
 abbrev pub RefusesIf : Bool → List ℕ → ArchiveFault → ℕ → List Event → Ending → List Event → Type 0
 RefusesIf true name fault size old ending new = Refuses fault size old ending new
 RefusesIf false name fault size old ending new = (ok : Bool) × Refuses fault size (tell_call ok (name_text note.Refuses name) ∷ old) ending new

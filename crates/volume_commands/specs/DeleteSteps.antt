@@ -1,4 +1,4 @@
--- What a step of deleting comes to. No contract of a public function cites this.
+-- What a step of deleting does. No contract of a public function cites this.
 use Rattle.std.specs.Prelude.{◌≡◌, ◌⊎◌, ℕ, List}
 use Rattle.hosts.specs.Event.{Event}
 use Rattle.script8.specs.declared.faults.SessionFault.TheVariants.{Memory}

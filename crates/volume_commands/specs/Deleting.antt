@@ -29,7 +29,7 @@ refused_text (AtBlock place) = block_text place
 abbrev pub one_of_several : List Wanted → ℕ → Option Wanted
 one_of_several wanted place = if nat_lt (length wanted) 2 then None else slice_get wanted place
 
--- which file is refused is told, where there are several
+-- which file is refused is printed, where there are several
 abbrev pub TellsRefused : Option Wanted → List Event → List Event → Type 0
 TellsRefused None old new = new ≡ old
 TellsRefused (Some wanted) old new = (ok : Bool) × (new ≡ tell_call ok (refused_text wanted) ∷ old)

@@ -43,7 +43,7 @@ ending_of_first host.Absent = NotWritten Image AsItWas
 ending_of_first host.Unwritable = NotWritten Image AsItWas
 ending_of_first host.Failed = NotWritten Image AsItWas
 
--- A file of these bytes is made where the host says that a name has none: it is there whole, on the disk, unless a note says that it is not
+-- A file of these bytes is made where the host says that a name has none. It is there whole, on the disk, unless a note says that it is not
 -- known whether a crash keeps it. At each moment meanwhile a crash left what it might have left before, or the file, whole, where the file
 -- system has further names.
 pub record HasMade (file : List ℕ) (old new : List Event) : Type 0 where
@@ -78,8 +78,8 @@ IsUnheldFile (Err (Fault Memory)) = Unit {0}
 IsUnheldFile (Err (NotWritten Image AsItWas)) = Unit {0}
 IsUnheldFile (Err _) = ⊥
 
--- A file of a name is to have these bytes: one that is there is held, and gets them as any image file does; where there is none, one is
--- made; else a call failed, and nothing is changed.
+-- A file of a name is to have these bytes: one that is there is held, and gets them as any image file does. Where there is none, one is
+-- made. Else a call failed, and nothing is changed.
 abbrev pub MakesFile : List ℕ → List ℕ → List Event → Result (Unit {0}) Ending → List Event → Type 0
 MakesFile name file old result new =
     ((path : List ℕ) × (has_lock : Bool) × (ok : Bool) × Writes path file (with_lock_note has_lock ok (hold_calls name path old)) result new)
@@ -105,7 +105,7 @@ MakesIf false name file old result new = MakesFile name file old result new
 abbrev pub MakesVolume : CreateForm → List ℕ → ℕ → List Event → Result (Unit {0}) Ending → List Event → Type 0
 MakesVolume form file blocks = Then (Purely (AreLines (program_line (line.Created blocks)))) (λ lines. Then (MakesIf form.is_new form.file.bytes.items file) (λ it. Prints lines.items))
 
--- The file of a new volume of so many blocks is made, in place of any of its name unless it is to be the first, and only then its line is
+-- The file of a new volume of so many blocks is made, in place of any of its name unless it is to be the first. Only then its line is
 -- printed.
 abbrev pub CreatesFile : (Result (Vec ℕ) Ending → Type 0) → CreateForm → ℕ → List Event → Result (Unit {0}) Ending → List Event → Type 0
 CreatesFile gives form blocks = Then (Purely gives) (λ file. MakesVolume form file.items blocks)

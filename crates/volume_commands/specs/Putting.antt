@@ -30,7 +30,7 @@ use Rattle.volume_commands.specs.Answers.{AreLines, Refuses}
 use Rattle.volume_commands.specs.Saving.{Stores}
 use Rattle.volume_commands.specs.declared.images.Image.{Image}
 
--- why standard input is not read: its call failed; or it has more bytes than are read, and a note told so, or memory was wanted for that
+-- why standard input is not read: its call failed; or it has more bytes than are read, and a note said so, or memory was wanted for that
 abbrev pub IsUntaken : List Event → Ending → List Event → Type 0
 IsUntaken old (Fault Reader) new = (new ≡ input_call false [] ∷ old)
     ⊎ ((bytes : List ℕ) × (MOST < length bytes) × (ok : Bool) × (new ≡ tell_call ok (name_text TooLong (codes "standard input")) ∷ input_call true bytes ∷ old))
@@ -66,7 +66,7 @@ abbrev pub IsNoLoss : PutOneForm → List ℕ → List ℕ → Type 0
 IsNoLoss form image bytes = (form.may_empty ≡ true) ⊎ ((bytes ≢ []) ⊎ ((parsed_name form.name.bytes.items ≡ None)
     ⊎ ((number : ℕ) × (parsed_name form.name.bytes.items ≡ Some number) × (blocks : List (List ℕ)) × OpensVolume image (Ok blocks) × (is_among number (files_on blocks) ≡ false))))
 
--- The command ends since a text of no byte would replace a file, which is told; since the volume is refused; or memory is wanted.
+-- The command ends since a text of no byte would replace a file, which is printed; since the volume is refused; or memory is wanted.
 abbrev pub IsKept : PutOneForm → List ℕ → List ℕ → List Event → Ending → List Event → Type 0
 IsKept form image bytes old ending new = (IsLoss form image bytes × (ending ≡ Fault (File NothingWritten)) × (ok : Bool) × (new ≡ tell_call ok (name_text Empty form.file.bytes.items) ∷ old))
     ⊎ (((fault : ArchiveFault) × OpensVolume image (Err fault) × Refuses fault (length image) old ending new)
@@ -87,7 +87,7 @@ abbrev pub TellsPlace : Option TextPlace → List Event → List Event → Type 
 TellsPlace None old new = new ≡ old
 TellsPlace (Some place) old new = (ok : Bool) × (new ≡ tell_call ok (bad_text place.line place.byte) ∷ old)
 
--- where a text can't be put, that is told
+-- where a text can't be put, that is printed
 abbrev pub TellsBad : List ℕ → List Event → List Event → Type 0
 TellsBad bytes old new = (place : Option TextPlace) × FindsBad bytes place × TellsPlace place old new
 

@@ -60,7 +60,7 @@ Holds name old (Err ending) new = IsUnheld ending × IsIdle old new × (failures
 abbrev pub looked_name : ImagePlace → List ℕ → List ℕ
 looked_name place name = if place.is_held then place.path.bytes.items else name
 
--- why a file is not read: its call failed; or it has more bytes than are read, and a note told so, or memory was wanted for that
+-- why a file is not read: its call failed; or it has more bytes than are read, and a note said so, or memory was wanted for that
 abbrev pub IsUnread : List ℕ → List ℕ → List Event → Ending → List Event → Type 0
 IsUnread name shown old (Busy Image) new = new ≡ look_call name false [] ∷ old
 IsUnread name shown old (Line HostRead) new = (new ≡ look_call name false [] ∷ old)

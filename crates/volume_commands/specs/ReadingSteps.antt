@@ -1,4 +1,4 @@
--- What steps of reading come to. No contract of a public function cites these.
+-- What steps of reading do. No contract of a public function cites these.
 use Rattle.std.specs.Prelude.{◌≡◌, ◌≤◌, ◌<◌, ℕ, Bool, Result, Ok, Err, List, ◌∷◌, length}
 use Rattle.std.specs.Global.{Vec}
 use Rattle.hosts.specs.Event.{Event, tell_call}

@@ -39,9 +39,9 @@ pub record TouchesOnly (path : List ℕ) (old new : List Event) : Type 0 where
   pub prints : output new ≡ output old
   pub reads : read new ≡ read old
 
--- The file at a path has these bytes now, and after a crash too, unless a note says that this is not known; at each moment meanwhile a crash
--- left what it might have left before, or these bytes, whole. Where the file could only be written in its place, nothing is promised of
--- a crash meanwhile.
+-- The file at a path has these bytes now, and after a crash too, unless a note says that this is not known. At each moment meanwhile a crash
+-- left what it might have left before, or these bytes, whole. Where the file could only be written in its place, nothing is promised of a
+-- crash meanwhile.
 pub record HasSaved (path file : List ℕ) (old new : List Event) : Type 0 where
   pub durability : Durability
   pub kept : KeepsFile (may_replace new) durability file (about path old) (about path new)
@@ -102,6 +102,6 @@ Prints bytes old (Err FullOutput) new = new ≡ print_call false 0 bytes ∷ old
 Prints bytes old (Err NoReader) new = new ≡ print_call false 1 bytes ∷ old
 Prints bytes old (Err _) new = ⊥
 
--- an image file gets an image, and only then the lines are printed that tell of it
+-- an image file gets an image, and only then the lines are printed that report it
 abbrev pub Stores : Image → List ℕ → List ℕ → List Event → Result (Unit {0}) Ending → List Event → Type 0
 Stores image bytes lines = Then (Saves image bytes) (λ it. Prints lines)

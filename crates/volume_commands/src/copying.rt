@@ -19,7 +19,7 @@ use script8::SessionFault;
 use std::alloc::Global;
 use task8::{CopyForm, ImageForm};
 
-/// Copies a file of the volume in an image file to the volume in another, or under a new name in the same one, and tells of it.
+/// Copies a file of the volume in an image file to the volume in another, or under a new name in the same one, and reports it.
 pub fn copy_file<H: Host>(host: &mut H, alloc: Global, form: &CopyForm) -> Result<(), Ending>
     ensures { Copies form.now (H.history host.old) result (H.history host.new) }
 {
@@ -93,7 +93,7 @@ fn image_with<H: Host>(
     }
 }
 
-/// How the command ends of which an image is refused, the one of so many bytes or the other of so many. Which it is, is printed.
+/// How the command ends if an image of it is refused, the one of so many bytes or the other of so many. Which it is, is printed.
 fn refuse_copy<H: Host>(
     host: &mut H,
     alloc: Global,
@@ -110,7 +110,7 @@ fn refuse_copy<H: Host>(
     }
 }
 
-/// How the command ends of which the image in this file is refused, or a file of it.
+/// How the command ends if the image in this file, or a file of it, is refused.
 fn refuse_one<H: Host>(
     host: &mut H,
     alloc: Global,

@@ -20,7 +20,7 @@ use script8::{LineReply, Reply, SessionFault, put_reply};
 use std::alloc::{AllocError, Global};
 use task8::{DeleteForm, ImageForm};
 
-/// Takes files out of the volume in an image file, all or none, and tells of each.
+/// Takes files out of the volume in an image file, all or none, and reports each.
 pub fn delete_files<H: Host>(host: &mut H, alloc: Global, form: &DeleteForm) -> Result<(), Ending>
     ensures { Deletes form.now (H.history host.old) result (H.history host.new) }
 {
@@ -58,7 +58,7 @@ fn image_without<H: Host>(
     }
 }
 
-/// How the command ends of which a file is refused, or its image of so many bytes. What may help is printed.
+/// How the command ends if a file of it is refused, or its image of so many bytes. What may help is printed.
 fn refuse_file<H: Host>(
     host: &mut H,
     alloc: Global,

@@ -8,7 +8,7 @@ use outcome::{Content, Ending};
 use report8::ProgramLine;
 use script8::SessionFault;
 
-/// How a command ends whose image can't be held, or can't be read (this project's profile).
+/// How a command ends if its image can't be held, or can't be read (this project's profile).
 pub fn ending_of_image(fault: HostFault) -> Ending
     ensures { result ≡ spec.ending_of_image fault }
 {
@@ -21,7 +21,7 @@ pub fn ending_of_image(fault: HostFault) -> Ending
     }
 }
 
-/// How a command ends whose standard output failed (this project's profile).
+/// How a command ends if its standard output failed (this project's profile).
 pub fn ending_of_print(fault: PrintFault) -> Ending
     ensures { result ≡ spec.ending_of_print fault }
 {
@@ -31,7 +31,7 @@ pub fn ending_of_print(fault: PrintFault) -> Ending
     }
 }
 
-/// How a command ends whose image is not written, and what its file holds (this project's profile).
+/// How a command ends if its image is not written, and what its file holds (this project's profile).
 pub fn ending_of_write(left: Unwritten) -> Ending
     ensures { result ≡ spec.ending_of_write left }
 {
@@ -41,7 +41,7 @@ pub fn ending_of_write(left: Unwritten) -> Ending
     }
 }
 
-/// How a command ends whose file for an image can't be held or made, and is as it was (this project's profile).
+/// How a command ends if its file for an image can't be held or made, and is as it was (this project's profile).
 pub fn ending_of_file(fault: HostFault) -> Ending
     ensures { result ≡ ending_of_file fault }
 {
@@ -54,7 +54,7 @@ pub fn ending_of_file(fault: HostFault) -> Ending
     }
 }
 
-/// How a command ends whose file for an image can't be made where there is to be none of its name (this project's profile).
+/// How a command ends if its file for an image can't be made where there is to be none of its name (this project's profile).
 pub fn ending_of_first(fault: HostFault) -> Ending
     ensures { result ≡ ending_of_first fault }
 {

@@ -1,4 +1,4 @@
-//! What the steps of the commands come to for who keeps images, as laws.
+//! What the steps of the commands mean for who keeps images, as laws.
 ghost use Rattle.std.specs.Prelude.{◌≡◌, ℕ, List, Option, Some, true};
 ghost use Rattle.hosts.specs.Event.{Event};
 ghost use Rattle.hosts.specs.Place.{Place, Leaves, may_leave, about, replay};
@@ -8,7 +8,7 @@ ghost use Rattle.volume_commands.specs.Saving.{HasSaved, IsUnsaved};
 
 use hosts::laws;
 
-/// Once an image file is saved whose place a new file may take, and no note tells that this isn't known, a crash leaves the new file and
+/// Once an image file is saved whose place a new file may take, and no note says that this isn't known, a crash leaves the new file and
 /// nothing else. The line of a change is printed after that.
 pub fn saved_images()
     ensures { (path file : List ℕ) (old new : List Event) (saved : HasSaved path file old new)
@@ -18,7 +18,7 @@ pub fn saved_images()
     laws::saved_files();
 }
 
-/// An image file that could not be written, and is told to be as it was, is after a crash what it might have been before.
+/// An image file that could not be written, and is reported to be as it was, is after a crash what it might have been before.
 pub fn unsaved_images()
     ensures { (path file : List ℕ) (old new : List Event) → IsUnsaved path file old new
         → (start : Place) (found : Option (List ℕ)) → Leaves (may_leave (replay start (about path new))) found

@@ -28,7 +28,7 @@ pub fn tell_note<H: Host>(host: &mut H, alloc: Global, note: Note<'_>) -> Result
     Ok(())
 }
 
-/// How a command ends whose image, of so many bytes, or a file of it is refused. What may help is printed on standard error.
+/// How a command ends if its image, of so many bytes, or a file of it is refused. What may help is printed on standard error.
 pub fn refuse_image<H: Host>(host: &mut H, size: usize, fault: ArchiveFault) -> Ending
     ensures ends { result ≡ ending_of_archive fault }
     ensures notes { Tells (image_note size fault) (H.history host.old) (H.history host.new) }

@@ -17,7 +17,7 @@ pub fn print<H: Host>(host: &mut H, bytes: &[u8]) -> Result<(), Ending>
     }
 }
 
-/// Has an image file hold these bytes of an image, and only then prints the lines that tell of it.
+/// Has an image file hold these bytes of an image, and only then prints the lines that report it.
 pub fn store<H: Host>(
     host: &mut H,
     alloc: Global,

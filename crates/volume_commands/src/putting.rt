@@ -19,7 +19,7 @@ use std::alloc::{AllocError, Global};
 use task8::PutOneForm;
 use word12::Word;
 
-/// Makes a file of the host, or standard input, a file of the volume in an image file, with a name that is given, and tells of it.
+/// Makes a file of the host, or standard input, a file of the volume in an image file, with a name that is given, and reports it.
 pub fn put_file<H: Host>(host: &mut H, alloc: Global, form: &PutOneForm) -> Result<(), Ending>
     ensures { Puts form.now (H.history host.old) result (H.history host.new) }
 {
@@ -28,7 +28,7 @@ pub fn put_file<H: Host>(host: &mut H, alloc: Global, form: &PutOneForm) -> Resu
     put_into(host, alloc, form, image, &bytes)
 }
 
-/// Puts bytes of the host on the volume in an image, and tells of it.
+/// Puts bytes of the host on the volume in an image, and reports it.
 fn put_into<H: Host>(
     host: &mut H,
     alloc: Global,
@@ -111,7 +111,7 @@ fn new_image<H: Host>(
     }
 }
 
-/// How the command ends whose file is refused, or its image of so many bytes. What may help is printed.
+/// How the command ends if its file is refused, or its image of so many bytes. What may help is printed.
 fn refuse_put<H: Host>(
     host: &mut H,
     alloc: Global,

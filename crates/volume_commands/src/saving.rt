@@ -1,4 +1,4 @@
-//! Files of the host that get other bytes, with the notes that tell how.
+//! Files of the host that get other bytes, with the notes that say how.
 ghost use Rattle.std.specs.Prelude.{◌≡◌, ◌<◌, ◌≤◌, ℕ, List, false, OnErr};
 ghost use Rattle.std.specs.Str.{bytes_eq};
 ghost use Rattle.hosts.specs.Place.{about};
@@ -16,8 +16,8 @@ use word12::{BLOCK, FIRST_FILE_BLOCK};
 /// How many bytes of an image stand before the blocks of files.
 const DIRECTORY: usize = FIRST_FILE_BLOCK * BLOCK * 2;
 
-/// Has the held file of a path hold these bytes: whole or not at all, or in its place, which a note tells before; a note after tells where
-/// it isn't known whether a crash keeps them. No memory is taken.
+/// Has the held file of a path hold these bytes: whole or not at all, or in its place, which a note says before. A note after that says
+/// where it isn't known whether a crash keeps them. No memory is taken.
 pub(crate) fn write_file<H: Host>(
     host: &mut H,
     alloc: Global,
@@ -38,7 +38,7 @@ pub(crate) fn write_file<H: Host>(
     }
 }
 
-/// Has the held file of a path hold these bytes, as `hosts::save_file` does; before that a note tells that it is written in its place.
+/// Has the held file of a path hold these bytes, as `hosts::save_file` does; before that a note says that it is written in its place.
 fn save_noted<H: Host>(
     host: &mut H,
     alloc: Global,

@@ -72,8 +72,8 @@ AreLinesOf style name number last image blocks (f ∷ files) lines = (line : Lis
     × IsLineIf (is_chosen style.find.bytes.items f.name) style name number last image blocks f line
     × AreLinesOf style name number last image blocks files others × (lines ≡ line ++ others)
 
--- A text has one line for each file that is wanted of the volume in an image, in the order of its directory, and nothing else: as it is, or as
--- JSON objects.
+-- A text has one line for each file that is wanted of the volume in an image, in the order of its directory, and nothing else. The lines stand
+-- as they are, or as JSON objects.
 pub record IsIndex (style : IndexStyle) (name : List ℕ) (number : Option ℕ) (image text : List ℕ) : Type 0 where
   pub blocks : List (List ℕ)
   pub is_image : IsImageOf image blocks

@@ -28,9 +28,9 @@ impl<S: BlockStore> Session<S> {
     /// answered (this project's profile). Before the reader is asked for more, the entries that it has given whole are done, and
     /// their lines are handed on. What is kept of the script is the longest entry, with its lines.
     ///
-    /// At most 16,777,217 bytes are taken. Where the last of these comes, or the reader fails, the answer is `Reader` after
-    /// the whole lines before; `Memory` and `Writer` end the run too, where they are met, and then no more bytes are taken. The line
-    /// of `Reader` and of `Memory` is written last.
+    /// At most 16,777,217 bytes are taken. Where the last of these comes, or the reader fails, the answer is `Reader` after the
+    /// whole lines before. `Memory` and `Writer` end the run too, where they are met, and then no more bytes are taken. The line of
+    /// `Reader` and of `Memory` is written last.
     pub fn run_text<R: Read, W: Write>(
         &mut self,
         alloc: Global,
@@ -51,8 +51,8 @@ impl<S: BlockStore> Session<S> {
         self.run_watched(alloc, reader, writer, &mut Unwatched)
     }
 
-    /// The same, where a watcher is told of each item before it is done, and of each answer with the store behind it, before the
-    /// answer's lines are written. Where the watcher ends the run, the answer is `Writer`, as where the writer fails at these lines.
+    /// The same, where a watcher gets each item before it is done, and each answer with the store after it, before the answer's
+    /// lines are written. Where the watcher ends the run, the answer is `Writer`, as where the writer fails at these lines.
     pub fn run_watched<R: Read, W: Write, K: Watcher<S>>(
         &mut self,
         alloc: Global,
@@ -155,8 +155,8 @@ impl<S: BlockStore> Session<S> {
         Ok(())
     }
 
-    /// Runs the items of a text that is the end of a script, or goes on; and answers how many bytes they have, and how many lines
-    /// are wanted behind them.
+    /// Runs the items of a text that is the end of a script, or goes on. It answers how many bytes they have, and how many lines
+    /// are wanted after them.
     fn run_items<W: Write, K: Watcher<S>>(
         &mut self,
         alloc: Global,
@@ -299,7 +299,7 @@ impl<S: BlockStore> Session<S> {
         self.tell(Some(&turn), &answer, writer, watcher)
     }
 
-    /// Tells the watcher of an answer, and writes its lines. `Memory` comes only where they are several, and then nothing is written.
+    /// Gives the watcher an answer, and writes its lines. `Memory` comes only where they are several, and then nothing is written.
     fn tell<W: Write, K: Watcher<S>>(
         &mut self,
         entry: Option<&Entry>,
@@ -376,7 +376,7 @@ impl<S: BlockStore> Session<S> {
     }
 }
 
-/// Whether an answer tells that a job took a turn, and is not at its end.
+/// Whether an answer says that a job took a turn, and is not at its end.
 fn is_working(answer: &Result<Reply, SessionFault>) -> bool
     ensures { result ≡ is_working answer.now }
 {

@@ -107,7 +107,7 @@ fn job_reply(begun: Result<u32, JobFault>) -> Result<Reply, SessionFault>
     }
 }
 
-/// The names that several are, where each is one. Another name stands behind them.
+/// The names that several are, where each is one. Another name stands after them.
 fn parse_names(from: &[Bytes], behind: Name) -> Option<[Name; SOURCES]>
     requires { length from.now ≤ 8 }
     ensures names { IfSome result (λ names. parsed_names from.now ≡ Some (take (length from.now) names)) }
