@@ -1,5 +1,5 @@
-"""processor_seconds.py TREE COMMAND..: runs a command, and tells a line for each crate of the tree with the processor seconds that the prover took for
-it, then `all` with all that the command took, and `wall` with how long it ran. The gate takes its table from here.
+"""processor_seconds.py TREE COMMAND..: runs a command, and prints a line for each crate of the tree with the processor seconds that the prover took
+for it. Then it prints `all` with all that the command took, and `wall` with how long it ran. The gate takes its table from here.
 """
 import os
 import re
