@@ -1,7 +1,7 @@
 #!/usr/bin/env python3
 """check_killed_writers.py: what killed writers leave. Several programs at once put files on one image and run scripts that store and delete. Some are
 killed at random moments, among them runs that keep. Then the image must be sound. It must have just the files that were reported as stored and not as
-deleted, with their words. What a program that keeps has reported counts also where it was killed then. The image may have the one file that a killed
+deleted, with their words. What a program that keeps has reported counts also where it was killed then. The image may also have the one that a killed
 program was at. The next writer must come in at once. The last line is 'N passed, M failed'; each killed program counts.
 
 usage: check_killed_writers.py [--program FILE] [--kills N] [--seed N]

@@ -53,7 +53,7 @@ SCRIPTS = {
 }
 
 
-# What the runs of a script may come to, by kind: the words, and the least and the most of them.
+# The outcomes that the runs of a script may have, by kind: the words, and the least and the most of them.
 EXPECTED = {
     "again": {"same": (20, 1000), "outside": (1, 8)},
     "files": {"same": (20, 1000), "outside": (1, 8)},
@@ -66,7 +66,7 @@ Front = tuple[bytes, Files]
 
 
 def unexpected(kind: str, found: dict[str, int]) -> list[str]:
-    """What a kind of runs came to too seldom or too often."""
+    """The outcomes that a kind of runs had too seldom or too often."""
     wanted = EXPECTED[kind]
     return [f"{found.get(what, 0)} {what}, not {low} to {high}" for what, (low, high) in wanted.items() if not low <= found.get(what, 0) <= high]
 
