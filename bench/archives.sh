@@ -1,9 +1,9 @@
 #!/usr/bin/env bash
-# Puts a source on a volume, assembles it there, gets its tape, and compares its words with those of Debian's palbart on the same
-# source; puts and gets a file of 1,500 blocks, and prints the seconds that each command takes on a volume of 4095 blocks. Then puts and
-# gets 240 files at once, and checks 1,000 images of 3248 blocks, one program after the other, one program for all and four side by side,
-# each beside cp or cat of the same bytes; and writes the index of 2,000 and of 10,000 images of 400 blocks, by one program and by four side
-# by side, beside cat and md5sum, with the most memory that one took. Takes palbart from Debian's packages where it is missing.
+# Puts a source on a volume, assembles it there, and gets its tape. Compares its words with those of Debian's palbart on the same source. Puts and
+# gets a file of 1,500 blocks. Prints the seconds that each command takes on a volume of 4095 blocks. Then it puts and gets 240 files at once. It
+# checks 1,000 images of 3248 blocks: one program after the other, one program for all, and four side by side. Each stands beside cp or cat of the
+# same bytes. It writes the index of 2,000 and of 10,000 images of 400 blocks, by one program and by four side by side. That stands beside cat and
+# md5sum, with the most memory that one program took. Takes palbart from Debian's packages where it is missing.
 set -eu
 top=$(cd "$(dirname "${BASH_SOURCE[0]}")/.." && pwd)
 . "$top/bench/seconds.sh"

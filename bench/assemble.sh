@@ -1,8 +1,8 @@
 #!/usr/bin/env bash
-# Assembles sources of 10,000 and of 90,000 lines, both with 2,000 tags, with this assembler and with Debian's palbart, in one run: as PAL III
-# by itself, and as PAL8 by the program, also where every second word has a literal or a link. Both tapes must list the same words. Prints
-# lines a second of processor time, less that of a source of one word, and how many times as fast this assembler is: of ten alternate runs
-# the least counts, and each run assembles often enough to take 0.2 s. Then it gives PAL8 some largest sources, and prints the seconds and
+# Assembles sources of 10,000 and of 90,000 lines, both with 2,000 tags, with this assembler and with Debian's palbart, in one run. PAL III is
+# assembled by its assembler alone, and PAL8 by the program. PAL8 is also tried where every second word has a literal or a link. Both tapes must list
+# the same words. Prints lines a second of processor time, less that of a source of one word, and how many times as fast this assembler is. Of ten
+# alternate runs the least counts. Each run assembles often enough to take 0.2 s. Then it gives PAL8 some largest sources, and prints the seconds and
 # the memory of each. Takes palbart from Debian's packages where it is missing.
 set -eu
 top=$(cd "$(dirname "${BASH_SOURCE[0]}")/.." && pwd)

@@ -1,8 +1,8 @@
 #!/usr/bin/env bash
-# Runs the six programs of bench/cpu.sh by scripts of the program `pdp8`: their words deposited, and GO 1000000 until each has
-# halted, by STEP, and by GO with 64 breaks that are never met. Prints the processor seconds of each less those of a program that
-# stops at once, beside those of the debugger's go alone, without a break and with one, and the part of its rate that is reached. Then
-# the seconds of 100,000 lines of EXAMINE.
+# Runs the six programs of bench/cpu.sh by scripts of the program `pdp8`. Their words are deposited. Then they run by GO 1000000 until each has
+# halted, by STEP, and by GO with 64 breaks that are never met. Prints the processor seconds of each, less those of a program that stops at once.
+# Beside them stand those of the debugger's go alone, without a break and with one, and the part of its rate that is reached. Then come the seconds of
+# 100,000 lines of EXAMINE.
 set -eu
 top=$(cd "$(dirname "${BASH_SOURCE[0]}")/.." && pwd)
 . "$top/bench/seconds.sh"

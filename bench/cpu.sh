@@ -1,14 +1,14 @@
 #!/usr/bin/env bash
-# cpu.sh SEED [short]: runs programs of up to 100,000,000 steps on this processor and on SIMH's pdp8, unthrottled, in one run: the six of
-# bench/cpu/, and those that bench/draw_programs.py draws from the seed, which is any word. Each is run by scripts of the program
-# `pdp8`, its words deposited and GO 1000000 again and again, without a break, with 64 breaks in another field and with 64 in the
-# program's own, which are never met, and by the debugger's go alone. A program that prints is run by RUN 00200 1000000 in place of GO:
-# after START the printer is as slow as DONE makes it, and a script without DONE would wait for it without end. Each RUN begins at 00200
-# again, and the counters in core go on. Both load the same tape. Each script must halt, and the go alone must end in SIMH's registers.
-# Prints the processor seconds of each less those of a program that stops at once, the least of three alternate runs, how many times as fast as
-# SIMH each is, and the instructions of the host for a step by GO or RUN (valgrind). With `short` the programs are a third as long and run ten
-# times, which finds quiet moments of a machine that others use too. Then, for each kind of program, the geometric means, the least and its name.
-# Takes simh, palbart and valgrind from Debian's packages where they are missing.
+# cpu.sh SEED [short]: runs programs of up to 100,000,000 steps on this processor and on SIMH's pdp8, unthrottled, in one run. They are the six of
+# bench/cpu/, and those that bench/draw_programs.py draws from the seed, which is any word. Each is run by scripts of the program `pdp8`: its words
+# are deposited, and GO 1000000 is given again and again. It runs without a break, with 64 breaks in another field, and with 64 in the program's own.
+# None of these is ever met. Each is also run by the debugger's go alone. A program that prints is run by RUN 00200 1000000 in place of GO: after
+# START the printer is as slow as DONE makes it. A script without DONE would wait for it without end. Each RUN begins at 00200 again, and the counters
+# in core go on. Both load the same tape. Each script must halt, and the go alone must end in SIMH's registers. Prints the processor seconds of each,
+# less those of a program that stops at once, the least of three alternate runs. Prints how many times as fast as SIMH each is, and the instructions
+# of the host for a step by GO or RUN (valgrind). With `short` the programs are a third as long and run ten times, which finds quiet moments of a
+# machine that others use too. Then it prints, for each kind of program, the geometric means, the least and its name. Takes simh, palbart and valgrind
+# from Debian's packages where they are missing.
 set -eu
 top=$(cd "$(dirname "${BASH_SOURCE[0]}")/.." && pwd)
 seed=${1:?the seed that programs are drawn from}
@@ -37,8 +37,8 @@ breaks() { for k in $(seq 0 63); do printf 'BREAK %05o ON\n' $((8#$1 + k)); done
 printers=' interrupts talker tls '
 prints() { [[ $printers == *" $1 "* ]]; }
 
-# The lines that run a program until it halts: as many RUNs as it takes, since one more would run it again, or GOs, of which those after
-# the halt do nothing.
+# The lines that run a program until it halts. They are as many RUNs as it takes, since one more would run it again. Or they are GOs, of which those
+# after the halt do nothing.
 lines() {
     local count=400
     if prints "$1"; then

@@ -1,10 +1,10 @@
 #!/usr/bin/env python3
 """draw_programs.py SEED [ROUNDS]: writes programs in PAL III for bench/cpu.sh, each to NAME.pal in this folder.
 
-Ten are drawn, by the same seed the same. Six are loops of 60 instructions, references to memory and operates of any combination that
-goes on; the others have a loop drawn so, with interrupts, with fields, with a talker, and with instructions that the program itself
-writes. Eight more are of IOTs and are not drawn. Each starts at 200, halts, and ends in the same registers whenever the printer is done.
-ROUNDS times 4096 is how often a loop is made.
+Ten are drawn; the same seed draws the same ten. Six are loops of 60 instructions: references to memory, and operates of any combination that goes on.
+The others have a loop drawn in the same way: with interrupts, with fields, with a talker, and with instructions that the program itself writes. Eight
+more are of IOTs and are not drawn. Each starts at 200, halts, and ends in the same registers whenever the printer is done. ROUNDS times 4096 is how
+often a loop is made.
 """
 import random
 import sys
@@ -37,7 +37,7 @@ class Drawing:
         return self.random.choice((f"JMP .+{self.random.randint(1, 3)}", "JMS SUB", "JMS I PSUB"))
 
     def instructions(self, count: int, branches: bool = True) -> list[str]:
-        """So many instructions, and three that any skip or jump ahead of the last may come to."""
+        """So many instructions, and three more to which any skip or jump ahead of the last may go."""
         drawn = [self.branch if branches and self.random.random() < 0.06 else self.random.choice((self.operate, self.reference)) for _ in range(count)]
         return [one() for one in drawn] + ["NOP"] * 3
 
@@ -45,7 +45,7 @@ class Drawing:
         return [f"{self.random.randrange(4096):o}" for _ in range(count)]
 
     def program(self, body: list[str], first: str = "", service: Sequence[str] = (), field: int = 0, tail: Sequence[str] = ()) -> list[str]:
-        """A program of this loop. Its counters, data and subroutine stand behind it."""
+        """A program of this loop. Its counters, data and subroutine stand after it."""
         zero = [f"D{k}, {word}" for k, word in enumerate(self.words(4))] + [f"P{k}, D{k}" for k in range(8)] + ["PSUB, SUB", "SAVE, 0", "LINK, 0"]
         end = ["ISZ A", "JMP LOOP", "ISZ B", "JMP LOOP", "HLT", "A, 0", f"B, {-self.rounds & 0o7777:o}"]
         near = [f"D{k + 4}, {word}" for k, word in enumerate(self.words(4))]

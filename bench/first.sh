@@ -1,7 +1,7 @@
 #!/usr/bin/env bash
-# first.sh [-p PROCESSORS] [COMMIT]: what someone waits for in a fresh clone of a commit, HEAD where none is given, in one run: the first answer
-# of ./pdp8, ./prove, `./check quick` from nothing, and the same where all programs are built. Prints the wall seconds and the processor
-# seconds of each, and their ratios to those of ./prove. The machine is to be idle but for this.
+# first.sh [-p PROCESSORS] [COMMIT]: how long someone waits in a fresh clone of a commit, HEAD where none is given, in one run. It waits for the first
+# answer of ./pdp8, for ./prove and for `./check quick` from nothing, and for the same where all programs are built. Prints the wall seconds and the
+# processor seconds of each, and their ratios to those of ./prove. The machine must do nothing else meanwhile.
 set -eu
 top=$(cd "$(dirname "${BASH_SOURCE[0]}")/.." && pwd)
 processors=$(nproc)

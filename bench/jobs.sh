@@ -1,8 +1,8 @@
 #!/usr/bin/env bash
-# Assembles and loads a source of 45,000 lines by the jobs of a script, on a volume of 4095 blocks that it half fills, and assembles
-# the same source as one text, in one run: prints lines a second of processor time, less that of a script of one DIRECT and of a
-# source of one word, and what part of the rate the jobs keep. Then the processor time of a turn, of a source of some 10 blocks and
-# of one of some 1000. Of ten alternate runs the least counts.
+# Assembles and loads a source of 45,000 lines by the jobs of a script, on a volume of 4095 blocks that it half fills. In the same run it assembles
+# the same source as one text. Prints lines a second of processor time, less that of a script of one DIRECT and of a source of one word. Prints what
+# part of the rate the jobs keep. Then it prints the processor time of a turn, of a source of some 10 blocks and of one of some 1000. Of ten alternate
+# runs the least counts.
 set -eu
 top=$(cd "$(dirname "${BASH_SOURCE[0]}")/.." && pwd)
 . "$top/bench/seconds.sh"

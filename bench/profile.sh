@@ -1,9 +1,8 @@
 #!/usr/bin/env bash
-# profile.sh SEED: makes 100,000,000 steps of five programs of bench/cpu/ and of six loops that are drawn from the seed, by `profile
-# --steps`, by `teletype --steps` and by scripts of 100 lines `GO 1000000`, in one run: prints the processor seconds of each less those of a
-# program that stops at once, and the part of GO's rate that the two others reach; and, since seconds differ from run to run, the
-# instructions of the host's processor for a step of each (valgrind). Takes palbart and valgrind from Debian's packages where they are
-# missing.
+# profile.sh SEED: makes 100,000,000 steps of five programs of bench/cpu/ and of six loops that are drawn from the seed, in one run. They run by
+# `profile --steps`, by `teletype --steps` and by scripts of 100 lines `GO 1000000`. Prints the processor seconds of each, less those of a program
+# that stops at once, and the part of GO's rate that the two others reach. Seconds differ from run to run. So it also prints the instructions of the
+# host's processor for a step of each (valgrind). Takes palbart and valgrind from Debian's packages where they are missing.
 set -eu
 top=$(cd "$(dirname "${BASH_SOURCE[0]}")/.." && pwd)
 seed=${1:?the seed that programs are drawn from}

@@ -1,6 +1,6 @@
-# The programs of bench/cpu/, a third as long where `is_short` is set, and where `seed` is set those drawn from it, `rounds` times 4096 rounds of
-# each, for the scripts beside it that run them: works in a fresh folder, with the tape of each and an image V for scripts. Takes palbart from Debian's packages where it
-# is missing.
+# The programs of bench/cpu/, for the scripts beside it that run them. They are a third as long where `is_short` is set. Where `seed` is set, those
+# drawn from it are there too, with `rounds` times 4096 rounds of each. Works in a fresh folder, with the tape of each and an image V for scripts.
+# Takes palbart from Debian's packages where it is missing.
 dpkg -s palbart >/dev/null 2>&1 || { apt-get update && apt-get install -y palbart; } >&2
 # shellcheck disable=SC2154  # each script that reads this one sets it
 "$top/prove" >/dev/null

@@ -1,8 +1,8 @@
 #!/usr/bin/env bash
-# Runs scripts of 16,777,216 bytes, and of a tenth of that, of empty lines and of DIRECT lines over a volume of three files.
-# Prints megabytes of script a second of processor time, which are alike where the time is linear in the script, and the most
-# memory that the program held. Then scripts of STORE and DELETE over volumes of 4095 blocks: one text that fills the volume, ten such
-# texts of long and of short lines, one of 999,999 lines, which is refused there, and 100,000 lines of STORE and DELETE.
+# Runs scripts of 16,777,216 bytes, and of a tenth of that, of empty lines and of DIRECT lines over a volume of three files. Prints megabytes of
+# script a second of processor time, which are alike where the time is linear in the script. Prints the most memory that the program held. Then it
+# runs scripts of STORE and DELETE over volumes of 4095 blocks. They are one text that fills the volume, and ten such texts of long and of short
+# lines. They are also one text of 999,999 lines, which is refused there, and 100,000 lines of STORE and DELETE.
 set -eu
 top=$(cd "$(dirname "${BASH_SOURCE[0]}")/.." && pwd)
 . "$top/bench/seconds.sh"

@@ -18,8 +18,8 @@ source_of() {
     }' | sed 's/$/\r/'
 }
 
-# A PAL8 source of so many lines of words, in pages of 80 words, each page in the next, and 30 of them in each field. Every second word has a
-# literal or a link. What a page asks for hangs on its field and page alone, so that a page that is come back to asks for the same.
+# A PAL8 source of so many lines of words, in pages of 80 words, each page in the next, and 30 of them in each field. Every second word has a literal
+# or a link. What a page asks for depends on its field and page alone. So a page asks for the same each time that the source returns to it.
 literals_of() {
     awk -v lines="$1" 'BEGIN {
         for (i = 0; i < lines; i++) {

@@ -1,6 +1,6 @@
 #!/usr/bin/env bash
-# Lists a tape of 16,777,216 frames, and one a tenth as long, and prints megabytes a second of processor time: the two
-# numbers are alike where the time is linear in the frames. `md5sum` on the longer tape, in the same run, is the scale.
+# Lists a tape of 16,777,216 frames, and one a tenth as long. Prints megabytes a second of processor time; the two numbers are alike where the time is
+# linear in the frames. `md5sum` on the longer tape, in the same run, is the scale.
 set -eu
 top=$(cd "$(dirname "${BASH_SOURCE[0]}")/.." && pwd)
 . "$top/bench/seconds.sh"

@@ -1,8 +1,7 @@
 #!/usr/bin/env bash
-# Writes the source of a tape that gives each cell of core a word, and of one a tenth as long, and prints milliseconds of processor
-# time for each: where the time is linear in the words, the first is at most ten times the second. All words of the tapes are memory
-# references, so that each has a tag to be found. Then the same of the long tape from where a program starts in each field; the goal is
-# 100 ms.
+# Writes the source of a tape that gives each cell of core a word, and of one a tenth as long. Prints milliseconds of processor time for each. Where
+# the time is linear in the words, the first is at most ten times the second. All words of the tapes are memory references, so each has a tag to be
+# found. Then it does the same with the long tape from where a program starts in each field; the goal is 100 ms.
 set -eu
 top=$(cd "$(dirname "${BASH_SOURCE[0]}")/.." && pwd)
 . "$top/bench/seconds.sh"

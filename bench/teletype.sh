@@ -1,9 +1,9 @@
 #!/usr/bin/env bash
-# Runs six programs of 100,000,000 steps and more at the Teletype, which they don't touch, and by scripts with GO 1000000, in one run:
-# prints the processor seconds of each less those of a program that stops at once, and the part of GO's rate that is reached; and, since
-# seconds differ from run to run, the instructions of the host's processor for a step of each (valgrind). Then the seconds in which 100 MB of
-# keys are echoed, and how many MB that is a second; and those of a source of 6 MB that is assembled and listed. Takes palbart and valgrind
-# from Debian's packages where they are missing.
+# Runs six programs of 100,000,000 steps and more at the Teletype, which they don't touch, and by scripts with GO 1000000, in one run. Prints the
+# processor seconds of each, less those of a program that stops at once, and the part of GO's rate that is reached. Seconds differ from run to run. So
+# it also prints the instructions of the host's processor for a step of each (valgrind). Then come the seconds in which 100 MB of keys are echoed, and
+# how many MB that is a second. Last come those of a source of 6 MB that is assembled and listed. Takes palbart and valgrind from Debian's packages
+# where they are missing.
 set -eu
 top=$(cd "$(dirname "${BASH_SOURCE[0]}")/.." && pwd)
 . "$top/bench/seconds.sh"

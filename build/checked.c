@@ -14,7 +14,7 @@ static const char line[] = "pdp8: a check failed: this is a fault of pdp8 itself
 static void fail(int number) {
     (void)number;
     if (write(2, line, sizeof line - 1) < 0) {
-        /* nobody can be told */
+        /* nothing can be printed */
     }
     _exit(STATUS);
 }

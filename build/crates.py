@@ -50,7 +50,7 @@ class Crates:
         return self.sums[name]
 
     def words(self, name: str, library: Callable[[str], str]) -> list[str]:
-        """The prover's words for a crate, in whose folder it is called. `library` tells where one of those below it is built."""
+        """The prover's words for a crate, in whose folder it is called. `library` gives the place where one of those below it is built."""
         kit = toolchain()
         words = ["--crate-name", name, "src/main.rt" if self.is_program(name) else "src/lib.rt"]
         for it in self.of_toolchain[name]:

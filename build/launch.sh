@@ -12,7 +12,7 @@ launch() {
 at_terminal() {
     local child='' ended='' status
     exec 9<&0
-    # the guard ends when this shell does, however it does; it is told the program's number, and then that the program has ended
+    # the guard ends when this shell does, however it does; it reads the program's number, and then that the program has ended
     exec 8> >(guard_terminal 8>&-)
     local guard=$!
     echo "pdp8: each key is the program's own; Ctrl-\\ ends it" >&2
@@ -38,7 +38,7 @@ stop_child() {
     [ -z "$child" ] || kill "$child" 2>/dev/null
 }
 
-# Reads until its standard input ends. A program that was not told to have ended is ended; then the terminal is put right.
+# Reads until its standard input ends. A program is ended unless it was reported as ended; then the terminal is put right.
 guard_terminal() {
     local running='' line
     trap '' HUP INT QUIT TERM TSTP TTOU

@@ -1,11 +1,11 @@
 #!/usr/bin/env python3
 """page.py [--proved | --unproved] FOLDER: makes the page's folder: the files of web/, examples/, and pdp8.wasm, which is the program.
 
-Where the program is proved as its sources stand, its module for WebAssembly is made of what was proved: the prover is called for the program's
-crate as build/proved.py calls it, over the same libraries. A stand-in for the toolchain's clang keeps the LLVM module that the prover hands
-on, and makes no native object of it. Else, or with --unproved, it is made of the module that build/unproved.py keeps, with its checks. The
-toolchain's clang and its linker make a WebAssembly module of either and of web/runtime.c. The foot of the page says which it is. A module
-is made again only where a source of the program, the toolchain, runtime.c or this file has changed. --proved refuses to make the other page.
+Where the program is proved as its sources stand, its module for WebAssembly is made of what was proved. The prover is called for the program's crate
+as build/proved.py calls it, over the same libraries. A stand-in for the toolchain's clang keeps the LLVM module that the prover hands on, and makes
+no native object of it. Else, or with --unproved, it is made of the module that build/unproved.py keeps, with its checks. The toolchain's clang and
+its linker make a WebAssembly module of either and of web/runtime.c. The foot of the page says which it is. A module is made again only where a source
+of the program, the toolchain, runtime.c or this file has changed. --proved refuses to make the other page.
 """
 import glob
 import hashlib
@@ -128,8 +128,8 @@ class Page:
 
 
 def library_of(wanted: Wanted) -> Callable[[str], str] | None:
-    """Where the libraries lie of which the proved program was made: where build/proved.py keeps them, or where the toolchain's gate left
-    them; nothing where the program is not proved as its sources stand."""
+    """Where the libraries lie of which the proved program was made: where build/proved.py keeps them, or where the toolchain's gate left them.
+    Nothing where the program is not proved as its sources stand."""
     below = [it for it in wanted.names if it != PROGRAM]
     if not wanted.is_proved(PROGRAM):
         return None

@@ -1,10 +1,10 @@
 #!/usr/bin/env python3
 """proved.py [--status]: proves the crates that the program pdp8 stands on, as many side by side as there are processors, and builds it.
 
-Each crate is proved once, over what the crates below it state, by the toolchain's prover. What it states is kept in its out/program/
-with a sum of all that the proof rests on, so that a run that was broken off goes on after the last crate that was whole, and a changed
-source has its crate and those above it proved again. What is proved is shown on standard error; the log of a crate that fails is shown,
-and named. --status prints which program a call of ./pdp8 runs; the status is 0 where it is the proved one.
+Each crate is proved once, over what the crates below it state, by the toolchain's prover. What it states is kept in its out/program/ with a sum of
+all that the proof rests on. So a run that was broken off goes on after the last crate that was whole. A changed source has its crate and those above
+it proved again. What is proved is shown on standard error; the log of a crate that fails is shown, and named. --status prints which program a call of
+./pdp8 runs. The status is 0 where it is the proved one.
 """
 import hashlib
 import os

@@ -1,9 +1,8 @@
 #!/usr/bin/env python3
-"""check_damaged_images.py: what the commands make of damaged images. A volume with files has words changed, blocks exchanged, emptied or copied, is cut or
-goes on; then each command works on it. None breaks off. One that looks, or is refused, leaves each byte as it was; behind one that
-writes, each file that could be got before, and that it doesn't name, is got as before. `rescue` makes a sound volume with each file that
-`check --all` tells as sound, in their order and with its words, but for those that it tells as left out. The last line is 'N passed,
-M failed', each image being one.
+"""check_damaged_images.py: what the commands make of damaged images. A volume with files has words changed, blocks exchanged, emptied or copied, is
+cut or goes on; then each command works on it. None breaks off. One that looks, or is refused, leaves each byte as it was. After one that writes, each
+file that could be got before, and that it doesn't name, is got as before. `rescue` makes a sound volume with each file that `check --all` reports as
+sound, in their order and with its words, except those that it reports as left out. The last line is 'N passed, M failed', each image being one.
 
 usage: check_damaged_images.py [--program FILE] [--images N] [--seed N]
 """
@@ -141,7 +140,7 @@ class Damaged:
                 raise AssertionError("what was put isn't got")
 
     def rescued(self) -> None:
-        """Whether each file that `check --all` tells as sound is one of a new volume, but for those that are told as left out."""
+        """Whether each file that `check --all` reports as sound is one of a new volume, except those that are reported as left out."""
         status, told = self.looks("check", self.name, "--all")
         new = f"{self.name}.new"
         done, lines = self.looks("rescue", self.name, new)

@@ -1,9 +1,9 @@
 #!/usr/bin/env python3
-"""check_definitions.py: writes target/definitions.md, which lists every definition of specs/ that a public clause cites, by the crates from the
-lowest on, each with the comment that stands above it.
+"""check_definitions.py: writes target/definitions.md, which lists every definition of specs/ that a public clause cites. They stand by the crates
+from the lowest on, each with the comment that stands above it.
 
-A public clause is a `requires` or `ensures` of a function, or an `impl Model`, that a crate's root shows. It fails where the page lacks one
-of them, where a file of them has no words above it, and where a file of specs/ has both what public clauses unfold to and what only private
+A public clause is a `requires` or `ensures` of a function, or an `impl Model`, that a crate's root shows. It fails where the page lacks one of them,
+and where a file of them has no words above it. It fails too where a file of specs/ has both what public clauses unfold to and what only private
 clauses cite. The last line is 'N passed, M failed'.
 """
 import os

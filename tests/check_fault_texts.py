@@ -1,10 +1,9 @@
 #!/usr/bin/env python3
 """check_fault_texts.py [--list]: the texts of the fault types are just those of tests/texts.txt, so a text that changes must change in two places.
 
-Over the sources of all crates it reads each `#[error(..)]` and the body of each `Display` that is written by hand, and compares them
-whole with the table: a line for each, of crate, type, variant (`-` where the whole type has one text) and text as it is written in
-the source. A variant of a fault type without a text fails too. --list prints the table. The last line is 'N passed, M failed', a
-text being one.
+Over the sources of all crates it reads each `#[error(..)]` and the body of each `Display` that is written by hand, and compares them whole with the
+table. That has a line for each: crate, type, variant (`-` where the whole type has one text) and text as it is written in the source. A variant of a
+fault type without a text fails too. --list prints the table. The last line is 'N passed, M failed', a text being one.
 """
 import os
 import re

@@ -1,8 +1,8 @@
 #!/usr/bin/env python3
-"""check_gate.py: the gate runs every check of tests/, and fails where a part of it does. Each executable file of tests/ and of its folders is a
-part of `./check` and of `./check quick`, but for those that are listed here with their reasons; the parts that run the program do so with
-every build of it; docs/CONTRIBUTING.md names each part. A part fails the gate where it can't start, ends with no count, counts nothing, or ends
-with another status than its last line says. The last line is 'N passed, M failed'.
+"""check_gate.py: the gate runs every check of tests/, and fails where a part of it does. Each executable file of tests/ and of its folders is a part
+of `./check` and of `./check quick`, except those that are listed here with their reasons. The parts that run the program do so with every build of
+it. docs/CONTRIBUTING.md names each part. A part fails the gate where it can't start, ends with no count, counts nothing, or ends with another status
+than its last line says. The last line is 'N passed, M failed'.
 """
 import contextlib
 import glob

@@ -1,9 +1,9 @@
 #!/usr/bin/env python3
-"""check_headline.py: writes target/headline.md, which lists every definition that the public clauses of `Session` and of its laws unfold to, by
-the file where it stands, and the Rust types and constants that they name; then what those of `Jobs` and of its laws unfold to besides.
+"""check_headline.py: writes target/headline.md, which lists every definition that the public clauses of `Session` and of its laws unfold to. They
+stand by the file of each, with the Rust types and constants that they name. Then comes what those of `Jobs` and of its laws unfold to besides.
 
-It fails where that page lacks one of them, where a type doesn't stand where it is imported from, and where docs/PROVED.md names a file or a
-wrong body that isn't there. The last line is 'N passed, M failed'.
+It fails where that page lacks one of them, and where a type doesn't stand where it is imported from. It fails too where docs/PROVED.md names a file
+or a wrong body that isn't there. The last line is 'N passed, M failed'.
 """
 import os
 import re

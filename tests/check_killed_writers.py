@@ -1,8 +1,8 @@
 #!/usr/bin/env python3
-"""check_killed_writers.py: what killed writers leave. Several programs at once put files on one image and run scripts that store and delete, and some are
-killed at random moments, among them runs that keep. Then the image must be sound, have just the files that were told as stored and not as
-deleted, by a program that keeps also where it was killed then, with their words, and perhaps the one that a killed one was at; and the
-next writer must come in at once. The last line is 'N passed, M failed'; each killed program counts.
+"""check_killed_writers.py: what killed writers leave. Several programs at once put files on one image and run scripts that store and delete. Some are
+killed at random moments, among them runs that keep. Then the image must be sound. It must have just the files that were reported as stored and not as
+deleted, with their words. What a program that keeps has reported counts also where it was killed then. The image may also have the one that a killed
+program was at. The next writer must come in at once. The last line is 'N passed, M failed'; each killed program counts.
 
 usage: check_killed_writers.py [--program FILE] [--kills N] [--seed N]
 """
@@ -27,7 +27,7 @@ PROGRAM = os.path.abspath(option("--program", f"{TOP}/crates/pdp8/out/pdp8"))
 KILLS = int(option("--kills", "60"))
 BUSY = b"? HOST BUSY\n"
 WRITERS = 3
-# The files that stay on the volume behind each round.
+# The files that stay on the volume after each round.
 NEWEST = 40
 
 
@@ -44,7 +44,7 @@ class Image:
         subprocess.run([PROGRAM, "create", self.name, "2000"], check=True, stdout=subprocess.DEVNULL)
 
     def write(self, name: str, text: bytes, delay: float | None) -> tuple[int, bytes]:
-        """Has a program put a file, until it comes in; one with a delay is killed behind so many seconds."""
+        """Has a program put a file, until it comes in; one with a delay is killed after so many seconds."""
         while True:
             words = [PROGRAM, "put", self.name, "-", "--as", name, "--text"]
             run = subprocess.Popen(words, stdin=subprocess.PIPE, stdout=subprocess.PIPE, stderr=subprocess.DEVNULL)
@@ -62,7 +62,7 @@ class Image:
         return "".join(f"{name} {line}\n" for line in range(self.random.randrange(1, 120))).encode()
 
     def keep(self, number: int, delay: float | None) -> None:
-        """Has a run that keeps store three files, each once the one before is told. What it told is sure, also where it is killed."""
+        """Has a run that keeps store three files, each once the one before is reported. What it reported is sure, also where it is killed."""
         texts = {name: self.text(name) for name in (f"K{number}.{it}" for it in "ABC")}
         busy = True
         while busy:
@@ -79,7 +79,7 @@ class Image:
                 self.faults.append(f"{left}: status {status}, {rest!r}")
 
     def stored(self, texts: dict[str, bytes], delay: float | None) -> tuple[list[str], int, bytes]:
-        """The files that one run that keeps told as stored, its status, and what it said last."""
+        """The files that one run that keeps reported as stored, its status, and what it said last."""
         words, told, line = [PROGRAM, "run", "--keep", self.name], list[str](), b""
         run = subprocess.Popen(words, bufsize=0, stdin=subprocess.PIPE, stdout=subprocess.PIPE, stderr=subprocess.DEVNULL)
         assert run.stdin and run.stdout
@@ -99,7 +99,7 @@ class Image:
         return told, run.wait(), line
 
     def put(self, number: int, delay: float | None) -> None:
-        """Puts a file of random length. What a killed program did is known only if it was told."""
+        """Puts a file of random length. What a killed program did is known only if it was reported."""
         name = f"F{number}"
         text = self.text(name)
         status, told = self.write(name, text, delay)
@@ -119,7 +119,7 @@ class Image:
             write(number, self.random.uniform(0, most * self.slowness) if number % 3 else None)
 
     def thin(self) -> None:
-        """Takes all but the newest files out, each once it is seen to be what was put, so that the volume doesn't fill."""
+        """Takes all but the newest files out, each once it is seen to be what was put; else the volume would fill."""
         for files in (self.sure, self.doubtful):
             for name in list(files)[:-NEWEST]:
                 text = files.pop(name)
@@ -140,7 +140,7 @@ class Image:
         return listed.returncode == 0, {name: self.get(name) for name in names}
 
     def judged(self) -> Iterator[str]:
-        """What is wrong with the image behind all of it."""
+        """What is wrong with the image after all of it."""
         is_sound, held = self.held()
         yield from self.faults
         if not is_sound:

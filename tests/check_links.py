@@ -1,8 +1,8 @@
 #!/usr/bin/env python3
-"""check_links.py: each relative link of README.md and of the pages below docs/ leads to a file that is there, and to a heading where it names
-one; and what docs/ARCHITECTURE.md and docs/GLOSSARY.md name of the sources is there: each `crate/specs/File.antt` and `crate/src/file.rt`, each
-`crate::function`, each name that is a link in the file that it leads to, and each line of a quoted clause in one of the
-files to which the page links. The last line is 'N passed, M failed'.
+"""check_links.py: each relative link of README.md and of the pages below docs/ leads to a file that is there, and to a heading where it names one.
+What docs/ARCHITECTURE.md and docs/GLOSSARY.md name of the sources is there: each `crate/specs/File.antt` and `crate/src/file.rt`, and each
+`crate::function`. Each name that is a link is in the file that it leads to. Each line of a quoted clause is in one of the files to which the page
+links. The last line is 'N passed, M failed'.
 
     tests/check_links.py              those pages
     tests/check_links.py FILE..       other pages, as if they were docs/ARCHITECTURE.md

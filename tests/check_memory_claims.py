@@ -2,10 +2,10 @@
 """check_memory_claims.py [--list]: want of memory comes from a call that lacked memory, and from nowhere else. No contract sees the allocator, so a body
 may answer `Memory` where nothing was refused, or ask for so much that it always is.
 
-Over the sources of the program, outside each crate's files of faults, a `Memory` of any fault, an `AllocError`, and a `with_capacity` or
-`reserve` of a constant above a page are written only at the places of `PLACES`; everywhere else want of memory comes by `?`, by
-`From<AllocError>`, or by an arm whose pattern is want of memory. A place that isn't listed fails, and so does one that is listed and
-isn't there. --list prints the places. The last line is 'N passed, M failed', a file being one.
+Over the sources of the program, outside each crate's files of faults, three things are written only at the places of `PLACES`. They are a `Memory` of
+any fault, an `AllocError`, and a `with_capacity` or `reserve` of a constant above a page. Everywhere else want of memory comes by `?`, by
+`From<AllocError>`, or by an arm whose pattern is want of memory. A place that isn't listed fails, and so does one that is listed and isn't there.
+--list prints the places. The last line is 'N passed, M failed', a file being one.
 """
 import os
 import re
@@ -90,7 +90,7 @@ def constants(paths: list[str]) -> dict[str, int]:
 
 
 def is_large(asked: str, known: dict[str, int]) -> bool:
-    """Whether what is asked for has a constant above a page in it, or one whose value isn't told."""
+    """Whether what is asked for has a constant above a page in it, or one whose value isn't known."""
     if "<<" in asked or ".pow(" in asked:
         return True
     numbers = [int(it.replace("_", ""), 0) for it in re.findall(r"(?<![\w.])(?:0[xob])?[0-9][0-9a-f_]*", asked)]

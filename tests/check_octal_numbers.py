@@ -1,6 +1,6 @@
 #!/usr/bin/env python3
 """check_octal_numbers.py: the machine's numbers are octal, as the handbook has them. In the definitions and sources of the program's crates no core,
-field, page, sign or mask stands in decimal, in comments neither; 4095 stands there only as the most blocks of a volume, which people
+field, page, sign or mask stands in decimal, nor does one in comments. The number 4095 stands there only as the most blocks of a volume, which people
 count. The last line is 'N passed, M failed', a file being one.
 """
 import glob

@@ -1,7 +1,7 @@
 #!/usr/bin/env python3
-"""check_release.py: packs the proved program by ./release, twice, and looks at what is packed: the bytes are the same, the sum is theirs, and in an
-empty folder, with a PATH of coreutils alone, the program does its main job. Of sources that are not proved nothing is packed. The last line
-is 'N passed, M failed'.
+"""check_release.py: packs the proved program by ./release, twice, and looks at what is packed. The bytes are the same, and the sum is theirs. In an
+empty folder, with a PATH of coreutils alone, the program does its main job. Of sources that are not proved nothing is packed. The last line is 'N
+passed, M failed'.
 """
 import glob
 import hashlib

@@ -1,8 +1,7 @@
 #!/usr/bin/env python3
 """check_terminal.py [--program FILE]: runs programs at the Teletype through a pseudo-terminal, as a person would, with what ./pdp8 and an installed
-pdp8 do around the program: keys one by one and in bursts, the game played, each end, and each way in which the program or the shell
-around it can be ended; and looks each time that the terminal is as it was, and that no process is left. The last line is
-'N passed, M failed'.
+pdp8 do around the program. It tries keys one by one and in bursts, the game, each end, and each way in which the program or the shell around it can
+be ended. Each time it looks that the terminal is as it was, and that no process is left. The last line is 'N passed, M failed'.
 """
 import argparse
 import os
@@ -39,7 +38,7 @@ class Sitting:
         command = f'. {TOP}/build/launch.sh; launch ./pdp8 teletype "$@" {more}'
         self.shell, self.terminal = pty.fork()
         if self.shell == 0:
-            # who runs the gate in the background, or behind nohup, has these ignored, and what inherits that isn't ended by them
+            # who runs the gate in the background, or by nohup, has these ignored, and what inherits that isn't ended by them
             for signalled in (signal.SIGINT, signal.SIGQUIT, signal.SIGHUP):
                 signal.signal(signalled, signal.SIG_DFL)
             os.chdir(folder)
@@ -77,7 +76,7 @@ class Sitting:
         return 0
 
     def ends(self) -> int | None:
-        """The status with which the shell ends, and what is wrong behind that."""
+        """The status with which the shell ends, and what is wrong after that."""
         begun = time.monotonic()
         while time.monotonic() - begun < PATIENCE:
             done, status = os.waitpid(self.shell, os.WNOHANG)

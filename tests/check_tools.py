@@ -1,8 +1,8 @@
 #!/usr/bin/env python3
-"""check_tools.py [python | shell | javascript] [FILE..]: the tools read as they should: every Python file passes `mypy --strict`, every shell script
-`shellcheck`, and every JavaScript file of web/ and tests/page/ `node --check`. Each file counts as one. What is wrong is shown. Where a
-checker isn't there (Debian's mypy, shellcheck and nodejs), its files are skipped, which fails where CI is set. The words take one kind of
-files alone, or some of them. The last line is 'N passed, M failed'.
+"""check_tools.py [python | shell | javascript] [FILE..]: the tools read as they should. Every Python file passes `mypy --strict`, every shell script
+`shellcheck`, and every JavaScript file of web/ and tests/page/ `node --check`. Each file counts as one. What is wrong is shown. Where a checker isn't
+there (Debian's mypy, shellcheck and nodejs), its files are skipped, which fails where CI is set. The words take one kind of files alone, or some of
+them. The last line is 'N passed, M failed'.
 """
 import concurrent.futures
 import glob

@@ -1,8 +1,8 @@
 #!/usr/bin/env python3
-"""check_try_edits.py [NAME..]: what tests/try_edits.py makes of a prover's answers, with a stand-in for the prover over a tree of one crate: a wrong body
-counts only where the prover refuses the function that it changes. One that is proved, that the prover can't read, that breaks the prover
-off, or whose old text isn't there once, fails. A refusal is kept, and is asked for anew once anything changes that it rests on. NAME
-takes the answers whose names have it, or those that are kept. The last line is 'N passed, M failed'.
+"""check_try_edits.py [NAME..]: what tests/try_edits.py makes of a prover's answers, with a stand-in for the prover over a tree of one crate. A wrong
+body counts only where the prover refuses the function that it changes. It fails where it is proved, where the prover can't read it, where it breaks
+the prover off, and where its old text isn't there once. A refusal is kept, and is asked for anew once anything changes that it rests on. NAME takes
+the answers whose names have it, or those that are kept. The last line is 'N passed, M failed'.
 """
 import os
 import shutil

@@ -1,9 +1,9 @@
 #!/usr/bin/env python3
-"""gate.py [--quick]: the whole gate: the quick checks of the documents and sources, the toolchain's own gate (rt ci), the wrong bodies, what
-./install lays, what ./release packs, every session, the random scripts and the refused growths with the program as each of two compilers
-built it, the sessions with the program that is built with checks and no proof, and the page in a browser. --quick leaves out all that needs
-a proof, and runs the rest with the program that is built with checks. It prints at once what it will run and how long that took last time,
-and shows how far it is. Then the processor seconds of each crate, and the line 'N passed, M failed' for all of it.
+"""gate.py [--quick]: the whole gate. It has the quick checks of the documents and sources, the toolchain's own gate (rt ci), the wrong bodies, what
+./install lays and what ./release packs. It has every session, the random scripts and the refused growths with the program as each of two compilers
+built it. It has the sessions with the program that is built with checks and no proof, and the page in a browser. With --quick it leaves out all that
+needs a proof, and runs the rest with the program that is built with checks. It prints at once what it will run and how long that took last time, and
+shows how far it is. Then it prints the processor seconds of each crate, and the line 'N passed, M failed' for all of it.
 
 A part fails that can't be started, that ends with no such line, that counts nothing, or whose status is another than its line's.
 """

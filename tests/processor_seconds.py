@@ -1,5 +1,5 @@
-"""processor_seconds.py TREE COMMAND..: runs a command, and tells a line for each crate of the tree with the processor seconds that the prover took for
-it, then `all` with all that the command took, and `wall` with how long it ran. The gate takes its table from here.
+"""processor_seconds.py TREE COMMAND..: runs a command, and prints a line for each crate of the tree with the processor seconds that the prover took
+for it. Then it prints `all` with all that the command took, and `wall` with how long it ran. The gate takes its table from here.
 """
 import os
 import re
@@ -40,7 +40,7 @@ class Spent:
     def watch(self) -> None:
         turn = 0
         while not self.is_done.wait(0.25):
-            # (to ask for memory is dear)
+            # (to ask for memory takes long)
             self.sample(with_memory=turn % 8 == 0)
             turn += 1
 
@@ -80,7 +80,7 @@ class Spent:
         return costs
 
     def table(self) -> str:
-        """The processor seconds of each crate, the dearest first, and the most memory that was held."""
+        """The processor seconds of each crate, the costliest first, and the most memory that was held."""
         row = "{:18}{:>9}{:>9}{:>9}{:>9}".format
         costs = self.by_crate()
         lines = [row("processor seconds", *KINDS, "all")]

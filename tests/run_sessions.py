@@ -1,12 +1,12 @@
 #!/usr/bin/env python3
-"""run_sessions.py [--unproved | --program FILE] [FILE..]: runs the sessions of tests/sessions/*.md, README.md and the pages below docs/, or those of these
-files, with the proved program, with the one that is built with checks, or with another.
+"""run_sessions.py [--unproved | --program FILE] [FILE..]: runs the sessions of tests/sessions/*.md, README.md and the pages below docs/, or those of
+these files. They run with the proved program, with the one that is built with checks, or with another.
 
-A session is what stands indented by four blanks below one heading, where a line begins with `$ `: such a line is a command, those
-with `> ` go on with it, and the others are what it prints, on either stream; `[N]` ends that where its status is N, not 0. Each
-session runs in one shell in a fresh folder that has the built program as ./pdp8, a copy of examples/ and the functions of
-tests/recipes.sh. Several run side by side, each begun by a process of its own: one that is begun while a copy of the program is being
-written for another keeps that open, and it can't be started then. The last line is 'N passed, M failed'.
+A session is what stands indented by four blanks below one heading, where a line begins with `$ `. Such a line is a command, those with `> ` go on
+with it, and the others are what it prints, on either stream. `[N]` ends that where its status is N, not 0. Each session runs in one shell in a fresh
+folder that has the built program as ./pdp8, a copy of examples/ and the functions of tests/recipes.sh. Several run side by side, each begun by a
+process of its own. Else a session that is begun while a copy of the program is being written for another would keep that open, and the copy couldn't
+be started then. The last line is 'N passed, M failed'.
 """
 import concurrent.futures
 import difflib

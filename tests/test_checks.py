@@ -1,5 +1,5 @@
 """The checks that need no proof as tests of pytest, one a thing: each look at the documents, sources and tools, each planted defect, and each
-session with the program that is built with checks, or with the one that PROGRAM names. They are the functions that the gate calls.
+session. A session runs with the program that is built with checks, or with the one that PROGRAM names. They are the functions that the gate calls.
 
     pytest -k links                          what has `links` in its name
     pytest -k 'session and tapes'            the sessions of docs/using/tapes.md and tests/sessions/tapes.md

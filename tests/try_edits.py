@@ -1,12 +1,12 @@
 #!/usr/bin/env python3
 """try_edits.py [--gate] [--anew] [NAME..]: tries wrong bodies of all crates, or of these. The prover must refuse each.
 
-With --gate they are those of tests/edits/NAME/gate/, which the gate tries, else all below tests/edits/NAME/. Each is made in a copy of its
-crate, and the prover is asked for the functions that it changes; where it proves these, or an edit changes no function, for the whole
-crate. Edits of a crate that change the bodies of different functions are made in one copy, since the prover tells of each function
-apart, and a body is nothing to the proof of another. The libraries below are those that the toolchain's gate has left in out/, or else
-are brought up to date first. A refusal is kept on this machine, by a sum of all that it rests on, as the toolchain's gate keeps proofs: what an
-earlier run has seen refused is not tried again, unless --anew is given. The last line is 'N passed, M failed'.
+With --gate they are those of tests/edits/NAME/gate/, which the gate tries, else all below tests/edits/NAME/. Each is made in a copy of its crate, and
+the prover is asked for the functions that it changes. Where it proves these, or an edit changes no function, it is asked for the whole crate. Edits
+of a crate that change the bodies of different functions are made in one copy. The prover reports on each function apart, and a body is nothing to the
+proof of another. The libraries below are those that the toolchain's gate has left in out/, or else are brought up to date first. A refusal is kept on
+this machine, by a sum of all that it rests on, as the toolchain's gate keeps proofs. What an earlier run has seen refused is not tried again, unless
+--anew is given. The last line is 'N passed, M failed'.
 """
 import concurrent.futures
 import ctypes
@@ -42,7 +42,7 @@ class BadEdit(Exception):
 
 
 class Edit:
-    """A wrong body: what it changes, and the functions that stand there, or that a line `function: NAME` tells."""
+    """A wrong body: what it changes, and the functions that stand there, or that a line `function: NAME` names."""
 
     def __init__(self, path: str) -> None:
         self.path, self.crate = path, os.path.relpath(path, f"{TOP}/tests/edits").split("/")[0]
@@ -80,7 +80,7 @@ class Edit:
         self.changes.append((file, old, new))
 
     def is_of_bodies(self) -> bool:
-        """Whether it changes nothing but bodies of functions that are known, so that no other function's proof sees it."""
+        """Whether it changes nothing but bodies of functions that are known. Then no other function's proof sees it."""
         return not self.fault and None not in self.functions and not any(CLAUSE.search(old + new) for _, old, new in self.changes)
 
     def names(self) -> list[str]:
@@ -107,7 +107,7 @@ class Edit:
         return is_well
 
     def kept(self) -> str:
-        """The file that tells of the edit's refusal: its name is a sum of the edit, how it is tried, and all that its crate's proof rests on."""
+        """The file that notes the edit's refusal. Its name is a sum of the edit, how it is tried, and all that its crate's proof rests on."""
         whole = hashlib.sha256(CRATES.sum(self.crate).encode())
         for path in (self.path, os.path.abspath(__file__), f"{TOP}/tests/rattle_sources.py"):
             whole.update(open(path, "rb").read())
@@ -150,7 +150,7 @@ class Copy:
         shutil.rmtree(self.room, ignore_errors=True)
 
     def is_unread(self, line: str) -> bool:
-        """Whether the prover says so of the edited text, so that no contract was tried."""
+        """Whether the prover says so of the edited text. Then no contract was tried."""
         at = re.match(r"(?:\./)?(\S+?):\d+:\d+: error: (?:(`[^`]*`): )?(.*)", line)
         if not at or at[1] not in self.texts and not at[1].startswith(("src/", "specs/")):
             return False
@@ -234,7 +234,7 @@ def source(crate: str, file: str) -> str:
 
 
 def changed(text: str, changes: list[tuple[str, str, str]], file: str) -> str:
-    """A file's text behind those of the changes that are of it."""
+    """A file's text after those of the changes that are of it."""
     for at, old, new in changes:
         if at == file:
             text = text.replace(old, new)
@@ -251,8 +251,8 @@ def library(name: str) -> str:
 
 
 def are_left(names: list[str], just_now: bool) -> bool:
-    """Whether the libraries are those that the toolchain's gate left, of the sources as they are: they have no stamp. It leaves one that
-    an earlier run of it made as old as that, so age tells nothing where it has run just now."""
+    """Whether the libraries are those that the toolchain's gate left, of the sources as they are: they have no stamp. It leaves one that an earlier
+    run of it made as old as that, so age says nothing where it has run just now."""
     for name in names:
         made = f"{library(name)}/format"
         if os.path.exists(f"{TOP}/crates/{name}/out/rlib/stamp") or not os.path.exists(made):

@@ -22,7 +22,7 @@ const at = (field, address) => field * 0o10000 + (address & 0o7777);
 /** @param {number} cell @param {number} word */
 const named = (cell, word) => at(cell >> 12, (word & 0o200 ? cell & 0o7600 : 0) + (word & 0o177));
 
-// The state before a step, as far as it tells what the step is about to use.
+// The state before a step, as far as the step is about to use it.
 /** @param {Ask} ask @returns {Promise<Before | null>} */
 export async function before(ask) {
     const [told] = await ask('REGISTERS') ?? [];
@@ -71,7 +71,7 @@ function skipsAt(word, ac, link) {
     return isMet !== ((word & 0o10) !== 0);
 }
 
-// What a machine's lamps MA and MB show, and the lines that bring another machine to where it is: those that it was given, and lines for the
+// What a machine's lamps MA and MB show, and the lines that bring another machine to where it is. They are those that it was given, and lines for the
 // steps that it made.
 export class Accesses {
     /** @type {Access | null} */

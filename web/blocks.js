@@ -107,7 +107,7 @@ export class Blocks {
     }
 }
 
-// A mark in a square, so that no kind is told by its colour alone: a bar, a bar that stands, a hole, or a cross.
+// A mark in a square, so no kind is known by its colour alone: a bar, a bar that stands, a hole, or a cross.
 /** @param {CanvasRenderingContext2D} brush @param {string} kind @param {number} x @param {number} y @param {number} width @param {number} height */
 function mark(brush, kind, x, y, width, height) {
     if (kind === 'directory') brush.fillRect(x, y + height * 0.4, width, height * 0.2);

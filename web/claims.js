@@ -12,8 +12,8 @@ export class Claims extends EventTarget {
 
     get names() { return [...this.#all.keys()]; }
 
-    // Asks for a thing, once. The answer comes when it is known whether this tab has it, or another one; then it comes to this tab once that
-    // one leaves it, and an event tells so.
+    // Asks for a thing, once. The answer comes when it is known whether this tab has it, or another one. It comes to this tab once that one leaves
+    // it, and an event says so.
     /** @param {string} name */
     claim(name) {
         if (!navigator.locks) return Promise.resolve();

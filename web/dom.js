@@ -15,7 +15,7 @@ export function made(tag, attributes = {}, ...children) {
 /** @param {number} number @param {number} digits */
 export const octal = (number, digits) => number.toString(8).padStart(digits, '0');
 
-// The element that an event came to.
+// The element that is the target of an event.
 /** @param {Event} event */
 export const elementOf = event => /** @type {HTMLElement} */ (event.target);
 
@@ -62,7 +62,7 @@ export function follow(it, text) {
     if (isAtEnd) it.scrollTop = it.scrollHeight;
 }
 
-// Buttons of which one is a stop of Tab, and arrows go among them: left and right to the next, up and down to the next row of a table, or to
+// Buttons of which one is a stop of Tab, and arrows go among them. Left and right go to the next. Up and down go to the next row of a table, or to
 // the next where there is none.
 const ROVED = 'button:not(:disabled), input[type="file"]:not(:disabled)';
 

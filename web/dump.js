@@ -43,7 +43,7 @@ export class Dump {
         tell('dump-status', '');
     }
 
-    // Lays out the lines, of which each word is a button. A word with more than twelve bits is told before them.
+    // Lays out the lines, of which each word is a button. A word with more than twelve bits is reported before them.
     /** @param {string} text */
     #lay(text) {
         const bad = new Map([...text.matchAll(/^BAD WORD (\d+) ([0-7]+)$/gm)].map(it => [Number(it[1]), it[2]]));

@@ -10,7 +10,7 @@ import { Search, indexed } from './search.js';
 import { placeOf, tapeOf } from './tapes.js';
 import { blocksOf, fileOf, isVolume, kindOf, targetOf, titleOf, volumesOf, wordsOf } from './volumes.js';
 
-// A file of a volume: where the directory is refused it is found by its blocks. Date and kind are as `index` tells them.
+// A file of a volume: where the directory is refused it is found by its blocks. Date and kind are as `index` prints them.
 /** @typedef {{ name: string, first: number, length: number, isByBlocks: boolean, date?: string, kind?: string }} Entry */
 
 // How long a volume is left alone before its files' dates and kinds are asked for, in milliseconds.
@@ -186,8 +186,8 @@ export class Files {
         });
     }
 
-    // Does with files of the host what they are: an image opens, a tape goes to the volume that is open or else to the Teletype, and any
-    // other is a text for Source, or for the volume.
+    // Does with files of the host what they are. An image opens, and a tape goes to the volume that is open or else to the Teletype. Any other is a
+    // text for Source, or for the volume.
     /** @param {File[]} files */
     async drop(files) {
         for (const file of files) {
@@ -276,7 +276,7 @@ export class Files {
         return null;
     }
 
-    // A further volume, which is open from then on, and what the program told of it.
+    // A further volume, which is open from then on, and what the program said of it.
     /** @param {string} wanted @param {Uint8Array} image @param {string} told */
     async add(wanted, image, told) {
         const name = await this.#name(wanted);
@@ -341,7 +341,7 @@ export class Files {
         this.telling = window.setTimeout(() => this.#tellKinds(turn), QUIET);
     }
 
-    // Has the directory tell dates and kinds of the files, as `index` does.
+    // Has the directory show dates and kinds of the files, as `index` prints them.
     /** @param {number} turn */
     async #tellKinds(turn) {
         const told = await indexed(this.page, this.name);
@@ -471,7 +471,7 @@ export class Files {
         });
     }
 
-    // Changes the volume by lines of a script, and tells their replies.
+    // Changes the volume by lines of a script, and shows their replies.
     /** @param {string} words @param {...string} lines */
     async #change(words, ...lines) {
         const run = () => this.page.programs.ask(['run', ...wordsOf(this.name), '--strict'], `${lines.join('\n')}\n`);

@@ -35,9 +35,9 @@ export class Held {
     }
 }
 
-// Runs the program with these words. `files` has get, set, has and delete, as a Map has. `read(most)` gives bytes for standard input,
-// none at its end, and `write(bytes, stream)` takes what is written to stream 1 or 2; where `promised` is given, the two may promise.
-// `locked(file)` tells whether another run holds a file, and `terminal` whether standard input is one. The answer is the exit status.
+// Runs the program with these words. `files` has get, set, has and delete, as a Map has. `read(most)` gives bytes for standard input, none at its
+// end, and `write(bytes, stream)` takes what is written to stream 1 or 2. Where `promised` is given, the two may promise. `locked(file)` says whether
+// another run holds a file, and `terminal` whether standard input is one. The answer is the exit status.
 /** @param {WebAssembly.Module} module @param {HostFiles} files @param {string[]} words @param {Host} host @returns {Promise<number>} */
 export async function command(module, files, words, host) {
     /** @type {any} */
@@ -71,7 +71,7 @@ function imports(memory, files, words, host) {
     };
     /** @param {HeldFile} file @param {string} name */
     const opened = (file, name, folder = false) => { open.set(next, { file, name, folder, at: 0 }); return next++; };
-    // The folder of the page's files has no other name; it is opened so that its names come to the disk.
+    // The folder of the page's files has no other name. It is opened to bring its names to the disk.
     /** @param {string} name */
     const is_folder = name => name === '.' || files.has_folder?.(name);
     /** @param {number} number @param {number} least */
@@ -190,7 +190,7 @@ function imports(memory, files, words, host) {
     };
 }
 
-// A plain file of one user, as Linux tells of it (statx).
+// A plain file of one user, as Linux reports it (statx).
 /** @param {Uint8Array} bytes @param {HeldFile} file */
 function put_stat(bytes, file) {
     const at = new DataView(bytes.buffer, bytes.byteOffset, 256);

@@ -1,5 +1,5 @@
-// The listing beside the text, line by line: the line of the cursor and its words are marked in both, and what a run of the tape does is
-// shown at them, by `trace` and `profile`.
+// The listing beside the text, line by line. The line of the cursor and its words are marked in both. What a run of the tape does is shown at them,
+// by `trace` and `profile`.
 import { $, elementOf, ids, made, octal, tell } from './dom.js';
 import { helpAt, helpOf } from './help.js';
 import { Lamps } from './panel.js';
@@ -139,7 +139,7 @@ export class Listing {
         return made('span', { class: 'l', 'data-step': String(k), 'data-own': own, tabindex: k ? '-1' : '0' }, `${line}\n`);
     }
 
-    // The profile as colour behind the lines of the listing, the dearest the darkest.
+    // The profile as the background colour of the lines of the listing, the costliest the darkest.
     async #profile() {
         const lines = await this.#run('profile');
         if (!lines) return;

@@ -324,7 +324,7 @@ export class Machine {
         await this.go();
     }
 
-    // One step, but a subroutine that a JMS calls is done as a whole: until the next instruction but for it, or the one after that, is reached.
+    // One step, but a subroutine that a JMS calls is done as a whole. It ends at the instruction after the call, or at the one after that.
     async stepOver() {
         if (this.isGoing) return;
         await this.#startLoaded();
@@ -394,7 +394,7 @@ export class Machine {
         return why;
     }
 
-    // A line STEP or GO, behind what the printer and the keyboard are due.
+    // A line STEP or GO, after what the printer and the keyboard are due.
     /** @param {string} word @param {number} count @returns {Promise<string>} */
     async #slice(word, count) {
         const lines = [];

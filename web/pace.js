@@ -1,6 +1,6 @@
 // How many steps the machine makes at once, and how quick it is.
 
-// About so many steps, never twice the same number, so that what the lamps are seen at is no part of a program's own beat.
+// About so many steps, never twice the same number. So what the lamps are seen at is no part of a program's own beat.
 /** @param {number} count */
 export function uneven(count) { return Math.round(count * (0.6 + 0.8 * Math.random())); }
 

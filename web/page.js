@@ -59,7 +59,7 @@ export class Tabs {
         $(`tab-${name}`).focus();
     }
 
-    // Shows a pane. The address gets its name, so that Back and a link lead to it.
+    // Shows a pane. The address gets its name, so Back and a link lead to it.
     /** @param {Pane} name @param {boolean} [isNew] */
     show(name, isNew = true) {
         if (isNew && this.shown !== undefined && this.shown !== name) history.pushState(null, '', `#${name}`);

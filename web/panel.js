@@ -1,5 +1,5 @@
-// The front panel as a picture that works: lamps that show what `REGISTERS` told, switches, and keys that give lines. While the machine goes a
-// lamp glows by the share of the time that it is lit. The lamps stand alone too, where a step of a trace is shown.
+// The front panel as a picture that works: lamps that show what `REGISTERS` said, switches, and keys that give lines. While the machine goes a lamp
+// glows by the share of the time that it is lit. The lamps stand alone too, where a step of a trace is shown.
 import { made, rove } from './dom.js';
 import { helpAt } from './help.js';
 
@@ -185,7 +185,7 @@ export class Panel extends Lamps {
         return it;
     }
 
-    // A drag has come to a switch, or has left the one that it began at.
+    // A drag has reached a switch, or has left the one that it began at.
     /** @param {Element} it @param {(side: string) => void} move */
     #drag(it, move) {
         this.dragged = it;
@@ -227,7 +227,7 @@ export class Panel extends Lamps {
     }
 }
 
-// The words of the rows that `REGISTERS` tells.
+// The words of the rows that `REGISTERS` prints.
 /** @param {Registers} it */
 function wordsOf(it) {
     return { pc: Number.parseInt(it.pc, 8), ac: Number.parseInt(it.ac, 8), l: Number(it.l), if: Number(it.if), df: Number(it.df), ion: Number(it.ion) };

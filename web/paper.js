@@ -1,5 +1,5 @@
-// The paper of a Teletype: characters are put on it as they come, or ten a second. It is kept in sheets, so that a browser lays out only
-// the last of them anew. A line that a return alone began anew is printed over what it had.
+// The paper of a Teletype: characters are put on it as they come, or ten a second. It is kept in sheets. So a browser lays out only the last of them
+// anew. A line that a return alone began anew is printed over what it had.
 const MOST = 60000, SHEET = 2000;
 
 export class Paper {
@@ -11,7 +11,7 @@ export class Paper {
     #timer = 0;
     #isAsked = false;
 
-    // `shown` is told how many characters were printed, `kept` what the paper then holds.
+    // `shown` gets how many characters were printed, `kept` what the paper then holds.
     /** @param {HTMLElement} element @param {{ shown?: (count: number) => void, kept?: (text: string) => void, sound?: import('./sound.js').Sound }} [how] */
     constructor(element, how = {}) {
         this.last = document.createTextNode('');

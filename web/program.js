@@ -66,7 +66,7 @@ export class Programs extends EventTarget {
         return [...this.held, ...words.filter(it => files.has(it) && !it.startsWith('.') && !claims.has(`volume ${it}`))];
     }
 
-    // A whole run, behind those that were asked for before: its exit status, and what it wrote to each stream.
+    // A whole run, after those that were asked for before: its exit status, and what it wrote to each stream.
     /** @param {string[]} words @param {string | Uint8Array} [input] @returns {Promise<Answer>} */
     ask(words, input = '') {
         const answer = this.#last.then(() => this.store.claims.known()).then(() => /** @type {Promise<Answer>} */ (new Promise(go => {
@@ -110,9 +110,8 @@ export class Programs extends EventTarget {
     }
 }
 
-// One run. `heard` and `said` take what it writes to standard output and to standard error, `ended` its status, null where it was
-// stopped. `room` is how many bytes it may be ahead of what `show` was told, none for no limit; `patience` after how many milliseconds
-// a read gives nothing.
+// One run. `heard` and `said` take what it writes to standard output and to standard error, `ended` its status, null where it was stopped. `room` is
+// how many bytes it may be ahead of what `show` was given, none for no limit. `patience` is after how many milliseconds a read gives nothing.
 export class Run {
     /** @type {Uint8Array[]} */
     #queue = [];

@@ -1,5 +1,5 @@
 // A step of a trace, run again, and registers that are set: lines of a script by which a machine does that. As `trace` has it, the printer ends its
-// character before the next step, and a key is struck where the program asks for one: before a KSF, where none is unread.
+// character before the next step. A key is struck where the program asks for one: before a KSF, where none is unread.
 import { octal } from './dom.js';
 import { textOf } from './program.js';
 

@@ -1,4 +1,4 @@
-// What `index` tells: date and kind of a volume's files, and the files of all volumes that have a name or hold a text.
+// What `index` prints: date and kind of a volume's files, and the files of all volumes that have a name or hold a text.
 import { $, made, tell } from './dom.js';
 import { textOf } from './program.js';
 import { fileOf, titleOf, wordsOf } from './volumes.js';

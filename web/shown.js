@@ -1,5 +1,5 @@
-// The file that is shown beside the directory: as a text, as the listing of its tape, or as source, from where its program starts and with
-// names of its cells, which are kept with the volume; and what its program does.
+// The file that is shown beside the directory: as a text, as the listing of its tape, or as source, and what its program does. A source is from where
+// the program starts and has the names of its cells, which are kept with the volume.
 import { $, made, takeHome, tell } from './dom.js';
 import { bytesOf, textOf } from './program.js';
 import { got, isNamedCore, placeOf, tapeIn } from './tapes.js';
@@ -128,7 +128,7 @@ export class Shown {
         return kept?.sum && kept.sum === await sumOf(bytes) ? ['--date', kept.date] : [];
     }
 
-    // Takes a file home under its own name, so that it comes back under that. One whose name can't be typed is named by its place.
+    // Takes a file home under its own name, under which it then comes back. One whose name can't be typed is named by its place.
     /** @param {Entry} entry @param {'text' | 'tape' | 'frames'} form */
     async home(entry, form) {
         const { status, out, said } = await (form === 'tape' ? tapeIn(this.page, this.#volume, entry) : got(this.page, this.#volume, entry, ...(form === 'text' ? ['--text'] : [])));

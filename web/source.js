@@ -228,7 +228,7 @@ export class Source {
         if (event.ctrlKey && event.key === 'Enter') this.assemble();
     }
 
-    // Types characters, so that the browser can take them back as it does keys.
+    // Types characters in such a way that the browser can take them back as it does keys.
     /** @param {string} characters */
     #type(characters) {
         if (document.execCommand?.('insertText', false, characters)) return;
@@ -278,7 +278,7 @@ export class Source {
         return (said.split('\n').find(it => it.startsWith('? ')) ?? said) + hint;
     }
 
-    // Splits what `--list` writes: the lines, and behind the last empty line the symbols.
+    // Splits what `--list` writes: the lines, and after the last empty line the symbols.
     /** @param {Uint8Array | null | undefined} listing */
     #show(listing) {
         const text = listing ? textOf(listing).replaceAll('\r', '') : '';
@@ -287,7 +287,7 @@ export class Source {
         $('symbols').textContent = split ? split[1] : '';
     }
 
-    // Faults as the program tells them: NAME:LINE:COLUMN: CODE: WORDS.
+    // Faults as the program prints them: NAME:LINE:COLUMN: CODE: WORDS.
     /** @param {string} said @param {boolean} [takesCursor] */
     #tellFaults(said, takesCursor = true) {
         this.faulty.clear();

@@ -47,7 +47,7 @@ export class Store extends EventTarget {
         return it;
     }
 
-    // What another tab tells: a file or a note as it is now, or that it asks for those that this tab has.
+    // What another tab sends: a file or a note as it is now, or that it asks for those that this tab has.
     /** @param {{ asks?: boolean, slot: Slot, key: string, value: any }} it */
     #heard({ asks, slot, key, value }) {
         if (asks) {
@@ -115,7 +115,7 @@ export class Store extends EventTarget {
         else value === undefined ? this.remove(key) : this.put(key, value);
     }
 
-    // Tells of a change that a user may want back: of a file that is kept, and of a text.
+    // Reports a change that a user may want back: of a file that is kept, and of a text.
     /** @param {Slot} slot @param {string} key @param {Kept} after */
     #tellChange(slot, key, after) {
         const before = this[slot].get(key);

@@ -84,8 +84,8 @@ export class Teletype {
         return words;
     }
 
-    // The words of a tape that is made of a file of the volume, where the Teletype's program doesn't take that by itself: of a RIM tape, of a
-    // core image with another name, or of a file that is found by its place.
+    // The words of a tape that is made of a file of the volume, where the Teletype's program doesn't take that by itself. The file is a RIM tape, a
+    // core image with another name, or one that is found by its place.
     async #madeTape() {
         const { files, store } = this.page, entry = files.entries.find(it => `file ${it.name}` === $('tape').value);
         if (!entry || isNamedCore(entry)) return null;

@@ -1,4 +1,4 @@
-// What brings back what a change of a volume, or of a text that isn't open, has taken away: of each change the bytes that differ, as they
+// What brings back what a change of a volume, or of a text that isn't open, has taken away. Of each change it keeps the bytes that differ, as they
 // were and as they became. All is kept in the page, and gone with it.
 import { bytesOf } from './program.js';
 
@@ -112,7 +112,7 @@ function stepOf(slot, key, before, after, words) {
     return { ...step, parts, lengths: [was.length, is.length], size };
 }
 
-// The stretches of blocks in which two values differ, each as long as it can be, so that few parts are kept.
+// The stretches of blocks in which two values differ, each as long as it can be, to keep few parts.
 /** @param {Uint8Array} was @param {Uint8Array} is */
 function stretchesOf(was, is) {
     /** @type {{ at: number, end: number }[]} */

@@ -1,5 +1,5 @@
-// What the browser's store doesn't take, since it is full or refuses: told at once, marked, offered to be taken home, and asked about before
-// the page is left.
+// What the browser's store doesn't take, since it is full or refuses. It is reported at once, marked, offered to be taken home, and asked about
+// before the page is left.
 import { $, takeHome } from './dom.js';
 import { bytesOf } from './program.js';
 

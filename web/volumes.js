@@ -2,12 +2,12 @@
 // of its file has the file's name. Others have a word after it: `1` or `2` of a disk, `DECtape`.
 import { textOf } from './program.js';
 
-// `begun` is a disk whose end was never written, so that it has its first volume alone.
+// `begun` is a disk whose end was never written; it has its first volume alone.
 /** @typedef {'' | 'disk' | 'begun' | 'DECtape'} Kind */
 
 const DISK_BLOCKS = 3248, TAPE_BLOCKS = 737, BLOCK = 512, TAPE = 380292;
 
-// How many images were asked for, so that each has a name of its own for the program.
+// How many images were asked for; by it each has a name of its own for the program.
 let last = 0;
 
 /** @param {string} volume */
@@ -57,8 +57,8 @@ export const isVolume = ({ refusal }) => refusal === null || refusal.startsWith(
 
 /** @typedef {{ refusal: string | null, said: string }} Asked */
 
-// What an image is, by what the program says of it, and the line by which that refuses it, if it does. `index` tells of a disk by its
-// volumes; an image of which it tells nothing is asked for in each way that its length leaves.
+// What an image is, by what the program says of it, and the line by which that refuses it, if it does. `index` reports a disk by its volumes. An
+// image of which it says nothing is asked for in each way that its length leaves.
 /** @param {Page} page @param {Uint8Array} bytes @returns {Promise<Asked & { kind: Kind }>} */
 export async function kindOf({ programs, store }, bytes) {
     const name = `.kind-${++last}`;

@@ -1,5 +1,5 @@
-// A run of the program, apart from the page, so that the page never waits for it. A message begins it; those behind it are its keys or
-// lines, and tell what of its output was shown.
+// A run of the program, apart from the page, which never waits for it. A message begins it. Those after it are its keys or lines, and say what of its
+// output was shown.
 import { command, Held } from './host.js';
 
 const FAULT = 'pdp8: a check failed: this is a fault of pdp8 itself; please report it, with the command and its files';
@@ -19,7 +19,7 @@ onmessage = ({ data }) => {
     wake();
 };
 
-// The files that were given, and which of them have changed since that was told.
+// The files that were given, and which of them have changed since that was last sent.
 /** @extends Map<string, Held> */
 class Files extends Map {
     /** @type {Map<string, Held>} */

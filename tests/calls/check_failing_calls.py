@@ -1,6 +1,6 @@
 #!/usr/bin/env python3
-"""check_failing_calls.py: what the program leaves where a call of the host fails, or something happens just before or after one: another program makes the
-name, the program is killed, the disk refuses. A library that is laid before the host's meets one call of a whole run. The last line is
+"""check_failing_calls.py: what the program leaves where a call of the host fails, or something happens just before or after one. Another program
+makes the name, the program is killed, or the disk refuses. A library that is laid before the host's meets one call of a whole run. The last line is
 'N passed, M failed'.
 
 usage: check_failing_calls.py [--program FILE]
@@ -32,8 +32,8 @@ class Room:
         return run.stdout + run.stderr
 
     def pdp8(self, *words: str, call: str = "", number: int = 1, before: str = "", error: int = 0, after: str = "", given: str = "") -> tuple[int, str]:
-        """The status of a run, and what it said on standard error and then on standard output. At the call of this number the command
-        before it is run, then it fails with the error, or else the command after it is run; what that says is in the file `said`."""
+        """The status of a run, and what it said on standard error and then on standard output. At the call of this number the command before it is
+        run. Then the call fails with the error, or else the command after it is run. What that says is in the file `said`."""
         met = {"CALL": call, "NUMBER": str(number), "BEFORE": before, "ERROR": str(error), "AFTER": after}
         open(f"{self.folder}.log", "w", encoding="utf-8").close()
         met |= {"LD_PRELOAD": self.library, "LOG": f"{self.folder}.log"}

@@ -1,6 +1,6 @@
 #!/usr/bin/env python3
-"""check_saves.py: what files hold after a save of which a call fails: of a host in memory, call by call; and of the system, with the calls in the order
-in which they were made. The last line is 'N passed, M failed'.
+"""check_saves.py: what files hold after a save of which a call fails. It tries a host in memory, call by call, and the system, with the calls in the
+order in which they were made. The last line is 'N passed, M failed'.
 
 usage: check_saves.py [--program FILE]
 """

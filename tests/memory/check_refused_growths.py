@@ -1,11 +1,11 @@
 #!/usr/bin/env python3
-"""check_refused_growths.py: what refused growths leave, tried at each growth of whole runs. Each script below is run with its Nth growth refused, for every
-N until a run meets no refusal: by the program `short_memory`, which compares the session with one that never met the refusal (files,
-cells, registers, characters) and does the entry again; and by `pdp8` itself, whose last line is then `? 10 MEMORY` behind a front of
-the replies. The last line is 'N passed, M failed'; each run is counted, and the lines before it tell what became of them.
+"""check_refused_growths.py: what refused growths leave, tried at each growth of whole runs. Each script below is run with its Nth growth refused, for
+every N until a run meets no refusal. It is run by the program `short_memory`, which compares the session with one that never met the refusal (files,
+cells, registers, characters) and does the entry again. It is run by `pdp8` itself, too, whose last line is then `? 10 MEMORY` after a front of the
+replies. The last line is 'N passed, M failed'; each run is counted, and the lines before it say what became of them.
 
-Each kind of run of each script must meet refusals, and few of them may end outside a session or be done without (`EXPECTED`). A session
-that a refusal leaves spoiled, by `short_memory` on purpose, must be told as another one than it was.
+Each kind of run of each script must meet refusals, and few of them may end outside a session or be done without (`EXPECTED`). A session that a
+refusal leaves spoiled, by `short_memory` on purpose, must be reported as another one than it was.
 
 usage: check_refused_growths.py [--program FILE] [--short FILE]
 """
@@ -53,7 +53,7 @@ SCRIPTS = {
 }
 
 
-# What the runs of a script may come to, by kind: the words, and the least and the most of them.
+# The outcomes that the runs of a script may have, by kind: the words, and the least and the most of them.
 EXPECTED = {
     "again": {"same": (20, 1000), "outside": (1, 8)},
     "files": {"same": (20, 1000), "outside": (1, 8)},
@@ -66,7 +66,7 @@ Front = tuple[bytes, Files]
 
 
 def unexpected(kind: str, found: dict[str, int]) -> list[str]:
-    """What a kind of runs came to too seldom or too often."""
+    """The outcomes that a kind of runs had too seldom or too often."""
     wanted = EXPECTED[kind]
     return [f"{found.get(what, 0)} {what}, not {low} to {high}" for what, (low, high) in wanted.items() if not low <= found.get(what, 0) <= high]
 
@@ -89,8 +89,8 @@ def in_session(words: list[str], want: bytes | None, number: int, text: bytes, l
 
 
 def untold(text: bytes, library: str) -> Iterator[str]:
-    """The kinds of runs in which `short_memory` does not tell a session that a refused item leaves spoiled. Where no item is refused, since
-    the session was not yet made or a line was read anew, none is spoiled."""
+    """The kinds of runs in which `short_memory` does not report a session that a refused item leaves spoiled. Where no item is refused, since the
+    session was not yet made or a line was read anew, none is spoiled."""
     for kind, words in (("again", ["go", "spoilt"]), ("files", ["stop", "it", "spoilt"])):
         tried = [refused([SHORT, *words], number, text, library) for number in range(1, 65)]
         found = [status for status, _, met in tried if met]
@@ -116,7 +116,7 @@ def files(image: bytes) -> Files:
 
 
 def program_run(image: bytes, text: bytes, number: int = 0, library: str = "") -> tuple[int, bytes, bool, bytes]:
-    """A run of `pdp8` on a copy of an image: its status, its output, whether it met the refusal, and the image behind it."""
+    """A run of `pdp8` on a copy of an image: its status, its output, whether it met the refusal, and the image after it."""
     with tempfile.TemporaryDirectory() as folder:
         name = f"{folder}/v.img"
         with open(name, "wb") as file:
@@ -127,8 +127,8 @@ def program_run(image: bytes, text: bytes, number: int = 0, library: str = "") -
 
 
 def in_program(image: bytes, fronts: list[Front], number: int, text: bytes, library: str) -> str | None:
-    """What became of a run by `pdp8`: its replies up to the refusal, and then the line of want of memory; its files are those of
-    the front of the script that these replies belong to. A growth that it can do without it may do without."""
+    """What became of a run by `pdp8`. It must print its replies up to the refusal, and then the line of want of memory. Its files are those of the
+    front of the script that these replies belong to. A growth that it can do without it may do without."""
     status, out, met, after = program_run(image, text, number, library)
     if not met:
         return None

@@ -23,8 +23,8 @@ Pair = tuple[int, int]
 
 @dataclass
 class Fault:
-    """A code with its line, the turn of an assembling job that meets it, and the place of the frame that shows it, or -1 where
-    that is the end of a text."""
+    """A code with its line, the turn of an assembling job that meets it, and the place of the frame that shows it. The place is -1 where that is the
+    end of a text."""
 
     code: str
     line: int
@@ -77,7 +77,7 @@ class Source:
         return 0
 
     def defined(self, name: str, at: int) -> Optional[int]:
-        """What the statement itself makes of a name: its `=` comes behind its tags."""
+        """What the statement itself makes of a name: its `=` comes after its tags."""
         body = self.said[at].body
         if body.kind == "define" and body.name == name:
             return self.sum(body.terms, at)

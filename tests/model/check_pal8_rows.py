@@ -1,6 +1,7 @@
 #!/usr/bin/env python3
-"""check_pal8_rows.py [--program FILE]: holds the plain model of PAL8 (pal8.py) to worked sources (pal8_rows.txt), each with the cells that have words or
-with its first fault; with --program the program `pdp8`, too, by `assemble --pal8` and by `tape` on what that wrote. The last line is 'N passed, M failed'."""
+"""check_pal8_rows.py [--program FILE]: holds the plain model of PAL8 (pal8.py) to worked sources (pal8_rows.txt), each with the cells that have words
+or with its first fault. With --program it holds the program `pdp8` to them, too, by `assemble --pal8` and by `tape` on what that wrote. The last line
+is 'N passed, M failed'."""
 import argparse
 import os
 import subprocess
@@ -16,7 +17,7 @@ from tests.model.pal8 import answer
 
 
 def rows() -> Iterator[tuple[str, str, str]]:
-    """Each worked source: its name, its text and what it comes to."""
+    """Each worked source: its name, its text and what it gives."""
     name, source, wanted = "", "", ""
     for line in open(f"{HERE}/pal8_rows.txt", encoding="ascii"):
         if line.startswith("= "):

@@ -14,7 +14,7 @@ SECONDS = 60
 
 @dataclass
 class Ended:
-    """What the program printed for a case, on both streams, the image behind it, and its status."""
+    """What the program printed for a case, on both streams, the image after it, and its status."""
 
     replies: bytes
     errors: bytes
@@ -33,7 +33,7 @@ def run_program(program: str, case: Case) -> Ended:
 
 
 def lines_of(replies: bytes) -> list[str]:
-    """The reply lines with every byte but the LF that ends each. Where the last has none it is marked, so that no reply is like it."""
+    """The reply lines with every byte but the LF that ends each. Where the last has none it is marked; no reply is like it then."""
     *lines, rest = replies.decode("latin-1").split("\n")
     return lines + [f"{rest} (without a LF)"] if rest else lines
 

@@ -1,10 +1,10 @@
 #!/usr/bin/env python3
-"""compare_archives.py [--program FILE] [--cases N] [--seed S]: does random commands to the files of random images with the program `pdp8`, N times
-twenty, 100 from 1 on where nothing is said: put, get, delete, rename, copy, squeeze and list, of one file and of many, by names, patterns and
-first blocks, on volumes with gaps, with 0 to 10 information words, and with directories that are nearly full or past it, alone in their files,
-on disks and on DECtapes. It compares every byte that comes, and behind each command the files of the images, where they lie, all blocks that
-are no file's, and all bytes beside the volume, with a plain keeper of volumes that is written from the definitions alone. Damaged directories
-are looked at too. The same number is the same case each time. The last line is 'N passed, M failed'.
+"""compare_archives.py [--program FILE] [--cases N] [--seed S]: does random commands to the files of random images with the program `pdp8`. It does N
+times twenty, 100 from 1 on where nothing is said: put, get, delete, rename, copy, squeeze and list, of one file and of many. Files are named by
+names, patterns and first blocks. The volumes have gaps, 0 to 10 information words, and directories that are nearly full or past it. They lie alone in
+their files, on disks and on DECtapes. It compares every byte that comes with a plain keeper of volumes that is written from the definitions alone.
+After each command it also holds to the keeper the files of the images, where they lie, all blocks that are no file's, and all bytes beside the
+volume. Damaged directories are looked at too. The same number is the same case each time. The last line is 'N passed, M failed'.
 """
 import argparse
 import concurrent.futures
@@ -76,7 +76,7 @@ class Case:
         self.seen: dict[str, Volume] = {}
 
     def command(self) -> str:
-        """Does a random command. Tells how the program differs from the keeper, and nothing where it doesn't."""
+        """Does a random command. Says how the program differs from the keeper, and nothing where it doesn't."""
         return self.random.choice([self.put, self.get, self.delete, self.rename, self.copy, self.told, self.get_many, self.put_many, self.others])()
 
     def put(self) -> str:

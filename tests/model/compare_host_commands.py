@@ -1,8 +1,8 @@
 #!/usr/bin/env python3
-"""compare_host_commands.py [--program FILE] [--cases N] [--seed S]: assembles random sources of the host, runs random programs at the Teletype, traces and
-profiles them, and writes the sources of random tapes with the program `pdp8`, N of each, 300 from 1 on where nothing is said. It compares
-every byte that comes with a plain assembler, a plain machine and a plain listing that are written from the definitions alone; a source is
-assembled again. The same number is the same case each time. The last line is 'N passed, M failed'.
+"""compare_host_commands.py [--program FILE] [--cases N] [--seed S]: assembles random sources of the host, and runs random programs at the Teletype.
+It traces and profiles them, and writes the sources of random tapes. All is done with the program `pdp8`, N of each, 300 from 1 on where nothing is
+said. It compares every byte that comes with a plain assembler, a plain machine and a plain listing that are written from the definitions alone. A
+source is assembled again. The same number is the same case each time. The last line is 'N passed, M failed'.
 """
 import argparse
 import concurrent.futures
@@ -157,7 +157,7 @@ def traces(program: str, seed: int) -> str:
 
 
 def source_lines(text: bytes) -> dict[int, list[str]]:
-    """The pieces of the statement that a source has for each cell, which its comment tells."""
+    """The pieces of the statement that a source has for each cell, which its comment names."""
     rows = {}
     for line in text.decode("ascii").split("\r\n"):
         statement, slash, comment = line.partition("\t/")

@@ -1,7 +1,7 @@
 #!/usr/bin/env python3
-"""compare_indexes.py [--program FILE] [--images N] [--seed S]: makes N random image files, 2,000 where nothing is said: volumes with files of
-all kinds, odd names and dates, alone in their files, on disks and on DECtapes, with bytes before or after them, and some that are none. It
-compares what `index` prints of 200 of them at once, and of each twentieth alone, with a plain reader that is written from the definitions
+"""compare_indexes.py [--program FILE] [--images N] [--seed S]: makes N random image files, 2,000 where nothing is said. They are volumes with files
+of all kinds, odd names and dates, alone in their files, on disks and on DECtapes. Some have bytes before or after them, and some files hold no
+volume. It compares what `index` prints of 200 of them at once, and of each twentieth alone, with a plain reader that is written from the definitions
 alone. The same number is the same images each time. The last line is 'N passed, M failed'.
 """
 import argparse

@@ -1,7 +1,8 @@
 #!/usr/bin/env python3
-"""compare_pal8_sources.py [--sources N] [--seed S] [--program FILE]: assembles the worked sources of PAL8, N random ones, 2000 where nothing is said, and
-N that are random bytes nearly, by the program `pal8_asm_bench`, and compares the cells that have words, or the first fault with its place, with
-the plain model's; then the largest: a million literals, brackets within brackets, a line of 10 MB. The same seed makes the same sources. The last line is 'N passed, M failed'.
+"""compare_pal8_sources.py [--sources N] [--seed S] [--program FILE]: assembles sources of PAL8 by the program `pal8_asm_bench`. They are the worked
+ones, N random ones, 2000 where nothing is said, and N that are random bytes nearly. It compares the cells that have words, or the first fault with
+its place, with the plain model's. Then come the largest: a million literals, brackets within brackets, a line of 10 MB. The same seed makes the same
+sources. The last line is 'N passed, M failed'.
 """
 import argparse
 import os

@@ -1,8 +1,8 @@
 #!/usr/bin/env python3
-"""compare_pal8_statements.py [--texts N] [--seed S] [--program FILE]: reads N random PAL8 texts, 2000 where nothing is said, by the lexer, by the program
-`pal8_bench`, and compares the statements, their tokens, strings, lines and places with the plain model's; then the largest texts: a line of
-10 MB, a million of `(`, of `<` and of `"`, a string and a comment of as many bytes. The same seed makes the same texts. The last line is
-'N passed, M failed'.
+"""compare_pal8_statements.py [--texts N] [--seed S] [--program FILE]: reads N random PAL8 texts, 2000 where nothing is said, by the lexer, in the
+program `pal8_bench`. It compares the statements, their tokens, strings, lines and places with the plain model's. Then come the largest texts: a line
+of 10 MB, a million of `(`, of `<` and of `"`, a string and a comment of as many bytes. The same seed makes the same texts. The last line is 'N
+passed, M failed'.
 """
 import argparse
 import os

@@ -1,8 +1,8 @@
 #!/usr/bin/env python3
-"""compare_scans.py [--program FILE] [--volumes N] [--seed S]: makes N random volumes without a directory, 400 where nothing is said: whole
-texts, core images, BIN and RIM tapes of one block and of several, parts of them, leader, zeros and blocks of any words, in any order. It
-compares what `scan` prints of each with a plain reader that is written from the definitions alone, and the files that `scan --into` writes
-with what `get --blocks` gives of the same blocks. The same number is the same volumes each time. The last line is 'N passed, M failed'.
+"""compare_scans.py [--program FILE] [--volumes N] [--seed S]: makes N random volumes without a directory, 400 where nothing is said. They hold whole
+texts, core images, BIN and RIM tapes of one block and of several, parts of them, leader, zeros and blocks of any words, in any order. It compares
+what `scan` prints of each with a plain reader that is written from the definitions alone. It compares the files that `scan --into` writes with what
+`get --blocks` gives of the same blocks. The same number is the same volumes each time. The last line is 'N passed, M failed'.
 """
 import os
 import subprocess

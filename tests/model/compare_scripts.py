@@ -1,5 +1,5 @@
 #!/usr/bin/env python3
-"""compare_scripts.py [--program FILE] [--scripts N] [--seed S]: runs random scripts through the program `pdp8`, and compares its replies, byte by
+"""compare_scripts.py [--program FILE] [--scripts N] [--seed S]: runs random scripts through the program `pdp8`. It compares its replies, byte by
 byte, and the files of its images with a plain system machine that is written from the definitions alone.
 
 Scripts S to S + N - 1 are run, 1000 from 1 on where nothing is said: the same number is the same script each time. Where one differs,

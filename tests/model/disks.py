@@ -8,7 +8,7 @@ TAPE_BLOCKS = 737
 
 
 def image_in(layout: str, data: bytes) -> bytes:
-    """The image of the volume in a file: what is behind the end of a disk's file reads as zeros."""
+    """The image of the volume in a file: what is after the end of a disk's file reads as zeros."""
     if layout == "tape":
         return b"".join(data[at : at + 256] for at in range(0, len(data), 258))
     if layout:

@@ -14,7 +14,7 @@ COMMANDS = [
     "GO 2", "RUN 30200 2", "KEY 301", "DONE", "SWITCHES 1234", "EXAMINE 30200", "DEPOSIT 30201 0001", "REGISTERS", "PRINTED", "", "SQUEEZE",
     "BREAK 30201 OFF", "FINISH",
 ]  # fmt: skip
-# a statement, whose fault is that of its own form, of the statements before, or of a word and so told in the second pass
+# a statement, whose fault is that of its own form, of the statements before, or of a word and so reported in the second pass
 FAULTY = ["8", "a", "1A", "I", "TAD NONE", "NONE", "Q=NONE", "*NONE", "FIELD 10", "*1000;JMP 0777", "CLA=1"]
 
 # Each is to be met by some of any thousand scripts.
@@ -33,7 +33,7 @@ def lines(*commands: str) -> list[bytes]:
 
 
 def limit(random: Random) -> list[bytes]:
-    """As many steps as may be asked for, and one beside; where all are made they cost the model a second."""
+    """As many steps as may be asked for, and one more; where all are made they cost the model a second."""
     number = random.choice([*LIMITS, 1_000_000])
     program = random.choice([HALTING] * 2 + [COUNTING] * 3 + [RUNNING])
     if program is COUNTING and number:
@@ -104,7 +104,7 @@ def with_returns(random: Random) -> list[bytes]:
 
 
 def swallowing(random: Random) -> list[bytes]:
-    """A STORE with a line fewer than it says, which takes the command behind it for its last."""
+    """A STORE with a line fewer than it says, which takes the command after it for its last."""
     count = random.randint(1, 4)
     name = random.choice(["E.PA", "E.PA", "lower"])
     return [b"".join(lines(f"STORE {name} {count}", *["1"] * (count - 1), "DIRECT"))]
@@ -116,7 +116,7 @@ def edge(random: Random) -> list[bytes]:
 
 
 def cut_off(random: Random) -> list[bytes]:
-    """A script's last entry, where the script ends within it or has no LF behind it."""
+    """A script's last entry, where the script ends within it or has no LF after it."""
     count = random.randint(1, 5)
     head, text = lines(f"STORE {random.choice(['E.PA', 'E.PA', 'S1.PA', 'lower'])} {count}"), lines(*["1"] * count)
     return random.choice([

@@ -1,4 +1,4 @@
-"""Which cells of a program hold instructions, as far as that can be told from where it starts (Small Computer Handbook)."""
+"""Which cells of a program hold instructions, as far as that can be known from where it starts (Small Computer Handbook)."""
 FIELD, PAGE = 0o10000, 0o200
 
 
@@ -13,7 +13,7 @@ def named(cell: int, word: int) -> int:
 
 
 def exits(cell: int, word: int) -> list[int]:
-    """The cells at which a program goes on behind an instruction."""
+    """The cells at which a program goes on after an instruction."""
     on, skip, direct = behind(cell, 1), behind(cell, 2), not word & 0o400
     operation = word // 0o1000
     if operation == 2 or word & 0o7771 in (0o6031, 0o6041):

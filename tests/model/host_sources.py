@@ -1,4 +1,4 @@
-"""What `assemble` makes of sources of the host, by the definitions: a tape and a listing, or the first fault as it is told."""
+"""What `assemble` makes of sources of the host, by the definitions: a tape and a listing, or the first fault as it is reported."""
 from __future__ import annotations
 
 import re
@@ -64,7 +64,7 @@ class HostSources:
         self.source = Source(self.join.text)
 
     def position(self, place: int) -> tuple[int, int]:
-        """The source of a byte of the join, and its place in the text of the host; behind the join that where its last source ends."""
+        """The source of a byte of the join, and its place in the text of the host; after the join that where its last source ends."""
         if place == len(self.join.text):
             return self.join.last, len(self.texts[self.join.last])
         source, at = self.join.origins[place]
@@ -128,7 +128,7 @@ class HostSources:
         return bool(source.bad) or any(source.tags_fault(at) or source.body_fault(at) for at in range(len(source.said)))
 
     def lexical(self, first: Fault) -> list[Fault]:
-        """A fault of the first pass, and those behind one of a character, a number or a statement's form."""
+        """A fault of the first pass, and those after one of a character, a number or a statement's form."""
         found, sources = [first], self
         while found[-1].code in LEXICAL and len(found) <= MOST_FURTHER:
             mended = sources.harmless()
@@ -161,7 +161,7 @@ class HostSources:
         return [at for at in range(len(self.source.said)) if self.source.is_word(at)]
 
     def faults(self) -> list[Fault]:
-        """The first fault, behind one of a word those of further words, and behind one of the lexer further ones of the lexer."""
+        """The first fault; after one of a word those of further words, and after one of the lexer further ones of the lexer."""
         first = self.first_pass()
         if first:
             return self.lexical(first)
@@ -230,7 +230,7 @@ def shown(line: bytes) -> bytes:
 
 
 def lines_told(fault: Fault, texts: list[bytes], names: list[str]) -> list[bytes]:
-    """What is told of a fault, but its number."""
+    """What is printed of a fault, but its number."""
     text = texts[fault.source]
     number = line_number(text, fault.place)
     lines = re.split(rb"\r\n|\n|\r", text)

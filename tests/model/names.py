@@ -1,4 +1,4 @@
-"""The names that a text gives the cells of a tape, by their definition: each line gives one, and the first that is refused is told."""
+"""The names that a text gives the cells of a tape, by their definition: each line gives one, and the first that is refused is reported."""
 import re
 from random import Random
 from typing import Optional
@@ -20,7 +20,7 @@ def lines_of(text: bytes) -> list[bytes]:
 
 
 def why_refused(line: bytes, given: Names, cells: set[int]) -> str:
-    """Why a line is refused behind those that gave these names; nothing where it gives one."""
+    """Why a line is refused after those that gave these names; nothing where it gives one."""
     if not re.match(rb"[0-7]{5}[ \t]", line):
         return "no cell with a name"
     cell, name = int(line[:5], 8), line[5:].lstrip(b" \t").decode("latin-1")

@@ -1,9 +1,9 @@
 """PAL8, the assembler of OS/8, by its definitions: what a source means, or its first fault. So far it knows the language with literals,
 links, conditions, punching, relocation, the names of files and devices, and EXPUNGE, FIXTAB and FIXMRI; it doesn't take PAUSE.
 
-A place, a name and a condition rest on the statements before alone, so each statement is judged after those before it; literals and
-links rest on all names, and so come last. It is slow, and keeps no table: a name is looked for among the statements before, the newest
-first, and a pool is the list of all that was asked of its page.
+A place, a name and a condition rest on the statements before alone. So each statement is judged after those before it. Literals and links rest on all
+names, and so come last. It is slow, and keeps no table. A name is looked for among the statements before, the newest first. A pool is the list of all
+that was asked of its page.
 """
 from __future__ import annotations
 
@@ -34,8 +34,8 @@ CORE_END = 0o10000
 
 
 class Fault(Exception):
-    """A code, with the line of its statement, and where that begins among the characters that are there; and the number of the name or the
-    cell that it is about."""
+    """A code, with the line of its statement, and where that begins among the characters that are there. It has the number of the name or the cell
+    that it is about, too."""
 
     def __init__(self, code: str, line: int = 0, start: int = 0, about: Optional[int] = None) -> None:
         super().__init__(code, line, start, about)

@@ -57,7 +57,7 @@ def program_at(words: list[int], frames: list[int], left: int) -> Optional[tuple
 
 
 def programs_in(words: list[int]) -> list[Piece]:
-    """The programs: behind one that is found the next one is looked for."""
+    """The programs: after one that is found the next one is looked for."""
     found, block, count, frames = list[Piece](), 0, len(words) // BLOCK_WORDS, frames_of(words)
     while block < count:
         program = program_at(words[BLOCK_WORDS * block :], frames[BLOCK_FRAMES * block :], count - block)

@@ -28,7 +28,7 @@ class Stretch:
 
 @dataclass
 class Term:
-    """A term of an expression behind `+`, `-` or a blank: a name, a number, or `.`."""
+    """A term of an expression after `+`, `-` or a blank: a name, a number, or `.`."""
 
     joiner: str
     name: str = ""
@@ -38,7 +38,7 @@ class Term:
 
 @dataclass
 class Body:
-    """What a statement says behind its tags."""
+    """What a statement says after its tags."""
 
     kind: str
     terms: list[Term] = field(default_factory=list)
@@ -53,7 +53,7 @@ class Statement:
 
 
 def is_live(text: bytes, place: int) -> bool:
-    """LF, FF, NUL and rubout are as if they weren't there, and so is what stands behind a `/` in its line."""
+    """LF, FF, NUL and rubout are as if they weren't there, and so is what stands after a `/` in its line."""
     line = text[text.rfind(b"\r", 0, place) + 1 : place + 1]
     return text[place] not in LEFT_OUT and (text[place] == 0o15 or b"/" not in line)
 

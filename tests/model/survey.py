@@ -1,5 +1,5 @@
-"""What `check --all` tells of a directory, sound or not, by its definition: each fault in the order in which it is met, each entry, and the
-blocks that two entries claim; and images whose directories are damaged."""
+"""What `check --all` prints of a directory, sound or not, by its definition. It prints each fault in the order in which it is met, each entry, and
+the blocks that two entries claim. Also images whose directories are damaged."""
 from random import Random
 from tests.model.volume import FIRST_ENTRY, words_of_image
 from tests.model.words import BLOCK_WORDS, shown_name
@@ -32,7 +32,7 @@ class Survey:
         self.twice()
 
     def segment(self, number: int, words: list[int], before: tuple[int, int] | None) -> int:
-        """Tells of a segment behind one that tells so many information words and ends there. Returns the block behind its entries."""
+        """Reports a segment after one that says so many information words and ends there. Returns the block after its entries."""
         count, first, info = -words[0] % 0o10000, words[1], -words[4] % 0o10000
         self.lines.append(f"SEGMENT {number} {count}")
         if info > 10:
@@ -70,7 +70,7 @@ class Survey:
             self.claims[block] += 1
 
     def twice(self) -> None:
-        """Tells each longest run of blocks that two entries or more claim."""
+        """Reports each longest run of blocks that two entries or more claim."""
         block = 0
         while block < self.blocks:
             end = block

@@ -42,8 +42,7 @@ class Told:
 
 @dataclass
 class Job:
-    """A job: what it holds, and how many turns it may take and took. What it will come to is known from its start, since what it
-    holds stays as it is."""
+    """A job: what it holds, and how many turns it may take and took. Its outcome is known from its start, since what it holds stays as it is."""
 
     kind: str
     name: Name
@@ -62,7 +61,7 @@ class System:
     met: Counter[str] = field(default_factory=Counter)
 
     def run(self, script: bytes) -> None:
-        """Does the entries of a script, and compares each reply with the told one."""
+        """Does the entries of a script, and compares each reply with the one that the program gave."""
         for entry in entries_of(script):
             shown = b" ".join([entry.verb.encode(), *entry.operands]).decode("latin-1") or "(a bad line)"
             if entry.verb == "FINISH":

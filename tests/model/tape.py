@@ -88,7 +88,7 @@ def end_of(items: list[tuple[str, int]], total: int, place: int) -> dict[int, in
 
 
 def cell_of(before: list[tuple[str, int]]) -> int:
-    """The cell of a word behind these items: the last origin and the words since, in the field of the last field setting."""
+    """The cell of a word after these items: the last origin and the words since, in the field of the last field setting."""
     field, words = 0, 0
     for kind, number in before:
         field = number if kind == "field" else field

@@ -37,7 +37,7 @@ def tidied(runs: list[Run]) -> list[Run]:
 
 @dataclass
 class Volume:
-    """What a directory says: the files by name, the blocks that it covers, how many information words a file has, and which runs of
+    """What a directory says: the files by name, the blocks that it covers, and how many information words a file has. It has, too, which runs of
     blocks, from the first on, are those of files."""
 
     files: dict[Name, File]

@@ -39,7 +39,7 @@ def frames_of(words: list[int]) -> list[int]:
 
 
 def packed(frames: list[int]) -> list[int]:
-    """The fewest whole blocks whose frames begin with these, zeros behind."""
+    """The fewest whole blocks whose frames begin with these, zeros after them."""
     words = []
     frames = frames + [0] * (-len(frames) % BLOCK_FRAMES)
     for first, second, third in zip(frames[::3], frames[1::3], frames[2::3]):

@@ -1,5 +1,5 @@
-// archives.mjs PROGRAM FOLDER [PART..]: images of every kind, what `index` tells of all volumes, the words of blocks, and what a damaged volume still
-// holds. As losses.mjs otherwise.
+// archives.mjs PROGRAM FOLDER [PART..]: images of every kind, what `index` prints of all volumes, the words of blocks, and what a damaged volume
+// still holds. As losses.mjs otherwise.
 import { readFileSync, writeFileSync } from 'node:fs';
 import { dirname, join } from 'node:path';
 import { fileURLToPath } from 'node:url';
@@ -24,7 +24,7 @@ async function imageAtRest(page) {
     return image(page);
 }
 
-// The page has asked the program nothing for half a second, so that all of the volume is shown, and nothing moves any more.
+// The page has asked the program nothing for half a second. Then all of the volume is shown, and nothing moves any more.
 async function rests(page) {
     await page.look(`window.askedAt = performance.now()`);
     await page.until(`(() => { if (geivottu.programs.isAsked) window.askedAt = performance.now(); return performance.now() - window.askedAt > 500; })()`);
@@ -51,7 +51,7 @@ function change(name, at, ...words) {
     writeFileSync(file(name), bytes);
 }
 
-// The middle of a block's square, which a click comes to.
+// The middle of a block's square, which a click hits.
 async function clickBlock(page, block) {
     const { x, y } = await page.look(`(() => { const it = document.getElementById('blocks'), { blocks } = geivottu.files; it.scrollIntoView({ block: 'center' });
         const box = it.getBoundingClientRect(), columns = Math.round(it.clientWidth / blocks.across);
@@ -273,7 +273,7 @@ await run('archives', {
     },
 });
 
-// The rows of the directory, once dates and kinds are told.
+// The rows of the directory, once dates and kinds are shown.
 async function known(page) {
     await page.until(`(all => all.length && all.every(it => it.textContent !== ''))([...document.querySelectorAll('#directory .kind')])`);
     return rows(page);

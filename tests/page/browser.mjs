@@ -191,7 +191,7 @@ export class Browser {
             return again.x === box.x && again.y === box.y ? { x: box.x + box.width / 2, y: box.y + box.height / 2 } : null; })()`);
     }
 
-    // Clicks an element, once more where the page had moved by then and the click came to another place.
+    // Clicks an element, once more where the page had moved by then and the click hit another place.
     /** @param {string} selector */
     async click(selector) {
         for (let tries = 1; tries <= 5; tries++) {

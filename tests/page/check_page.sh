@@ -1,10 +1,10 @@
 #!/usr/bin/env bash
-# check_page.sh [--quick]: makes the page and tests it: each pane in headless Chromium, and in Firefox where there is one, against the native
-# program, and every session, but for those of beyond.txt, and a thousand random scripts of the plain model with its module in node. Then five
-# faults are planted in the page, and a test must notice each. The last line is 'N passed, M failed'.
-# --quick takes the page and the program that are built with checks, in place of the proved ones, the sessions of the documents alone, a
-# hundred scripts, and of the browser's tests those of panes.mjs, losses.mjs and waits.mjs. Three browsers work side by side, each with a profile of
-# its own; what is measured comes last. Where there is no Chromium or no node the tests of the page are skipped, which fails where CI is set.
+# check_page.sh [--quick]: makes the page and tests it. Each pane is tried in headless Chromium, and in Firefox where there is one, against the native
+# program. With the page's module in node run every session, except those of beyond.txt, and a thousand random scripts of the plain model. Then five
+# faults are planted in the page, and a test must notice each. The last line is 'N passed, M failed'. With --quick it takes the page and the program
+# that are built with checks, in place of the proved ones. It takes the sessions of the documents alone, a hundred scripts, and of the browser's tests
+# those of panes.mjs, losses.mjs and waits.mjs. Three browsers work side by side, each with a profile of its own; what is measured comes last. Where
+# there is no Chromium or no node the tests of the page are skipped, which fails where CI is set.
 set -u
 top=$(dirname "$(dirname "$(dirname "$(readlink -f "${BASH_SOURCE[0]}")")")")
 cd "$top" || exit 2

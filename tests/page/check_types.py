@@ -1,8 +1,9 @@
 #!/usr/bin/env python3
-"""check_types.py [NAME..]: checks the types of the page's JavaScript, which its comments give (JSDoc), by TypeScript's checker, with all that `--strict` asks for:
-the page, its worker, its service worker, and what its tests share. Of the tests themselves it asks for no types of parameters. The elements of
-the page are known by their ids: those of index.html. Each file of JavaScript counts as one. NAME takes those that are checked with the file of this name. The last line is 'N passed, M failed'. Where the
-checker isn't there, Debian's node-typescript, all is skipped, which fails where CI is set.
+"""check_types.py [NAME..]: checks the types of the page's JavaScript, which its comments give (JSDoc), by TypeScript's checker, with all that
+`--strict` asks for. It checks the page, its worker, its service worker, and what its tests share. Of the tests themselves it asks for no types of
+parameters. The elements of the page are known by their ids: those of index.html. Each file of JavaScript counts as one. NAME takes those that are
+checked with the file of this name. The last line is 'N passed, M failed'. Where the checker isn't there, Debian's node-typescript, all is skipped,
+which fails where CI is set.
 """
 import glob
 import os

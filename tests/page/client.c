@@ -1,6 +1,6 @@
-/* WORD..: the program `pdp8` of the page, to whoever runs it. It tells server.mjs, whose socket lies in the folder PDP8_SERVER, its process, its
-   folder and its words; the server runs the module over this process's files and streams, and answers with the status and with the places that
-   it has come to in streams that are plain files. */
+/* WORD..: the program `pdp8` of the page, to whoever runs it. It sends its process, its folder and its words to server.mjs, whose socket lies in the
+   folder PDP8_SERVER. The server runs the module over this process's files and streams. It answers with the status, and with the places that it has
+   reached in streams that are plain files. */
 #include <signal.h>
 #include <stdio.h>
 #include <stdlib.h>

@@ -1,5 +1,5 @@
-// disks.mjs PROGRAM FOLDER [PART..]: the files of a disk: each in its best form, programs with starts and names, what a damaged directory still
-// has, files whose names can't be typed, and tapes of every kind. As losses.mjs otherwise.
+// disks.mjs PROGRAM FOLDER [PART..]: the files of a disk: each in its best form, programs with starts and names, and what a damaged directory still
+// has. Also files whose names can't be typed, and tapes of every kind. As losses.mjs otherwise.
 import { readFileSync, writeFileSync } from 'node:fs';
 import { dirname, join } from 'node:path';
 import { fileURLToPath } from 'node:url';
@@ -194,7 +194,8 @@ await run('disks', {
         await opens(page, 'V');
         await isTold(page, 'files-status', '? DIRECTORY 1 BAD LINK 1');
         await page.until(`geivottu.files.blocks.all.some(it => it.kind === 'found')`);
-        // The light of a square at its middle, at a corner, left of the middle, and above it, by halves: a bar, one that stands, a hole, a cross, or none of these.
+        // The light of a square at its middle, at a corner, left of the middle, and above it. By halves it is a bar, one that stands, a hole, a
+        // cross, or none of these.
         const marks = await page.look(`(() => { const canvas = document.getElementById('blocks'), brush = canvas.getContext('2d'), { blocks } = geivottu.files;
             const light = (x, y) => { const [r, g, b] = brush.getImageData(x, y, 1, 1).data; return r + g + b > 600 ? 'light' : 'dark'; };
             const across = blocks.across, columns = Math.round(canvas.clientWidth / across), found = {};

@@ -20,7 +20,7 @@ async function best(isGood, body) {
     return { isMet: all.some(isGood), all: all.map(it => Math.round(it)).join(', ') };
 }
 
-// Whether there are 60 pictures a second; or else, where other programs have the processors, whether the page's own work for each would allow it:
+// Whether there are 60 pictures a second. Where other programs have the processors, it is enough that the page's own work for each would allow it:
 // the processor time of its thread.
 async function shows(page, what) {
     await page.call('Performance.enable', { timeDomain: 'threadTicks' });

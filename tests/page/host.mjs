@@ -85,7 +85,7 @@ function contents(path, size) {
 
 class Closed extends Error {}
 
-// A stream of a client. Where it is a plain file its place is the client's, which is told of the new one; others share theirs.
+// A stream of a client. Where it is a plain file its place is the client's, which gets the new one; others share theirs.
 class Stream {
     constructor(pid, number) {
         const path = `/proc/${pid}/fd/${number}`;

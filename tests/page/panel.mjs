@@ -1,5 +1,5 @@
-// panel.mjs PROGRAM FOLDER [PART..]: the panel and the paper as things: how lamps glow, what is printed over, what sounds, what helps, and that all
-// of it can be seen and hit. As losses.mjs otherwise.
+// panel.mjs PROGRAM FOLDER [PART..]: the panel and the paper as things: how lamps glow, what is printed over, what sounds, and what helps. All of it
+// can be seen and hit. As losses.mjs otherwise.
 import { writeFileSync } from 'node:fs';
 import { assemble, file, holds, isTold, native, pane, run, same } from './tools.mjs';
 
@@ -7,8 +7,8 @@ import { assemble, file, holds, isTold, native, pane, run, same } from './tools.
 const PRINTS = '*200\nA,\tCLA\n\tTAD I P\n\tSNA\n\tHLT\n\tTLS\n\tTSF\n\tJMP .-1\n\tISZ P\n\tJMP A\nP,\t300\n*300\n301;302;215;303;212;304;215;212;207;0\n$\n';
 const BLINKS = '*200\nA,\tCLA CMA\n\tNOP\n\tCLA\n\tJMP A\n$\n';
 const CALLS = '*200\nSTART,\tJMS SUB\n\tIAC\n\tHLT\nSUB,\t0\n\tISZ COUNT\n\tJMP I SUB\nCOUNT,\t0\n$\n';
-// Steps that use their own cell, one of their page, one by a pointer, by a pointer that counts by itself, of page zero, of a subroutine, and a
-// pointer alone; a HLT that skips a HLT, a loop, and a word that is no instruction.
+// Steps that use their own cell, one of their page, one by a pointer, by a pointer that counts by itself, of page zero, and of a subroutine. Then a
+// pointer alone, a HLT that skips a HLT, a loop, and a word that is no instruction.
 const USES = '*7\n0\n223\n*200\n\tCLA CLL\n\tTAD FIVE\n\tDCA I PTR\n\tTAD I PTR\n\tDCA I 10\n\tISZ 7\n\tJMS I SUBP\n\tJMP I AFTER\n\tHLT\n\tSZA HLT\n\tHLT\n\tHLT\n'
     + 'LOOP,\tJMP LOOP\n7002\nFIVE,\t5\nPTR,\tDEST\nSUBP,\tSUB\nAFTER,\t211\nDEST,\t0\n*400\nSUB,\t0\n\t6032\n\tJMP I SUB\n$\n';
 const USED = ['0200 7300', '0216 0005', '0222 0005', '0222 0005', '0224 0005', '0007 0001', '0400 0207', '0401 6032', '0400 0207', '0221 0211', '0211 7442'];

@@ -1,5 +1,5 @@
-// panes.mjs PROGRAM FOLDER: works each pane of the page in headless Chromium by its controls, as a user does, and compares
-// what comes out with the native program PROGRAM, byte for byte. The last line is 'N passed, M failed'.
+// panes.mjs PROGRAM FOLDER: works each pane of the page in headless Chromium by its controls, as a user does. It compares what comes out with the
+// native program PROGRAM, byte for byte. The last line is 'N passed, M failed'.
 import { spawnSync } from 'node:child_process';
 import { copyFileSync, linkSync, mkdtempSync, readFileSync, rmSync, truncateSync, writeFileSync } from 'node:fs';
 import { tmpdir } from 'node:os';

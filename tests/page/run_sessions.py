@@ -1,7 +1,7 @@
 #!/usr/bin/env python3
-"""run_sessions.py [--program FILE] [FILE..]: runs the sessions of tests/sessions/*.md, README.md and the pages below docs/, or those of these files, with the
-program's WebAssembly module, as tests/run runs them with the native programs, but for those that beyond.txt lists: they need more of the host
-than the page has.
+"""run_sessions.py [--program FILE] [FILE..]: runs the sessions of tests/sessions/*.md, README.md and the pages below docs/, or those of these files,
+with the program's WebAssembly module. It does as tests/run does with the native programs, but leaves out those that beyond.txt lists. They need more
+of the host than the page has.
 
 The program is client.c, so this runs below server.mjs, as tests/page/check_page.sh calls it. The last line is 'N passed, M failed'.
 """
@@ -34,8 +34,8 @@ def beyond() -> dict[str, str]:
 
 
 def faults(path: str, commands: run_sessions.Session, program: str) -> list[str]:
-    """What tests/run finds. Processes do this beside each other, and not threads, as the copy of a program that one of these is writing would be
-    open in the shell that another begins, and so couldn't be started."""
+    """What tests/run finds. Processes do this beside each other, and not threads. With threads, the copy of a program that one of these is writing
+    would be open in the shell that another begins, and so couldn't be started."""
     return run_sessions.faults(path, commands, program)
 
 

@@ -1,5 +1,5 @@
-// server.mjs WASM COMMAND WORD..: runs a command for which client.c is the program: each call of that is run here with the page's module, in
-// one of some threads, so that no call starts node anew. The status is the command's.
+// server.mjs WASM COMMAND WORD..: runs a command for which client.c is the program. Each call of that is run here with the page's module, in one of
+// some threads; so no call starts node anew. The status is the command's.
 import { spawn } from 'node:child_process';
 import { mkdtempSync, readFileSync, rmSync } from 'node:fs';
 import { createServer } from 'node:net';

@@ -1,10 +1,10 @@
 #!/usr/bin/env python3
 """try_faults.py [--gate] [--program FILE] [NAME..]: plants small faults in the page, one by one. A test must notice each.
 
-They are tests/page/faults/*.edit and, with --gate, those of its folder gate/ alone; NAME takes those whose names have it. A fault has lines
-`file: FILE` of web/, `old: TEXT`, which is there once, and `new: TEXT`, and a line `test: FILE: PART`, which says which tests must fail: those of
-tests/page/FILE.mjs whose names have PART. The page is laid once, with the module that ./page made, and one file of it is another for each fault.
-Without --gate the tests are first run without a fault, and must pass. One browser runs at a time. The last line is 'N passed, M failed'.
+They are tests/page/faults/*.edit and, with --gate, those of its folder gate/ alone; NAME takes those whose names have it. A fault has lines `file:
+FILE` of web/, `old: TEXT`, which is there once, and `new: TEXT`. A line `test: FILE: PART` says which tests must fail: those of tests/page/FILE.mjs
+whose names have PART. The page is laid once, with the module that ./page made, and one file of it is another for each fault. Without --gate the tests
+are first run without a fault, and must pass. One browser runs at a time. The last line is 'N passed, M failed'.
 """
 import glob
 import os

@@ -1,4 +1,4 @@
-// undone.mjs PROGRAM FOLDER [PART]: that what a user changed in the page comes back: by Undo, by the name of a text, under its own name from
+// undone.mjs PROGRAM FOLDER [PART]: what a user changed in the page comes back. It comes back by Undo, by the name of a text, under its own name from
 // home, and after a reload. As losses.mjs otherwise.
 import { readFileSync, writeFileSync } from 'node:fs';
 import { answer, assemble, create, file, further, holds, image, isTold, native, optionsOf, pane, put, run, same, setSource, volume } from './tools.mjs';

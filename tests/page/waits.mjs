@@ -1,5 +1,5 @@
-// waits.mjs PROGRAM FOLDER [PART..]: the page where calls of WebAssembly can't be left: with memory that two threads have, from a server whose headers allow
-// it, and with neither, where whole scripts are what it can. The last line is 'N passed, M failed'.
+// waits.mjs PROGRAM FOLDER [PART..]: the page where calls of WebAssembly can't be left. It is tried with memory that two threads have, from a server
+// whose headers allow it. It is tried with neither, where whole scripts are what it can. The last line is 'N passed, M failed'.
 import { readFileSync } from 'node:fs';
 import { dirname, join } from 'node:path';
 import { fileURLToPath } from 'node:url';
