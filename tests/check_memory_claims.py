@@ -36,7 +36,7 @@ PLACES: dict[str, dict[str, tuple[int, str]]] = {
     "pal8_tape/src/marks.rt": {
         "radix_at": (1, "`assemble`'s own, in the arm of its pattern"),
     },
-    "many8/src/putting.rt": {
+    "archive_many/src/putting.rt": {
         "put_all": (1, "a session's own, on a line behind its pattern"),
     },
     "archive8/src/opening.rt": {
@@ -57,10 +57,10 @@ PLACES: dict[str, dict[str, tuple[int, str]]] = {
     "os8_files/src/service/changes.rt": {
         "changed": (1, "`removed`, `placed` and `moved_down` can fail for nothing else"),
     },
-    "pal_list/src/sources.rt": {
+    "tape_source/src/sources.rt": {
         "words_in": (1, "a word or none for each cell of core, asked for once"),
     },
-    "pal_list/src/tags.rt": {
+    "tape_source/src/tags.rt": {
         "named_cells": (1, "a flag for each cell of core, asked for once"),
     },
     "session8/src/consoles.rt": {

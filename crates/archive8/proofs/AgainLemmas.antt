@@ -10,11 +10,11 @@ use Rattle.bin_tape.specs.declared.faults.TapeFault.{TapeFault}
 use Rattle.char_pack.specs.Packing.{frames}
 use Rattle.char_pack.specs.declared.forms.GetForm.{GetForm}
 use Rattle.char_pack.specs.declared.forms.GetForm.TheVariants.{Frames, Text, Tape}
-use Rattle.os8_dir.specs.Entries.{Listed}
+use Rattle.os8_dir.specs.Entries.{DirectoryState}
 use Rattle.os8_dir.specs.Reading.{directory_of}
 use Rattle.os8_dir.specs.Files.{FileData, files_of}
 use Rattle.os8_dir.specs.declared.faults.DirFault.{DirFault}
-use Rattle.archive8.specs.Asking.{Wanted, IsMissing}
+use Rattle.archive8.specs.Asking.{Target, IsMissing}
 use Rattle.archive8.specs.Getting.{Gets, GetRefused, IsFile, IsNoFile, IsGiven, IsTapeOf}
 use Rattle.archive8.specs.declared.faults.ArchiveFault.{ArchiveFault}
 use Rattle.archive8.specs.declared.faults.ArchiveFault.TheVariants.{Image, Directory, Refused}
@@ -84,7 +84,7 @@ tape_is_sound longer none file tape fault is has =
 -- ## Files
 
 -- an image has one file of a name
-pub one_file : WrittenIsReadBack → (image : List ℕ) (wanted : Wanted) (words found : List ℕ) → IsFile image wanted words → IsFile image wanted found → found ≡ words
+pub one_file : WrittenIsReadBack → (image : List ℕ) (wanted : Target) (words found : List ℕ) → IsFile image wanted words → IsFile image wanted found → found ≡ words
 one_file law image wanted words found a b = ap (λ (h : FileData). h.1) (some_eq (b.info, found) (a.info, words) (sym b.there ∙ same ∙ a.there))
   where
     number : b.number ≡ a.number
@@ -103,12 +103,12 @@ one_given longer Text words one two a b = b ∙ sym a
 one_given longer Tape words one two a b = one_tape longer (frames words) one two a b
 
 -- a sound directory has no fault
-no_directory_fault : (read : Result Listed DirFault) (fault : DirFault) → is_ok read ≡ true → read ≡ Err fault → ⊥
+no_directory_fault : (read : Result DirectoryState DirFault) (fault : DirFault) → is_ok read ≡ true → read ≡ Err fault → ⊥
 no_directory_fault (Ok d) fault sound is = cc
 no_directory_fault (Err other) fault sound is = cc
 
 -- what is found is not missing
-not_missing : (image : List ℕ) (wanted : Wanted) (words : List ℕ) → WrittenIsReadBack → IsFile image wanted words → IsNoFile image wanted → ⊥
+not_missing : (image : List ℕ) (wanted : Target) (words : List ℕ) → WrittenIsReadBack → IsFile image wanted words → IsNoFile image wanted → ⊥
 not_missing image wanted words law a b =
     let same : b.blocks ≡ a.blocks = one_volume law image a.blocks b.blocks a.opened.is_image b.opened.is_image in
     there_missing a.blocks wanted a.number (a.info, words) (subst (λ (blocks : List (List ℕ)). IsMissing blocks blocks wanted) same b.missing) a.named a.there
@@ -119,7 +119,7 @@ as_tape Text words bytes is given = cc
 as_tape Tape words bytes is given = given
 
 -- nothing but memory is refused for a file that could be got
-refused_again : WrittenIsReadBack → LongerTape → NoFault → (image : List ℕ) (wanted : Wanted) (words bytes : List ℕ) (form : GetForm) (fault : SessionFault)
+refused_again : WrittenIsReadBack → LongerTape → NoFault → (image : List ℕ) (wanted : Target) (words bytes : List ℕ) (form : GetForm) (fault : SessionFault)
     → IsFile image wanted words → IsGiven form words bytes → GetRefused image wanted form fault → fault ≡ Memory
 refused_again law longer none image wanted words bytes form (File BadName) found given gets = absurd (bad_named found.blocks wanted found.number gets.2 found.named)
 refused_again law longer none image wanted words bytes form (File NotFound) found given gets = absurd (not_missing image wanted words law found gets)
@@ -146,7 +146,7 @@ refused_again law longer none image wanted words bytes form (File file.NothingWr
 refused_again law longer none image wanted words bytes form session.TooManyBreaks found given gets = gets.0
 
 -- a file that could be got is got as before, or memory is wanted
-pub got_again : WrittenIsReadBack → LongerTape → NoFault → (image : List ℕ) (wanted : Wanted) (words bytes : List ℕ) (form : GetForm) (answer : Result (Vec ℕ) ArchiveFault)
+pub got_again : WrittenIsReadBack → LongerTape → NoFault → (image : List ℕ) (wanted : Target) (words bytes : List ℕ) (form : GetForm) (answer : Result (Vec ℕ) ArchiveFault)
     → IsFile image wanted words → IsGiven form words bytes → Gets image wanted form answer
     → MatchResult answer (λ after. after.items ≡ bytes) (λ fault. fault ≡ Refused Memory)
 got_again law longer none image wanted words bytes form (Ok after) found given gets =

@@ -4,22 +4,22 @@ use Rattle.std.specs.FinMap.{get}
 use Rattle.volume_image.specs.Image.{IsImageOf, WrittenIsReadBack}
 use Rattle.os8_dir.specs.declared.entries.DirEntry.{DirEntry}
 use Rattle.os8_dir.specs.declared.entries.DirEntry.TheVariants.{File, Empty}
-use Rattle.os8_dir.specs.Entries.{Listed, AreWritable, IsNamed, IsTidy}
+use Rattle.os8_dir.specs.Entries.{DirectoryState, AreWritable, IsNamed, IsTidy}
 use Rattle.os8_dir.specs.Found.{IsDirectory, files_at}
 use Rattle.os8_dir.specs.Files.{FileData, files_of}
-use Rattle.archive8.specs.Asking.{Wanted, OfName, AtBlock, asked_name, name_at, name_beginning, IsBadName, IsMissing}
+use Rattle.archive8.specs.Asking.{Target, OfName, AtBlock, asked_name, name_at, name_beginning, IsBadName, IsMissing}
 use Rattle.archive8.specs.AskSteps.{first_name, name_of_entries}
 use Rattle.archive8.proofs.FirstBlockLemmas.{either}
 use Rattle.archive8.proofs.LawLemmas.{some_eq, one_volume}
 
 -- what is asked for of an image has one name
-pub one_name : WrittenIsReadBack → (image : List ℕ) (wanted : Wanted) (one two : List (List ℕ)) (name other : ℕ) → IsImageOf image one → IsImageOf image two
+pub one_name : WrittenIsReadBack → (image : List ℕ) (wanted : Target) (one two : List (List ℕ)) (name other : ℕ) → IsImageOf image one → IsImageOf image two
     → asked_name one wanted ≡ Some name → asked_name two wanted ≡ Some other → other ≡ name
 one_name law image wanted one two name other is also named same =
     some_eq other name (sym same ∙ ap (λ (blocks : List (List ℕ)). asked_name blocks wanted) (one_volume law image one two is also) ∙ named)
 
 -- what is named is no bad name
-pub bad_named : (blocks : List (List ℕ)) (wanted : Wanted) (number : ℕ) → IsBadName wanted → asked_name blocks wanted ≡ Some number → ⊥
+pub bad_named : (blocks : List (List ℕ)) (wanted : Target) (number : ℕ) → IsBadName wanted → asked_name blocks wanted ≡ Some number → ⊥
 bad_named blocks (OfName text) number bad named = none_some number (sym bad ∙ named)
   where
     none_some : (n : ℕ) → None ≡ Some n → ⊥
@@ -27,7 +27,7 @@ bad_named blocks (OfName text) number bad named = none_some number (sym bad ∙ 
 bad_named blocks (AtBlock place) number bad named = bad
 
 -- what is there is not missing
-pub there_missing : (blocks : List (List ℕ)) (wanted : Wanted) (number : ℕ) (file : FileData) → IsMissing blocks blocks wanted → asked_name blocks wanted ≡ Some number
+pub there_missing : (blocks : List (List ℕ)) (wanted : Target) (number : ℕ) (file : FileData) → IsMissing blocks blocks wanted → asked_name blocks wanted ≡ Some number
     → get (files_of blocks) number ≡ Some file → ⊥
 there_missing blocks (OfName text) number file missing named there =
     none_some file (sym missing.2 ∙ ap (get (files_of blocks)) (some_eq missing.0 number (sym missing.1 ∙ named)) ∙ there)
@@ -75,12 +75,12 @@ named-of-entries info place at n (Empty size ∷ es) writable is =
     named-of-entries info place (at + size) n es writable.1 (sym (none-over (at == place) (name_of_entries place (at + size) es)) ∙ is)
 
 -- what is found among a directory's entries
-pub name-found : (volume place first : ℕ) (d : Listed) (entries : List DirEntry) (found : Option ℕ) → IsDirectory volume d → first ≡ d.first → entries ≡ d.entries
+pub name-found : (volume place first : ℕ) (d : DirectoryState) (entries : List DirEntry) (found : Option ℕ) → IsDirectory volume d → first ≡ d.first → entries ≡ d.entries
     → found ≡ name_of_entries place first entries → found ≡ name_at place (Ok d)
 name-found volume place first d entries found is is_first is_entries same =
     same ∙ rw (is_first, is_entries) (names-of-entries place d.first d.entries is.neat)
 
-pub named-found : (volume place first : ℕ) (d : Listed) (entries : List DirEntry) (found : Option ℕ) → IsDirectory volume d → first ≡ d.first → entries ≡ d.entries
+pub named-found : (volume place first : ℕ) (d : DirectoryState) (entries : List DirEntry) (found : Option ℕ) → IsDirectory volume d → first ≡ d.first → entries ≡ d.entries
     → found ≡ name_of_entries place first entries → IfSome found IsNamed
 named-found volume place first d entries None is is_first is_entries same = tt
 named-found volume place first d entries (Some n) is is_first is_entries same =

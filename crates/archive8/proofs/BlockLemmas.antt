@@ -4,10 +4,10 @@ use Rattle.std.specs.FinMap.{get}
 use Rattle.std.specs.Global.{Vec}
 use Rattle.volume_image.specs.Image.{IsImageOf, WrittenIsReadBack}
 use Rattle.char_pack.specs.declared.forms.GetForm.{GetForm}
-use Rattle.os8_dir.specs.Entries.{Listed}
-use Rattle.os8_dir.specs.Found.{Placed, files_at, find}
+use Rattle.os8_dir.specs.Entries.{DirectoryState}
+use Rattle.os8_dir.specs.Found.{FilePlace, files_at, find}
 use Rattle.os8_dir.specs.Reading.{directory_of}
-use Rattle.os8_dir.specs.Files.{FileData, files_of, held, held_of}
+use Rattle.os8_dir.specs.Files.{FileData, files_of, data_of_file, data_if_there}
 use Rattle.os8_dir.specs.declared.faults.DirFault.{DirFault}
 use Rattle.os8_dir.specs.declared.file_faults.FileFault.TheVariants.{NotFound, BadName}
 use Rattle.os8_dir.specs.declared.file_faults.FileFault.TheVariants as file
@@ -16,7 +16,7 @@ use Rattle.script8.specs.declared.faults.SessionFault.TheVariants.{File, Memory}
 use Rattle.script8.specs.declared.faults.SessionFault.TheVariants as session
 use Rattle.archive8.specs.declared.faults.ArchiveFault.{ArchiveFault}
 use Rattle.archive8.specs.declared.faults.ArchiveFault.TheVariants.{Image, Directory, Refused}
-use Rattle.archive8.specs.Asking.{Wanted, OfName, AtBlock, asked_name, name_at, IsMissing}
+use Rattle.archive8.specs.Asking.{Target, OfName, AtBlock, asked_name, name_at, IsMissing}
 use Rattle.archive8.specs.Getting.{Gets, GetRefused, IsFile, IsNoFile}
 use Rattle.archive8.proofs.LawLemmas.{some_eq, one_volume}
 use Rattle.archive8.proofs.FirstBlockLemmas.{DirectoryIs, beginning-found, found-beginning}
@@ -26,17 +26,17 @@ use Rattle.archive8.proofs.ChangeLemmas.{FoundIn, directory_in}
 
 -- ## Of a volume
 
-there-in : FoundIn → (blocks : List (List ℕ)) (place n : ℕ) (read : Result Listed DirFault) → directory_of blocks ≡ read → name_at place read ≡ Some n
+there-in : FoundIn → (blocks : List (List ℕ)) (place n : ℕ) (read : Result DirectoryState DirFault) → directory_of blocks ≡ read → name_at place read ≡ Some n
     → (file : FileData) × (get (files_of blocks) n ≡ Some file)
 there-in finds blocks place n (Ok d) read is =
     let found = found-beginning place n (files_at d.first d.entries) is in
-    (held blocks d.info found.0, finds blocks d n read ∙ ap (held_of blocks d.info) found.1)
+    (data_of_file blocks d.info found.0, finds blocks d n read ∙ ap (data_if_there blocks d.info) found.1)
 there-in finds blocks place n (Err fault) read is = cc
 
 pub begins-there : FoundIn → (blocks : List (List ℕ)) (place n : ℕ) → asked_name blocks (AtBlock place) ≡ Some n → (file : FileData) × (get (files_of blocks) n ≡ Some file)
 begins-there finds blocks place n is = there-in finds blocks place n (directory_of blocks) refl is
 
-found-of : (blocks : List (List ℕ)) (info : ℕ) (found : Option Placed) (file : FileData) → held_of blocks info found ≡ Some file → (f : Placed) × (found ≡ Some f)
+found-of : (blocks : List (List ℕ)) (info : ℕ) (found : Option FilePlace) (file : FileData) → data_if_there blocks info found ≡ Some file → (f : FilePlace) × (found ≡ Some f)
 found-of blocks info None file is = cc
 found-of blocks info (Some f) file is = (f, refl)
 
@@ -50,7 +50,7 @@ each-begins finds is-directory blocks name file sound there =
 
 -- ## One name
 
-missing-name : (blocks : List (List ℕ)) (wanted : Wanted) (name : ℕ) → IsMissing blocks blocks wanted → asked_name blocks wanted ≡ Some name → get (files_of blocks) name ≡ None
+missing-name : (blocks : List (List ℕ)) (wanted : Target) (name : ℕ) → IsMissing blocks blocks wanted → asked_name blocks wanted ≡ Some name → get (files_of blocks) name ≡ None
 missing-name blocks (OfName text) name missing named = ap (get (files_of blocks)) (some_eq name missing.0 (sym named ∙ missing.1)) ∙ missing.2
 missing-name blocks (AtBlock place) name (inl none) named = absurd (none_some name (sym none ∙ named))
   where
@@ -59,14 +59,14 @@ missing-name blocks (AtBlock place) name (inl none) named = absurd (none_some na
 missing-name blocks (AtBlock place) name (inr missing) named = ap (get (files_of blocks)) (some_eq name missing.0 (sym named ∙ missing.1)) ∙ missing.2
 
 -- of what image is asked for in two ways that have one name
-abbrev pub NamesBoth : List (List ℕ) → Wanted → Wanted → ℕ → Type 0
+abbrev pub NamesBoth : List (List ℕ) → Target → Target → ℕ → Type 0
 NamesBoth blocks one two name = (asked_name blocks one ≡ Some name) × (asked_name blocks two ≡ Some name)
 
-both-of : WrittenIsReadBack → (image : List ℕ) (one two : Wanted) (name : ℕ) (blocks other : List (List ℕ)) → IsImageOf image blocks → IsImageOf image other → NamesBoth blocks one two name
+both-of : WrittenIsReadBack → (image : List ℕ) (one two : Target) (name : ℕ) (blocks other : List (List ℕ)) → IsImageOf image blocks → IsImageOf image other → NamesBoth blocks one two name
     → NamesBoth other one two name
 both-of law image one two name blocks other is also both = subst (λ (b : List (List ℕ)). NamesBoth b one two name) (sym (one_volume law image blocks other is also)) both
 
-file-alike : WrittenIsReadBack → (image : List ℕ) (one two : Wanted) (name : ℕ) (words : List ℕ) (blocks : List (List ℕ)) → IsImageOf image blocks → NamesBoth blocks one two name
+file-alike : WrittenIsReadBack → (image : List ℕ) (one two : Target) (name : ℕ) (words : List ℕ) (blocks : List (List ℕ)) → IsImageOf image blocks → NamesBoth blocks one two name
     → IsFile image one words → IsFile image two words
 file-alike law image one two name words blocks is both f =
     let own = both-of law image one two name blocks f.blocks is f.opened.is_image both in
@@ -79,7 +79,7 @@ file-alike law image one two name words blocks is both f =
       there = f.there;
     }
 
-none-alike : WrittenIsReadBack → (image : List ℕ) (one two : Wanted) (name : ℕ) (blocks : List (List ℕ)) → IsImageOf image blocks → NamesBoth blocks one two name → IsNoFile image one → IsNoFile image two
+none-alike : WrittenIsReadBack → (image : List ℕ) (one two : Target) (name : ℕ) (blocks : List (List ℕ)) → IsImageOf image blocks → NamesBoth blocks one two name → IsNoFile image one → IsNoFile image two
 none-alike law image one two name blocks is both f =
     let own = both-of law image one two name blocks f.blocks is f.opened.is_image both in
     record {
@@ -88,7 +88,7 @@ none-alike law image one two name blocks is both f =
       missing = none-there f.blocks two f.blocks name own.1 (missing-name f.blocks one name f.missing own.0);
     }
 
-refused-alike : WrittenIsReadBack → (image : List ℕ) (one two : Wanted) (name : ℕ) (form : GetForm) (blocks : List (List ℕ)) (fault : SessionFault) → IsImageOf image blocks
+refused-alike : WrittenIsReadBack → (image : List ℕ) (one two : Target) (name : ℕ) (form : GetForm) (blocks : List (List ℕ)) (fault : SessionFault) → IsImageOf image blocks
     → NamesBoth blocks one two name → GetRefused image one form fault → GetRefused image two form fault
 refused-alike law image one two name form blocks (File BadName) is both gets =
     absurd (bad_named gets.0 one name gets.2 (both-of law image one two name blocks gets.0 is gets.1.is_image both).0)
@@ -113,7 +113,7 @@ refused-alike law image one two name form blocks session.Writer is both gets = g
 refused-alike law image one two name form blocks Memory is both gets = gets
 refused-alike law image one two name form blocks session.TooManyBreaks is both gets = gets
 
-pub got-alike : WrittenIsReadBack → (image : List ℕ) (one two : Wanted) (name : ℕ) (form : GetForm) (blocks : List (List ℕ)) (answer : Result (Vec ℕ) ArchiveFault) → IsImageOf image blocks
+pub got-alike : WrittenIsReadBack → (image : List ℕ) (one two : Target) (name : ℕ) (form : GetForm) (blocks : List (List ℕ)) (answer : Result (Vec ℕ) ArchiveFault) → IsImageOf image blocks
     → asked_name blocks one ≡ Some name → asked_name blocks two ≡ Some name → Gets image one form answer → Gets image two form answer
 got-alike law image one two name form blocks (Ok bytes) is a b gets = (gets.0, file-alike law image one two name gets.0 blocks is (a, b) gets.1, gets.2)
 got-alike law image one two name form blocks (Err (Image fault)) is a b gets = gets

@@ -5,7 +5,7 @@ use Rattle.volume_image.specs.Image.{WrittenIsReadBack}
 use Rattle.char_pack.specs.Texts.{text, is_storable}
 use Rattle.char_pack.specs.declared.forms.GetForm.TheVariants.{Text}
 use Rattle.archive8.specs.declared.putting.NewImage.{NewImage}
-use Rattle.archive8.specs.Asking.{Wanted, OfName}
+use Rattle.archive8.specs.Asking.{Target, OfName}
 use Rattle.archive8.specs.Getting.{IsFile, IsTapeOf, Gets, line_feeds, trailer}
 use Rattle.archive8.specs.HostTexts.{file_text, text_words}
 use Rattle.archive8.specs.Putting.{HasPutInto}
@@ -51,7 +51,7 @@ pub lines-back : CharactersReadBack → (host : List ℕ) → is_storable host �
 lines-back law host storable = ap line_feeds (law (file_text host) (storable-file host storable)) ∙ feeds-returns (line_feeds host)
 
 -- a text that was got and is put has its words again
-pub words-back : CharactersReadBack → WrittenIsReadBack → (image : List ℕ) (wanted : Wanted) (again chars : List ℕ) (info : Option (List ℕ)) (given : Vec ℕ) (other : List ℕ) (new : NewImage) → is_storable chars ≡ true
+pub words-back : CharactersReadBack → WrittenIsReadBack → (image : List ℕ) (wanted : Target) (again chars : List ℕ) (info : Option (List ℕ)) (given : Vec ℕ) (other : List ℕ) (new : NewImage) → is_storable chars ≡ true
     → HasLineEnds chars → IsFile image wanted (text_words chars) → Gets image wanted Text (Ok given)
     → HasPutInto other again info (text_words (file_text given.items)) new → IsFile new.bytes.items (OfName again) (text_words chars)
 words-back read law image wanted again chars info given other new storable ends file gets put =

@@ -1,11 +1,11 @@
 -- The extents that a check tells follow one another.
 use Rattle.std.proofs.Common.{◌≡◌, ◌∙◌, ℕ, zero, suc, ◌+◌, ◌-◌, ◌<◌, ◌≤◌, ◌&&◌, Bool, true, false, nat_le, nat_lt, if◌then◌else◌, List, [], ◌∷◌, ◌++◌, length, codes, refl, sym, ap, arith, append_assoc, append-nil}
 use Rattle.std.proofs.lemmas.Bool.Decides.{nat_tests}
-use Rattle.os8_dir.specs.Entries.{Listed, end_of, size_of, total, IsTidy}
+use Rattle.os8_dir.specs.Entries.{DirectoryState, end_of, size_of, total, IsTidy}
 use Rattle.os8_dir.specs.Found.{IsDirectory}
 use Rattle.os8_dir.specs.declared.entries.DirEntry.{DirEntry}
 use Rattle.os8_dir.specs.declared.entries.DirEntry.TheVariants.{File, Empty}
-use Rattle.script8.specs.Shown.{shown}
+use Rattle.script8.specs.Shown.{name_text}
 use Rattle.archive8.specs.Checking.{blocks_line, check_lines, extent_text, entry_line, entry_lines, outside_line, segment_lines}
 use Rattle.archive8.specs.Laws.{Extent, entry_label, entry_extents, outside_extents, extents, extent_lines, FollowOneAnother, count_having}
 
@@ -38,7 +38,7 @@ follow-entries place (entry ∷ entries) tidy = (
 reaches : (place end : ℕ) → place ≤ end → place + (end - place) ≡ end
 reaches place end most = omega (arith, most)
 
-pub follow-extents : (count : ℕ) (d : Listed) → IsDirectory count d → FollowOneAnother 7 count (extents count d)
+pub follow-extents : (count : ℕ) (d : DirectoryState) → IsDirectory count d → FollowOneAnother 7 count (extents count d)
 follow-extents count d is =
     follow-append 7 (end_of d) count (outside_extents 7 (d.first - 7) ++ entry_extents d.first d.entries) (outside_extents (end_of d) (count - end_of d))
     (follow-append 7 d.first (end_of d) (outside_extents 7 (d.first - 7)) (entry_extents d.first d.entries)
@@ -74,7 +74,7 @@ one-has block from end (e ∷ es) is least most =
 
 entry-line : (place : ℕ) (entry : DirEntry) → entry_line place entry ≡ entry_label entry ++ extent_text place (size_of entry)
 entry-line place (File name info size) =
-    ap (λ l. codes "FILE " ++ l) (sym (append_assoc (shown name) (32 ∷ []) (extent_text place size)))
+    ap (λ l. codes "FILE " ++ l) (sym (append_assoc (name_text name) (32 ∷ []) (extent_text place size)))
 entry-line place (Empty size) = refl
 
 lines-entries : (place : ℕ) (entries : List DirEntry) → entry_lines place entries ≡ extent_lines (entry_extents place entries)
@@ -100,7 +100,7 @@ lines-parts : (one two three : List ℕ) (es more others : List Extent) → one 
 lines-parts one two three es more others is also too =
     rw (is, also, too) (ap (λ l. l ++ extent_lines others) (sym (lines-append es more)) ∙ sym (lines-append (es ++ more) others))
 
-pub lines-extents : (blocks : List (List ℕ)) (d : Listed)
+pub lines-extents : (blocks : List (List ℕ)) (d : DirectoryState)
     → check_lines blocks d ≡ blocks_line (length blocks) ++ segment_lines 6 blocks 1 ++ extent_lines (extents (length blocks) d)
 lines-extents blocks d =
     let head = blocks_line (length blocks) ++ segment_lines 6 blocks 1 in

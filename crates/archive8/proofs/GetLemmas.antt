@@ -8,9 +8,9 @@ use Rattle.script8.specs.declared.faults.SessionFault.TheVariants.{BadLine, NoJo
 use Rattle.os8_dir.specs.Files.{FileData, files_of}
 use Rattle.volume_image.specs.Image.{IsImage}
 use Rattle.char_pack.specs.declared.forms.GetForm.{GetForm}
-use Rattle.os8_files.specs.Mounted.{Mounted}
+use Rattle.os8_files.specs.Mounted.{MountState}
 use Rattle.archive8.specs.Putting.{IsMounted}
-use Rattle.archive8.specs.Asking.{Wanted, asked_name}
+use Rattle.archive8.specs.Asking.{Target, asked_name}
 use Rattle.archive8.specs.Getting.{GetRefused, IsFile}
 use Rattle.archive8.specs.Parts.{GivesFile}
 
@@ -36,7 +36,7 @@ pub words_all : (words : List ℕ) (k blocks : ℕ) → blocks ≤ k → k ≤ b
 words_all words k blocks high low whole = take_all (256 * k) words (omega (arith, high, whole))
 
 -- a file that was found
-pub file_is : (image : List ℕ) (wanted : Wanted) (m : Mounted) (number : ℕ) (words : List ℕ) (file : FileData) → IsMounted image m → asked_name m.blocks wanted ≡ Some number
+pub file_is : (image : List ℕ) (wanted : Target) (m : MountState) (number : ℕ) (words : List ℕ) (file : FileData) → IsMounted image m → asked_name m.blocks wanted ≡ Some number
     → get (files_of m.blocks) number ≡ Some file → words ≡ file.1 → IsFile image wanted words
 file_is image wanted m number words file mounted named there is = record {
   blocks = m.blocks;
@@ -48,7 +48,7 @@ file_is image wanted m number words file mounted named there is = record {
 }
 
 -- what is not given of a file that is there
-pub given_refused : (image : List ℕ) (wanted : Wanted) (words : List ℕ) (form : GetForm) (fault : SessionFault) → IsImage image → IsFile image wanted words → GivesFile form words (Err fault)
+pub given_refused : (image : List ℕ) (wanted : Target) (words : List ℕ) (form : GetForm) (fault : SessionFault) → IsImage image → IsFile image wanted words → GivesFile form words (Err fault)
     → GetRefused image wanted form fault
 given_refused image wanted words form (Tape fault) opened file is = (words, file, is.0, is.1)
 given_refused image wanted words form (File fault) opened file is = absurd (cc)

@@ -6,15 +6,15 @@ use Rattle.std.proofs.lemmas.Cmp.{nat_cmp_total}
 use Rattle.std.proofs.lemmas.Bool.Decides.{nat_tests, eqb_tells}
 use Rattle.volume_image.specs.Image.{IsImageOf, WrittenIsReadBack}
 use Rattle.os8_dir.specs.Names.{parsed_name}
-use Rattle.os8_dir.specs.Entries.{Listed}
+use Rattle.os8_dir.specs.Entries.{DirectoryState}
 use Rattle.os8_dir.specs.Reading.{directory_of}
 use Rattle.os8_dir.specs.Files.{FileData, Files, files_of}
 use Rattle.os8_dir.specs.declared.faults.DirFault.{DirFault}
 use Rattle.os8_files.specs.Failed.{extent_or}
-use Rattle.os8_files.specs.Mounted.{Mounted}
+use Rattle.os8_files.specs.Mounted.{MountState}
 use Rattle.os8_files.specs.Puts.{HasPutWith, blocks_filled, file_with}
 use Rattle.archive8.specs.declared.putting.NewImage.{NewImage}
-use Rattle.archive8.specs.Asking.{Wanted, OfName, asked_name}
+use Rattle.archive8.specs.Asking.{Target, OfName, asked_name}
 use Rattle.archive8.specs.Getting.{IsFile}
 use Rattle.archive8.specs.Opening.{IsOpened}
 use Rattle.archive8.specs.Putting.{HasPutInto, HasPutUnder, information_for}
@@ -48,11 +48,11 @@ get-there m name h q other = elim (eqb_tells name q) [
 ]
 
 -- a service goes on behind a file that was put
-pub goes-on : (name : ℕ) (given words : List ℕ) (old new : Mounted) → HasPutWith old name given words new → new.stopped ≡ false
-goes-on name given words old new is = ap (λ (m : Mounted). m.stopped) is.others ∙ is.ready.running
+pub goes-on : (name : ℕ) (given words : List ℕ) (old new : MountState) → HasPutWith old name given words new → new.stopped ≡ false
+goes-on name given words old new is = ap (λ (m : MountState). m.stopped) is.others ∙ is.ready.running
 
 -- a volume in whose directory a file is found is sound
-sound_volume : (name : ℕ) (read : Result Listed DirFault) (extent : ℕ × ℕ) → extent_or name read ≡ Some extent → is_ok read ≡ true
+sound_volume : (name : ℕ) (read : Result DirectoryState DirFault) (extent : ℕ × ℕ) → extent_or name read ≡ Some extent → is_ok read ≡ true
 sound_volume name (Ok d) extent found = refl
 sound_volume name (Err fault) extent found = cc
 
@@ -74,7 +74,7 @@ put_file image name words info new put = record {
 }
 
 -- another file of an image is there in the new one, with the words that it had
-pub other_stays : WrittenIsReadBack → DirectoryIs → (image name words was : List ℕ) (one : Wanted) (info : Option (List ℕ)) (new : NewImage) (blocks : List (List ℕ)) → IsImageOf image blocks
+pub other_stays : WrittenIsReadBack → DirectoryIs → (image name words was : List ℕ) (one : Target) (info : Option (List ℕ)) (new : NewImage) (blocks : List (List ℕ)) → IsImageOf image blocks
     → asked_name blocks one ≢ parsed_name name → HasPutInto image name info words new → IsFile image one was → IsFile new.bytes.items one was
 other_stays law is-directory image name words was one info new blocks own differ put before =
     let old : before.blocks ≡ put.before.blocks = one_volume law image put.before.blocks before.blocks put.mounted.opened.is_image before.opened.is_image in

@@ -3,7 +3,7 @@ use Rattle.std.proofs.Common.{◌≡◌, ◌∙◌, ℕ, ◌+◌, ◌&&◌, Bool
 use Rattle.std.proofs.lemmas.Bool.{and_parts}
 use Rattle.std.proofs.lemmas.List.{length-append}
 use Rattle.char_pack.specs.Texts.{is_storable, may_stand}
-use Rattle.archive8.specs.HostTexts.{lines_text, is_unbroken, AreUnbroken, IsPlaceBehind, IsBadAt}
+use Rattle.archive8.specs.HostTexts.{lines_text, is_unbroken, AreUnbroken, IsPlaceAfter, IsBadAt}
 use Rattle.archive8.specs.Steps.{IsSoFar}
 use Rattle.archive8.specs.declared.places.TextPlace.{TextPlace}
 
@@ -35,7 +35,7 @@ one-more : {X : Type 0} (xs : List X) (x : X) (n : ℕ) → n ≡ length xs + 1 
 one-more xs x n is = let size = length-append xs (x ∷ []) in omega (arith, size, is)
 
 pub behind-byte : (before : List ℕ) (byte : ℕ) (at new : TextPlace) → nat_eq byte 10 ≡ false → new.line ≡ at.line → new.byte ≡ at.byte + 1
-    → IsPlaceBehind before at → IsPlaceBehind (before ++ byte ∷ []) new
+    → IsPlaceAfter before at → IsPlaceAfter (before ++ byte ∷ []) new
 behind-byte before byte at new apart line_is byte_is is = record {
   lines = is.lines;
   begun = is.begun ++ byte ∷ [];
@@ -47,7 +47,7 @@ behind-byte before byte at new apart line_is byte_is is = record {
 }
 
 pub behind-lf : (before : List ℕ) (at new : TextPlace) → new.line ≡ at.line + 1 → new.byte ≡ 1
-    → IsPlaceBehind before at → IsPlaceBehind (before ++ 10 ∷ []) new
+    → IsPlaceAfter before at → IsPlaceAfter (before ++ 10 ∷ []) new
 behind-lf before at new line_is byte_is is = record {
   lines = is.lines ++ is.begun ∷ [];
   begun = [];
@@ -78,7 +78,7 @@ so-far-begin bytes at line byte = record {
 }
 
 pub so-far-more : (bytes others : List ℕ) (byte : ℕ) (at new : TextPlace) → may_stand byte ≡ true → (is : IsSoFar bytes (byte ∷ others) at)
-    → (IsPlaceBehind is.before at → IsPlaceBehind (is.before ++ byte ∷ []) new) → IsSoFar bytes others new
+    → (IsPlaceAfter is.before at → IsPlaceAfter (is.before ++ byte ∷ []) new) → IsSoFar bytes others new
 so-far-more bytes others byte at new stands is on = record {
   before = is.before ++ byte ∷ [];
   bytes_are = is.bytes_are ∙ sym (append_assoc is.before (byte ∷ []) others);

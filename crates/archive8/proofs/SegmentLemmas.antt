@@ -2,7 +2,7 @@
 use Rattle.std.proofs.Common.{◌≡◌, ◌∙◌, ℕ, zero, suc, ◌<◌, ◌==◌, Bool, true, false, true≢false, not, nat_lt, if◌then◌else◌, Result, Ok, Err, List, [], ◌∷◌, ◌++◌, length, refl, ap, arith}
 use Rattle.std.proofs.lemmas.Bool.{and_parts, ltb-true, not-true}
 use Rattle.std.proofs.lemmas.Bool.Decides.{nat_tests}
-use Rattle.os8_dir.specs.Entries.{Listed, AreDistinct, contains}
+use Rattle.os8_dir.specs.Entries.{DirectoryState, AreDistinct, contains}
 use Rattle.os8_dir.specs.Reading.{◌>>=◌, needs, block, word, is_unread, with_segment, with_links, head_of, directory_of}
 use Rattle.os8_dir.specs.declared.faults.DirFault.{DirFault}
 use Rattle.os8_dir.specs.declared.faults.DirFault.TheVariants.{BadLink}
@@ -42,7 +42,7 @@ apart number read (next ∷ others) are = go (number == next) refl (next == numb
 -- ## The walk along the links
 
 -- what was read from a link on, and what is told of it
-pub record Walk (left : ℕ) (blocks : List (List ℕ)) (d last : Listed) (read : List ℕ) (link : ℕ) : Type 0 where
+pub record Walk (left : ℕ) (blocks : List (List ℕ)) (d last : DirectoryState) (read : List ℕ) (link : ℕ) : Type 0 where
   pub numbers : List ℕ
   pub linked : AreLinked blocks link numbers
   pub distinct : AreDistinct numbers
@@ -51,7 +51,7 @@ pub record Walk (left : ℕ) (blocks : List (List ℕ)) (d last : Listed) (read 
   pub lines : segment_lines left blocks link ≡ lines_of_segments blocks numbers
 
 -- one segment before others
-onward : (left number : ℕ) (blocks : List (List ℕ)) (d more last : Listed) (read : List ℕ) → 0 < number → number < 7 → contains read number ≡ false
+onward : (left number : ℕ) (blocks : List (List ℕ)) (d more last : DirectoryState) (read : List ℕ) → 0 < number → number < 7 → contains read number ≡ false
     → with_segment (length blocks) d number (block blocks number) ≡ Ok more
     → Walk left blocks more last (number ∷ read) (word (block blocks number) 2) → Walk (suc left) blocks d last read number
 onward left number blocks d more last read some most new one rest =
@@ -66,7 +66,7 @@ onward left number blocks d more last read some most new one rest =
           ∙ ap (λ l. segment_line number (word (block blocks number) 0) ++ l) rest.lines;
     }
 
-pub walk : (left : ℕ) (blocks : List (List ℕ)) (d last : Listed) (read : List ℕ) (from link : ℕ)
+pub walk : (left : ℕ) (blocks : List (List ℕ)) (d last : DirectoryState) (read : List ℕ) (from link : ℕ)
     → with_links left d blocks read from link ≡ Ok last → Walk left blocks d last read link
 unfolding with_links
 walk zero blocks d last read from zero is = record {
@@ -97,12 +97,12 @@ walk (suc left) blocks d last read from (suc n) is =
     (walk left blocks one.0 last (suc n ∷ read) (suc n) (word (block blocks (suc n)) 2) one.2)
 
 -- the whole directory
-pub record Whole (blocks : List (List ℕ)) (last : Listed) : Type 0 where
-  pub head : Listed
+pub record Whole (blocks : List (List ℕ)) (last : DirectoryState) : Type 0 where
+  pub head : DirectoryState
   pub begun : head_of (length blocks) (block blocks 1) ≡ Ok head
   pub segments : Walk 6 blocks head last [] 1
 
-pub whole : (blocks : List (List ℕ)) (last : Listed) → directory_of blocks ≡ Ok last → Whole blocks last
+pub whole : (blocks : List (List ℕ)) (last : DirectoryState) → directory_of blocks ≡ Ok last → Whole blocks last
 unfolding directory_of
 whole blocks last is =
     let head = bound (head_of (length blocks) (block blocks 1))

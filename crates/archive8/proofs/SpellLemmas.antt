@@ -3,12 +3,12 @@ use Rattle.std.proofs.Common.{◌≡◌, ◌∙◌, ℕ, zero, suc, ◌+◌, ◌
 use Rattle.std.proofs.lemmas.Bool.{le-leb}
 use Rattle.std.proofs.lemmas.Bool.Decides.{eqb_tells, leb_tells}
 use Rattle.word12.specs.Sixbit.{sixbit_code, is_letter, is_digit}
-use Rattle.os8_dir.specs.Names.{name_of, words_of_name, before_dot, after_dot, with_code, codes_of, codes_within, padded, paired, spelled, extension_codes, parsed_name}
+use Rattle.os8_dir.specs.Names.{name_of, words_of_name, before_dot, after_dot, with_code, codes_of, codes_within, with_end_zeros, words_of_codes, name_of_codes, extension_codes, parsed_name}
 use Rattle.archive8.specs.Spelling.{is_coded, are_zeros, are_spelled, codes_in, are_typable, is_typable}
 use Rattle.std.proofs.lemmas.List.{append-nil}
-use Rattle.os8_dir.specs.Entries.{Listed}
+use Rattle.os8_dir.specs.Entries.{DirectoryState}
 use Rattle.script8.specs.Replies.{file_line, file_lines}
-use Rattle.script8.specs.Shown.{shown}
+use Rattle.script8.specs.Shown.{name_text}
 use Rattle.archive8.specs.AskLaws.{AreSpelled}
 use Rattle.archive8.specs.Listing.{listed_lines, place_text}
 
@@ -95,21 +95,21 @@ coded-small code is = elim (either (nat_le 1 code && nat_le code 26) (nat_le 48 
   | inr digit ↦ (let p = both (nat_le 48 code) (nat_le code 57) digit in (omega (arith, at-most 48 code p.0), omega (arith, at-most code 57 p.1)))
 ]
 
-small-padded : (n : ℕ) (codes : List ℕ) → AllCoded codes → AllSmall (padded n codes)
+small-padded : (n : ℕ) (codes : List ℕ) → AllCoded codes → AllSmall (with_end_zeros n codes)
 small-padded zero codes coded = tt
 small-padded (suc n) [] coded = (omega arith, small-padded n [] tt)
 small-padded (suc n) (code ∷ codes) coded = ((coded-small code coded.0).1, small-padded n codes coded.1)
 
-length-padded : (n : ℕ) (codes : List ℕ) → length (padded n codes) ≡ n
+length-padded : (n : ℕ) (codes : List ℕ) → length (with_end_zeros n codes) ≡ n
 length-padded zero codes = refl
 length-padded (suc n) [] = ap suc (length-padded n [])
 length-padded (suc n) (code ∷ codes) = ap suc (length-padded n codes)
 
-zeros-padded : (n : ℕ) → are_zeros (padded n []) ≡ true
+zeros-padded : (n : ℕ) → are_zeros (with_end_zeros n []) ≡ true
 zeros-padded zero = refl
 zeros-padded (suc n) = zeros-padded n
 
-spelled-padded : (n : ℕ) (codes : List ℕ) → AllCoded codes → are_spelled (padded n codes) ≡ true
+spelled-padded : (n : ℕ) (codes : List ℕ) → AllCoded codes → are_spelled (with_end_zeros n codes) ≡ true
 spelled-padded zero codes coded = refl
 spelled-padded (suc n) [] coded = zeros-padded n
 spelled-padded (suc n) (code ∷ codes) coded = rw coded.0 (spelled-padded n codes coded.1)
@@ -148,7 +148,7 @@ first_of [] = 0
 first_of (x ∷ xs) = x
 
 typable-eight : (stem extension : List ℕ) → length stem ≡ 6 → length extension ≡ 2 → AllSmall stem → AllSmall extension → 0 < first_of stem → are_spelled stem ≡ true → are_spelled extension ≡ true
-    → is_typable (name_of (paired (stem ++ extension))) ≡ true
+    → is_typable (name_of (words_of_codes (stem ++ extension))) ≡ true
 unfolding first_of
 typable-eight (a ∷ b ∷ c ∷ d ∷ e ∷ f ∷ []) (g ∷ h ∷ []) six two small short some spelled_stem spelled_extension =
     subst (λ (l : List ℕ). are_typable l ≡ true)
@@ -166,7 +166,7 @@ typable-eight (a ∷ b ∷ c ∷ d ∷ e ∷ f ∷ []) [] six two small short so
 typable-eight (a ∷ b ∷ c ∷ d ∷ e ∷ f ∷ []) (g ∷ []) six two small short some spelled_stem spelled_extension = absurd (omega (arith, two))
 typable-eight (a ∷ b ∷ c ∷ d ∷ e ∷ f ∷ []) (g ∷ h ∷ i ∷ extension) six two small short some spelled_stem spelled_extension = absurd (omega (arith, two))
 
-first-padded : (n : ℕ) (codes : List ℕ) → AllCoded codes → 1 ≤ length codes → 0 < first_of (padded (suc n) codes)
+first-padded : (n : ℕ) (codes : List ℕ) → AllCoded codes → 1 ≤ length codes → 0 < first_of (with_end_zeros (suc n) codes)
 unfolding first_of
 first-padded n [] coded some = absurd (omega (arith, some))
 first-padded n (code ∷ codes) coded some = (coded-small code coded.0).0
@@ -200,13 +200,13 @@ pub typable-of-text : (text : List ℕ) (name : ℕ) → parsed_name text ≡ So
 typable-of-text text name is = go (codes_within 6 (before_dot text)) (extension_codes (after_dot text)) (within-coded 6 (before_dot text)) (extension-coded (after_dot text)) is
   where
     go : (stem extension : Option (List ℕ)) → ((codes : List ℕ) → stem ≡ Some codes → AllCoded codes × (1 ≤ length codes)) → ((codes : List ℕ) → extension ≡ Some codes → AllCoded codes)
-        → spelled stem extension ≡ Some name → is_typable name ≡ true
+        → name_of_codes stem extension ≡ Some name → is_typable name ≡ true
     go None extension first last is = cc
     go (Some stem) None first last is = cc
     go (Some stem) (Some extension) first last is =
         let coded = first stem refl in
-        subst (λ n. is_typable n ≡ true) (some_eq (name_of (paired (padded 6 stem ++ padded 2 extension))) name is)
-        (typable-eight (padded 6 stem) (padded 2 extension) (length-padded 6 stem) (length-padded 2 extension) (small-padded 6 stem coded.0) (small-padded 2 extension (last extension refl))
+        subst (λ n. is_typable n ≡ true) (some_eq (name_of (words_of_codes (with_end_zeros 6 stem ++ with_end_zeros 2 extension))) name is)
+        (typable-eight (with_end_zeros 6 stem) (with_end_zeros 2 extension) (length-padded 6 stem) (length-padded 2 extension) (small-padded 6 stem coded.0) (small-padded 2 extension (last extension refl))
         (first-padded 5 stem coded.0 coded.1) (spelled-padded 6 stem coded.0) (spelled-padded 2 extension (last extension refl)))
 
 -- ## To a text
@@ -216,7 +216,7 @@ abbrev prefix : List ℕ → List ℕ
 prefix [] = []
 prefix (code ∷ codes) = if is_coded code then code ∷ prefix codes else []
 
-zeros-all : (codes : List ℕ) → are_zeros codes ≡ true → padded (length codes) [] ≡ codes
+zeros-all : (codes : List ℕ) → are_zeros codes ≡ true → with_end_zeros (length codes) [] ≡ codes
 zeros-all [] is = refl
 zeros-all (code ∷ codes) is =
     let p = both (nat_eq code 0) (are_zeros codes) is in
@@ -225,11 +225,11 @@ zeros-all (code ∷ codes) is =
     zero-is : (n : ℕ) → nat_eq n 0 ≡ true → 0 ≡ n
     zero-is n is = elim (eqb_tells n 0) [ inl h ↦ sym h.1 | inr h ↦ absurd (true≢false (sym is ∙ h.0)) ]
 
-prefix-padded : (codes : List ℕ) → are_spelled codes ≡ true → padded (length codes) (prefix codes) ≡ codes
+prefix-padded : (codes : List ℕ) → are_spelled codes ≡ true → with_end_zeros (length codes) (prefix codes) ≡ codes
 prefix-padded [] is = refl
-prefix-padded (code ∷ codes) is = go (is_coded code) (λ spelled. prefix-padded codes spelled) is
+prefix-padded (code ∷ codes) is = go (is_coded code) (λ name_of_codes. prefix-padded codes name_of_codes) is
   where
-    go : (b : Bool) → (are_spelled codes ≡ true → padded (length codes) (prefix codes) ≡ codes) → (if b then are_spelled codes else are_zeros (code ∷ codes)) ≡ true → padded (suc (length codes)) (if b then code ∷ prefix codes else []) ≡ code ∷ codes
+    go : (b : Bool) → (are_spelled codes ≡ true → with_end_zeros (length codes) (prefix codes) ≡ codes) → (if b then are_spelled codes else are_zeros (code ∷ codes)) ≡ true → with_end_zeros (suc (length codes)) (if b then code ∷ prefix codes else []) ≡ code ∷ codes
     go true rest is = ap (λ l. code ∷ l) (rest is)
     go false rest is = zeros-all (code ∷ codes) is
 
@@ -277,7 +277,7 @@ after-chars (code ∷ codes) rest coded = rw (char-coded code coded.0).1 (after-
 
 -- a text of two parts spells them
 spells : (stem extension : List ℕ) → AllCoded stem → AllCoded extension → 1 ≤ length stem → length stem ≤ 6 → length extension ≤ 2
-    → (text : List ℕ) × (parsed_name text ≡ Some (name_of (paired (padded 6 stem ++ padded 2 extension))))
+    → (text : List ℕ) × (parsed_name text ≡ Some (name_of (words_of_codes (with_end_zeros 6 stem ++ with_end_zeros 2 extension))))
 spells stem [] coded last some few short = (
   map char_of stem ++ [],
   rw (before-chars stem [] coded refl, after-chars stem [] coded, within-chars 6 stem coded some few) refl,
@@ -298,7 +298,7 @@ word-again w = omega arith
 name-again : (n : ℕ) → name_of (words_of_name n) ≡ n
 name-again n = omega arith
 
-codes-again : (a b c e : ℕ) → name_of (paired (codes_in (a ∷ b ∷ c ∷ []) ++ codes_in (e ∷ []))) ≡ name_of (a ∷ b ∷ c ∷ e ∷ [])
+codes-again : (a b c e : ℕ) → name_of (words_of_codes (codes_in (a ∷ b ∷ c ∷ []) ++ codes_in (e ∷ []))) ≡ name_of (a ∷ b ∷ c ∷ e ∷ [])
 codes-again a b c e = rw (word-again a, word-again b, word-again c, word-again e) refl
 
 of-words : (a b c e : ℕ) → are_typable (a ∷ b ∷ c ∷ e ∷ []) ≡ true → (text : List ℕ) × (parsed_name text ≡ Some (name_of (a ∷ b ∷ c ∷ e ∷ [])))
@@ -310,8 +310,8 @@ of-words a b c e is =
     let found = spells stem extension (prefix-coded (codes_in (a ∷ b ∷ c ∷ []))) (prefix-coded (codes_in (e ∷ [])))
     (prefix-some (a / 64) (a % 64 ∷ codes_in (b ∷ c ∷ [])) p.0 q.0) (prefix-length (codes_in (a ∷ b ∷ c ∷ []))) (prefix-length (codes_in (e ∷ []))) in (
       found.0,
-      found.1 ∙ ap (λ (l : List ℕ). Some (name_of (paired (l ++ padded 2 extension)))) (prefix-padded (codes_in (a ∷ b ∷ c ∷ [])) q.0)
-          ∙ ap (λ (l : List ℕ). Some (name_of (paired (codes_in (a ∷ b ∷ c ∷ []) ++ l)))) (prefix-padded (codes_in (e ∷ [])) q.1)
+      found.1 ∙ ap (λ (l : List ℕ). Some (name_of (words_of_codes (l ++ with_end_zeros 2 extension)))) (prefix-padded (codes_in (a ∷ b ∷ c ∷ [])) q.0)
+          ∙ ap (λ (l : List ℕ). Some (name_of (words_of_codes (codes_in (a ∷ b ∷ c ∷ []) ++ l)))) (prefix-padded (codes_in (e ∷ [])) q.1)
           ∙ ap Some (codes-again a b c e),
     )
 
@@ -322,12 +322,12 @@ text-of-typable name is =
 
 -- ## In a list
 
-no-place : (d : Listed) (name : ℕ) → is_typable name ≡ true → place_text d name ≡ []
+no-place : (d : DirectoryState) (name : ℕ) → is_typable name ≡ true → place_text d name ≡ []
 no-place d name is = rw is refl
 
-pub listed-direct : (d : Listed) (files : List (ℕ × ℕ)) → AreSpelled files → listed_lines d files ≡ file_lines files
+pub listed-direct : (d : DirectoryState) (files : List (ℕ × ℕ)) → AreSpelled files → listed_lines d files ≡ file_lines files
 listed-direct d [] each = refl
 listed-direct d ((name, size) ∷ files) each = go (place_text d name) (listed_lines d files) (file_lines files) (no-place d name each.0) (listed-direct d files each.1)
   where
-    go : (place one two : List ℕ) → place ≡ [] → one ≡ two → (shown name ++ 0o40 ∷ decimal size ++ place ++ 0o12 ∷ []) ++ one ≡ file_line (name, size) ++ two
-    go place one two none same = rw (none, same, append-nil (shown name ++ 0o40 ∷ decimal size)) refl
+    go : (place one two : List ℕ) → place ≡ [] → one ≡ two → (name_text name ++ 0o40 ∷ decimal size ++ place ++ 0o12 ∷ []) ++ one ≡ file_line (name, size) ++ two
+    go place one two none same = rw (none, same, append-nil (name_text name ++ 0o40 ∷ decimal size)) refl

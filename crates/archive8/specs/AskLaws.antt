@@ -4,12 +4,12 @@ use Rattle.std.specs.Global.{Vec}
 use Rattle.std.specs.FinMap.{get}
 use Rattle.volume_image.specs.Image.{IsImageOf}
 use Rattle.char_pack.specs.declared.forms.GetForm.{GetForm}
-use Rattle.os8_dir.specs.Entries.{Listed}
+use Rattle.os8_dir.specs.Entries.{DirectoryState}
 use Rattle.os8_dir.specs.Names.{parsed_name}
 use Rattle.os8_dir.specs.Reading.{Sound}
 use Rattle.os8_dir.specs.Files.{FileData, files_of}
 use Rattle.archive8.specs.declared.faults.ArchiveFault.{ArchiveFault}
-use Rattle.archive8.specs.Asking.{Wanted, AtBlock, asked_name}
+use Rattle.archive8.specs.Asking.{Target, AtBlock, asked_name}
 use Rattle.archive8.specs.Getting.{Gets}
 use Rattle.archive8.specs.Listing.{listed_lines}
 use Rattle.archive8.specs.Spelling.{is_typable}
@@ -17,7 +17,7 @@ use Rattle.script8.specs.Replies.{file_lines}
 
 -- what has one name is got alike however it is asked for: by its first block just as by a text that spells its name
 abbrev pub OneNameIsGotAlike : Type 0
-OneNameIsGotAlike = (image : List ℕ) (one two : Wanted) (name : ℕ) (form : GetForm) (blocks : List (List ℕ)) (answer : Result (Vec ℕ) ArchiveFault) → IsImageOf image blocks
+OneNameIsGotAlike = (image : List ℕ) (one two : Target) (name : ℕ) (form : GetForm) (blocks : List (List ℕ)) (answer : Result (Vec ℕ) ArchiveFault) → IsImageOf image blocks
     → asked_name blocks one ≡ Some name → asked_name blocks two ≡ Some name → Gets image one form answer → Gets image two form answer
 
 -- each file of a sound volume is asked for by a block
@@ -39,4 +39,4 @@ AreSpelled (file ∷ files) = (is_typable file.0 ≡ true) × AreSpelled files
 
 -- the lines of files that a text spells are those of `DIRECT`
 abbrev pub SpelledAreAsDirect : Type 0
-SpelledAreAsDirect = (d : Listed) (files : List (ℕ × ℕ)) → AreSpelled files → listed_lines d files ≡ file_lines files
+SpelledAreAsDirect = (d : DirectoryState) (files : List (ℕ × ℕ)) → AreSpelled files → listed_lines d files ≡ file_lines files

@@ -5,7 +5,7 @@ use Rattle.std.specs.FinMap.{get}
 use Rattle.volume_image.specs.Image.{IsImageOf}
 use Rattle.os8_dir.specs.Reading.{directory_of}
 use Rattle.os8_dir.specs.Files.{files_of, above_of, limit_of}
-use Rattle.os8_files.specs.Mounted.{Mounted}
+use Rattle.os8_files.specs.Mounted.{MountState}
 use Rattle.os8_files.specs.Calls.{HasDeleted, IsThere, entries_moved}
 use Rattle.os8_files.specs.Failed.{lowest_or}
 use Rattle.os8_files.specs.Renames.{HasRenamed, entries_of}
@@ -19,14 +19,14 @@ use Rattle.archive8.specs.declared.faults.RenameFault.TheVariants as rename
 use Rattle.archive8.specs.Deleting.{AreDeleted, IsRefusedAt, IsRefusedName}
 use Rattle.archive8.specs.Squeezing.{AreMoved}
 use Rattle.script8.specs.declared.faults.SessionFault.TheVariants.{File}
-use Rattle.os8_dir.specs.Names.{padded}
+use Rattle.os8_dir.specs.Names.{with_end_zeros}
 use Rattle.os8_dir.specs.Entries.{IsNamed}
 use Rattle.os8_dir.specs.Files.{FileData}
 use Rattle.archive8.specs.declared.faults.ArchiveFault.{ArchiveFault}
 use Rattle.archive8.specs.declared.putting.NewImage.{NewImage}
 use Rattle.archive8.specs.declared.copying.FileWords.{FileWords}
-use Rattle.archive8.specs.Asking.{Wanted, asked_name, AreAsked}
-use Rattle.archive8.specs.Getting.{HasFile, ReadRefused}
+use Rattle.archive8.specs.Asking.{Target, asked_name, AreAsked}
+use Rattle.archive8.specs.Getting.{HasFile, RefusesRead}
 use Rattle.archive8.specs.Putting.{HasPutUnder}
 use Rattle.archive8.specs.Copying.{WordsRefused}
 use Rattle.archive8.specs.Parts.{AreBlocks}
@@ -34,14 +34,14 @@ use Rattle.archive8.specs.Parts.{AreBlocks}
 -- ## Deleting
 
 -- the file that was wanted of a volume is taken out of it now, and named, or why not
-abbrev pub DeletesOne : List (List ℕ) → Mounted → Wanted → Result ℕ FileFault → Mounted → Type 0
+abbrev pub DeletesOne : List (List ℕ) → MountState → Target → Result ℕ FileFault → MountState → Type 0
 DeletesOne was old wanted (Ok name) new = (asked_name was wanted ≡ Some name) × HasDeleted old name new
 DeletesOne was old wanted (Err file.Memory) new = Unit {0}
 DeletesOne was old wanted (Err file.Device) new = 0 < new.failed_writes
 DeletesOne was old wanted (Err fault) new = IsRefusedName was old wanted fault
 
 -- the files that were wanted of a volume are taken out of it, and named, or so many were when one is refused
-abbrev pub DeletesAll : Mounted → List Wanted → Result (Unit {0}) FileFault → List ℕ → Mounted → Type 0
+abbrev pub DeletesAll : MountState → List Target → Result (Unit {0}) FileFault → List ℕ → MountState → Type 0
 DeletesAll old wanted (Ok done) names new = AreAsked old.blocks wanted names × AreDeleted old names new
 DeletesAll old wanted (Err file.Memory) names new = Unit {0}
 DeletesAll old wanted (Err file.Device) names new = 0 < new.failed_writes
@@ -50,7 +50,7 @@ DeletesAll old wanted (Err fault) names new = IsRefusedAt old.blocks old wanted 
 -- ## Squeezing
 
 -- so many files are moved until none has a free block below it, or why not
-abbrev pub SqueezesAll : Mounted → Result ℕ FileFault → Mounted → Type 0
+abbrev pub SqueezesAll : MountState → Result ℕ FileFault → MountState → Type 0
 SqueezesAll old (Ok turns) new = AreMoved turns old new × (above_of new.blocks ≡ 0)
 SqueezesAll old (Err file.DirectoryFull) new =
     (turns : ℕ) × AreMoved turns old new × (name : ℕ) × (gap : ℕ) × (lowest_or (directory_of new.blocks) ≡ Some (name, gap)) × (limit_of new.blocks < entries_moved name new.blocks)
@@ -60,7 +60,7 @@ SqueezesAll old (Err fault) new = fault ≡ file.Memory
 -- ## Renaming
 
 -- a file of a volume has another name, or why not
-abbrev pub NamesFile : Mounted → ℕ → ℕ → Result (Unit {0}) RenameFault → Mounted → Type 0
+abbrev pub NamesFile : MountState → ℕ → ℕ → Result (Unit {0}) RenameFault → MountState → Type 0
 NamesFile old name next (Ok done) new = HasRenamed old name next new
 NamesFile old name next (Err Exists) new = IsThere old name × IsThere old next
 NamesFile old name next (Err (rename.Archive (Refused (File file.NotFound)))) new = get (files_of old.blocks) name ≡ None
@@ -69,8 +69,8 @@ NamesFile old name next (Err (rename.Archive (Refused (File file.Device)))) new 
 NamesFile old name next (Err fault) new = fault ≡ rename.Archive (Refused Memory)
 
 -- the image in which it has, or why not
-abbrev pub GivesName : Mounted → ℕ → ℕ → Result (Vec ℕ) RenameFault → Type 0
-GivesName m name next (Ok bytes) = (after : Mounted) × HasRenamed m name next after × IsImageOf bytes.items after.blocks
+abbrev pub GivesName : MountState → ℕ → ℕ → Result (Vec ℕ) RenameFault → Type 0
+GivesName m name next (Ok bytes) = (after : MountState) × HasRenamed m name next after × IsImageOf bytes.items after.blocks
 GivesName m name next (Err Exists) = IsThere m name × IsThere m next
 GivesName m name next (Err (rename.Archive (Refused (File file.NotFound)))) = get (files_of m.blocks) name ≡ None
 GivesName m name next (Err (rename.Archive (Refused (File file.DirectoryFull)))) = IsThere m name × (get (files_of m.blocks) next ≡ None) × (limit_of m.blocks < entries_of m.blocks)
@@ -79,10 +79,10 @@ GivesName m name next (Err fault) = fault ≡ rename.Archive (Refused Memory)
 -- ## Copying
 
 -- the file that is wanted is read, with its name and its information words, or why not
-abbrev pub ReadsFile : List ℕ → Wanted → Result FileWords ArchiveFault → Type 0
+abbrev pub ReadsFile : List ℕ → Target → Result FileWords ArchiveFault → Type 0
 ReadsFile image wanted (Ok found) = (file : FileData) × (source : HasFile image wanted file) × (found.name ≡ source.number) × IsNamed found.name
-    × (found.info ≡ padded 10 file.0) × (found.words.items ≡ file.1) × AreBlocks found.words.items
-ReadsFile image wanted (Err fault) = ReadRefused image wanted fault
+    × (found.info ≡ with_end_zeros 10 file.0) × (found.words.items ≡ file.1) × AreBlocks found.words.items
+ReadsFile image wanted (Err fault) = RefusesRead image wanted fault
 
 -- words are put into an image under a name, or why not
 abbrev pub PutsBlocks : List ℕ → Option ℕ → List ℕ → List ℕ → Result NewImage ArchiveFault → Type 0

@@ -3,11 +3,11 @@ use Rattle.std.specs.Prelude.{◌≡◌, ℕ, zero, suc, ◌+◌, ◌-◌, codes
 use Rattle.std.specs.Global.{Vec}
 use Rattle.word12.specs.declared.sizes.TheConstants.{FIRST_FILE_BLOCK}
 use Rattle.volume_image.specs.Image.{IsImageOf, minus}
-use Rattle.os8_dir.specs.Entries.{Listed, end_of, size_of}
+use Rattle.os8_dir.specs.Entries.{DirectoryState, end_of, size_of}
 use Rattle.os8_dir.specs.Reading.{block, word, directory_of}
 use Rattle.os8_dir.specs.declared.entries.DirEntry.{DirEntry}
 use Rattle.os8_dir.specs.declared.entries.DirEntry.TheVariants.{File, Empty}
-use Rattle.script8.specs.Shown.{shown}
+use Rattle.script8.specs.Shown.{name_text}
 use Rattle.archive8.specs.declared.faults.ArchiveFault.{ArchiveFault}
 use Rattle.archive8.specs.Opening.{IsUnopened}
 
@@ -32,7 +32,7 @@ segment_lines (suc left) blocks (suc number) =
 
 -- the line of an entry that begins at a block
 abbrev pub entry_line : ℕ → DirEntry → List ℕ
-entry_line place (File name info size) = codes "FILE " ++ shown name ++ 0o40 ∷ extent_text place size
+entry_line place (File name info size) = codes "FILE " ++ name_text name ++ 0o40 ∷ extent_text place size
 entry_line place (Empty size) = codes "EMPTY " ++ extent_text place size
 
 -- the lines of entries, the first of which begins at a block
@@ -46,7 +46,7 @@ outside_line place zero = []
 outside_line place (suc more) = codes "OUTSIDE " ++ extent_text place (suc more)
 
 -- the lines of a volume with this directory
-abbrev pub check_lines : List (List ℕ) → Listed → List ℕ
+abbrev pub check_lines : List (List ℕ) → DirectoryState → List ℕ
 check_lines blocks d = blocks_line (length blocks)
     ++ segment_lines 6 blocks 1
     ++ outside_line FIRST_FILE_BLOCK (d.first - FIRST_FILE_BLOCK)
@@ -56,7 +56,7 @@ check_lines blocks d = blocks_line (length blocks)
 pub record IsChecked (image text : List ℕ) : Type 0 where
   pub blocks : List (List ℕ)
   pub is_image : IsImageOf image blocks
-  pub directory : Listed
+  pub directory : DirectoryState
   pub read : directory_of blocks ≡ Ok directory
   pub lines : text ≡ check_lines blocks directory
 

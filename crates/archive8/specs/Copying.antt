@@ -1,6 +1,6 @@
 -- The result of copying a file from one image into another.
 use Rattle.std.specs.Prelude.{◌≡◌, ℕ, Option, Some, None, Result, Ok, Err, List}
-use Rattle.os8_dir.specs.Names.{padded, parsed_name}
+use Rattle.os8_dir.specs.Names.{with_end_zeros, parsed_name}
 use Rattle.os8_dir.specs.Files.{FileData}
 use Rattle.os8_dir.specs.declared.file_faults.FileFault.TheVariants.{BadName, NoRoom, DirectoryFull}
 use Rattle.script8.specs.declared.faults.SessionFault.TheVariants.{File}
@@ -10,8 +10,8 @@ use Rattle.archive8.specs.declared.faults.CopyFault.{CopyFault}
 use Rattle.archive8.specs.declared.faults.CopyFault.TheVariants.{From, To}
 use Rattle.archive8.specs.declared.putting.NewImage.{NewImage}
 use Rattle.archive8.specs.Opening.{IsOpened, IsUnopened}
-use Rattle.archive8.specs.Asking.{Wanted}
-use Rattle.archive8.specs.Getting.{HasFile, ReadRefused}
+use Rattle.archive8.specs.Asking.{Target}
+use Rattle.archive8.specs.Getting.{HasFile, RefusesRead}
 use Rattle.archive8.specs.Putting.{HasPutUnder, IsFullUnder}
 
 -- the name that a copy gets: the new one that was typed, if that is one, or else that of the file
@@ -20,10 +20,10 @@ target name None = Some name
 target name (Some other) = parsed_name other
 
 -- the new image is that of the volume into which the file that is wanted is put with its words and its information words
-pub record HasCopied (from : List ℕ) (wanted : Wanted) (to : List ℕ) (other : Option (List ℕ)) (new : NewImage) : Type 0 where
+pub record HasCopied (from : List ℕ) (wanted : Target) (to : List ℕ) (other : Option (List ℕ)) (new : NewImage) : Type 0 where
   pub file : FileData
   pub source : HasFile from wanted file
-  pub put : HasPutUnder to (target source.number other) (Some (padded 10 file.0)) file.1 new
+  pub put : HasPutUnder to (target source.number other) (Some (with_end_zeros 10 file.0)) file.1 new
 
 -- words are not put into an image, for the first of these: a fault of the image, of its directory, no name, no room
 abbrev pub WordsRefused : List ℕ → Option ℕ → List ℕ → List ℕ → ArchiveFault → Type 0
@@ -32,7 +32,7 @@ WordsRefused image name info words (Refused (File (NoRoom largest))) = IsFullUnd
 WordsRefused image name info words (Refused (File DirectoryFull)) = IsFullUnder image name (Some info) words (File DirectoryFull)
 WordsRefused image name info words fault = IsUnopened image fault
 
-abbrev pub CopiesFile : List ℕ → Wanted → List ℕ → Option (List ℕ) → Result NewImage CopyFault → Type 0
+abbrev pub CopiesFile : List ℕ → Target → List ℕ → Option (List ℕ) → Result NewImage CopyFault → Type 0
 CopiesFile from wanted to other (Ok new) = HasCopied from wanted to other new
-CopiesFile from wanted to other (Err (From fault)) = ReadRefused from wanted fault
-CopiesFile from wanted to other (Err (To fault)) = (file : FileData) × (source : HasFile from wanted file) × WordsRefused to (target source.number other) (padded 10 file.0) file.1 fault
+CopiesFile from wanted to other (Err (From fault)) = RefusesRead from wanted fault
+CopiesFile from wanted to other (Err (To fault)) = (file : FileData) × (source : HasFile from wanted file) × WordsRefused to (target source.number other) (with_end_zeros 10 file.0) file.1 fault

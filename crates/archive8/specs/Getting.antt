@@ -16,13 +16,13 @@ use Rattle.archive8.specs.declared.faults.ArchiveFault.{ArchiveFault}
 use Rattle.archive8.specs.declared.faults.ArchiveFault.TheVariants.{Image, Directory, Refused}
 use Rattle.char_pack.specs.declared.forms.GetForm.{GetForm}
 use Rattle.char_pack.specs.declared.forms.GetForm.TheVariants.{Frames, Text, Tape}
-use Rattle.archive8.specs.Asking.{Wanted, asked_name, IsBadName, IsMissing}
+use Rattle.archive8.specs.Asking.{Target, asked_name, IsBadName, IsMissing}
 use Rattle.archive8.specs.Opening.{IsOpened, IsUnopened}
 
 -- ## Files
 
 -- the volume has the file that is wanted, with these words
-pub record IsFile (image : List ℕ) (wanted : Wanted) (words : List ℕ) : Type 0 where
+pub record IsFile (image : List ℕ) (wanted : Target) (words : List ℕ) : Type 0 where
   pub blocks : List (List ℕ)
   pub opened : IsOpened image blocks
   pub number : ℕ
@@ -31,7 +31,7 @@ pub record IsFile (image : List ℕ) (wanted : Wanted) (words : List ℕ) : Type
   pub there : get (files_of blocks) number ≡ Some (info, words)
 
 -- the same with its information words
-pub record HasFile (image : List ℕ) (wanted : Wanted) (file : FileData) : Type 0 where
+pub record HasFile (image : List ℕ) (wanted : Target) (file : FileData) : Type 0 where
   pub blocks : List (List ℕ)
   pub opened : IsOpened image blocks
   pub number : ℕ
@@ -39,7 +39,7 @@ pub record HasFile (image : List ℕ) (wanted : Wanted) (file : FileData) : Type
   pub there : get (files_of blocks) number ≡ Some file
 
 -- the volume has no file that is wanted: none of the name that was typed, or none that begins at the block
-pub record IsNoFile (image : List ℕ) (wanted : Wanted) : Type 0 where
+pub record IsNoFile (image : List ℕ) (wanted : Target) : Type 0 where
   pub blocks : List (List ℕ)
   pub opened : IsOpened image blocks
   pub missing : IsMissing blocks blocks wanted
@@ -78,19 +78,19 @@ IsGiven Text words bytes = bytes ≡ line_feeds (text words)
 IsGiven Tape words bytes = IsTapeOf (frames words) bytes
 
 -- a file is not read, for the first of these: a fault of the image, of its directory, no name, no file
-abbrev pub ReadRefused : List ℕ → Wanted → ArchiveFault → Type 0
-ReadRefused image wanted (Refused (File BadName)) = (blocks : List (List ℕ)) × IsOpened image blocks × IsBadName wanted
-ReadRefused image wanted (Refused (File NotFound)) = IsNoFile image wanted
-ReadRefused image wanted fault = IsUnopened image fault
+abbrev pub RefusesRead : List ℕ → Target → ArchiveFault → Type 0
+RefusesRead image wanted (Refused (File BadName)) = (blocks : List (List ℕ)) × IsOpened image blocks × IsBadName wanted
+RefusesRead image wanted (Refused (File NotFound)) = IsNoFile image wanted
+RefusesRead image wanted fault = IsUnopened image fault
 
 -- what an image's file is not given for: in order, a fault of the image, of its directory, no name, no file, no tape
-abbrev pub GetRefused : List ℕ → Wanted → GetForm → SessionFault → Type 0
+abbrev pub GetRefused : List ℕ → Target → GetForm → SessionFault → Type 0
 GetRefused image wanted form (File BadName) = (blocks : List (List ℕ)) × IsOpened image blocks × IsBadName wanted
 GetRefused image wanted form (File NotFound) = IsNoFile image wanted
 GetRefused image wanted form (session.Tape fault) = (words : List ℕ) × IsFile image wanted words × (form ≡ Tape) × IsFault (frames words) fault
 GetRefused image wanted form fault = IsUnopened image (Refused fault)
 
-abbrev pub Gets : List ℕ → Wanted → GetForm → Result (Vec ℕ) ArchiveFault → Type 0
+abbrev pub Gets : List ℕ → Target → GetForm → Result (Vec ℕ) ArchiveFault → Type 0
 Gets image wanted form (Ok bytes) = (words : List ℕ) × IsFile image wanted words × IsGiven form words bytes.items
 Gets image wanted form (Err (Image fault)) = IsUnopened image (Image fault)
 Gets image wanted form (Err (Directory fault)) = IsUnopened image (Directory fault)

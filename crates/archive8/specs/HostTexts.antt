@@ -41,7 +41,7 @@ AreUnbroken (line ∷ lines) = (is_unbroken line ≡ true) × AreUnbroken lines
 
 -- The place of the byte that comes after these: its line and its byte of the line, both counted from 1. An LF is the last byte of its
 -- line.
-pub record IsPlaceBehind (before : List ℕ) (at : TextPlace) : Type 0 where
+pub record IsPlaceAfter (before : List ℕ) (at : TextPlace) : Type 0 where
   pub lines : List (List ℕ)
   pub begun : List ℕ
   pub before_are : before ≡ lines_text (0o12 ∷ []) lines begun
@@ -58,7 +58,7 @@ pub record IsBadAt (bytes : List ℕ) (at : TextPlace) : Type 0 where
   pub bytes_are : bytes ≡ before ++ bad ∷ behind
   pub storable : is_storable before ≡ true
   pub is_bad : may_stand bad ≡ false
-  pub place : IsPlaceBehind before at
+  pub place : IsPlaceAfter before at
 
 -- where a text has the first byte that may not stand in one, if it can't be put
 abbrev pub FindsBad : List ℕ → Option TextPlace → Type 0

@@ -6,12 +6,12 @@ use Rattle.char_pack.specs.Texts.{is_storable}
 use Rattle.word12.specs.declared.sizes.TheConstants.{FIRST_FILE_BLOCK}
 use Rattle.volume_image.specs.Image.{IsImageOf}
 use Rattle.os8_dir.specs.Names.{parsed_name}
-use Rattle.os8_dir.specs.Entries.{Listed, AreDistinct, end_of, size_of}
+use Rattle.os8_dir.specs.Entries.{DirectoryState, AreDistinct, end_of, size_of}
 use Rattle.os8_dir.specs.Reading.{◌>>=◌, block, word, head_of, with_segment, directory_of}
 use Rattle.os8_dir.specs.declared.faults.DirFault.{DirFault}
 use Rattle.os8_dir.specs.declared.entries.DirEntry.{DirEntry}
 use Rattle.os8_dir.specs.declared.entries.DirEntry.TheVariants.{File, Empty}
-use Rattle.script8.specs.Shown.{shown}
+use Rattle.script8.specs.Shown.{name_text}
 use Rattle.script8.specs.declared.faults.SessionFault.TheVariants.{Memory}
 use Rattle.char_pack.specs.declared.forms.GetForm.{GetForm}
 use Rattle.char_pack.specs.declared.forms.GetForm.TheVariants as get_as
@@ -21,14 +21,14 @@ use Rattle.archive8.specs.declared.faults.ArchiveFault.{ArchiveFault}
 use Rattle.archive8.specs.declared.faults.ArchiveFault.TheVariants.{Refused}
 use Rattle.archive8.specs.declared.putting.NewImage.{NewImage}
 use Rattle.archive8.specs.Checking.{Checks, blocks_line, extent_text, segment_line, segment_lines}
-use Rattle.archive8.specs.Asking.{Wanted, OfName, asked_name}
+use Rattle.archive8.specs.Asking.{Target, OfName, asked_name}
 use Rattle.archive8.specs.Getting.{Gets, IsFile, IsTapeOf, line_feeds}
 use Rattle.archive8.specs.HostTexts.{is_unbroken, lines_text, text_words}
 use Rattle.archive8.specs.Putting.{PutsFile}
 
 -- bytes, and zeros after them to the end of their last block
-abbrev pub filled_up : List ℕ → List ℕ
-filled_up bytes = bytes ++ replicate (block_frames * block_count (length bytes) - length bytes) 0
+abbrev pub whole_blocks : List ℕ → List ℕ
+whole_blocks bytes = bytes ++ replicate (block_frames * block_count (length bytes) - length bytes) 0
 
 -- these bytes are given, or memory is wanted
 abbrev pub GivesOrLacks : List ℕ → Result (Vec ℕ) ArchiveFault → Type 0
@@ -37,7 +37,7 @@ GivesOrLacks bytes answer = MatchResult answer (λ given. given.items ≡ bytes)
 -- bytes come back, with zeros after them
 abbrev pub FramesComeBack : Type 0
 FramesComeBack = (image name bytes : List ℕ) (info : Option (List ℕ)) (new : NewImage) (answer : Result (Vec ℕ) ArchiveFault) → All (λ byte. byte < 256) bytes
-    → PutsFile image name put_as.Frames bytes info (Ok new) → Gets new.bytes.items (OfName name) get_as.Frames answer → GivesOrLacks (filled_up bytes) answer
+    → PutsFile image name put_as.Frames bytes info (Ok new) → Gets new.bytes.items (OfName name) get_as.Frames answer → GivesOrLacks (whole_blocks bytes) answer
 
 -- the tape that bytes begin with comes back: all of them, where they end with its trailer
 abbrev pub TapeComesBack : Type 0
@@ -76,13 +76,13 @@ pub record HasLineEnds (chars : List ℕ) : Type 0 where
 
 -- a text of a file with such line ends, that is got as a text and put as one again, has its words again, and so its frames
 abbrev pub TextComesBack : Type 0
-TextComesBack = (image other again chars : List ℕ) (wanted : Wanted) (info : Option (List ℕ)) (given : Vec ℕ) (new : NewImage) → is_storable chars ≡ true → HasLineEnds chars
+TextComesBack = (image other again chars : List ℕ) (wanted : Target) (info : Option (List ℕ)) (given : Vec ℕ) (new : NewImage) → is_storable chars ≡ true → HasLineEnds chars
     → IsFile image wanted (text_words chars) → Gets image wanted get_as.Text (Ok given) → PutsFile other again put_as.Text given.items info (Ok new)
     → IsFile new.bytes.items (OfName again) (text_words chars)
 
 -- another file that could be got is got in the same form with the same bytes, or memory is wanted
 abbrev pub OthersStay : Type 0
-OthersStay = (image name bytes : List ℕ) (one : Wanted) (info : Option (List ℕ)) (kind : PutForm) (form : GetForm) (new : NewImage) (before : Vec ℕ)
+OthersStay = (image name bytes : List ℕ) (one : Target) (info : Option (List ℕ)) (kind : PutForm) (form : GetForm) (new : NewImage) (before : Vec ℕ)
     (answer : Result (Vec ℕ) ArchiveFault) (blocks : List (List ℕ)) → IsImageOf image blocks → asked_name blocks one ≢ parsed_name name → PutsFile image name kind bytes info (Ok new)
     → Gets image one form (Ok before) → Gets new.bytes.items one form answer
     → GivesOrLacks before.items answer
@@ -97,7 +97,7 @@ pub record Extent : Type 0 where
 
 -- what an entry's line begins with
 abbrev pub entry_label : DirEntry → List ℕ
-entry_label (File name info size) = codes "FILE " ++ shown name ++ 0o40 ∷ []
+entry_label (File name info size) = codes "FILE " ++ name_text name ++ 0o40 ∷ []
 entry_label (Empty size) = codes "EMPTY "
 
 -- the extents of entries, the first of which begins at a block
@@ -112,7 +112,7 @@ outside_extents place zero = []
 outside_extents place (suc more) = record { label = codes "OUTSIDE "; place = place; size = suc more } ∷ []
 
 -- the extents of a volume of so many blocks with this directory
-abbrev pub extents : ℕ → Listed → List Extent
+abbrev pub extents : ℕ → DirectoryState → List Extent
 extents count d = outside_extents FIRST_FILE_BLOCK (d.first - FIRST_FILE_BLOCK) ++ entry_extents d.first d.entries ++ outside_extents (end_of d) (count - end_of d)
 
 -- the lines of extents
@@ -139,7 +139,7 @@ count_having block (e ∷ es) = if has_block e block then suc (count_having bloc
 pub record TellsEachBlock (image text : List ℕ) : Type 0 where
   pub blocks : List (List ℕ)
   pub is_image : IsImageOf image blocks
-  pub directory : Listed
+  pub directory : DirectoryState
   pub read : directory_of blocks ≡ Ok directory
   pub lines : text ≡ blocks_line (length blocks) ++ segment_lines 6 blocks 1 ++ extent_lines (extents (length blocks) directory)
   pub follow : FollowOneAnother FIRST_FILE_BLOCK (length blocks) (extents (length blocks) directory)
@@ -158,7 +158,7 @@ AreLinked blocks link [] = link ≡ 0
 AreLinked blocks link (number ∷ numbers) = (number ≡ link) × (0 < number) × (number < FIRST_FILE_BLOCK) × AreLinked blocks (word (block blocks number) 2) numbers
 
 -- what a directory is read as with the segments in these blocks, one after another
-abbrev pub read_on : List (List ℕ) → Listed → List ℕ → Result Listed DirFault
+abbrev pub read_on : List (List ℕ) → DirectoryState → List ℕ → Result DirectoryState DirFault
 read_on blocks d [] = Ok d
 read_on blocks d (number ∷ numbers) = with_segment (length blocks) d number (block blocks number) >>= (λ more. read_on blocks more numbers)
 
@@ -171,12 +171,12 @@ lines_of_segments blocks (number ∷ numbers) = segment_line number (word (block
 pub record TellsEachSegment (image text : List ℕ) : Type 0 where
   pub blocks : List (List ℕ)
   pub is_image : IsImageOf image blocks
-  pub directory : Listed
+  pub directory : DirectoryState
   pub read : directory_of blocks ≡ Ok directory
   pub numbers : List ℕ
   pub linked : AreLinked blocks 1 numbers
   pub distinct : AreDistinct numbers
-  pub head : Listed
+  pub head : DirectoryState
   pub begun : head_of (length blocks) (block blocks 1) ≡ Ok head
   pub read_of : read_on blocks head numbers ≡ Ok directory
   pub lines : text ≡ blocks_line (length blocks) ++ lines_of_segments blocks numbers ++ extent_lines (extents (length blocks) directory)

@@ -10,7 +10,7 @@ use Rattle.char_pack.specs.declared.forms.GetForm.{GetForm}
 use Rattle.char_pack.specs.declared.forms.GetForm.TheVariants.{Tape}
 use Rattle.char_pack.specs.declared.forms.PutForm.{PutForm}
 use Rattle.os8_dir.specs.Files.{FileData, files_of}
-use Rattle.os8_files.specs.Mounted.{Mounted}
+use Rattle.os8_files.specs.Mounted.{MountState}
 use Rattle.os8_files.specs.Puts.{HasPutWith, PutsFileWith, blocks_filled}
 use Rattle.os8_dir.specs.declared.file_faults.FileFault.{FileFault}
 use Rattle.os8_dir.specs.declared.file_faults.FileFault.TheVariants as file
@@ -24,7 +24,7 @@ use Rattle.archive8.specs.Putting.{put_words, information_for, IsFit, IsUnfit, I
 -- ## Getting
 
 -- the words of a file are read, or a read failed
-abbrev pub ReadsWords : Mounted → ℕ → Result (Vec ℕ) FileFault → Mounted → Type 0
+abbrev pub ReadsWords : MountState → ℕ → Result (Vec ℕ) FileFault → MountState → Type 0
 ReadsWords old name (Ok words) new = (file : FileData) × (get (files_of old.blocks) name ≡ Some file) × (words.items ≡ file.1)
 ReadsWords old name (Err file.NotFound) new = get (files_of old.blocks) name ≡ None
 ReadsWords old name (Err file.Device) new = new.failed_reads ≡ old.failed_reads + 1
@@ -32,7 +32,7 @@ ReadsWords old name (Err file.Memory) new = Unit {0}
 ReadsWords old name (Err fault) new = ⊥
 
 -- the same of a volume whose reads don't fail
-abbrev pub FindsWords : Mounted → ℕ → Result (Vec ℕ) SessionFault → Type 0
+abbrev pub FindsWords : MountState → ℕ → Result (Vec ℕ) SessionFault → Type 0
 FindsWords m name (Ok words) = (file : FileData) × (get (files_of m.blocks) name ≡ Some file) × (words.items ≡ file.1)
 FindsWords m name (Err (File file.NotFound)) = get (files_of m.blocks) name ≡ None
 FindsWords m name (Err fault) = fault ≡ Memory
@@ -58,12 +58,12 @@ MakesWords form bytes (Err session.BadText) = IsUnfit form bytes session.BadText
 MakesWords form bytes (Err fault) = fault ≡ Memory
 
 -- the result of putting words with these information words
-abbrev pub PutsInformed : Mounted → ℕ → Option (List ℕ) → List ℕ → Result (Unit {0}) FileFault → Mounted → Type 0
+abbrev pub PutsInformed : MountState → ℕ → Option (List ℕ) → List ℕ → Result (Unit {0}) FileFault → MountState → Type 0
 PutsInformed old name info words result new = PutsFileWith old name (information_for old name info) words result new
 
 -- the image with a file of these words, or why there is none
-abbrev pub PutsWords : Mounted → ℕ → Option (List ℕ) → List ℕ → Result NewImage SessionFault → Type 0
-PutsWords m name info words (Ok new) = (new.name ≡ name) × (new.blocks ≡ blocks_filled words) × ((after : Mounted) × HasPutWith m name (information_for m name info) words after × IsImageOf new.bytes.items after.blocks)
+abbrev pub PutsWords : MountState → ℕ → Option (List ℕ) → List ℕ → Result NewImage SessionFault → Type 0
+PutsWords m name info words (Ok new) = (new.name ≡ name) × (new.blocks ≡ blocks_filled words) × ((after : MountState) × HasPutWith m name (information_for m name info) words after × IsImageOf new.bytes.items after.blocks)
 PutsWords m name info words (Err (File (file.NoRoom largest))) = IsFull m name info words (File (file.NoRoom largest))
 PutsWords m name info words (Err (File file.DirectoryFull)) = IsFull m name info words (File file.DirectoryFull)
 PutsWords m name info words (Err fault) = fault ≡ Memory

@@ -6,7 +6,7 @@ use Rattle.char_pack.specs.Packing.{packed_blocks}
 use Rattle.char_pack.specs.Texts.{is_storable}
 use Rattle.os8_dir.specs.Names.{parsed_name}
 use Rattle.os8_dir.specs.Files.{files_of}
-use Rattle.os8_files.specs.Mounted.{Mounted}
+use Rattle.os8_files.specs.Mounted.{MountState}
 use Rattle.os8_files.specs.Calls.{IsLargest, IsOver, IsReady}
 use Rattle.os8_files.specs.Puts.{HasPutWith, HasNoEntryWith, blocks_filled, file_with}
 use Rattle.os8_files.specs.Service.{information_of}
@@ -22,7 +22,7 @@ use Rattle.archive8.specs.Opening.{IsOpened, IsUnopened}
 use Rattle.archive8.specs.HostTexts.{file_text, text_words}
 
 -- an image that is mounted: no file is held
-pub record IsMounted (image : List ℕ) (m : Mounted) : Type 0 where
+pub record IsMounted (image : List ℕ) (m : MountState) : Type 0 where
   pub opened : IsOpened image m.blocks
   pub ready : IsReady m
   pub free : m.holds ≡ []
@@ -49,14 +49,14 @@ words_or_none None = []
 words_or_none (Some words) = words
 
 -- the information words that a file gets: those given, or where none are those of the older file of the name
-abbrev pub information_for : Mounted → ℕ → Option (List ℕ) → List ℕ
+abbrev pub information_for : MountState → ℕ → Option (List ℕ) → List ℕ
 information_for m name (Some given) = given
 information_for m name None = words_or_none (information_of (get (files_of m.blocks) name))
 
 -- the new image is that of the volume with the file of a name, and the reply reports it
 pub record HasPutUnder (image : List ℕ) (name : Option ℕ) (info : Option (List ℕ)) (words : List ℕ) (new : NewImage) : Type 0 where
-  pub before : Mounted
-  pub after : Mounted
+  pub before : MountState
+  pub after : MountState
   pub mounted : IsMounted image before
   pub named : name ≡ Some new.name
   pub put : HasPutWith before new.name (information_for before new.name info) words after
@@ -68,7 +68,7 @@ abbrev pub HasPutInto : List ℕ → List ℕ → Option (List ℕ) → List ℕ
 HasPutInto image name info words new = HasPutUnder image (parsed_name name) info words new
 
 -- the largest empty of the volume, which has so many blocks, has no room for the words, or its directory none for the entry
-abbrev pub IsFull : Mounted → ℕ → Option (List ℕ) → List ℕ → SessionFault → Type 0
+abbrev pub IsFull : MountState → ℕ → Option (List ℕ) → List ℕ → SessionFault → Type 0
 IsFull m name info words (File (NoRoom largest)) = (largest < blocks_filled words) × IsLargest m.blocks largest
 IsFull m name info words (File DirectoryFull) =
     IsOver m.blocks (insert (files_of m.blocks) name (file_with m (information_for m name info) words)) × HasNoEntryWith m.blocks name (information_for m name info) words
@@ -76,7 +76,7 @@ IsFull m name info words fault = ⊥
 
 -- the same of the volume of an image
 pub record IsFullUnder (image : List ℕ) (name : Option ℕ) (info : Option (List ℕ)) (words : List ℕ) (fault : SessionFault) : Type 0 where
-  pub before : Mounted
+  pub before : MountState
   pub mounted : IsMounted image before
   pub number : ℕ
   pub named : name ≡ Some number

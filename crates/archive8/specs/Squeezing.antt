@@ -3,7 +3,7 @@ use Rattle.std.specs.Prelude.{◌≡◌, ℕ, zero, suc, ◌<◌, Some, Result, 
 use Rattle.volume_image.specs.Image.{IsImageOf}
 use Rattle.os8_dir.specs.Reading.{directory_of}
 use Rattle.os8_dir.specs.Files.{files_of, above_of, capacity_of, limit_of}
-use Rattle.os8_files.specs.Mounted.{Mounted}
+use Rattle.os8_files.specs.Mounted.{MountState}
 use Rattle.os8_files.specs.Calls.{HasMoved, entries_moved, info_of}
 use Rattle.os8_files.specs.Failed.{lowest_or}
 use Rattle.os8_dir.specs.declared.file_faults.FileFault.TheVariants.{DirectoryFull}
@@ -16,18 +16,18 @@ use Rattle.archive8.specs.Opening.{IsUnopened}
 use Rattle.archive8.specs.Putting.{IsMounted}
 
 -- so many turns of squeezing, each of which moves the lowest file with an empty directly below it down by that empty's blocks
-abbrev pub AreMoved : ℕ → Mounted → Mounted → Type 0
+abbrev pub AreMoved : ℕ → MountState → MountState → Type 0
 AreMoved zero old new = new ≡ old
-AreMoved (suc turns) old new = (name : ℕ) × (next : Mounted) × HasMoved old name next × AreMoved turns next new
+AreMoved (suc turns) old new = (name : ℕ) × (next : MountState) × HasMoved old name next × AreMoved turns next new
 
 -- The new image is that of the volume with the same files, each with its words and its information words, of which none has a free
 -- block below it. Each file that had one was moved once.
 pub record HasSqueezed (image : List ℕ) (new : SqueezedImage) : Type 0 where
-  pub before : Mounted
-  pub after : Mounted
+  pub before : MountState
+  pub after : MountState
   pub mounted : IsMounted image before
-  pub moved : AreMoved new.moved before after
-  pub count : new.moved ≡ above_of before.blocks
+  pub moved : AreMoved new.move_count before after
+  pub count : new.move_count ≡ above_of before.blocks
   pub files : files_of after.blocks ≡ files_of before.blocks
   pub tight : above_of after.blocks ≡ 0
   pub capacity : capacity_of after.blocks ≡ capacity_of before.blocks
@@ -36,8 +36,8 @@ pub record HasSqueezed (image : List ℕ) (new : SqueezedImage) : Type 0 where
 
 -- after some turns the directory has no room for the entries that the next turn makes
 pub record IsStuck (image : List ℕ) : Type 0 where
-  pub before : Mounted
-  pub next : Mounted
+  pub before : MountState
+  pub next : MountState
   pub mounted : IsMounted image before
   pub turns : ℕ
   pub moved : AreMoved turns before next

@@ -10,13 +10,13 @@ use Rattle.bin_tape.specs.declared.faults.TapeFault.{TapeFault}
 use Rattle.word12.specs.declared.sizes.TheConstants.{BLOCK}
 use Rattle.char_pack.specs.Texts.{is_storable}
 use Rattle.os8_dir.specs.Files.{FileData, files_of}
-use Rattle.os8_files.specs.Mounted.{Mounted}
+use Rattle.os8_files.specs.Mounted.{MountState}
 use Rattle.os8_files.specs.Service.{blocks_in}
-use Rattle.archive8.specs.HostTexts.{IsPlaceBehind}
+use Rattle.archive8.specs.HostTexts.{IsPlaceAfter}
 use Rattle.archive8.specs.declared.places.TextPlace.{TextPlace}
 
 -- a file of so many whole blocks is there
-pub record IsWhole (m : Mounted) (name blocks : ℕ) : Type 0 where
+pub record IsWhole (m : MountState) (name blocks : ℕ) : Type 0 where
   pub file : FileData
   pub there : get (files_of m.blocks) name ≡ Some file
   pub count : blocks ≡ blocks_in file
@@ -54,4 +54,4 @@ pub record IsSoFar (bytes rest : List ℕ) (at : TextPlace) : Type 0 where
   pub before : List ℕ
   pub bytes_are : bytes ≡ before ++ rest
   pub storable : is_storable before ≡ true
-  pub place : IsPlaceBehind before at
+  pub place : IsPlaceAfter before at

@@ -4,11 +4,11 @@ ghost use Rattle.os8_dir.specs.Found.{IsDirectory};
 ghost use Rattle.os8_dir.specs.Reading.{directory_of};
 ghost use Rattle.word12.specs.declared.sizes.TheConstants.{MOST_BLOCKS};
 ghost use Rattle.archive8.specs.Asking as spec;
-ghost use Rattle.archive8.specs.Asking.{asked_for};
+ghost use Rattle.archive8.specs.Asking.{target_of};
 ghost use Rattle.archive8.specs.AskSteps.{FindsFile, FindsName, name_of_entries, name_of_entry};
 
 use crate::ArchiveFault;
-use crate::opening::opened;
+use crate::opening::open_image;
 use os8_dir::{DirEntry, Directory, Name};
 use os8_files::{FileFault, FileService};
 use script8::SessionFault;
@@ -25,15 +25,15 @@ pub enum Asked {
 }
 
 /// The files of an image, and the name of the one that is asked for.
-pub fn found(
+pub fn find_name(
     alloc: Global,
     image: &[u8],
     asked: &Asked,
 ) -> Result<(FileService<MemoryVolume>, Name), ArchiveFault>
-    ensures file { FindsFile image.now (asked_for asked.now) result }
+    ensures file { FindsFile image.now (target_of asked.now) result }
     ensures named { IfOk result (λ found. IsNamed found.1) }
 {
-    let (files, directory) = opened(alloc, image)?;
+    let (files, directory) = open_image(alloc, image)?;
     match name_of(&directory, asked) {
         Err(fault) => Err(ArchiveFault::Refused(SessionFault::File(fault))),
         Ok(name) => Ok((files, name)),
@@ -44,7 +44,7 @@ pub fn found(
 pub fn name_of(directory: &Directory, asked: &Asked) -> Result<Name, FileFault>
     requires { (volume : ℕ) × IsDirectory volume directory.now }
     ensures name { (blocks : List (List ℕ)) → directory_of blocks ≡ Ok directory.now
-        → FindsName blocks (asked_for asked.now) result }
+        → FindsName blocks (target_of asked.now) result }
     ensures named { IfOk result IsNamed }
 {
     match asked {

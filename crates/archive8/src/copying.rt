@@ -1,14 +1,14 @@
 ghost use Rattle.std.specs.Prelude.{Some, option_copied};
 ghost use Rattle.os8_dir.specs.Entries.{IsNamed};
 ghost use Rattle.os8_dir.specs.Names.{parsed_name};
-ghost use Rattle.archive8.specs.Asking.{asked_for};
+ghost use Rattle.archive8.specs.Asking.{target_of};
 ghost use Rattle.archive8.specs.ChangeSteps.{PutsBlocks, ReadsFile};
 ghost use Rattle.archive8.specs.Copying.{CopiesFile};
 ghost use Rattle.archive8.specs.Parts.{AreBlocks};
 
-use crate::asking::found;
+use crate::asking::find_name;
 use crate::getting::words_of;
-use crate::opening::mounted;
+use crate::opening::mount_image;
 use crate::putting::put_words;
 use crate::{ArchiveFault, Asked, CopyFault, NewImage};
 use os8_dir::Name;
@@ -36,7 +36,7 @@ pub fn copy(
     to: &[u8],
     new_name: Option<&[u8]>,
 ) -> Result<NewImage, CopyFault>
-    ensures { CopiesFile from.now (asked_for asked.now) to.now (option_copied new_name.entry) result }
+    ensures { CopiesFile from.now (target_of asked.now) to.now (option_copied new_name.entry) result }
 {
     match read_file(alloc, from, asked) {
         Err(fault) => Err(CopyFault::From(fault)),
@@ -56,9 +56,9 @@ pub fn copy(
 
 /// The file that is asked for, with its name, its information words and its words.
 fn read_file(alloc: Global, image: &[u8], asked: &Asked) -> Result<FileWords, ArchiveFault>
-    ensures { ReadsFile image.now (asked_for asked.now) result }
+    ensures { ReadsFile image.now (target_of asked.now) result }
 {
-    let (files, name) = found(alloc, image, asked)?;
+    let (files, name) = find_name(alloc, image, asked)?;
     match files.information(&name) {
         None => Err(ArchiveFault::Refused(SessionFault::File(FileFault::NotFound))),
         Some(info) => {
@@ -80,7 +80,7 @@ fn put_typed(
     requires { AreBlocks words.now }
     ensures { PutsBlocks image.now (parsed_name name.now) info.now words.now result }
 {
-    let files = mounted(alloc, image)?;
+    let files = mount_image(alloc, image)?;
     match Name::parse(name) {
         None => Err(ArchiveFault::Refused(SessionFault::File(FileFault::BadName))),
         Some(name) => {
@@ -102,7 +102,7 @@ fn put_blocks(
     requires words { AreBlocks words.now }
     ensures { PutsBlocks image.now (Some name) info.now words.now result }
 {
-    let files = mounted(alloc, image)?;
+    let files = mount_image(alloc, image)?;
     let new = put_words(alloc, files, name, words, Some(info))?;
     Ok(new)
 }

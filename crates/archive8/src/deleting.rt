@@ -2,12 +2,12 @@ ghost use Rattle.std.specs.Prelude.{◌≡◌, ℕ, List, [], ◌∷◌, ◌++�
 ghost use Rattle.os8_dir.specs.Found.{IsDirectory};
 ghost use Rattle.os8_dir.specs.Reading.{directory_of};
 ghost use Rattle.os8_files.specs.Calls.{IsReady};
-ghost use Rattle.archive8.specs.Asking.{asked_for};
+ghost use Rattle.archive8.specs.Asking.{target_of};
 ghost use Rattle.archive8.specs.Deleting.{DeletesFiles};
 ghost use Rattle.archive8.specs.ChangeSteps.{DeletesAll, DeletesOne};
 
 use crate::asking::name_of;
-use crate::opening::{image_of, opened};
+use crate::opening::{image_of, open_image};
 use crate::{ArchiveFault, Asked, DeleteFault};
 use os8_dir::{Directory, Name};
 use os8_files::{FileFault, FileService};
@@ -27,9 +27,9 @@ pub struct DeletedImage {
 /// Software Support Manual; the faults and their order are this project's profile). The place of the first that is refused is
 /// given.
 pub fn delete(alloc: Global, image: &[u8], asked: &[Asked]) -> Result<DeletedImage, DeleteFault>
-    ensures { DeletesFiles image.now (map asked_for asked.now) result }
+    ensures { DeletesFiles image.now (map target_of asked.now) result }
 {
-    let (mut files, directory) = opened(alloc, image)?;
+    let (mut files, directory) = open_image(alloc, image)?;
     let mut names = Vec::new(alloc);
     let deleted = delete_all(alloc, &mut files, &directory, asked, &mut names);
     let volume = files.into_store();
@@ -58,7 +58,7 @@ fn delete_all(
     requires directory { directory_of files.old.blocks ≡ Ok directory.now }
     requires sound { (volume : ℕ) × IsDirectory volume directory.now }
     requires begun { names.old.items ≡ [] }
-    ensures { DeletesAll files.old (map asked_for asked.now) result names.new.items files.new }
+    ensures { DeletesAll files.old (map target_of asked.now) result names.new.items files.new }
 {
     for one in asked {
         let name = delete_one(alloc, files, directory, one)?;
@@ -86,7 +86,7 @@ fn delete_one(
     requires free { files.old.holds ≡ [] }
     requires sound { (volume : ℕ) × IsDirectory volume directory.now }
     ensures { (was : List (List ℕ)) → directory_of was ≡ Ok directory.now
-        → DeletesOne was files.old (asked_for asked.now) result files.new }
+        → DeletesOne was files.old (target_of asked.now) result files.new }
 {
     let name = name_of(directory, asked)?;
     files.delete(alloc, &name)?;

@@ -1,11 +1,11 @@
 ghost use Rattle.std.specs.Prelude.{◌≡◌, false};
 ghost use Rattle.volume_image.specs.Volume.{IsVolume};
-ghost use Rattle.archive8.specs.Asking.{asked_for};
+ghost use Rattle.archive8.specs.Asking.{target_of};
 ghost use Rattle.archive8.specs.Getting.{Gets};
 ghost use Rattle.archive8.specs.Parts.{FindsWords, GivesFile, ReadsWords};
 ghost use Rattle.archive8.specs.Steps.{IsWhole};
 
-use crate::asking::found;
+use crate::asking::find_name;
 use crate::frames::frames_of;
 use crate::tapes::tape_of;
 use crate::texts::host_text;
@@ -26,17 +26,17 @@ pub fn get(
     asked: &Asked,
     form: GetForm,
 ) -> Result<Vec<u8>, ArchiveFault>
-    ensures { Gets image.now (asked_for asked.now) form result }
+    ensures { Gets image.now (target_of asked.now) form result }
 {
-    let (files, name) = found(alloc, image, asked)?;
+    let (files, name) = find_name(alloc, image, asked)?;
     let words = words_of(alloc, files, name)?;
-    let bytes = given(alloc, &words, form)?;
+    let bytes = content_of_words(alloc, &words, form)?;
     Ok(bytes)
 }
 
 /// What a file of these words gives: their frames, their text, or the tape that they begin with (OS/8 Software Support Manual; PAL III
 /// Symbolic Assembler manual, BIN format).
-pub fn given(alloc: Global, words: &[Word], form: GetForm) -> Result<Vec<u8>, SessionFault>
+pub fn content_of_words(alloc: Global, words: &[Word], form: GetForm) -> Result<Vec<u8>, SessionFault>
     ensures { GivesFile form words.now result }
 {
     match form {

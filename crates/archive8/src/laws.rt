@@ -1,6 +1,6 @@
 //! What holds of a file that was put into an image and is got from the new one, and of what a check lists.
 ghost use Rattle.archive8.specs.AskLaws.{EachBeginsAtABlock, OneNameIsGotAlike, SpelledAreAsDirect, TypableIsSpelled, WhatBeginsIsThere};
-ghost use Rattle.archive8.specs.ChangeLaws.{CopyHasItsName, CopyIsTheSame, CopyLeavesOthers, DeletedAreGone, DeletedLeaveOthers, DeletedLeaveWhatIsGot, PutAnewHasZeros, PutGivesInformation, PutKeepsInformation, RenamedBackIsAsBefore, RenamedBeginsThere, RenamedIsGone, RenamedIsThere, RenamedLeavesOthers, SqueezedAreGot, SqueezedAreThere, SqueezedKeepNames};
+ghost use Rattle.archive8.specs.ChangeLaws.{CopyHasItsName, CopyIsTheSame, CopyLeavesOthers, DeletedAreGone, DeletedLeaveOthers, DeletedLeaveWhatIsGot, PutAnewHasZeros, PutGivesInformation, PutKeepsInformation, RenamedBackIsAsBefore, RenamedBeginsThere, OldNameIsGone, RenamedIsThere, RenamedLeavesOthers, SqueezedAreGot, SqueezedAreThere, SqueezedKeepNames};
 ghost use Rattle.archive8.specs.Laws.{ChecksTellEachBlock, ChecksTellEachSegment, FramesComeBack, LinesComeBack, OthersStay, TapeComesBack, TextComesBack};
 
 use bin_tape::laws::{longer_tape, no_fault};
@@ -88,7 +88,7 @@ pub fn squeezed_files()
 pub fn renamed_file()
     ensures there { RenamedIsThere }
     ensures begins { RenamedBeginsThere }
-    ensures gone { RenamedIsGone }
+    ensures gone { OldNameIsGone }
     ensures others { RenamedLeavesOthers }
     ensures back { RenamedBackIsAsBefore }
 {

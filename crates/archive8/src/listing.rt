@@ -3,7 +3,7 @@ ghost use Rattle.script8.specs.Replies.{free_line};
 ghost use Rattle.archive8.specs.Listing.{ListsFiles, listed_line, listed_lines, place_text};
 
 use crate::ArchiveFault;
-use crate::opening::opened;
+use crate::opening::open_image;
 use crate::spelling::is_typable;
 use os8_dir::{Directory, Name};
 use os8_files::FileFault;
@@ -16,7 +16,7 @@ use std::alloc::{AllocError, Global};
 pub fn list(alloc: Global, image: &[u8]) -> Result<Vec<u8>, ArchiveFault>
     ensures { ListsFiles image.now result }
 {
-    let (files, directory) = opened(alloc, image)?;
+    let (files, directory) = open_image(alloc, image)?;
     match files.listing(alloc) {
         Err(FileFault::Memory) => Err(ArchiveFault::Refused(SessionFault::Memory)),
         Err(_) => unreachable!(),

@@ -1,7 +1,7 @@
 ghost use Rattle.std.specs.Prelude.{◌≡◌, ◌+◌, ◌≤◌, ◌∷◌, ◌++◌, decimal, length, OnOk};
 ghost use Rattle.word12.specs.declared.sizes.TheConstants.{MOST_BLOCKS};
 ghost use Rattle.os8_dir.specs.Entries.{total};
-ghost use Rattle.script8.specs.Shown.{shown};
+ghost use Rattle.script8.specs.Shown.{name_text};
 ghost use Rattle.archive8.specs.LongListing.{ListsLong, information_text, long_lines};
 ghost use Rattle.archive8.specs.LongSteps.{line_of_entry, lines_of_entries};
 
@@ -93,7 +93,7 @@ fn put_entry(
 /// Appends a name, how many blocks its file has, and the first of them.
 fn put_extent(name: Name, size: usize, place: usize, out: &mut Vec<u8>) -> Result<(), AllocError>
     ensures { OnOk result (out.new.items
-        ≡ out.old.items ++ (shown name ++ 0o40 ∷ decimal size ++ 0o40 ∷ decimal place)) }
+        ≡ out.old.items ++ (name_text name ++ 0o40 ∷ decimal size ++ 0o40 ∷ decimal place)) }
 {
     let mut line = TextLine::new();
     put_name(&mut line, name);

@@ -27,7 +27,7 @@ pub fn volume_of(alloc: Global, image: &[u8]) -> Result<MemoryVolume, ArchiveFau
 
 /// The files of an image, of which none is held. An image is refused for its first fault, or for the first of its directory (OS/8 Software
 /// Support Manual; the faults and their order are this project's profile).
-pub fn mounted(alloc: Global, image: &[u8]) -> Result<FileService<MemoryVolume>, ArchiveFault>
+pub fn mount_image(alloc: Global, image: &[u8]) -> Result<FileService<MemoryVolume>, ArchiveFault>
     ensures files { IfOk result (IsMounted image.now) }
     ensures fault { IfErr result (IsUnopened image.now) }
 {
@@ -52,7 +52,7 @@ fn mounted_volume(
 }
 
 /// The files of an image, and the directory that they were found in.
-pub fn opened(
+pub fn open_image(
     alloc: Global,
     image: &[u8],
 ) -> Result<(FileService<MemoryVolume>, Directory), ArchiveFault>

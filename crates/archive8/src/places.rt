@@ -1,6 +1,6 @@
 ghost use Rattle.std.specs.Prelude.{◌≡◌, ◌+◌, ◌≤◌, ◌++◌, ◌∷◌, [], ℕ, List};
 ghost use Rattle.char_pack.specs.Texts.{may_stand};
-ghost use Rattle.archive8.specs.HostTexts.{FindsBad, IsPlaceBehind};
+ghost use Rattle.archive8.specs.HostTexts.{FindsBad, IsPlaceAfter};
 
 use char_pack::CONTROL_Z;
 
@@ -26,7 +26,7 @@ pub fn bad_text_at(bytes: &[u8]) -> Option<TextPlace>
         if !may_stand(*byte) {
             return Some(place);
         }
-        place = behind(place, *byte);
+        place = place_after(place, *byte);
         rest = others;
     }
     None
@@ -40,11 +40,11 @@ fn may_stand(byte: u8) -> bool
 }
 
 /// The place after a byte that stands at a place.
-fn behind(place: TextPlace, byte: u8) -> TextPlace
+fn place_after(place: TextPlace, byte: u8) -> TextPlace
     requires line { place.line + 1 ≤ 18446744073709551615 }
     requires byte { place.byte + 1 ≤ 18446744073709551615 }
-    ensures place { (before : List ℕ) → IsPlaceBehind before place
-        → IsPlaceBehind (before ++ byte ∷ []) result }
+    ensures place { (before : List ℕ) → IsPlaceAfter before place
+        → IsPlaceAfter (before ++ byte ∷ []) result }
     ensures line { result.line ≤ place.line + 1 }
     ensures byte { result.byte ≤ place.byte + 1 }
 {

@@ -5,7 +5,7 @@ ghost use Rattle.archive8.specs.Putting.{PutsFile};
 ghost use Rattle.archive8.specs.Parts.{AreBlocks, MakesWords, PutsInformed, PutsWords};
 ghost use Rattle.char_pack.specs.declared.forms.PutForm.TheVariants as form;
 
-use crate::opening::{image_of, mounted};
+use crate::opening::{image_of, mount_image};
 use crate::texts::text_frames;
 use crate::{ArchiveFault, PutForm};
 use char_pack::{is_storable, pack_blocks};
@@ -38,7 +38,7 @@ pub fn put(
 ) -> Result<NewImage, ArchiveFault>
     ensures { PutsFile image.now name.now form bytes.now (option_copied info.entry) result }
 {
-    let files = mounted(alloc, image)?;
+    let files = mount_image(alloc, image)?;
     match Name::parse(name) {
         None => Err(ArchiveFault::Refused(SessionFault::File(FileFault::BadName))),
         Some(name) => {
@@ -55,13 +55,13 @@ pub fn stored_words(alloc: Global, bytes: &[u8], form: PutForm) -> Result<Vec<Wo
     ensures { MakesWords form bytes.now result }
 {
     match form {
-        PutForm::Frames => packed(alloc, bytes),
-        PutForm::Text => stored(alloc, bytes),
+        PutForm::Frames => words_of_frames(alloc, bytes),
+        PutForm::Text => words_of_text(alloc, bytes),
     }
 }
 
 /// The words of frames in a file.
-fn packed(alloc: Global, frames: &[u8]) -> Result<Vec<Word>, SessionFault>
+fn words_of_frames(alloc: Global, frames: &[u8]) -> Result<Vec<Word>, SessionFault>
     ensures { MakesWords form.Frames frames.now result }
 {
     if frames.is_empty() {
@@ -72,7 +72,7 @@ fn packed(alloc: Global, frames: &[u8]) -> Result<Vec<Word>, SessionFault>
 }
 
 /// The words of a text in a file.
-fn stored(alloc: Global, text: &[u8]) -> Result<Vec<Word>, SessionFault>
+fn words_of_text(alloc: Global, text: &[u8]) -> Result<Vec<Word>, SessionFault>
     ensures { MakesWords form.Text text.now result }
 {
     if !is_storable(text) {

@@ -1,7 +1,7 @@
 ghost use Rattle.std.specs.Prelude.{◌≡◌, []};
 ghost use Rattle.os8_dir.specs.Entries.{IsNamed};
 ghost use Rattle.os8_files.specs.Calls.{IsReady};
-ghost use Rattle.archive8.specs.Asking.{asked_for};
+ghost use Rattle.archive8.specs.Asking.{target_of};
 ghost use Rattle.archive8.specs.Renaming.{RenamesFile};
 ghost use Rattle.archive8.specs.ChangeSteps.{GivesName, NamesFile};
 ghost use Rattle.archive8.specs.declared.faults.ArchiveFault.TheVariants.{Refused};
@@ -9,7 +9,7 @@ ghost use Rattle.archive8.specs.declared.faults.RenameFault.TheVariants.{Archive
 ghost use Rattle.script8.specs.declared.faults.SessionFault.TheVariants.{File};
 
 use crate::asking::name_of;
-use crate::opening::{image_of, opened};
+use crate::opening::{image_of, open_image};
 use crate::{ArchiveFault, Asked, RenameFault};
 use os8_dir::Name;
 use os8_files::{FileFault, FileService};
@@ -33,15 +33,15 @@ pub fn rename(
     asked: &Asked,
     new_name: &[u8],
 ) -> Result<RenamedImage, RenameFault>
-    ensures { RenamesFile image.now (asked_for asked.now) new_name.now result }
+    ensures { RenamesFile image.now (target_of asked.now) new_name.now result }
 {
-    let (files, directory) = opened(alloc, image)?;
+    let (files, directory) = open_image(alloc, image)?;
     match Name::parse(new_name) {
-        None => Err(refused(FileFault::BadName)),
+        None => Err(fault_of_rename(FileFault::BadName)),
         Some(new_name) => match name_of(&directory, asked) {
-            Err(fault) => Err(refused(fault)),
+            Err(fault) => Err(fault_of_rename(fault)),
             Ok(old_name) => {
-                let bytes = renamed(alloc, files, old_name, new_name)?;
+                let bytes = image_with_name(alloc, files, old_name, new_name)?;
                 Ok(RenamedImage {
                     bytes,
                     old_name,
@@ -53,14 +53,14 @@ pub fn rename(
 }
 
 /// What the file service refuses.
-fn refused(fault: FileFault) -> RenameFault
+fn fault_of_rename(fault: FileFault) -> RenameFault
     ensures { result ≡ Archive (Refused (File fault)) }
 {
     RenameFault::Archive(ArchiveFault::Refused(SessionFault::File(fault)))
 }
 
 /// The image in which a file has another name.
-fn renamed(
+fn image_with_name(
     alloc: Global,
     mut files: FileService<MemoryVolume>,
     name: Name,
@@ -91,7 +91,7 @@ fn give_name(
     ensures { NamesFile files.old name new_name result files.new }
 {
     if files.lookup(&name).is_none() {
-        return Err(refused(FileFault::NotFound));
+        return Err(fault_of_rename(FileFault::NotFound));
     }
     if files.lookup(&new_name).is_some() {
         return Err(RenameFault::Exists);
@@ -101,6 +101,6 @@ fn give_name(
         Err(FileFault::Memory) => Err(RenameFault::Archive(ArchiveFault::Refused(
             SessionFault::Memory,
         ))),
-        Err(fault) => Err(refused(fault)),
+        Err(fault) => Err(fault_of_rename(fault)),
     }
 }

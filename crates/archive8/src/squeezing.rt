@@ -4,7 +4,7 @@ ghost use Rattle.archive8.specs.Squeezing.{SqueezesFiles};
 ghost use Rattle.archive8.specs.ChangeSteps.{SqueezesAll};
 
 use crate::ArchiveFault;
-use crate::opening::{image_of, mounted};
+use crate::opening::{image_of, mount_image};
 use os8_files::{FileFault, FileService, Squeezed};
 use script8::SessionFault;
 use std::alloc::Global;
@@ -15,7 +15,7 @@ use volume_image::MemoryVolume;
 pub struct SqueezedImage {
     pub bytes: Vec<u8>,
     /// How many files were moved, each once.
-    pub moved: usize,
+    pub move_count: usize,
 }
 
 /// The image with the same files, moved down so none has a free block below it. The image that is handed in stays as it is (OS/8
@@ -24,7 +24,7 @@ pub struct SqueezedImage {
 pub fn squeeze(alloc: Global, image: &[u8]) -> Result<SqueezedImage, ArchiveFault>
     ensures { SqueezesFiles image.now result }
 {
-    let mut files = mounted(alloc, image)?;
+    let mut files = mount_image(alloc, image)?;
     let moved = move_all(alloc, &mut files);
     let volume = files.into_store();
     match moved {
@@ -32,7 +32,7 @@ pub fn squeeze(alloc: Global, image: &[u8]) -> Result<SqueezedImage, ArchiveFaul
         Err(fault) => Err(ArchiveFault::Refused(SessionFault::File(fault))),
         Ok(moved) => {
             let bytes = image_of(alloc, &volume)?;
-            Ok(SqueezedImage { bytes, moved })
+            Ok(SqueezedImage { bytes, move_count: moved })
         }
     }
 }

@@ -60,13 +60,13 @@ pub fn text_frames(alloc: Global, text: &[u8]) -> Result<Vec<u8>, AllocError>
     requires { is_storable text.now ≡ true }
     ensures { IfOk result (λ frames. frames.items ≡ text_frames (file_text text.now)) }
 {
-    let mut frames = marked(alloc, text)?;
+    let mut frames = with_top_bits(alloc, text)?;
     frames.push(TOP_BIT + CONTROL_Z)?;
     Ok(frames)
 }
 
 /// The characters of a text of the host in a file, each with its top bit set.
-fn marked(alloc: Global, text: &[u8]) -> Result<Vec<u8>, AllocError>
+fn with_top_bits(alloc: Global, text: &[u8]) -> Result<Vec<u8>, AllocError>
     requires { is_storable text.now ≡ true }
     ensures { IfOk result (λ frames. frames.items
         ≡ map (λ character. 0o200 + character) (file_text text.now)) }

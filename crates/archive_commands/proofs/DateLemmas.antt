@@ -2,7 +2,7 @@
 use Rattle.std.proofs.Common.{◌≡◌, ℕ, zero, suc, ◌+◌, List, [], ◌∷◌, ◌++◌, ◌∙◌, refl, ap, arith, append_assoc}
 use Rattle.os8_dir.specs.declared.entries.DirEntry.{DirEntry}
 use Rattle.os8_dir.specs.declared.entries.DirEntry.TheVariants.{File, Empty}
-use Rattle.os8_dir.specs.Entries.{Listed, IsTidy}
+use Rattle.os8_dir.specs.Entries.{DirectoryState, IsTidy}
 use Rattle.os8_dir.specs.Found.{files_at, free_blocks}
 use Rattle.script8.specs.Replies.{free_line}
 use Rattle.archive_commands.specs.Dates.{dated_line, lines_of_files, dated_lines}
@@ -16,7 +16,7 @@ files-of-entries last info place (File name words (suc size) ∷ es) neat =
     ap (λ l. dated_line last info (record { name = name; info = words; place = place; size = suc size }) ++ l) (files-of-entries last info (place + suc size) es neat.2)
 files-of-entries last info place (Empty size ∷ es) neat = files-of-entries last info (place + size) es neat.2
 
-pub list-lines : (last : ℕ) (d : Listed) (info first free : ℕ) (entries : List DirEntry) (out mid new : List ℕ) → info ≡ d.info → first ≡ d.first → entries ≡ d.entries → free ≡ free_blocks d.entries
+pub list-lines : (last : ℕ) (d : DirectoryState) (info first free : ℕ) (entries : List DirEntry) (out mid new : List ℕ) → info ≡ d.info → first ≡ d.first → entries ≡ d.entries → free ≡ free_blocks d.entries
     → IsTidy d.entries → mid ≡ out ++ lines_of_entries last info first entries → new ≡ mid ++ free_line free → new ≡ out ++ dated_lines last d
 list-lines last d info first free entries out mid new is_info is_first is_entries is_free neat is_mid is_new =
     is_new ∙ ap (λ l. l ++ free_line free) is_mid ∙ append_assoc out (lines_of_entries last info first entries) (free_line free)

@@ -3,8 +3,8 @@ use Rattle.std.proofs.Common.{◌≡◌, ◌∙◌, ℕ, List, Result, Ok, Err, 
 use Rattle.std.specs.Global.{Vec}
 use Rattle.archive8.specs.declared.faults.ArchiveFault.{ArchiveFault}
 use Rattle.archive8.specs.declared.faults.ArchiveFault.TheVariants.{Image, Directory, Refused}
-use Rattle.many8.specs.Opened.{OpensVolume}
-use Rattle.many8.specs.declared.opened.VolumeFile.{VolumeFile}
+use Rattle.archive_many.specs.Opened.{OpensVolume}
+use Rattle.archive_many.specs.declared.opened.VolumeFile.{VolumeFile}
 use Rattle.outcome.specs.declared.endings.Ending.{Ending}
 use Rattle.outcome.specs.declared.endings.Ending.TheVariants.{Fault}
 use Rattle.archive_commands.specs.DumpSteps.{HasNone}

@@ -5,11 +5,11 @@ use Rattle.os8_dates.specs.Dates.{date_in}
 use Rattle.os8_dates.specs.Spelling.{spelled_date}
 use Rattle.os8_dates.specs.declared.dates.Date.{Date}
 use Rattle.volume_image.specs.Image.{IsImageOf}
-use Rattle.os8_dir.specs.Entries.{Listed}
-use Rattle.os8_dir.specs.Found.{Placed, files_at, free_blocks}
+use Rattle.os8_dir.specs.Entries.{DirectoryState}
+use Rattle.os8_dir.specs.Found.{FilePlace, files_at, free_blocks}
 use Rattle.os8_dir.specs.Reading.{directory_of}
 use Rattle.script8.specs.Replies.{free_line}
-use Rattle.script8.specs.Shown.{shown}
+use Rattle.script8.specs.Shown.{name_text}
 use Rattle.archive8.specs.declared.faults.ArchiveFault.{ArchiveFault}
 use Rattle.archive8.specs.LongListing.{information_text}
 use Rattle.archive8.specs.Opening.{IsUnopened}
@@ -31,22 +31,22 @@ date_text last [] = []
 date_text last (word ∷ words) = date_of_word last word
 
 -- the line of a file: its name, how many blocks it has, its first block, so many information words, and its date
-abbrev pub dated_line : ℕ → ℕ → Placed → List ℕ
+abbrev pub dated_line : ℕ → ℕ → FilePlace → List ℕ
 dated_line last info f =
-    shown f.name ++ 0o40 ∷ decimal f.size ++ 0o40 ∷ decimal f.place ++ information_text (take info f.info) ++ date_text last (take info f.info) ++ 0o12 ∷ []
+    name_text f.name ++ 0o40 ∷ decimal f.size ++ 0o40 ∷ decimal f.place ++ information_text (take info f.info) ++ date_text last (take info f.info) ++ 0o12 ∷ []
 
-abbrev pub lines_of_files : ℕ → ℕ → List Placed → List ℕ
+abbrev pub lines_of_files : ℕ → ℕ → List FilePlace → List ℕ
 lines_of_files last info [] = []
 lines_of_files last info (f ∷ files) = dated_line last info f ++ lines_of_files last info files
 
 -- the lines of the files of a directory in order of their blocks, and the line of the free blocks
-abbrev pub dated_lines : ℕ → Listed → List ℕ
+abbrev pub dated_lines : ℕ → DirectoryState → List ℕ
 dated_lines last d = lines_of_files last d.info (files_at d.first d.entries) ++ free_line (free_blocks d.entries)
 
 pub record IsDatedList (year : Option ℕ) (image text : List ℕ) : Type 0 where
   pub blocks : List (List ℕ)
   pub is_image : IsImageOf image blocks
-  pub directory : Listed
+  pub directory : DirectoryState
   pub read : directory_of blocks ≡ Ok directory
   pub lines : text ≡ dated_lines (last_in year blocks) directory
 

@@ -3,7 +3,7 @@ use Rattle.std.specs.Prelude.{◌≡◌, Result, Ok, Err, []}
 use Rattle.std.specs.Global.{Vec}
 use Rattle.archive8.specs.declared.faults.ArchiveFault.{ArchiveFault}
 use Rattle.archive8.specs.declared.faults.ArchiveFault.TheVariants.{Image, Directory, Refused}
-use Rattle.many8.specs.declared.opened.VolumeFile.{VolumeFile}
+use Rattle.archive_many.specs.declared.opened.VolumeFile.{VolumeFile}
 use Rattle.outcome.specs.declared.endings.Ending.{Ending}
 use Rattle.outcome.specs.declared.endings.Ending.TheVariants.{Fault}
 

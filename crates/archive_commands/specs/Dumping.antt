@@ -7,11 +7,11 @@ use Rattle.block_dump.specs.Rows.{rows}
 use Rattle.block_dump.specs.declared.dumping.DumpForm.{DumpForm}
 use Rattle.block_dump.specs.declared.dumping.DumpForm.TheVariants.{Sixbit, Text}
 use Rattle.volume_image.specs.Image.{image_word}
-use Rattle.script8.specs.Shown.{shown}
+use Rattle.script8.specs.Shown.{name_text}
 use Rattle.script8.specs.declared.faults.SessionFault.TheVariants.{Memory}
 use Rattle.archive8.specs.declared.faults.ArchiveFault.{ArchiveFault}
-use Rattle.many8.specs.Opened.{OpensVolume, files_on}
-use Rattle.many8.specs.declared.opened.VolumeFile.{VolumeFile}
+use Rattle.archive_many.specs.Opened.{OpensVolume, files_on}
+use Rattle.archive_many.specs.declared.opened.VolumeFile.{VolumeFile}
 use Rattle.report8.specs.declared.programs.ProgramLine.TheVariants as line
 use Rattle.task8.specs.declared.forms.ImageForm.{ImageForm}
 use Rattle.outcome.specs.declared.endings.Ending.{Ending}
@@ -31,7 +31,7 @@ owner_in (file ∷ files) block =
 
 abbrev pub owner_text : Option ℕ → List ℕ
 owner_text None = []
-owner_text (Some name) = 0o40 ∷ shown name
+owner_text (Some name) = 0o40 ∷ name_text name
 
 -- a block's number, and the file that has it
 abbrev pub heading : List VolumeFile → ℕ → List ℕ

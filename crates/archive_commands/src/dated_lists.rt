@@ -4,7 +4,7 @@ ghost use Rattle.word12.specs.declared.sizes.TheConstants.{MOST_BLOCKS};
 ghost use Rattle.os8_dates.specs.declared.years.TheConstants.{LAST_YEAR, LEAST_LAST};
 ghost use Rattle.os8_dir.specs.Entries.{total};
 ghost use Rattle.script8.specs.Replies.{free_line};
-ghost use Rattle.script8.specs.Shown.{shown};
+ghost use Rattle.script8.specs.Shown.{name_text};
 ghost use Rattle.archive8.specs.LongListing.{information_text};
 ghost use Rattle.volume_commands.specs.Answers.{Answers};
 ghost use Rattle.volume_commands.specs.Showing.{Shows};
@@ -152,7 +152,7 @@ fn put_entry(
 /// Appends a name, how many blocks its file has, and the first of them.
 fn put_extent(name: Name, size: usize, place: usize, out: &mut Vec<u8>) -> Result<(), AllocError>
     ensures { OnOk result (out.new.items
-        ≡ out.old.items ++ (shown name ++ 0o40 ∷ decimal size ++ 0o40 ∷ decimal place)) }
+        ≡ out.old.items ++ (name_text name ++ 0o40 ∷ decimal size ++ 0o40 ∷ decimal place)) }
 {
     put_shown(out, name)?;
     out.push(b' ')?;

@@ -8,7 +8,7 @@ use crate::owners::{files_in, owner_in};
 use block_dump::{DumpForm, put_words};
 use hosts::Host;
 use image_patch::word_at;
-use many8::VolumeFile;
+use archive_many::VolumeFile;
 use outcome::Ending;
 use report8::ProgramLine;
 use std::alloc::{AllocError, Global};

@@ -1,7 +1,7 @@
 //! Parts of lines.
 ghost use Rattle.std.specs.Prelude.{◌≡◌, ◌++◌, decimal, OnOk};
 ghost use Rattle.archive_commands.specs.Lines.{bits_text, six_digits};
-ghost use Rattle.script8.specs.Shown.{shown};
+ghost use Rattle.script8.specs.Shown.{name_text};
 ghost use Rattle.word12.specs.Octal.{octal_digit};
 
 use os8_dir::Name;
@@ -19,7 +19,7 @@ pub fn put_number(text: &mut Vec<u8>, number: u64) -> Result<(), AllocError>
 
 /// Appends a name as it is shown.
 pub fn put_shown(text: &mut Vec<u8>, name: Name) -> Result<(), AllocError>
-    ensures { OnOk result (text.new.items ≡ text.old.items ++ shown name) }
+    ensures { OnOk result (text.new.items ≡ text.old.items ++ name_text name) }
 {
     let mut line = TextLine::new();
     put_name(&mut line, name);

@@ -5,7 +5,7 @@ ghost use Rattle.archive_commands.specs.Dumping.{HasFiles};
 ghost use Rattle.archive_commands.specs.Dumping as spec;
 
 use archive8::ArchiveFault;
-use many8::{VolumeFile, open};
+use archive_many::{VolumeFile, open};
 use os8_dir::Name;
 use outcome::Ending;
 use std::alloc::Global;

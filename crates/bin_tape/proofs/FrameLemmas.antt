@@ -1,7 +1,7 @@
 -- Kept frames of a list and of its parts, and the count of the frames so far.
 use Rattle.std.proofs.Common.{◌≡◌, ◌≢◌, ℕ, ◌+◌, ◌%◌, nat_eq, not, if◌then◌else◌, true, false, Bool, ◌∙◌, ap, refl, sym, arith, inl, inr, zero-add, min, length-append, List, [], ◌∷◌, ◌++◌}
 use Rattle.std.proofs.lemmas.Bool.Decides.{nat_tests, eqb_tells}
-use Rattle.bin_tape.specs.Frames.{ignore_count, heeded_after, heeded}
+use Rattle.bin_tape.specs.Frames.{ignore_count, frames_after, frames_of_note}
 use Rattle.bin_tape.specs.Fault.{place_after}
 use Rattle.bin_tape.specs.Reading.{Counts}
 
@@ -9,20 +9,20 @@ pub ignore_count-append : (xs ys : List ℕ) → ignore_count (xs ++ ys) ≡ ign
 ignore_count-append [] ys = omega arith
 ignore_count-append (x ∷ xs) ys = omega (arith, ignore_count-append xs ys)
 
-pub heeded_after-append : (n : ℕ) (xs ys : List ℕ) → heeded_after n (xs ++ ys) ≡ heeded_after n xs ++ heeded_after (n + ignore_count xs) ys
-heeded_after-append n [] ys = ap (λ k. heeded_after k ys) (omega arith)
+pub heeded_after-append : (n : ℕ) (xs ys : List ℕ) → frames_after n (xs ++ ys) ≡ frames_after n xs ++ frames_after (n + ignore_count xs) ys
+heeded_after-append n [] ys = ap (λ k. frames_after k ys) (omega arith)
 heeded_after-append n (x ∷ xs) ys =
     elim (nat_eq x 255) as (λ b.
-    (if b then heeded_after (n + 1) (xs ++ ys) else (if nat_eq (n % 2) 0 then x ∷ heeded_after n (xs ++ ys) else heeded_after n (xs ++ ys)))
-    ≡ (if b then heeded_after (n + 1) xs else (if nat_eq (n % 2) 0 then x ∷ heeded_after n xs else heeded_after n xs))
-    ++ heeded_after (n + ((if b then 1 else 0) + ignore_count xs)) ys) [
-      | true ↦ heeded_after-append (n + 1) xs ys ∙ ap (λ k. heeded_after (n + 1) xs ++ heeded_after k ys) (omega arith)
+    (if b then frames_after (n + 1) (xs ++ ys) else (if nat_eq (n % 2) 0 then x ∷ frames_after n (xs ++ ys) else frames_after n (xs ++ ys)))
+    ≡ (if b then frames_after (n + 1) xs else (if nat_eq (n % 2) 0 then x ∷ frames_after n xs else frames_after n xs))
+    ++ frames_after (n + ((if b then 1 else 0) + ignore_count xs)) ys) [
+      | true ↦ heeded_after-append (n + 1) xs ys ∙ ap (λ k. frames_after (n + 1) xs ++ frames_after k ys) (omega arith)
       | false ↦
-          let more : heeded_after n (xs ++ ys) ≡ heeded_after n xs ++ heeded_after (n + (0 + ignore_count xs)) ys =
-          heeded_after-append n xs ys ∙ ap (λ k. heeded_after n xs ++ heeded_after k ys) (omega arith)
+          let more : frames_after n (xs ++ ys) ≡ frames_after n xs ++ frames_after (n + (0 + ignore_count xs)) ys =
+          heeded_after-append n xs ys ∙ ap (λ k. frames_after n xs ++ frames_after k ys) (omega arith)
           in elim (nat_eq (n % 2) 0) as (λ b.
-          (if b then x ∷ heeded_after n (xs ++ ys) else heeded_after n (xs ++ ys))
-          ≡ (if b then x ∷ heeded_after n xs else heeded_after n xs) ++ heeded_after (n + (0 + ignore_count xs)) ys)
+          (if b then x ∷ frames_after n (xs ++ ys) else frames_after n (xs ++ ys))
+          ≡ (if b then x ∷ frames_after n xs else frames_after n xs) ++ frames_after (n + (0 + ignore_count xs)) ys)
           [ true ↦ ap (λ l. x ∷ l) more | false ↦ more ]
     ]
 
@@ -47,19 +47,19 @@ ignore_none frames frame other =
     let e : nat_eq frame 255 ≡ false = other_false frame 255 other
     in ignore_count-append frames (frame ∷ []) ∙ rw e (omega arith)
 
-pub kept_ignore : (frames : List ℕ) → heeded (frames ++ 255 ∷ []) ≡ heeded frames ++ []
+pub kept_ignore : (frames : List ℕ) → frames_of_note (frames ++ 255 ∷ []) ≡ frames_of_note frames ++ []
 kept_ignore frames = heeded_after-append 0 frames (255 ∷ [])
 
 -- a frame other than 0377 is heeded where no stretch is ignored
-pub kept_one : (n frame : ℕ) → frame ≢ 255 → heeded_after n (frame ∷ []) ≡ (if not (nat_eq (n % 2) 1) then frame ∷ [] else [])
+pub kept_one : (n frame : ℕ) → frame ≢ 255 → frames_after n (frame ∷ []) ≡ (if not (nat_eq (n % 2) 1) then frame ∷ [] else [])
 kept_one n frame other = rw (other_false frame 255 other, even-odd n) refl
 
 pub kept_more : (frames : List ℕ) (frame : ℕ) → frame ≢ 255 → (ignoring : Bool) → ignoring ≡ nat_eq (ignore_count frames % 2) 1
-    → heeded (frames ++ frame ∷ []) ≡ heeded frames ++ (if not ignoring then frame ∷ [] else [])
+    → frames_of_note (frames ++ frame ∷ []) ≡ frames_of_note frames ++ (if not ignoring then frame ∷ [] else [])
 kept_more frames frame other ignoring is =
     heeded_after-append 0 frames (frame ∷ [])
-    ∙ ap (λ l. heeded frames ++ l)
-    (ap (λ n. heeded_after n (frame ∷ [])) (zero-add (ignore_count frames))
+    ∙ ap (λ l. frames_of_note frames ++ l)
+    (ap (λ n. frames_after n (frame ∷ [])) (zero-add (ignore_count frames))
     ∙ kept_one (ignore_count frames) frame other
     ∙ ap (λ b. if not b then frame ∷ [] else []) (sym is))
 

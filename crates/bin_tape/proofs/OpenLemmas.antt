@@ -1,8 +1,8 @@
 -- What is open can go on as a tape.
 use Rattle.std.proofs.Common.{◌≡◌, ℕ, ◌+◌, ◌-◌, ◌*◌, ◌/◌, ◌%◌, ◌<◌, ◌≤◌, ◌⊎◌, inl, inr, Bool, true, false, nat_eq, nat_lt, zero-add, append_assoc, append-nil, refl, ap, sym, ◌∙◌, arith, List, [], ◌∷◌, ◌++◌}
 use Rattle.std.proofs.lemmas.Bool.Decides.{nat_tests}
-use Rattle.bin_tape.specs.Frames.{heeded, heeded_after, ignore_count}
-use Rattle.bin_tape.specs.Items.{Item, Origin, Word, spelled, has_origin, IsPrefix, check_sum}
+use Rattle.bin_tape.specs.Frames.{frames_of_note, frames_after, ignore_count}
+use Rattle.bin_tape.specs.Items.{Item, Origin, Word, frames_of_items, has_origin, IsPrefix, check_sum}
 use Rattle.bin_tape.specs.Tape.{IsPart, IsOpen, IsTape}
 use Rattle.bin_tape.specs.Laws.{GoesOn}
 use Rattle.bin_tape.proofs.FrameLemmas.{heeded_after-append}
@@ -19,7 +19,7 @@ abbrev woken : Bool → List ℕ → List ℕ
 woken true more = more
 woken false more = 255 ∷ more
 
-kept_others : (n : ℕ) (fs : List ℕ) → n % 2 ≡ 0 → AreOthers fs → heeded_after n fs ≡ fs
+kept_others : (n : ℕ) (fs : List ℕ) → n % 2 ≡ 0 → AreOthers fs → frames_after n fs ≡ fs
 kept_others n [] even others = refl
 kept_others n (f ∷ fs) even others =
     let other : nat_eq f 255 ≡ false = is_other f others.0 in
@@ -29,18 +29,18 @@ kept_others n (f ∷ fs) even others =
     is_other : (f : ℕ) → f < 255 → nat_eq f 255 ≡ false
     is_other f small = grind (arith, nat_tests)
 
-kept_woken : (n : ℕ) (even : Bool) (fs : List ℕ) → nat_eq (n % 2) 0 ≡ even → AreOthers fs → heeded_after n (woken even fs) ≡ fs
+kept_woken : (n : ℕ) (even : Bool) (fs : List ℕ) → nat_eq (n % 2) 0 ≡ even → AreOthers fs → frames_after n (woken even fs) ≡ fs
 kept_woken n true fs e others = kept_others n fs (grind (arith, nat_tests)) others
 kept_woken n false fs e others = kept_others (n + 1) fs (odd n e) others
   where
     odd : (n : ℕ) → nat_eq (n % 2) 0 ≡ false → (n + 1) % 2 ≡ 0
     odd n e = grind (arith, nat_tests)
 
-kept_behind : (frames fs : List ℕ) → AreOthers fs → heeded (frames ++ woken (nat_eq (ignore_count frames % 2) 0) fs) ≡ heeded frames ++ fs
+kept_behind : (frames fs : List ℕ) → AreOthers fs → frames_of_note (frames ++ woken (nat_eq (ignore_count frames % 2) 0) fs) ≡ frames_of_note frames ++ fs
 kept_behind frames fs others =
     heeded_after-append 0 frames (woken (nat_eq (ignore_count frames % 2) 0) fs)
-    ∙ ap (λ n. heeded frames ++ heeded_after n (woken (nat_eq (ignore_count frames % 2) 0) fs)) (zero-add (ignore_count frames))
-    ∙ ap (λ l. heeded frames ++ l) (kept_woken (ignore_count frames) (nat_eq (ignore_count frames % 2) 0) fs refl others)
+    ∙ ap (λ n. frames_of_note frames ++ frames_after n (woken (nat_eq (ignore_count frames % 2) 0) fs)) (zero-add (ignore_count frames))
+    ∙ ap (λ l. frames_of_note frames ++ l) (kept_woken (ignore_count frames) (nat_eq (ignore_count frames % 2) 0) fs refl others)
 
 -- ## The rest of a pair
 
@@ -48,7 +48,7 @@ kept_behind frames fs others =
 record Whole (items : List Item) (part : List ℕ) : Type 0 where
   later : List Item
   end : List ℕ
-  frames : spelled (later ++ items) ≡ (spelled items ++ part) ++ end
+  frames : frames_of_items (later ++ items) ≡ (frames_of_items items ++ part) ++ end
   is_prefix : IsPrefix (later ++ items)
   others : AreOthers end
 
@@ -56,7 +56,7 @@ whole_word : (items : List Item) (p : ℕ) → IsPrefix items → p < 64 → has
 whole_word items p prefix small origin = record {
   later = Word p 0 ∷ [];
   end = 0 ∷ [];
-  frames = sym (append_assoc (spelled items) (p ∷ []) (0 ∷ []));
+  frames = sym (append_assoc (frames_of_items items) (p ∷ []) (0 ∷ []));
   is_prefix = (small, omega arith, origin, prefix);
   others = (omega arith, tt);
 }
@@ -65,7 +65,7 @@ whole_origin : (items : List Item) (p : ℕ) → IsPrefix items → 64 ≤ p →
 whole_origin items p prefix large small = record {
   later = Origin (p - 64) 0 ∷ [];
   end = 0 ∷ [];
-  frames = ap (λ f. spelled items ++ f ∷ 0 ∷ []) (same p large) ∙ sym (append_assoc (spelled items) (p ∷ []) (0 ∷ []));
+  frames = ap (λ f. frames_of_items items ++ f ∷ 0 ∷ []) (same p large) ∙ sym (append_assoc (frames_of_items items) (p ∷ []) (0 ∷ []));
   is_prefix = (omega (arith, large, small), omega arith, prefix);
   others = (omega arith, tt);
 }
@@ -124,11 +124,11 @@ both_others [] b ha hb = hb
 both_others (x ∷ a) b ha hb = (ha.0, both_others a b ha.1 hb)
 
 spelled_ending : (items : List Item) (high low : ℕ)
-    → spelled (Word high low ∷ Origin 0 0 ∷ items) ++ 128 ∷ [] ≡ spelled items ++ 64 ∷ 0 ∷ high ∷ low ∷ 128 ∷ []
+    → frames_of_items (Word high low ∷ Origin 0 0 ∷ items) ++ 128 ∷ [] ≡ frames_of_items items ++ 64 ∷ 0 ∷ high ∷ low ∷ 128 ∷ []
 spelled_ending items high low =
-    append_assoc (spelled items ++ 64 ∷ 0 ∷ []) (high ∷ low ∷ []) (128 ∷ []) ∙ append_assoc (spelled items) (64 ∷ 0 ∷ []) (high ∷ low ∷ 128 ∷ [])
+    append_assoc (frames_of_items items ++ 64 ∷ 0 ∷ []) (high ∷ low ∷ []) (128 ∷ []) ∙ append_assoc (frames_of_items items) (64 ∷ 0 ∷ []) (high ∷ low ∷ 128 ∷ [])
 
-tape_of : (frames : List ℕ) (items : List Item) (part : List ℕ) → heeded frames ≡ spelled items ++ part → (w : Whole items part)
+tape_of : (frames : List ℕ) (items : List Item) (part : List ℕ) → frames_of_note frames ≡ frames_of_items items ++ part → (w : Whole items part)
     → IsTape (frames ++ woken (nat_eq (ignore_count frames % 2) 0) (w.end ++ ending (w.later ++ items))) (Origin 0 0 ∷ (w.later ++ items))
 tape_of frames items part is w =
     let all = w.later ++ items in
@@ -140,14 +140,14 @@ tape_of frames items part is w =
       rest = [];
       kept_frames = kept_behind frames (w.end ++ ending all) (both_others w.end (ending all) w.others (other_ending all))
           ∙ ap (λ l. l ++ (w.end ++ ending all)) is
-          ∙ sym (append_assoc (spelled items ++ part) w.end (ending all))
+          ∙ sym (append_assoc (frames_of_items items ++ part) w.end (ending all))
           ∙ ap (λ l. l ++ ending all) (sym w.frames)
           ∙ sym (spelled_ending all (sum / 64) (sum % 64));
       is_prefix = (parts.0, parts.1, refl, (omega arith, omega arith, w.is_prefix));
       sum = joined sum;
     }
 
-pub goes_on : (frames : List ℕ) (items : List Item) (part : List ℕ) → IsOpen (heeded frames) items part → GoesOn frames items
+pub goes_on : (frames : List ℕ) (items : List Item) (part : List ℕ) → IsOpen (frames_of_note frames) items part → GoesOn frames items
 goes_on frames items part opened =
     let w = whole items part opened.is_prefix opened.begun in
     record {

@@ -1,6 +1,6 @@
 -- What a prefix keeps behind one more leader frame, and behind one more word.
 use Rattle.std.proofs.Common.{◌≡◌, ℕ, ◌<◌, ◌⊎◌, inl, inr, Bool, not, true, false, Option, Some, None, ◌∙◌, ap, refl, sym, subst, arith, append_assoc, append-nil, List, [], ◌∷◌, ◌++◌}
-use Rattle.bin_tape.specs.Items.{Item, Leader, Word, IsPrefix, spelled, has_origin, words_but_last}
+use Rattle.bin_tape.specs.Items.{Item, Leader, Word, IsPrefix, frames_of_items, has_origin, words_but_last}
 use Rattle.bin_tape.specs.Tape.{IsPart}
 use Rattle.bin_tape.specs.Prefix.{ReadsItems, KeepsFrames, IsLast, part_of}
 use Rattle.bin_tape.specs.declared.prefixes.Prefix.{Prefix}
@@ -22,7 +22,7 @@ not_true false h = refl
 pub leader_kept : (prefix later : Prefix) (items : List Item) (part : List ℕ) (frame : ℕ)
     → ReadsItems prefix items part → prefix.first ≡ None → not prefix.has_origin ≡ true → (frame ≡ 0) ⊎ (frame ≡ 128)
     → ((before : List Item) (f : ℕ) → ReadsItems prefix before [] → IsPrefix (Leader f ∷ before) → ReadsItems later (Leader f ∷ before) [])
-    → KeepsFrames later (spelled items ++ part ++ frame ∷ []) (words_but_last items)
+    → KeepsFrames later (frames_of_items items ++ part ++ frame ∷ []) (words_but_last items)
 leader_kept prefix later items part frame r none begins leader step = record {
   items = Leader frame ∷ items;
   part = [];
@@ -41,7 +41,7 @@ part_origin items high part small = elim part.1 [ inl large ↦ absurd (omega (a
 pub word_none : (prefix later : Prefix) (items : List Item) (high low : ℕ) → high < 64 → prefix.last ≡ None
     → ReadsItems prefix items (high ∷ [])
     → ((before : List Item) (part : List ℕ) → ReadsItems prefix before part → has_origin before ≡ true → ReadsItems later (Word high low ∷ before) [])
-    → KeepsFrames later (spelled items ++ high ∷ [] ++ low ∷ []) (words_but_last items)
+    → KeepsFrames later (frames_of_items items ++ high ∷ [] ++ low ∷ []) (words_but_last items)
 word_none prefix later items high low small none r step = record {
   items = Word high low ∷ items;
   part = [];
@@ -53,7 +53,7 @@ word_none prefix later items high low small none r step = record {
 pub word_some : (prefix later : Prefix) (items : List Item) (high low : ℕ) (last : LastWord) → high < 64 → prefix.last ≡ Some last
     → ReadsItems prefix items (high ∷ [])
     → ((before : List Item) (part : List ℕ) → ReadsItems prefix before part → has_origin before ≡ true → ReadsItems later (Word high low ∷ before) [])
-    → KeepsFrames later (spelled items ++ high ∷ [] ++ low ∷ []) (words_but_last items ++ (last.cell, last.word) ∷ [])
+    → KeepsFrames later (frames_of_items items ++ high ∷ [] ++ low ∷ []) (words_but_last items ++ (last.cell, last.word) ∷ [])
 word_some prefix later items high low last small some r step = record {
   items = Word high low ∷ items;
   part = [];

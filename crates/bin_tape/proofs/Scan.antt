@@ -1,8 +1,8 @@
 -- Reading frames from the first to the last, as a function: so a reading, and a fault, is one only.
 use Rattle.std.proofs.Common.{◌≡◌, ◌≢◌, ℕ, suc, ◌+◌, ◌-◌, ◌*◌, ◌/◌, ◌%◌, ◌<◌, ◌≤◌, ◌⊎◌, inl, inr, Bool, true, false, nat_eq, nat_lt, if◌then◌else◌, min, ◌∙◌, ap, refl, sym, subst, arith, length, eq-eqb, List, [], ◌∷◌, ◌++◌}
 use Rattle.std.proofs.lemmas.Bool.Decides.{nat_tests}
-use Rattle.bin_tape.specs.Frames.{heeded, heeded_after, ignore_count}
-use Rattle.bin_tape.specs.Items.{Item, Leader, Field, Origin, Word, spelled, frames_of, has_origin, ends_in_word, IsPrefix, check_sum, words_of, words_but_last}
+use Rattle.bin_tape.specs.Frames.{frames_of_note, frames_after, ignore_count}
+use Rattle.bin_tape.specs.Items.{Item, Leader, Field, Origin, Word, frames_of_items, frames_of, has_origin, ends_in_word, IsPrefix, check_sum, words_of, words_but_last}
 use Rattle.bin_tape.specs.Tape.{IsOpen, IsTape}
 use Rattle.bin_tape.specs.Fault.{IsRefused, IsOutOfPlace, IsWrongSum, RefusesFrame, IsFault}
 use Rattle.bin_tape.specs.Laws.{IsClosed}
@@ -154,21 +154,21 @@ run_not_fault (Open items part) xs h = refl
 run_not_fault (Tape items) xs h = refl
 run_not_fault (Fault fault) xs h = let e : run (Fault fault) xs ≡ Fault fault = run-fault fault xs in sym (ap is_fault e) ∙ h
 
-scan_run : (place n : ℕ) (o : Outcome) (xs : List ℕ) → is_fault (run o (heeded_after n xs)) ≡ false → scan place n o xs ≡ run o (heeded_after n xs)
+scan_run : (place n : ℕ) (o : Outcome) (xs : List ℕ) → is_fault (run o (frames_after n xs)) ≡ false → scan place n o xs ≡ run o (frames_after n xs)
 unfolding scan run
 scan_run place n o [] h = refl
 scan_run place n o (x ∷ xs) h =
     (elim (nat_eq x 255) as (λ b.
-    is_fault (run o (if b then heeded_after (n + 1) xs else (if nat_eq (n % 2) 0 then x ∷ heeded_after n xs else heeded_after n xs))) ≡ false
+    is_fault (run o (if b then frames_after (n + 1) xs else (if nat_eq (n % 2) 0 then x ∷ frames_after n xs else frames_after n xs))) ≡ false
     → (if b then scan (suc place) (n + 1) o xs
     else (if nat_eq (n % 2) 0 then scan (suc place) n (step place o x) xs else scan (suc place) n o xs))
-    ≡ run o (if b then heeded_after (n + 1) xs else (if nat_eq (n % 2) 0 then x ∷ heeded_after n xs else heeded_after n xs))) [
+    ≡ run o (if b then frames_after (n + 1) xs else (if nat_eq (n % 2) 0 then x ∷ frames_after n xs else frames_after n xs))) [
       | true ↦ λ fine. scan_run (suc place) (n + 1) o xs fine
       | false ↦ elim (nat_eq (n % 2) 0) as (λ b.
-          is_fault (run o (if b then x ∷ heeded_after n xs else heeded_after n xs)) ≡ false
-          → (if b then scan (suc place) n (step place o x) xs else scan (suc place) n o xs) ≡ run o (if b then x ∷ heeded_after n xs else heeded_after n xs)) [
+          is_fault (run o (if b then x ∷ frames_after n xs else frames_after n xs)) ≡ false
+          → (if b then scan (suc place) n (step place o x) xs else scan (suc place) n o xs) ≡ run o (if b then x ∷ frames_after n xs else frames_after n xs)) [
             | true ↦ λ fine.
-                ap (λ s. scan (suc place) n s xs) (step_same place o x (run_not_fault (step 0 o x) (heeded_after n xs) fine))
+                ap (λ s. scan (suc place) n s xs) (step_same place o x (run_not_fault (step 0 o x) (frames_after n xs) fine))
                 ∙ scan_run (suc place) n (step 0 o x) xs fine
             | false ↦ λ fine. scan_run (suc place) n o xs fine
           ]
@@ -214,29 +214,29 @@ older_prefix (Field n) older h = h.1
 older_prefix (Origin high low) older h = h.2
 older_prefix (Word high low) older h = h.3
 
-prefix_goes : (items : List Item) → IsPrefix items → run start (spelled items) ≡ Open items []
+prefix_goes : (items : List Item) → IsPrefix items → run start (frames_of_items items) ≡ Open items []
 unfolding run
 prefix_goes [] h = refl
 prefix_goes (item ∷ older) h =
-    run-append start (spelled older) (frames_of item)
+    run-append start (frames_of_items older) (frames_of item)
     ∙ ap (λ o. run o (frames_of item)) (prefix_goes older (older_prefix item older h))
     ∙ one_goes older item h
 
 open_goes : (kept_frames : List ℕ) (items : List Item) (part : List ℕ) → IsOpen kept_frames items part → run start kept_frames ≡ Open items part
 unfolding run
-open_goes kept_frames items [] o = ap (run start) o.frames ∙ run-append start (spelled items) [] ∙ prefix_goes items o.is_prefix
+open_goes kept_frames items [] o = ap (run start) o.frames ∙ run-append start (frames_of_items items) [] ∙ prefix_goes items o.is_prefix
 open_goes kept_frames items (p ∷ []) o =
     ap (run start) o.frames
-    ∙ run-append start (spelled items) (p ∷ [])
+    ∙ run-append start (frames_of_items items) (p ∷ [])
     ∙ ap (λ s. run s (p ∷ [])) (prefix_goes items o.is_prefix)
     ∙ ap (outcome 0) (first_goes items p o.begun.0 o.begun.1)
 open_goes kept_frames items (p ∷ q ∷ rest) o = absurd o.begun
 
-tape_goes : (frames : List ℕ) (items : List Item) → IsTape frames items → run start (heeded frames) ≡ Tape items
+tape_goes : (frames : List ℕ) (items : List Item) → IsTape frames items → run start (frames_of_note frames) ≡ Tape items
 unfolding run
 tape_goes frames items t =
     ap (run start) t.kept_frames
-    ∙ run-append start (spelled (Word t.high t.low ∷ items)) (128 ∷ t.rest)
+    ∙ run-append start (frames_of_items (Word t.high t.low ∷ items)) (128 ∷ t.rest)
     ∙ ap (λ o. run o (128 ∷ t.rest)) (prefix_goes (Word t.high t.low ∷ items) t.is_prefix)
     ∙ ap (λ v. run (outcome 0 v) t.rest) (trailer_ends items t.high t.low t.is_prefix.2 t.sum)
     ∙ run-tape items t.rest
@@ -287,14 +287,14 @@ refused_goes items part f place Memory prefix h = absurd h
 
 -- ## Frames come to one thing only
 
-scan_open : (frames : List ℕ) (items : List Item) (part : List ℕ) → IsOpen (heeded frames) items part → scan 0 0 start frames ≡ Open items part
+scan_open : (frames : List ℕ) (items : List Item) (part : List ℕ) → IsOpen (frames_of_note frames) items part → scan 0 0 start frames ≡ Open items part
 scan_open frames items part o =
-    let here : run start (heeded frames) ≡ Open items part = open_goes (heeded frames) items part o
+    let here : run start (frames_of_note frames) ≡ Open items part = open_goes (frames_of_note frames) items part o
     in scan_run 0 0 start frames (ap is_fault here) ∙ here
 
 scan_tape : (frames : List ℕ) (items : List Item) → IsTape frames items → scan 0 0 start frames ≡ Tape items
 scan_tape frames items t =
-    let here : run start (heeded frames) ≡ Tape items = tape_goes frames items t
+    let here : run start (frames_of_note frames) ≡ Tape items = tape_goes frames items t
     in scan_run 0 0 start frames (ap is_fault here) ∙ here
 
 -- a heeded frame, with frames before it that are open, and others behind it
@@ -365,7 +365,7 @@ whole_words reader frames out items read t =
     ]
 
 pub open_words : (reader : Progress) (frames : List ℕ) (out : List (ℕ × ℕ)) (items : List Item) (part : List ℕ)
-    → HasRead reader frames out → IsOpen (heeded frames) items part → out ≡ words_but_last items
+    → HasRead reader frames out → IsOpen (frames_of_note frames) items part → out ≡ words_but_last items
 open_words reader frames out items part read o =
     let here : scan 0 0 start frames ≡ Open items part = scan_open frames items part o in
     elim (words_told reader.state frames out read.state) [

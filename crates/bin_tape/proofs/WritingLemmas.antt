@@ -3,11 +3,11 @@ use Rattle.std.proofs.Common.{◌≡◌, ◌≢◌, ℕ, ◌+◌, ◌*◌, ◌/�
 use Rattle.std.proofs.lemmas.List.{take_more, reverse-append, reverse-reverse, length-reverse}
 use Rattle.std.proofs.lemmas.Bool.Decides.{nat_tests, eqb_tells}
 use Rattle.std.specs.Option.{option_or}
-use Rattle.bin_tape.specs.Frames.{heeded}
-use Rattle.bin_tape.specs.Items.{Item, Leader, Field, Origin, Word, spelled, frames_of, has_origin, IsPrefix, field_after, address_after, cell_after, check_sum, words_of, tape_map}
+use Rattle.bin_tape.specs.Frames.{frames_of_note}
+use Rattle.bin_tape.specs.Items.{Item, Leader, Field, Origin, Word, frames_of_items, frames_of, has_origin, IsPrefix, field_after, address_after, cell_after, check_sum, words_of, tape_map}
 use Rattle.bin_tape.specs.Tape.{IsTape}
 use Rattle.bin_tape.specs.Pairs.{ArePairs, last_word, IsTapeOf}
-use Rattle.bin_tape.specs.Writing.{word_item, origin_item, field_behind, is_next, with_field, with_origin, newest_cell, items_of, tape_with, tape_of}
+use Rattle.bin_tape.specs.Writing.{word_item, origin_item, next_field, is_next, with_field, with_origin, newest_cell, items_of, tape_with, tape_of}
 use Rattle.bin_tape.proofs.FrameLemmas.{other_false}
 
 -- ## One pair more
@@ -46,13 +46,13 @@ field_origin true high low items = refl
 field_origin false high low items = refl
 
 -- the field in which a pair's word stands
-field_pair : (before : Option ℕ) (cell : ℕ) (items : List Item) → field_after items ≡ field_behind before
+field_pair : (before : Option ℕ) (cell : ℕ) (items : List Item) → field_after items ≡ next_field before
     → field_after (with_origin before cell (with_field before cell items)) ≡ cell / 4096
 field_pair before cell items h =
     field_origin (is_next before cell) (cell % 4096 / 64) (cell % 4096 % 64) (with_field before cell items)
-    ∙ field_with (cell / 4096) (field_behind before) items h
+    ∙ field_with (cell / 4096) (next_field before) items h
 
-field_items : (newest : List (ℕ × ℕ)) → field_after (items_of newest) ≡ field_behind (newest_cell newest)
+field_items : (newest : List (ℕ × ℕ)) → field_after (items_of newest) ≡ next_field (newest_cell newest)
 field_items [] = refl
 field_items (pair ∷ older) = field_pair (newest_cell older) pair.0 (items_of older) (field_items older)
 
@@ -105,7 +105,7 @@ words_items : (newest : List (ℕ × ℕ)) → words_of (items_of newest) ≡ re
 words_items [] = refl
 words_items (pair ∷ older) =
     ap (λ ws. ws ++ (cell_after (with_origin (newest_cell older) pair.0 (with_field (newest_cell older) pair.0 (items_of older))), 64 * (pair.1 / 64) + pair.1 % 64) ∷ [])
-    (words_with (nat_eq (pair.0 / 4096) (field_behind (newest_cell older))) (is_next (newest_cell older) pair.0) (pair.0 / 4096)
+    (words_with (nat_eq (pair.0 / 4096) (next_field (newest_cell older))) (is_next (newest_cell older) pair.0) (pair.0 / 4096)
     (pair.0 % 4096 / 64) (pair.0 % 4096 % 64) (items_of older) ∙ words_items older)
     ∙ ap (λ c. reverse older ++ (c, 64 * (pair.1 / 64) + pair.1 % 64) ∷ []) (cell_items older pair.0)
     ∙ ap (λ w. reverse older ++ (pair.0, w) ∷ []) (two_parts pair.1)
@@ -141,16 +141,16 @@ prefix_items (pair ∷ older) all = (
   omega (arith, all.1),
   omega arith,
   origin_items older pair.0,
-  prefix_with (nat_eq (pair.0 / 4096) (field_behind (newest_cell older))) (is_next (newest_cell older) pair.0) (pair.0 / 4096)
+  prefix_with (nat_eq (pair.0 / 4096) (next_field (newest_cell older))) (is_next (newest_cell older) pair.0) (pair.0 / 4096)
       (pair.0 % 4096 / 64) (pair.0 % 4096 % 64) (items_of older) (omega (arith, all.0)) (omega arith) (omega arith) (prefix_items older all.2),
 )
 
 -- ## Frames that are heeded
 
-kept_here : (frame : ℕ) (frames : List ℕ) → frame ≢ 255 → heeded (frame ∷ frames) ≡ frame ∷ heeded frames
+kept_here : (frame : ℕ) (frames : List ℕ) → frame ≢ 255 → frames_of_note (frame ∷ frames) ≡ frame ∷ frames_of_note frames
 kept_here frame frames other = rw (other_false frame 255 other) refl
 
-kept_item : (item : Item) (older : List Item) (frames : List ℕ) → IsPrefix (item ∷ older) → heeded (frames_of item ++ frames) ≡ frames_of item ++ heeded frames
+kept_item : (item : Item) (older : List Item) (frames : List ℕ) → IsPrefix (item ∷ older) → frames_of_note (frames_of item ++ frames) ≡ frames_of item ++ frames_of_note frames
 kept_item (Leader f) older frames h =
     kept_here f frames (λ is. elim h.0 [ inl e ↦ omega (arith, e, is) | inr e ↦ omega (arith, e, is) ])
 kept_item (Field n) older frames h = kept_here (192 + 8 * n) frames (λ is. omega (arith, h.0, is))
@@ -166,12 +166,12 @@ older_prefix (Origin high low) older h = h.2
 older_prefix (Word high low) older h = h.3
 
 -- no frame of a prefix is ignored
-kept_prefix : (items : List Item) (frames : List ℕ) → IsPrefix items → heeded (spelled items ++ frames) ≡ spelled items ++ heeded frames
+kept_prefix : (items : List Item) (frames : List ℕ) → IsPrefix items → frames_of_note (frames_of_items items ++ frames) ≡ frames_of_items items ++ frames_of_note frames
 kept_prefix [] frames h = refl
 kept_prefix (item ∷ older) frames h =
-    ap heeded (append_assoc (spelled older) (frames_of item) frames)
+    ap frames_of_note (append_assoc (frames_of_items older) (frames_of item) frames)
     ∙ kept_prefix older (frames_of item ++ frames) (older_prefix item older h)
-    ∙ ap (λ l. spelled older ++ l) (kept_item item older frames h)
+    ∙ ap (λ l. frames_of_items older ++ l) (kept_item item older frames h)
     ∙ simp append_assoc
 
 -- ## The tape
@@ -181,9 +181,9 @@ tape_is : (items : List Item) (rest : List ℕ) → IsPrefix items → has_origi
 tape_is items rest prefix begun = record {
   high = check_sum items / 64;
   low = check_sum items % 64;
-  rest = heeded (replicate 15 128 ++ rest);
+  rest = frames_of_note (replicate 15 128 ++ rest);
   kept_frames =
-      ap heeded (append_assoc (spelled (word_item (check_sum items) ∷ items)) (replicate 16 128) rest)
+      ap frames_of_note (append_assoc (frames_of_items (word_item (check_sum items) ∷ items)) (replicate 16 128) rest)
       ∙ kept_prefix (word_item (check_sum items) ∷ items) (replicate 16 128 ++ rest) whole;
   is_prefix = whole;
   sum = two_parts (check_sum items);

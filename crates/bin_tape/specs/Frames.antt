@@ -8,12 +8,12 @@ ignore_count (f ∷ fs) = (if nat_eq f 0o377 then 1 else 0) + ignore_count fs
 
 -- The heeded frames among those that come after so many frames 0377: a frame is heeded if it isn't 0377 itself and an
 -- even number of 0377 stand before it.
-abbrev pub heeded_after : ℕ → List ℕ → List ℕ
-heeded_after n [] = []
-heeded_after n (f ∷ fs) =
-    if nat_eq f 0o377 then heeded_after (n + 1) fs
-    else (if nat_eq (n % 2) 0 then f ∷ heeded_after n fs else heeded_after n fs)
+abbrev pub frames_after : ℕ → List ℕ → List ℕ
+frames_after n [] = []
+frames_after n (f ∷ fs) =
+    if nat_eq f 0o377 then frames_after (n + 1) fs
+    else (if nat_eq (n % 2) 0 then f ∷ frames_after n fs else frames_after n fs)
 
 -- the frames of a tape that aren't ignored
-abbrev pub heeded : List ℕ → List ℕ
-heeded frames = heeded_after 0 frames
+abbrev pub frames_of_note : List ℕ → List ℕ
+frames_of_note frames = frames_after 0 frames

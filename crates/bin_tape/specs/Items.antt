@@ -17,9 +17,9 @@ frames_of (Origin high low) = (0o100 + high) ∷ low ∷ []
 frames_of (Word high low) = high ∷ low ∷ []
 
 -- A list of items has the newest first. These are its frames, in the order of the tape.
-abbrev pub spelled : List Item → List ℕ
-spelled [] = []
-spelled (item ∷ older) = spelled older ++ frames_of item
+abbrev pub frames_of_items : List Item → List ℕ
+frames_of_items [] = []
+frames_of_items (item ∷ older) = frames_of_items older ++ frames_of item
 
 abbrev pub has_origin : List Item → Bool
 has_origin [] = false

@@ -1,6 +1,6 @@
 -- What a reader keeps of the items so far, and what it makes of one more frame.
 use Rattle.std.specs.Prelude.{◌≡◌, ℕ, ◌+◌, ◌*◌, Option, Some, None, List, [], ◌∷◌, ◌++◌}
-use Rattle.bin_tape.specs.Items.{Item, Leader, Field, Origin, Word, spelled, has_origin, ends_in_word, IsPrefix, cell_after, check_sum, words_but_last}
+use Rattle.bin_tape.specs.Items.{Item, Leader, Field, Origin, Word, frames_of_items, has_origin, ends_in_word, IsPrefix, cell_after, check_sum, words_but_last}
 use Rattle.bin_tape.specs.Tape.{IsPart}
 use Rattle.bin_tape.specs.declared.prefixes.Prefix.{Prefix}
 use Rattle.bin_tape.specs.declared.prefixes.LastWord.{LastWord}
@@ -35,5 +35,5 @@ pub record KeepsFrames (prefix : Prefix) (kept_frames : List ℕ) (out : List (�
   pub items : List Item
   pub part : List ℕ
   pub reads : ReadsItems prefix items part
-  pub frames : kept_frames ≡ spelled items ++ part
+  pub frames : kept_frames ≡ frames_of_items items ++ part
   pub words : out ≡ words_but_last items

@@ -1,6 +1,6 @@
 -- What the small steps of a prefix give, for private clauses.
 use Rattle.std.specs.Prelude.{◌≡◌, ℕ, ◌+◌, ◌*◌, Result, Ok, Err, List, [], ◌∷◌, ◌++◌}
-use Rattle.bin_tape.specs.Items.{Item, Leader, Field, Origin, Word, spelled, check_sum, words_but_last}
+use Rattle.bin_tape.specs.Items.{Item, Leader, Field, Origin, Word, frames_of_items, check_sum, words_but_last}
 use Rattle.bin_tape.specs.Fault.{IsRefused}
 use Rattle.bin_tape.specs.declared.faults.TapeFault.{TapeFault}
 use Rattle.bin_tape.specs.declared.prefixes.Taken.{Taken}
@@ -17,8 +17,8 @@ EndsTape (Origin high low ∷ older) part frame = ⊥
 
 -- what one more frame gives
 abbrev pub TakesFrame : List Item → List ℕ → ℕ → ℕ → Result Taken TapeFault → Type 0
-TakesFrame items part frame place (Ok (More prefix)) = KeepsFrames prefix (spelled items ++ part ++ frame ∷ []) (words_but_last items)
-TakesFrame items part frame place (Ok (Handed prefix cell word)) = KeepsFrames prefix (spelled items ++ part ++ frame ∷ []) (words_but_last items ++ (cell, word) ∷ [])
+TakesFrame items part frame place (Ok (More prefix)) = KeepsFrames prefix (frames_of_items items ++ part ++ frame ∷ []) (words_but_last items)
+TakesFrame items part frame place (Ok (Handed prefix cell word)) = KeepsFrames prefix (frames_of_items items ++ part ++ frame ∷ []) (words_but_last items ++ (cell, word) ∷ [])
 TakesFrame items part frame place (Ok End) = EndsTape items part frame
 TakesFrame items part frame place (Err fault) = IsRefused items part frame place fault
 

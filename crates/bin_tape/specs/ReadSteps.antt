@@ -1,6 +1,6 @@
 -- What the small steps of a reader give, for private clauses.
 use Rattle.std.specs.Prelude.{◌≡◌, ℕ, Result, Ok, Err, List, [], ◌∷◌, ◌++◌}
-use Rattle.bin_tape.specs.Items.{Item, spelled, words_but_last}
+use Rattle.bin_tape.specs.Items.{Item, frames_of_items, words_but_last}
 use Rattle.bin_tape.specs.Fault.{IsRefused}
 use Rattle.bin_tape.specs.Prefix.{KeepsFrames}
 use Rattle.bin_tape.specs.declared.faults.TapeFault.{TapeFault}
@@ -18,7 +18,7 @@ IsReading (Failed fault) kept_frames out = ⊥
 
 -- the answer for one more heeded frame, and the state after it
 abbrev pub AnswersFrame : List Item → List ℕ → ℕ → ℕ → Result Tape TapeFault → State → Type 0
-AnswersFrame items part frame place (Ok Nothing) state = IsReading state (spelled items ++ part ++ frame ∷ []) (words_but_last items)
-AnswersFrame items part frame place (Ok (Word cell word)) state = IsReading state (spelled items ++ part ++ frame ∷ []) (words_but_last items ++ (cell, word) ∷ [])
+AnswersFrame items part frame place (Ok Nothing) state = IsReading state (frames_of_items items ++ part ++ frame ∷ []) (words_but_last items)
+AnswersFrame items part frame place (Ok (Word cell word)) state = IsReading state (frames_of_items items ++ part ++ frame ∷ []) (words_but_last items ++ (cell, word) ∷ [])
 AnswersFrame items part frame place (Ok End) state = (state ≡ Ended) × EndsTape items part frame
 AnswersFrame items part frame place (Err fault) state = (state ≡ Failed fault) × IsRefused items part frame place fault

@@ -1,7 +1,7 @@
 -- When frames are a BIN tape.
 use Rattle.std.specs.Prelude.{◌≡◌, ℕ, ◌+◌, ◌*◌, ◌<◌, ◌≤◌, ◌⊎◌, true, List, [], ◌∷◌, ◌++◌}
-use Rattle.bin_tape.specs.Frames.{heeded}
-use Rattle.bin_tape.specs.Items.{Item, Word, spelled, has_origin, IsPrefix, check_sum}
+use Rattle.bin_tape.specs.Frames.{frames_of_note}
+use Rattle.bin_tape.specs.Items.{Item, Word, frames_of_items, has_origin, IsPrefix, check_sum}
 
 -- nothing, or the first frame of an origin or, after an origin, of a word
 abbrev pub IsPart : List Item → List ℕ → Type 0
@@ -11,7 +11,7 @@ IsPart items (p ∷ q ∷ rest) = ⊥
 
 -- The heeded frames may go on as a tape: they are these items, and perhaps the first frame of one more.
 pub record IsOpen (kept_frames : List ℕ) (items : List Item) (part : List ℕ) : Type 0 where
-  pub frames : kept_frames ≡ spelled items ++ part
+  pub frames : kept_frames ≡ frames_of_items items ++ part
   pub is_prefix : IsPrefix items
   pub begun : IsPart items part
 
@@ -20,6 +20,6 @@ pub record IsTape (frames : List ℕ) (items : List Item) : Type 0 where
   pub high : ℕ
   pub low : ℕ
   pub rest : List ℕ
-  pub kept_frames : heeded frames ≡ spelled (Word high low ∷ items) ++ 0o200 ∷ rest
+  pub kept_frames : frames_of_note frames ≡ frames_of_items (Word high low ∷ items) ++ 0o200 ∷ rest
   pub is_prefix : IsPrefix (Word high low ∷ items)
   pub sum : 0o100 * high + low ≡ check_sum items

@@ -1,7 +1,7 @@
 -- What a tape of words with their cells says, and what its frames are.
 use Rattle.std.specs.Prelude.{ℕ, ◌+◌, ◌/◌, ◌%◌, nat_eq, ◌&&◌, if◌then◌else◌, Bool, false, Option, Some, None, reverse, replicate, List, [], ◌∷◌, ◌++◌}
 use Rattle.word12.specs.declared.sizes.TheConstants.{FIELD}
-use Rattle.bin_tape.specs.Items.{Item, Leader, Field, Origin, Word, spelled, check_sum}
+use Rattle.bin_tape.specs.Items.{Item, Leader, Field, Origin, Word, frames_of_items, check_sum}
 
 -- a word, and an origin, by their high and low six bits
 abbrev pub word_item : ℕ → Item
@@ -11,9 +11,9 @@ abbrev pub origin_item : ℕ → Item
 origin_item address = Origin (address / 0o100) (address % 0o100)
 
 -- the field that words go to after a word for this cell, or after none
-abbrev pub field_behind : Option ℕ → ℕ
-field_behind None = 0
-field_behind (Some before) = before / FIELD
+abbrev pub next_field : Option ℕ → ℕ
+next_field None = 0
+next_field (Some before) = before / FIELD
 
 -- Whether a word for the cell needs no origin after a word for the cell before: it has the next address of the same
 -- field. Nothing is next after address 7777, nor after no word.
@@ -23,7 +23,7 @@ is_next (Some before) cell = nat_eq (cell / FIELD) (before / FIELD) && nat_eq (c
 
 -- the items, and a field setting where the field changes
 abbrev pub with_field : Option ℕ → ℕ → List Item → List Item
-with_field before cell items = if nat_eq (cell / FIELD) (field_behind before) then items else Field (cell / FIELD) ∷ items
+with_field before cell items = if nat_eq (cell / FIELD) (next_field before) then items else Field (cell / FIELD) ∷ items
 
 -- the items, and an origin where the cell isn't the next
 abbrev pub with_origin : Option ℕ → ℕ → List Item → List Item
@@ -48,7 +48,7 @@ items_of (pair ∷ older) = with_pair (newest_cell older) pair.0 pair.1 (items_o
 
 -- the frames of a tape of these items: their own, the check sum and the trailer
 abbrev pub tape_with : List Item → List ℕ
-tape_with items = spelled (word_item (check_sum items) ∷ items) ++ replicate 16 0o200
+tape_with items = frames_of_items (word_item (check_sum items) ∷ items) ++ replicate 16 0o200
 
 -- the frames that are written for these cells and words, which stand in the order of the tape
 unfoldable pub tape_of : List (ℕ × ℕ) → List ℕ

@@ -168,7 +168,7 @@ impl Prefix {
         match frame {
             0o000 if !self.has_origin => Ok(Taken::More(self.with_leader())),
             0o000..=0o077 if !self.has_origin => Err(TapeFault::NoOrigin),
-            0o000..=0o177 => Ok(Taken::More(self.begun(frame))),
+            0o000..=0o177 => Ok(Taken::More(self.with_frame(frame))),
             0o200 if !self.has_origin => Ok(Taken::More(self.with_leader())),
             0o200 => self.take_trailer(place),
             _ if frame >= 0o300 && frame % 8 == 0 => {
@@ -215,7 +215,7 @@ impl Prefix {
     }
 
     /// The first frame of a pair more.
-    fn begun(self, frame: u8) -> Prefix
+    fn with_frame(self, frame: u8) -> Prefix
         ensures { (items : List Item) → ReadsItems self items [] → IsPart items (frame ∷ [])
             → ReadsItems result items (frame ∷ []) }
     {

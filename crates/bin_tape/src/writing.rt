@@ -2,7 +2,7 @@ ghost use Rattle.std.specs.Prelude.{◌≡◌, ℕ, ◌+◌, ◌/◌, ◌%◌, �
 ghost use Rattle.word12.specs.declared.sizes.TheConstants.{CORE};
 ghost use Rattle.bin_tape.specs.Items.{Item};
 ghost use Rattle.bin_tape.specs.Pairs.{ArePairs};
-ghost use Rattle.bin_tape.specs.Writing.{tape_of, tape_with, leader, with_field, with_origin, with_pair, word_item, field_behind, is_next};
+ghost use Rattle.bin_tape.specs.Writing.{tape_of, tape_with, leader, with_field, with_origin, with_pair, word_item, next_field, is_next};
 ghost use Rattle.bin_tape.specs.WriteSteps.{HoldsFrames};
 
 use crate::TapeFault;
@@ -84,7 +84,7 @@ impl Writer {
             → OnOk result (HoldsFrames self.new.frames.items self.new.sum (with_field before cell items)) }
     {
         let field = cell.field();
-        if field == field_behind(before) {
+        if field == next_field(before) {
             return Ok(());
         }
         self.frames.push(0o300 + 8 * field)?;
@@ -137,8 +137,8 @@ impl Writer {
 }
 
 /// The field that words go to after a word for this cell, or after none.
-fn field_behind(before: Option<Cell>) -> u8
-    ensures { result ≡ field_behind before }
+fn next_field(before: Option<Cell>) -> u8
+    ensures { result ≡ next_field before }
 {
     match before {
         None => 0,

@@ -1,7 +1,7 @@
 -- Each whole text is found.
 use Rattle.std.proofs.Common.{◌≡◌, ◌∙◌, ℕ, suc, ◌+◌, ◌≤◌, Bool, true, false, List, [], ◌∷◌, ◌++◌, length, ap, subst, arith, inl, inr}
 use Rattle.block_scan.specs.Passages.{passage}
-use Rattle.block_scan.specs.Pieces.{found, open_behind, texts_from}
+use Rattle.block_scan.specs.Pieces.{piece_before, open_after, texts_from}
 use Rattle.block_scan.specs.Laws.{Covers, IsWhole}
 use Rattle.block_scan.specs.declared.passages.Passage.{Passage}
 use Rattle.block_scan.specs.declared.passages.Passage.TheVariants.{Goes, Ends, Breaks}
@@ -20,16 +20,16 @@ whole-seen (frames ∷ []) seen whole = seen-before frames seen ∙ ap with_seen
 whole-seen (frames ∷ more ∷ rest) seen whole = (true, seen-before frames seen ∙ ap with_seen whole.1, whole-seen (more ∷ rest) whole.0 whole.2)
 
 -- a text that begins at the block, where a stretch comes to it that has just this before
-covered : (text behind : List (List ℕ)) (stretch : Stretch) (block place : ℕ) → stretch.first ≤ place → stretch.first ≤ block → IsWhole stretch.seen text
+covered : (text behind : List (List ℕ)) (stretch : Stretch) (block place : ℕ) → stretch.first ≤ place → stretch.first ≤ block → IsWhole stretch.has_graphic text
     → Covers (texts_from stretch block (text ++ behind)) place (block + length text)
 covered [] behind stretch block place first low whole = absurd whole
 covered (frames ∷ []) behind stretch block place first low whole = rw whole (inl (first, omega (arith, low)))
 covered (frames ∷ more ∷ rest) behind stretch block place first low whole =
     rw whole.1
-    (subst (Covers (texts_from (record { first = stretch.first; seen = whole.0 }) (suc block) ((more ∷ rest) ++ behind)) place) (omega arith)
-    (covered (more ∷ rest) behind (record { first = stretch.first; seen = whole.0 }) (suc block) place first (omega (arith, low)) whole.2))
+    (subst (Covers (texts_from (record { first = stretch.first; has_graphic = whole.0 }) (suc block) ((more ∷ rest) ++ behind)) place) (omega arith)
+    (covered (more ∷ rest) behind (record { first = stretch.first; has_graphic = whole.0 }) (suc block) place first (omega (arith, low)) whole.2))
 
-first-behind : (stretch : Stretch) (block : ℕ) (way : Passage) → stretch.first ≤ block → (open_behind stretch (suc block) way).first ≤ suc block
+first-behind : (stretch : Stretch) (block : ℕ) (way : Passage) → stretch.first ≤ block → (open_after stretch (suc block) way).first ≤ suc block
 first-behind stretch block (Goes seen) low = omega (arith, low)
 first-behind stretch block (Ends seen) low = omega arith
 first-behind stretch block Breaks low = omega arith
@@ -42,17 +42,17 @@ found-behind : (before text behind : List (List ℕ)) (stretch : Stretch) (block
     → Covers (texts_from stretch block (before ++ (text ++ behind))) (block + length before) (block + length before + length text)
 found-behind [] text behind stretch block low whole =
     let here : block + 0 ≡ block = omega arith in
-    rw here (covered text behind stretch block block low low (whole-by stretch.seen text whole))
+    rw here (covered text behind stretch block block low low (whole-by stretch.has_graphic text whole))
 found-behind (frames ∷ before) text behind stretch block low whole =
-    let way = passage stretch.seen frames in
+    let way = passage stretch.has_graphic frames in
     let one : block + suc (length before) ≡ suc block + length before = omega arith in
     rw one
-    (covers-behind (found stretch (suc block) way) (texts_from (open_behind stretch (suc block) way) (suc block) (before ++ (text ++ behind))) (suc block + length before)
+    (covers-behind (piece_before stretch (suc block) way) (texts_from (open_after stretch (suc block) way) (suc block) (before ++ (text ++ behind))) (suc block + length before)
     (suc block + length before + length text)
-    (found-behind before text behind (open_behind stretch (suc block) way) (suc block) (first-behind stretch block way low) whole))
+    (found-behind before text behind (open_after stretch (suc block) way) (suc block) (first-behind stretch block way low) whole))
 
 pub text-is-found : (before text behind : List (List ℕ)) → IsWhole false text
-    → Covers (texts_from (record { first = 0; seen = false }) 0 (before ++ (text ++ behind))) (length before) (length before + length text)
+    → Covers (texts_from (record { first = 0; has_graphic = false }) 0 (before ++ (text ++ behind))) (length before) (length before + length text)
 text-is-found before text behind whole =
     let here : 0 + length before ≡ length before = omega arith in
-    rw here at (found-behind before text behind (record { first = 0; seen = false }) 0 (omega arith) whole)
+    rw here at (found-behind before text behind (record { first = 0; has_graphic = false }) 0 (omega arith) whole)

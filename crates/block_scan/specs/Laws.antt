@@ -1,6 +1,6 @@
 -- What holds of the texts that are found.
 use Rattle.std.specs.Prelude.{◌≡◌, ◌⊎◌, ℕ, ◌+◌, ◌/◌, ◌<◌, ◌≤◌, Bool, true, false, List, [], ◌∷◌, ◌++◌, length, take, drop}
-use Rattle.os8_dir.specs.Files.{joined}
+use Rattle.os8_dir.specs.Files.{join_blocks}
 use Rattle.file_kind.specs.Texts.{is_text}
 use Rattle.word12.specs.declared.sizes.TheConstants.{BLOCK}
 use Rattle.block_scan.specs.Passages.{passage}
@@ -18,14 +18,14 @@ PassageIsText = (frames : List ℕ) → passage false frames ≡ Ends true → i
 -- a piece lies in these blocks, and is a text
 pub record IsPiece (blocks : List (List ℕ)) (piece : TextPiece) : Type 0 where
   pub inside : piece.place + piece.size ≤ length blocks
-  pub text : is_text (joined (take piece.size (drop piece.place blocks))) ≡ true
+  pub text : is_text (join_blocks (take piece.size (drop piece.place blocks))) ≡ true
 
 abbrev pub ArePieces : List (List ℕ) → List TextPiece → Type 0
 ArePieces blocks [] = Unit {0}
 ArePieces blocks (piece ∷ pieces) = IsPiece blocks piece × ArePieces blocks pieces
 
 abbrev pub EachPieceIsText : Type 0
-EachPieceIsText = (blocks : List (List ℕ)) → ArePieces blocks (texts_from (record { first = 0; seen = false }) 0 blocks)
+EachPieceIsText = (blocks : List (List ℕ)) → ArePieces blocks (texts_from (record { first = 0; has_graphic = false }) 0 blocks)
 
 -- after the blocks before it a text ends in the last of these
 abbrev pub IsWhole : Bool → List (List ℕ) → Type 0
@@ -41,7 +41,7 @@ Covers (piece ∷ pieces) place end = ((piece.place ≤ place) × (piece.place +
 -- each whole text that begins at a block, and whose blocks follow one another, is found
 abbrev pub EachTextIsFound : Type 0
 EachTextIsFound = (before text behind : List (List ℕ)) → IsWhole false text
-    → Covers (texts_from (record { first = 0; seen = false }) 0 (before ++ (text ++ behind))) (length before) (length before + length text)
+    → Covers (texts_from (record { first = 0; has_graphic = false }) 0 (before ++ (text ++ behind))) (length before) (length before + length text)
 
 -- where so many blocks at the head are a program, any more are one of the same kind
 abbrev pub EachProgramGoesOn : Type 0

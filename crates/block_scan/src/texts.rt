@@ -1,7 +1,7 @@
 //! The whole texts among blocks.
 ghost use Rattle.std.specs.Prelude.{◌≡◌, ◌≤◌, ◌++◌, ◌*◌, ◌/◌, false, length, IfOk, OnOk};
 ghost use Rattle.char_pack.specs.declared.packing.TheConstants.{BLOCK_FRAMES};
-ghost use Rattle.block_scan.specs.Pieces.{AreInside, blocks_in, found, open_behind, texts_among, texts_from};
+ghost use Rattle.block_scan.specs.Pieces.{AreInside, blocks_in, piece_before, open_after, texts_among, texts_from};
 
 use crate::laws::pieces_are_texts;
 use crate::passages::{Passage, passage_of};
@@ -19,7 +19,7 @@ pub struct TextPiece {
 #[derive(Clone, Copy)]
 pub struct Stretch {
     pub first: usize,
-    pub seen: bool,
+    pub has_graphic: bool,
 }
 
 /// The whole texts among blocks of 384 frames, in order of their blocks. They are the longest stretches of blocks that a text goes through
@@ -35,20 +35,20 @@ pub fn texts_in(alloc: Global, frames: &[u8]) -> Result<Vec<TextPiece>, AllocErr
 /// Those among so many blocks.
 fn texts_of(alloc: Global, count: usize, frames: &[u8]) -> Result<Vec<TextPiece>, AllocError>
     requires { BLOCK_FRAMES * count ≤ length frames.now }
-    ensures { IfOk result (λ pieces. pieces.items ≡ texts_from (record { first = 0; seen = false }) 0 (blocks_in count frames.now)) }
+    ensures { IfOk result (λ pieces. pieces.items ≡ texts_from (record { first = 0; has_graphic = false }) 0 (blocks_in count frames.now)) }
 {
     let mut pieces = Vec::new(alloc);
     let mut stretch = Stretch {
         first: 0,
-        seen: false,
+        has_graphic: false,
     };
     let mut rest = frames;
     for block in 0..count {
         let (here, behind) = rest.split_at(BLOCK_FRAMES);
-        let way = passage_of(stretch.seen, here);
+        let way = passage_of(stretch.has_graphic, here);
         let next = block + 1;
         put_found(stretch, next, way, &mut pieces)?;
-        stretch = stretch_behind(stretch, next, way);
+        stretch = stretch_after(stretch, next, way);
         rest = behind;
     }
     Ok(pieces)
@@ -62,7 +62,7 @@ fn put_found(
     pieces: &mut Vec<TextPiece>,
 ) -> Result<(), AllocError>
     requires { stretch.first ≤ next }
-    ensures { OnOk result (pieces.new.items ≡ pieces.old.items ++ found stretch next way) }
+    ensures { OnOk result (pieces.new.items ≡ pieces.old.items ++ piece_before stretch next way) }
 {
     match way {
         Passage::Ends(true) => {
@@ -77,19 +77,19 @@ fn put_found(
 }
 
 /// How a text may reach the next block.
-fn stretch_behind(stretch: Stretch, next: usize, way: Passage) -> Stretch
+fn stretch_after(stretch: Stretch, next: usize, way: Passage) -> Stretch
     requires { stretch.first ≤ next }
-    ensures value { result ≡ open_behind stretch next way }
+    ensures value { result ≡ open_after stretch next way }
     ensures order { result.first ≤ next }
 {
     match way {
         Passage::Goes(seen) => Stretch {
             first: stretch.first,
-            seen,
+            has_graphic: seen,
         },
         Passage::Ends(_) | Passage::Breaks => Stretch {
             first: next,
-            seen: false,
+            has_graphic: false,
         },
     }
 }

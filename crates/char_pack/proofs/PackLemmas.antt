@@ -1,7 +1,7 @@
 -- What was packed has the bytes as its frames.
 use Rattle.std.proofs.Common.{◌≤◌, sym, ◌≡◌, ℕ, ◌+◌, ◌-◌, ◌*◌, ◌/◌, ◌%◌, ◌<◌, List, [], ◌∷◌, ◌++◌, zero, suc, length, get_or, replicate, refl, ap, ◌∙◌, arith}
 use Rattle.std.proofs.lemmas.List.{append_assoc, length-append, length-replicate, replicate-append-replicate}
-use Rattle.char_pack.specs.Packing.{frames, group, packed, group_count, IsPacking, block_words, block_frames, block_count, packed_blocks, IsBlockPacking}
+use Rattle.char_pack.specs.Packing.{frames, group, words_of_bytes, group_count, IsPacking, block_words, block_frames, block_count, packed_blocks, IsBlockPacking}
 use Rattle.char_pack.proofs.FrameLemmas.{length-frames, frames-append}
 
 -- each is a number of eight bits
@@ -13,7 +13,7 @@ pub Bytes-from : (bytes : List ℕ) → ((k : ℕ) → k < length bytes → get_
 Bytes-from [] below = tt
 Bytes-from (byte ∷ bytes) below = (below 0 (omega arith), Bytes-from bytes (λ k within. below (suc k) (omega arith)))
 
-pub length-packed : (bytes : List ℕ) → length (packed bytes) ≡ 2 * group_count (length bytes)
+pub length-packed : (bytes : List ℕ) → length (words_of_bytes bytes) ≡ 2 * group_count (length bytes)
 length-packed [] = refl
 length-packed (a ∷ []) = refl
 length-packed (a ∷ b ∷ []) = refl
@@ -35,17 +35,17 @@ frames-group a b c words a_fits b_fits =
     cc
 
 pub frames-packed : (bytes : List ℕ) → Bytes bytes
-    → frames (packed bytes) ≡ bytes ++ replicate (3 * group_count (length bytes) - length bytes) 0
+    → frames (words_of_bytes bytes) ≡ bytes ++ replicate (3 * group_count (length bytes) - length bytes) 0
 frames-packed [] fit = refl
 frames-packed (a ∷ []) fit = frames-group a 0 0 [] fit.0 (omega arith)
 frames-packed (a ∷ b ∷ []) fit = frames-group a b 0 [] fit.0 fit.1.0
 frames-packed (a ∷ b ∷ c ∷ bytes) fit =
     let n = length bytes in
     let same : 3 * group_count n - n ≡ 3 * group_count (suc (suc (suc n))) - suc (suc (suc n)) = omega arith in
-    frames-group a b c (packed bytes) fit.0 fit.1.0
+    frames-group a b c (words_of_bytes bytes) fit.0 fit.1.0
     ∙ ap (λ fs. a ∷ b ∷ c ∷ fs) (frames-packed bytes fit.1.1.1 ∙ ap (λ k. bytes ++ replicate k 0) same)
 
-pub is_packing : (bytes : List ℕ) → Bytes bytes → IsPacking bytes (packed bytes)
+pub is_packing : (bytes : List ℕ) → Bytes bytes → IsPacking bytes (words_of_bytes bytes)
 is_packing bytes fit = record {
   even = omega (arith, length-packed bytes);
   reads_back = frames-packed bytes fit;
@@ -88,12 +88,12 @@ is_block_packing bytes fit =
     let zeros : 256 * block_count n - 2 * group_count n ≡ 2 * pairs = omega arith in
     let behind : 3 * group_count n - n + 3 * pairs ≡ 384 * block_count n - n = omega arith in
     let whole : length (packed_blocks bytes) ≡ 256 * block_count n =
-    length-append (packed bytes) (replicate (256 * block_count n - 2 * group_count n) 0)
+    length-append (words_of_bytes bytes) (replicate (256 * block_count n - 2 * group_count n) 0)
     ∙ omega (arith, length-packed bytes, length-replicate {A = ℕ} (256 * block_count n - 2 * group_count n) 0) in
     record {
       whole = whole;
-      reads_back = ap (λ k. frames (packed bytes ++ replicate k 0)) zeros
-          ∙ frames_and_zeros (packed bytes) bytes (3 * group_count n - n) pairs (omega (arith, length-packed bytes)) (frames-packed bytes fit)
+      reads_back = ap (λ k. frames (words_of_bytes bytes ++ replicate k 0)) zeros
+          ∙ frames_and_zeros (words_of_bytes bytes) bytes (3 * group_count n - n) pairs (omega (arith, length-packed bytes)) (frames-packed bytes fit)
           ∙ ap (λ k. bytes ++ replicate k 0) behind;
       fewest = λ others more count blocks same.
           fewest_blocks n (length (packed_blocks bytes)) (length others) (length more) count whole blocks
@@ -109,9 +109,9 @@ group-frames first second fits =
     cc
 
 pub packed-frames : (words : List ℕ) → length words % 2 ≡ 0 → ((k : ℕ) → k < length words → get_or words k 0 < 4096)
-    → packed (frames words) ≡ words
+    → words_of_bytes (frames words) ≡ words
 packed-frames [] even fit = refl
 packed-frames (first ∷ []) even fit = absurd (omega arith)
 packed-frames (first ∷ second ∷ words) even fit =
-    ap (λ ws. ws ++ packed (frames words)) (group-frames first second (fit 1 (omega arith)))
+    ap (λ ws. ws ++ words_of_bytes (frames words)) (group-frames first second (fit 1 (omega arith)))
     ∙ ap (λ ws. first ∷ second ∷ ws) (packed-frames words (omega arith) (λ k within. fit (suc (suc k)) (omega arith)))

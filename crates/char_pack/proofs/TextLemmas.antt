@@ -3,7 +3,7 @@ use Rattle.std.proofs.Common.{◌≡◌, ◌≢◌, ℕ, ◌+◌, ◌-◌, ◌*�
 use Rattle.std.proofs.lemmas.List.{append_assoc, length-append, length-map}
 use Rattle.std.proofs.lemmas.Bool.{and_parts, ltb-true, eqb-false, not-true, ne_eqb, eq-eqb}
 use Rattle.char_pack.specs.Packing.{block_frames, block_count, packed_blocks}
-use Rattle.char_pack.specs.Texts.{characters, is_ended, text, line_ends, host_text, may_stand, is_storable, text_frames, stored}
+use Rattle.char_pack.specs.Texts.{characters, is_ended, text, line_ends, host_text, may_stand, is_storable, text_frames, words_of_text}
 use Rattle.char_pack.proofs.PackLemmas.{Bytes, is_block_packing}
 
 -- each may stand in a text
@@ -68,7 +68,7 @@ text-packed chars stand =
     ∙ append_assoc (map (λ character. 128 + character) chars) ((128 + 26) ∷ []) zeros)
     ∙ characters-stored chars zeros stand
 
-pub text-stored : (host : List ℕ) → is_storable host ≡ true → text (stored host) ≡ host_text host
+pub text-stored : (host : List ℕ) → is_storable host ≡ true → text (words_of_text host) ≡ host_text host
 text-stored host storable = text-packed (host_text host) (Stands-host_text host (Stands-from host storable))
 
 pub text-chars : (chars : List ℕ) → is_storable chars ≡ true → text (packed_blocks (text_frames chars)) ≡ chars

@@ -16,11 +16,11 @@ abbrev pub group : ℕ → ℕ → ℕ → List ℕ
 group a b c = (256 * (c / 16) + a) ∷ (256 * (c % 16) + b) ∷ []
 
 -- the words of bytes, three in two words, where zeros fill the last group
-abbrev pub packed : List ℕ → List ℕ
-packed [] = []
-packed (a ∷ []) = group a 0 0
-packed (a ∷ b ∷ []) = group a b 0
-packed (a ∷ b ∷ c ∷ bytes) = group a b c ++ packed bytes
+abbrev pub words_of_bytes : List ℕ → List ℕ
+words_of_bytes [] = []
+words_of_bytes (a ∷ []) = group a 0 0
+words_of_bytes (a ∷ b ∷ []) = group a b 0
+words_of_bytes (a ∷ b ∷ c ∷ bytes) = group a b c ++ words_of_bytes bytes
 
 -- how many groups of three so many bytes take, each of them two words
 abbrev pub group_count : ℕ → ℕ
@@ -48,7 +48,7 @@ block_count n = (n + (declared.BLOCK_FRAMES - 1)) / declared.BLOCK_FRAMES
 -- the words of bytes in whole blocks, where zeros fill the last block
 abbrev pub packed_blocks : List ℕ → List ℕ
 packed_blocks bytes =
-    packed bytes ++ replicate (block_words * block_count (length bytes) - 2 * group_count (length bytes)) 0
+    words_of_bytes bytes ++ replicate (block_words * block_count (length bytes) - 2 * group_count (length bytes)) 0
 
 -- the words are the fewest whole blocks whose frames begin with the bytes, and the frames after these are zeros
 pub record IsBlockPacking (bytes words : List ℕ) : Type 0 where

@@ -45,5 +45,5 @@ abbrev pub text_frames : List ℕ → List ℕ
 text_frames chars = map (λ character. 0o200 + character) chars ++ (0o200 + control_z) ∷ []
 
 -- the words of a host text in a file
-abbrev pub stored : List ℕ → List ℕ
-stored host = packed_blocks (text_frames (host_text host))
+abbrev pub words_of_text : List ℕ → List ℕ
+words_of_text host = packed_blocks (text_frames (host_text host))

@@ -1,6 +1,6 @@
 ghost use Rattle.std.specs.Prelude.{◌≡◌, ◌+◌, ◌*◌, ◌<◌, ◌++◌, length, replicate, IfOk, OnOk, vec_len};
 ghost use Rattle.word12.specs.declared.sizes.TheConstants.{BLOCK};
-ghost use Rattle.char_pack.specs.Packing.{group, packed, group_count, IsPacking, packed_blocks, block_count, IsBlockPacking};
+ghost use Rattle.char_pack.specs.Packing.{group, words_of_bytes, group_count, IsPacking, packed_blocks, block_count, IsBlockPacking};
 
 use crate::PackFault;
 use std::alloc::{AllocError, Global};
@@ -13,7 +13,7 @@ pub const BLOCK_FRAMES: usize = 384;
 ///
 /// They are the shortest even list of words whose frames begin with the bytes.
 pub fn pack(alloc: Global, bytes: &[u8]) -> Result<Vec<Word>, PackFault>
-    ensures words { IfOk result (λ words. words.items ≡ packed bytes.now) }
+    ensures words { IfOk result (λ words. words.items ≡ words_of_bytes bytes.now) }
     ensures length { IfOk result (λ words. vec_len words ≡ 2 * group_count (length bytes.now)) }
     ensures packing { IfOk result (λ words. IsPacking bytes.now words.items) }
 {
@@ -49,7 +49,7 @@ pub(crate) fn push_zeros(words: &mut Vec<Word>, count: usize) -> Result<(), Allo
 
 /// Appends the words of bytes.
 fn push_packed(words: &mut Vec<Word>, bytes: &[u8]) -> Result<(), AllocError>
-    ensures { OnOk result (words.new.items ≡ words.old.items ++ packed bytes.now) }
+    ensures { OnOk result (words.new.items ≡ words.old.items ++ words_of_bytes bytes.now) }
 {
     let mut rest = bytes;
     while let [first, second, third, others @ ..] = rest {

@@ -1,6 +1,6 @@
 ghost use Rattle.std.specs.Prelude.{◌≡◌, ◌+◌, ◌*◌, ◌++◌, ◌∷◌, ◌↔◌, ◌≤◌, ℕ, List, [], true, false, map, length, IfOk, OnOk, IsErrOf, vec_len};
 ghost use Rattle.word12.specs.declared.sizes.TheConstants.{BLOCK};
-ghost use Rattle.char_pack.specs.Packing.{packed, block_count};
+ghost use Rattle.char_pack.specs.Packing.{words_of_bytes, block_count};
 ghost use Rattle.char_pack.specs.StoreSteps.{held_bytes, packed_text, is_plain};
 ghost use Rattle.char_pack.specs.Texts as spec;
 ghost use Rattle.char_pack.specs.declared.faults.TextFault.TheVariants.{BadText};
@@ -58,7 +58,7 @@ pub fn stored_block_count(host: &[u8]) -> usize
 /// The words of a host text in a file, whole blocks of 256 words: its characters with 0200 set on each, control Z as
 /// 0232, then zeros (this project's profile).
 pub fn store(alloc: Global, host: &[u8]) -> Result<Vec<Word>, TextFault>
-    ensures words { IfOk result (λ words. words.items ≡ spec.stored host.now) }
+    ensures words { IfOk result (λ words. words.items ≡ spec.words_of_text host.now) }
     ensures length { IfOk result (λ words. vec_len words
         ≡ BLOCK * block_count (length (spec.host_text host.now) + 1)) }
     ensures bad_text { IsErrOf result BadText ↔ (spec.is_storable host.now ≡ false) }
@@ -73,7 +73,7 @@ pub fn store(alloc: Global, host: &[u8]) -> Result<Vec<Word>, TextFault>
 /// The words of a host text that can be stored.
 fn stored_words(alloc: Global, host: &[u8]) -> Result<Vec<Word>, AllocError>
     requires { spec.is_storable host.now ≡ true }
-    ensures words { IfOk result (λ words. words.items ≡ spec.stored host.now) }
+    ensures words { IfOk result (λ words. words.items ≡ spec.words_of_text host.now) }
     ensures length { IfOk result (λ words. vec_len words
         ≡ BLOCK * block_count (length (spec.host_text host.now) + 1)) }
 {
@@ -97,7 +97,7 @@ enum Held {
 fn push_text(words: &mut Vec<Word>, host: &[u8]) -> Result<(), AllocError>
     requires { spec.is_storable host.now ≡ true }
     ensures { OnOk result (words.new.items ≡ words.old.items
-        ++ packed (spec.text_frames (spec.host_text host.now))) }
+        ++ words_of_bytes (spec.text_frames (spec.host_text host.now))) }
 {
     let mut held = Held::Nothing;
     let mut rest = host;
@@ -153,8 +153,8 @@ fn is_plain(byte: u8) -> bool
 /// Appends the characters of a host byte after what is held, each with its top bit set. The answer is what is held then.
 fn put_byte(words: &mut Vec<Word>, held: Held, byte: u8) -> Result<Held, AllocError>
     requires { spec.may_stand byte ≡ true }
-    ensures { IfOk result (λ next. (later : List ℕ) → words.new.items ++ packed (held_bytes next ++ later)
-        ≡ words.old.items ++ packed (held_bytes held
+    ensures { IfOk result (λ next. (later : List ℕ) → words.new.items ++ words_of_bytes (held_bytes next ++ later)
+        ≡ words.old.items ++ words_of_bytes (held_bytes held
         ++ (map (λ character. 0o200 + character) (spec.line_ends byte) ++ later))) }
 {
     match byte {
@@ -170,8 +170,8 @@ fn put_byte(words: &mut Vec<Word>, held: Held, byte: u8) -> Result<Held, AllocEr
 /// Appends a frame after what is held. The answer is what is held then.
 #[inline(always)]
 fn put_frame(words: &mut Vec<Word>, held: Held, frame: u8) -> Result<Held, AllocError>
-    ensures { IfOk result (λ next. (later : List ℕ) → words.new.items ++ packed (held_bytes next ++ later)
-        ≡ words.old.items ++ packed (held_bytes held ++ frame ∷ later)) }
+    ensures { IfOk result (λ next. (later : List ℕ) → words.new.items ++ words_of_bytes (held_bytes next ++ later)
+        ≡ words.old.items ++ words_of_bytes (held_bytes held ++ frame ∷ later)) }
 {
     match held {
         Held::Nothing => Ok(Held::One(frame)),
@@ -185,7 +185,7 @@ fn put_frame(words: &mut Vec<Word>, held: Held, frame: u8) -> Result<Held, Alloc
 
 /// Appends control Z after what is held, and fills its group with zeros.
 fn push_end(words: &mut Vec<Word>, held: Held) -> Result<(), AllocError>
-    ensures { OnOk result (words.new.items ≡ words.old.items ++ packed (held_bytes held ++ 154 ∷ [])) }
+    ensures { OnOk result (words.new.items ≡ words.old.items ++ words_of_bytes (held_bytes held ++ 154 ∷ [])) }
 {
     match held {
         Held::Nothing => push_group(words, END, 0, 0),

@@ -26,7 +26,7 @@ use Rattle.std.proofs.lemmas.List.{length-append, map_more, take_all}
 use Rattle.std.proofs.lemmas.Simd.{map-map}
 use Rattle.clap.specs.Walk.{is_empty}
 use Rattle.clap.specs.Words.{Text}
-use Rattle.command8.specs.Tables.{app_of_table, app_with, lettered, rows_for, leaf_app, leaf_shape, leaf_with, rule_for, rules_for}
+use Rattle.command8.specs.Tables.{app_of_table, app_with, rule_with_letter, rows_for, leaf_app, leaf_shape, leaf_with, rule_for, rules_for}
 use Rattle.command8.specs.TableSteps.{entry_of, fits, row_of, is_fit, is_sound}
 use Rattle.command8.specs.declared.table.Kind.TheVariants.{Words}
 use Rattle.command8.specs.CommandSteps.{IsArgument, IsCommand, with_leaf}
@@ -53,11 +53,11 @@ pub hidden_as : (old new : Arg) (rule : Rule) (flag : Bool) → new ≡ record o
 hidden_as old new rule flag is = changed old new (record old { hide = flag }) (λ r. r) rule is refl refl
 
 pub letter_too : (old new : Arg) (rule : Rule) (letter : ℕ) → new ≡ record old { short = Some letter } → IsArgument old rule
-    → IsArgument new (lettered (Some letter) rule)
+    → IsArgument new (rule_with_letter (Some letter) rule)
 letter_too old new rule letter is = changed old new (record old { short = Some letter }) (λ r. record r { short = Some letter }) rule is refl refl
 
-pub unlettered : (rule : Rule) → rule.short ≡ None → rule ≡ lettered None rule
-unlettered rule none = ap (λ letter. lettered letter rule) none
+pub unlettered : (rule : Rule) → rule.short ≡ None → rule ≡ rule_with_letter None rule
+unlettered rule none = ap (λ letter. rule_with_letter letter rule) none
 
 pub long_too : (old new : Arg) (rule : Rule) (name : _) → new ≡ record old { long = Some name } → IsArgument old rule
     → IsArgument new (record rule { long = Some name.now })

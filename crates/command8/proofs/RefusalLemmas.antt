@@ -12,7 +12,7 @@ use Rattle.command8.specs.declared.table.Verb.{Verb}
 use Rattle.command8.specs.declared.table.Verb.TheVariants as verb
 use Rattle.command8.specs.Found.{capitals, has, is_set, names_in, number_in, number_of, place_of, values_of}
 use Rattle.command8.specs.FoundSteps.{AllHold, Has}
-use Rattle.command8.specs.Refusals.{Bad, Said, bad_block, blocks_missing, blocks_word, both_given, first_bad, input_twice, is_alone, missing, missing_of, moved_missing, names_input_twice, names_one, names_some, or_else, refusal_of, said_of, together, unexpected, unexpected_of}
+use Rattle.command8.specs.Refusals.{Bad, Saying, bad_block, blocks_missing, blocks_word, both_given, first_bad, input_twice, is_alone, missing, missing_of, moved_missing, names_input_twice, names_one, names_some, or_else, refusal_of, saying_of_bad, together, unexpected, extra_argument}
 use Rattle.command8.specs.Tables.{Entry, entry_named, rows_for}
 use Rattle.command8.specs.TableSteps.{kind_at}
 use Rattle.command8.specs.TaskSteps.{IsWhole, Needs}
@@ -22,15 +22,15 @@ use Rattle.command8.proofs.WalkLemmas.{some_eq}
 
 -- ## What is not refused
 
-or_first : (a b : Option Said) → or_else a b ≡ None → a ≡ None
+or_first : (a b : Option Saying) → or_else a b ≡ None → a ≡ None
 or_first None b none = refl
 or_first (Some said) b none = none
 
-or_second : (a b : Option Said) → or_else a b ≡ None → b ≡ None
+or_second : (a b : Option Saying) → or_else a b ≡ None → b ≡ None
 or_second None b none = none
 or_second (Some said) b none = absurd (cc)
 
-map_none : {X : Type 0} (f : X → Said) (o : Option X) → option_map f o ≡ None → o ≡ None
+map_none : {X : Type 0} (f : X → Saying) (o : Option X) → option_map f o ≡ None → o ≡ None
 map_none f None none = refl
 map_none f (Some x) none = absurd (cc)
 
@@ -47,12 +47,12 @@ entry_needs name values entry is whole none =
     let one = or_second (option_map (λ pair. together pair.0 pair.1) (both_given which values)) _ none in
     let two = or_second (option_map missing (missing_of which values)) _ one in
     let three = or_second (if names_input_twice values then Some input_twice else None) _ two in
-    let four = or_second (option_map unexpected (unexpected_of values)) _ three in (
+    let four = or_second (option_map unexpected (extra_argument values)) _ three in (
       subst (λ (e : Entry). AllHold (rows_for e.verb) values) same whole.2,
-      all_well (rows_for which) values (map_none said_of (first_bad (rows_for which) values) (or_first (option_map said_of (first_bad (rows_for which) values)) _ four)),
+      all_well (rows_for which) values (map_none saying_of_bad (first_bad (rows_for which) values) (or_first (option_map saying_of_bad (first_bad (rows_for which) values)) _ four)),
       map_none missing (missing_of which values) (or_first (option_map missing (missing_of which values)) _ one),
       once (names_input_twice values) (or_first (if names_input_twice values then Some input_twice else None) _ two),
-      map_none said_of (bad_block values) (or_second (option_map said_of (first_bad (rows_for which) values)) _ four),
+      map_none saying_of_bad (bad_block values) (or_second (option_map saying_of_bad (first_bad (rows_for which) values)) _ four),
     )
 
 -- ## What words have with nothing missing

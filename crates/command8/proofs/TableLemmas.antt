@@ -12,7 +12,7 @@ use Rattle.clap.specs.Simple.{Shape, filled, filled_from, help_rule, index_after
 use Rattle.clap.specs.declared.builder.action.ArgAction.TheVariants.{Append, Set, SetTrue}
 use Rattle.command8.specs.declared.table.Kind.{Kind}
 use Rattle.command8.specs.declared.table.Kind.TheVariants.{Word, Value, Words, Size, Flag, One, Many, Count}
-use Rattle.command8.specs.Tables.{Argument, Entry, are_distinct, kind_rule, leaf_shape, lettered, most_steps, rows_for, rule_for, rules_for}
+use Rattle.command8.specs.Tables.{Argument, Entry, are_distinct, kind_rule, leaf_shape, rule_with_letter, most_steps, rows_for, rule_for, rules_for}
 use Rattle.command8.specs.TableSteps.{can_be_required, fits, ids_of, is_fit, is_sound}
 use Rattle.command8.specs.FoundSteps.{AllHold, HasSomeWhere, HasWhere, IsTaken}
 use Rattle.command8.proofs.LeafLemmas.{Faultless, IsLeaf, below, fit, has_number, has_word, one_up_to}
@@ -69,7 +69,7 @@ ids_rules (row ∷ rows) = ap (λ (ids : List Text). row.id ∷ ids) (ids_rules 
 -- ## The kinds of argument
 
 abbrev built_rule : ℕ → Text → Option ℕ → Kind → Bool → Rule
-built_rule i id letter kind required = with_index i (filled (lettered letter (record (kind_rule id kind) { required = required })))
+built_rule i id letter kind required = with_index i (filled (rule_with_letter letter (record (kind_rule id kind) { required = required })))
 
 some_not_all : (most : ℕ) → fits (Words most) ≡ true → (most == usize_max) ≡ false
 some_not_all most fits = grind (arith, nat_tests)

@@ -55,14 +55,14 @@ abbrev after_row : List Row → Argument → List Row
 after_row values row = without_flag row.kind row.id values
 
 -- of a subcommand: what is given, and nothing else
-abbrev pub given : Text → List Use → List Row
-given word uses = fold after_row (fold with_use [] uses)
+abbrev pub only_gives : Text → List Use → List Row
+only_gives word uses = fold after_row (fold with_use [] uses)
     (option_map_or (λ entry. rows_for entry.verb) (entry_named word) [])
 
 -- the words are taken, whatever the program's own name is, and the arguments of the subcommand have just what is given
 abbrev pub IsTakenBy : Text → Text → List Use → Type 0
 IsTakenBy name word uses = (takes pdp8 (name ∷ word ∷ words_of uses) ≡ true)
-    × (subcommand_of pdp8 (name ∷ word ∷ words_of uses) ≡ Some (word, given word uses))
+    × (subcommand_of pdp8 (name ∷ word ∷ words_of uses) ≡ Some (word, only_gives word uses))
 
 abbrev pub IsTaken : Text → List Use → Type 0
 IsTaken word uses = ArePlain uses → (name : Text) → IsTakenBy name word uses

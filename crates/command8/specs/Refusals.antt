@@ -19,19 +19,19 @@ use Rattle.command8.specs.Found.{first_not, form_of, has, is_set, number_in, val
 use Rattle.command8.specs.Tables.{Argument, pairs, rows_for}
 
 -- what is said of a refusal
-pub data Said : Type 0 where
-  together : Text → Text → Said
-  missing : What → Said
-  input_twice : Said
-  unexpected : Text → Said
-  value : Text → Text → Text → Said
+pub data Saying : Type 0 where
+  together : Text → Text → Saying
+  missing : What → Saying
+  input_twice : Saying
+  unexpected : Text → Saying
+  value : Text → Text → Text → Saying
 
-abbrev pub said : Refusal → Said
-said (refusal.Together one other) = together one.now other.now
-said (refusal.Missing what) = missing what
-said refusal.InputTwice = input_twice
-said (refusal.Unexpected text) = unexpected text.bytes.items
-said (refusal.Value shown why text) = value shown.now why.now text.bytes.items
+abbrev pub saying_of : Refusal → Saying
+saying_of (refusal.Together one other) = together one.now other.now
+saying_of (refusal.Missing what) = missing what
+saying_of refusal.InputTwice = input_twice
+saying_of (refusal.Unexpected text) = unexpected text.bytes.items
+saying_of (refusal.Value shown why text) = value shown.now why.now text.bytes.items
 
 -- ## Arguments that exclude each other
 
@@ -40,12 +40,12 @@ is_given id kind.Flag values = is_set id values
 is_given id other values = has id values
 
 -- what an argument is called, if it was given
-abbrev pub shown_of : Argument → List Row → Option Text
-shown_of row values = if is_given row.id row.kind values then Some row.shown else None
+abbrev pub title_of : Argument → List Row → Option Text
+title_of row values = if is_given row.id row.kind values then Some row.title else None
 
-abbrev pub shown_in : List Argument → Text → List Row → Option Text
-shown_in [] id values = None
-shown_in (row ∷ rows) id values = if bytes_eq row.id id then shown_of row values else shown_in rows id values
+abbrev pub title_in : List Argument → Text → List Row → Option Text
+title_in [] id values = None
+title_in (row ∷ rows) id values = if bytes_eq row.id id then title_of row values else title_in rows id values
 
 abbrev pub both_of : Option Text → Option Text → Option (Text × Text)
 both_of None other = None
@@ -60,7 +60,7 @@ pair_or (Some pair) rest = Some pair
 abbrev pub first_pair : List (Text × Text) → List Argument → List Row → Option (Text × Text)
 first_pair [] rows values = None
 first_pair (pair ∷ later) rows values =
-    pair_or (both_of (shown_in rows pair.0 values) (shown_in rows pair.1 values)) (first_pair later rows values)
+    pair_or (both_of (title_in rows pair.0 values) (title_in rows pair.1 values)) (first_pair later rows values)
 
 abbrev pub both_given : Verb → List Row → Option (Text × Text)
 both_given which values = first_pair pairs (rows_for which) values
@@ -152,8 +152,8 @@ names_input_twice values = nat_lt 1 (input_count (values_of (codes "FILE") value
 -- ## An argument too many
 
 -- the third after an image whose blocks are got, the last where `--at` stands for a name, or the second file where one is given a name or is PAL8
-abbrev pub unexpected_of : List Row → Option Text
-unexpected_of values =
+abbrev pub extra_argument : List Row → Option Text
+extra_argument values =
     if is_set (codes "blocks") values then word_at (codes "NAME") 2 values
     else if has (codes "at") values then first_of (codes "NEW") values
     else if has (codes "as") values || is_set (codes "pal8") values then word_at (codes "FILE") 1 values
@@ -181,7 +181,7 @@ Bad = Text × Text × Text
 
 abbrev pub bad_or : Argument → Option Text → Option Bad → Option Bad
 bad_or row None rest = rest
-bad_or row (Some text) rest = Some (row.shown, why (form_of row.kind), text)
+bad_or row (Some text) rest = Some (row.title, why (form_of row.kind), text)
 
 -- the first value that is none of its argument's kind
 abbrev pub first_bad : List Argument → List Row → Option Bad
@@ -202,21 +202,21 @@ bad_block values =
 -- ## What is refused
 
 -- the first that is there
-abbrev pub or_else : Option Said → Option Said → Option Said
+abbrev pub or_else : Option Saying → Option Saying → Option Saying
 or_else None later = later
 or_else (Some first) later = Some first
 
-abbrev said_twice : Bool → Option Said
+abbrev said_twice : Bool → Option Saying
 said_twice is_twice = if is_twice then Some input_twice else None
 
-abbrev pub said_of : Bad → Said
-said_of bad = value bad.0 bad.1 bad.2
+abbrev pub saying_of_bad : Bad → Saying
+saying_of_bad bad = value bad.0 bad.1 bad.2
 
-abbrev pub refusal_of : Verb → List Row → Option Said
+abbrev pub refusal_of : Verb → List Row → Option Saying
 refusal_of which values =
     or_else (option_map (λ pair. together pair.0 pair.1) (both_given which values))
     (or_else (option_map missing (missing_of which values))
     (or_else (said_twice (names_input_twice values))
-    (or_else (option_map unexpected (unexpected_of values))
-    (or_else (option_map said_of (first_bad (rows_for which) values))
-    (option_map said_of (bad_block values))))))
+    (or_else (option_map unexpected (extra_argument values))
+    (or_else (option_map saying_of_bad (first_bad (rows_for which) values))
+    (option_map saying_of_bad (bad_block values))))))

@@ -21,7 +21,7 @@ row_of row = record {
   is_required = row.is_required;
   is_hidden = row.is_hidden;
   value = row.value.now;
-  shown = row.shown.now;
+  title = row.title.now;
   help = row.help.now;
 }
 

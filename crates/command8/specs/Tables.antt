@@ -34,10 +34,10 @@ Entry = EntryOf Text
 -- ## The table, as functions get it and as it is declared
 
 -- a text and a list of the declared constants
-abbrev pub Said : Type 0 → Type 0
-Said A = record { now : A }
+abbrev pub TextAnd : Type 0 → Type 0
+TextAnd A = record { now : A }
 
-abbrev pub declared_row : ArgumentOf (Said Text) → Argument
+abbrev pub declared_row : ArgumentOf (TextAnd Text) → Argument
 declared_row row = record {
   id = row.id.now;
   letter = row.letter;
@@ -45,11 +45,11 @@ declared_row row = record {
   is_required = row.is_required;
   is_hidden = row.is_hidden;
   value = row.value.now;
-  shown = row.shown.now;
+  title = row.title.now;
   help = row.help.now;
 }
 
-abbrev pub declared_entry : EntryOf (Said Text) → Entry
+abbrev pub declared_entry : EntryOf (TextAnd Text) → Entry
 declared_entry entry = record {
   verb = entry.verb;
   word = entry.word.now;
@@ -85,7 +85,7 @@ rows_for verb.Scan = map declared_row SCAN.now
 abbrev pub table : List Entry
 table = map declared_entry COMMANDS.now
 
-abbrev declared_pair : Said Text × Said Text → Text × Text
+abbrev declared_pair : TextAnd Text × TextAnd Text → Text × Text
 declared_pair pair = (pair.0.now, pair.1.now)
 
 abbrev pub pairs : List (Text × Text)
@@ -132,12 +132,12 @@ kind_rule id kind = record (new_rule id) {
 }
 
 -- an option with its letter, if it has one
-abbrev pub lettered : Option ℕ → Rule → Rule
-lettered letter rule = record rule { short = letter }
+abbrev pub rule_with_letter : Option ℕ → Rule → Rule
+rule_with_letter letter rule = record rule { short = letter }
 
 -- what `clap` reads of an argument of the table
 abbrev pub rule_for : Argument → Rule
-rule_for row = lettered row.letter (record (kind_rule row.id row.kind) { required = row.is_required })
+rule_for row = rule_with_letter row.letter (record (kind_rule row.id row.kind) { required = row.is_required })
 
 -- ## The command
 

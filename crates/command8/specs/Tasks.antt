@@ -49,7 +49,7 @@ use Rattle.command8.specs.declared.table.TheConstants.{MOST_IMAGES}
 use Rattle.command8.specs.declared.table.Verb.{Verb}
 use Rattle.command8.specs.declared.table.Verb.TheVariants as verb
 use Rattle.command8.specs.Found.{IsReadAs, bits_of, cell_of, date_word, has, is_limit, is_set, layout_of, name_in, names_in, number_in, number_of, place_of, span_of, values_of, wait_of, word_of, year_of}
-use Rattle.command8.specs.Refusals.{blocks_word, input_count, puts_many, refusal_of, said}
+use Rattle.command8.specs.Refusals.{blocks_word, input_count, puts_many, refusal_of, saying_of}
 use Rattle.command8.specs.Tables.{Entry, entry_named, pdp8}
 
 -- ## What it asks for
@@ -318,7 +318,7 @@ Asks (Some met) task = AsksOf (entry_named met.0) met.1 task
 -- its arguments are refused for this, with the line on its usage
 abbrev pub RefusesOf : Option Entry → List Row → Text → Refusal → Type 0
 RefusesOf None values line refusal = ⊥
-RefusesOf (Some entry) values line refusal = (line ≡ entry.usage) × (refusal_of entry.verb values ≡ Some (said refusal))
+RefusesOf (Some entry) values line refusal = (line ≡ entry.usage) × (refusal_of entry.verb values ≡ Some (saying_of refusal))
 
 abbrev pub Refuses : Option (Text × List Row) → Text → Refusal → Type 0
 Refuses None line refusal = ⊥

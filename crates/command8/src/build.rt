@@ -3,7 +3,7 @@ ghost use Rattle.std.specs.Prelude.{◌≡◌, ◌<◌, true, codes, map, None};
 ghost use Rattle.std.specs.List.{list_all};
 ghost use Rattle.clap.specs.Words.{new_app};
 ghost use Rattle.command8.specs.CommandSteps.{IsArgument, IsCommand, IsDraft};
-ghost use Rattle.command8.specs.Tables.{bare_app, kind_rule, leaf_app, lettered, pdp8, rule_for};
+ghost use Rattle.command8.specs.Tables.{bare_app, kind_rule, leaf_app, rule_with_letter, pdp8, rule_for};
 ghost use Rattle.command8.specs.TableSteps.{entry_of, fits, is_fit, is_sound, row_of, option_rule, options_rule};
 ghost use Rattle.command8.specs.Tables as spec;
 ghost use Rattle.command8.specs.declared.table.Kind.TheVariants as kind;
@@ -31,7 +31,7 @@ fn argument_of<'a>(alloc: Global, row: &'a Argument) -> Arg<'a>
 
 /// An option with its letter, if it has one.
 fn with_letter<'a>(argument: Arg<'a>, letter: Option<char>) -> Arg<'a>
-    ensures { (rule : _) → IsArgument argument.entry rule → rule.short ≡ None → IsArgument result (lettered letter rule) }
+    ensures { (rule : _) → IsArgument argument.entry rule → rule.short ≡ None → IsArgument result (rule_with_letter letter rule) }
 {
     match letter {
         Some(letter) => argument.short(letter),

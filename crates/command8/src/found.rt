@@ -167,11 +167,11 @@ pub fn names_of(
     ensures { IfOk result (λ names. map (λ text. text.bytes.items) names.items
         ≡ spec.names_in id.now (rows_of (found_of found.now))) }
 {
-    raised(alloc, texts_in(found, id))
+    capital_copies(alloc, texts_in(found, id))
 }
 
 /// Copies of texts in capital letters.
-fn raised(alloc: Global, words: &[&str]) -> Result<Vec<String>, AllocError>
+fn capital_copies(alloc: Global, words: &[&str]) -> Result<Vec<String>, AllocError>
     ensures { IfOk result (λ texts. map (λ text. text.bytes.items) texts.items
         ≡ map spec.capitals (map (λ word. word.now) words.now)) }
 {

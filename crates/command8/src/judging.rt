@@ -20,7 +20,7 @@ use word12::MOST_BLOCKS;
 
 /// Refuses the arguments for the first of these, in this order. Two exclude each other, one is missing, standard input is named twice,
 /// there is one too many, or a value is none of its argument's kind.
-pub fn judged(alloc: Global, found: &ArgMatches<'_>, entry: &'static Entry) -> Result<(), TaskFault>
+pub fn judge_arguments(alloc: Global, found: &ArgMatches<'_>, entry: &'static Entry) -> Result<(), TaskFault>
     ensures passed { IfOk result (λ _. refusal_of entry.now.verb (rows_of (found_of found.now)) ≡ None) }
     ensures refused { IfErr result (IsRefusedBy (entry_of entry.now) (rows_of (found_of found.now))) }
 {
@@ -33,7 +33,7 @@ pub fn judged(alloc: Global, found: &ArgMatches<'_>, entry: &'static Entry) -> R
     if names_input_twice(found) {
         return Err(TaskFault::Refused(entry.usage, Refusal::InputTwice));
     }
-    if let Some(text) = unexpected_of(found) {
+    if let Some(text) = extra_argument(found) {
         let text = String::from_str(alloc, text)?;
         return Err(TaskFault::Refused(entry.usage, Refusal::Unexpected(text)));
     }
@@ -65,7 +65,7 @@ fn first_pair(
         ≡ spec.first_pair (map pair_of pairs.now) (map row_of rows.now) (rows_of (found_of found.now)) }
 {
     for pair in pairs {
-        if let Some(both) = both_of(shown_in(found, rows, pair.0), shown_in(found, rows, pair.1)) {
+        if let Some(both) = both_of(title_in(found, rows, pair.0), title_in(found, rows, pair.1)) {
             return Some(both);
         }
     }
@@ -87,24 +87,24 @@ fn both_of(one: Option<&'static str>, other: Option<&'static str>) -> Option<Pai
 }
 
 /// What the argument of a name is called in refusals, if it was given.
-fn shown_in(found: &ArgMatches<'_>, rows: &'static [Argument], id: &str) -> Option<&'static str>
+fn title_in(found: &ArgMatches<'_>, rows: &'static [Argument], id: &str) -> Option<&'static str>
     ensures { option_map (λ text. text.now) result
-        ≡ spec.shown_in (map row_of rows.now) id.now (rows_of (found_of found.now)) }
+        ≡ spec.title_in (map row_of rows.now) id.now (rows_of (found_of found.now)) }
 {
     for row in rows {
         if row.id == id {
-            return shown_of(found, row);
+            return title_of(found, row);
         }
     }
     None
 }
 
 /// What an argument is called in refusals, if it was given.
-fn shown_of(found: &ArgMatches<'_>, row: &'static Argument) -> Option<&'static str>
-    ensures { option_map (λ text. text.now) result ≡ spec.shown_of (row_of row.now) (rows_of (found_of found.now)) }
+fn title_of(found: &ArgMatches<'_>, row: &'static Argument) -> Option<&'static str>
+    ensures { option_map (λ text. text.now) result ≡ spec.title_of (row_of row.now) (rows_of (found_of found.now)) }
 {
     if is_given(found, row.id, row.kind) {
-        return Some(row.shown);
+        return Some(row.title);
     }
     None
 }
@@ -144,7 +144,7 @@ fn first_bad<'a>(found: &ArgMatches<'a>, rows: &'static [Argument]) -> Option<Ba
     for row in rows {
         let form = form_of(row.kind);
         if let Some(text) = first_of(texts_in(found, row.id), form) {
-            return Some((row.shown, why(form), text));
+            return Some((row.title, why(form), text));
         }
     }
     None
@@ -243,8 +243,8 @@ pub fn blocks_word<'a>(found: &ArgMatches<'a>, index: usize) -> &'a str
 
 /// An argument too many. It is the third after an image whose blocks are got, the last where `--at` stands for a name, or the second file
 /// where one is given a name.
-fn unexpected_of<'a>(found: &ArgMatches<'a>) -> Option<&'a str>
-    ensures { option_map (λ text. text.now) result ≡ spec.unexpected_of (rows_of (found_of found.now)) }
+fn extra_argument<'a>(found: &ArgMatches<'a>) -> Option<&'a str>
+    ensures { option_map (λ text. text.now) result ≡ spec.extra_argument (rows_of (found_of found.now)) }
 {
     if is_set(found, "blocks") {
         return word_at(found, "NAME", 2);

@@ -10,7 +10,7 @@ ghost use Rattle.char_pack.specs.declared.forms.PutForm.TheVariants as put_as;
 ghost use Rattle.disk8.specs.declared.layouts.Layout.TheVariants.{First, Second, Dectape};
 ghost use Rattle.word12.specs.declared.sizes.TheConstants.{MOST_BLOCKS};
 ghost use Rattle.command8.specs.Found.{capitals, layout_of, name_in, names_in, wait_of};
-ghost use Rattle.command8.specs.Plain.{AreTaken, IsTaken, after, alone, given, in_place, with_value};
+ghost use Rattle.command8.specs.Plain.{AreTaken, IsTaken, after, alone, only_gives, in_place, with_value};
 ghost use Rattle.command8.specs.Refusals.{refusal_of, together};
 ghost use Rattle.command8.specs.Tables.{are_apart, are_distinct, entry_named, is_usual, letters_of, pairs, table};
 ghost use Rattle.command8.specs.Tasks.{get_form, line_form, put_form, rim_form, saving_of};
@@ -89,26 +89,26 @@ pub fn plain_words()
 
 /// A law: what the options of a command mean, and what holds where none is given (this project's profile).
 pub fn options()
-    ensures run { (saving_of (given (codes "run") []) ≡ AtEnd) × (saving_of (given (codes "run") (alone (codes "look") ∷ [])) ≡ Never)
-        × (saving_of (given (codes "run") (alone (codes "keep") ∷ [])) ≡ Always) }
-    ensures both { refusal_of verb.Run (given (codes "run") (alone (codes "look") ∷ alone (codes "keep") ∷ []))
+    ensures run { (saving_of (only_gives (codes "run") []) ≡ AtEnd) × (saving_of (only_gives (codes "run") (alone (codes "look") ∷ [])) ≡ Never)
+        × (saving_of (only_gives (codes "run") (alone (codes "keep") ∷ [])) ≡ Always) }
+    ensures both { refusal_of verb.Run (only_gives (codes "run") (alone (codes "look") ∷ alone (codes "keep") ∷ []))
         ≡ Some (together (codes "--look") (codes "--keep")) }
-    ensures rim { (rim_form (given (codes "rim") []) ≡ Lines) × (rim_form (given (codes "rim") (alone (codes "bin") ∷ [])) ≡ Bin) }
-    ensures get { (get_form (given (codes "get") []) ≡ get_as.Frames)
-        × (get_form (given (codes "get") (alone (codes "text") ∷ [])) ≡ get_as.Text)
-        × (get_form (given (codes "get") (alone (codes "tape") ∷ [])) ≡ get_as.Tape)
-        × (get_form (given (codes "get") (alone (codes "text") ∷ alone (codes "tape") ∷ [])) ≡ get_as.Tape) }
-    ensures put { (put_form (given (codes "put") []) ≡ put_as.Frames)
-        × (put_form (given (codes "put") (alone (codes "text") ∷ [])) ≡ put_as.Text) }
-    ensures index { (line_form (given (codes "index") []) ≡ Columns) × (line_form (given (codes "index") (alone (codes "json") ∷ [])) ≡ Json) }
-    ensures layout { (layout_of (codes "volume") (codes "dectape") (given (codes "list") []) ≡ None)
-        × (layout_of (codes "volume") (codes "dectape") (given (codes "list") (with_value (codes "volume") (codes "1") ∷ [])) ≡ Some First)
-        × (layout_of (codes "volume") (codes "dectape") (given (codes "list") (with_value (codes "volume") (codes "2") ∷ [])) ≡ Some Second)
-        × (layout_of (codes "volume") (codes "dectape") (given (codes "list") (alone (codes "dectape") ∷ [])) ≡ Some Dectape) }
-    ensures wait { (wait_of (given (codes "squeeze") []) ≡ 0)
-        × (wait_of (given (codes "squeeze") (with_value (codes "wait") (codes "30") ∷ [])) ≡ 30) }
-    ensures names { (file other : List ℕ) → (name_in (codes "NAME") (given (codes "tape") (in_place (codes "NAME") file ∷ [])) ≡ Some (capitals file))
-        × (names_in (codes "NAME") (given (codes "delete") (in_place (codes "NAME") file ∷ in_place (codes "NAME") other ∷ []))
+    ensures rim { (rim_form (only_gives (codes "rim") []) ≡ Lines) × (rim_form (only_gives (codes "rim") (alone (codes "bin") ∷ [])) ≡ Bin) }
+    ensures get { (get_form (only_gives (codes "get") []) ≡ get_as.Frames)
+        × (get_form (only_gives (codes "get") (alone (codes "text") ∷ [])) ≡ get_as.Text)
+        × (get_form (only_gives (codes "get") (alone (codes "tape") ∷ [])) ≡ get_as.Tape)
+        × (get_form (only_gives (codes "get") (alone (codes "text") ∷ alone (codes "tape") ∷ [])) ≡ get_as.Tape) }
+    ensures put { (put_form (only_gives (codes "put") []) ≡ put_as.Frames)
+        × (put_form (only_gives (codes "put") (alone (codes "text") ∷ [])) ≡ put_as.Text) }
+    ensures index { (line_form (only_gives (codes "index") []) ≡ Columns) × (line_form (only_gives (codes "index") (alone (codes "json") ∷ [])) ≡ Json) }
+    ensures layout { (layout_of (codes "volume") (codes "dectape") (only_gives (codes "list") []) ≡ None)
+        × (layout_of (codes "volume") (codes "dectape") (only_gives (codes "list") (with_value (codes "volume") (codes "1") ∷ [])) ≡ Some First)
+        × (layout_of (codes "volume") (codes "dectape") (only_gives (codes "list") (with_value (codes "volume") (codes "2") ∷ [])) ≡ Some Second)
+        × (layout_of (codes "volume") (codes "dectape") (only_gives (codes "list") (alone (codes "dectape") ∷ [])) ≡ Some Dectape) }
+    ensures wait { (wait_of (only_gives (codes "squeeze") []) ≡ 0)
+        × (wait_of (only_gives (codes "squeeze") (with_value (codes "wait") (codes "30") ∷ [])) ≡ 30) }
+    ensures names { (file other : List ℕ) → (name_in (codes "NAME") (only_gives (codes "tape") (in_place (codes "NAME") file ∷ [])) ≡ Some (capitals file))
+        × (names_in (codes "NAME") (only_gives (codes "delete") (in_place (codes "NAME") file ∷ in_place (codes "NAME") other ∷ []))
         ≡ capitals file ∷ capitals other ∷ []) }
 {}
 

@@ -119,7 +119,7 @@ pub struct ArgumentOf<T> {
     pub value: T,
 
     /// What refusals call it.
-    pub shown: T,
+    pub title: T,
 
     pub help: T,
 }
@@ -150,19 +150,19 @@ macro_rules! rows {
     (@letter) => { None };
     (@letter $letter:literal) => { Some($letter) };
     (@row $id:literal [$($letter:literal)?] must $kind:expr, $value:literal, $help:literal) => {
-        ArgumentOf { id: $id, letter: None, kind: $kind, is_required: true, is_hidden: false, value: $value, shown: concat!("<", $id, ">"), help: $help }
+        ArgumentOf { id: $id, letter: None, kind: $kind, is_required: true, is_hidden: false, value: $value, title: concat!("<", $id, ">"), help: $help }
     };
     (@row $id:literal [$($letter:literal)?] may $kind:expr, $value:literal, $help:literal) => {
-        ArgumentOf { id: $id, letter: None, kind: $kind, is_required: false, is_hidden: false, value: $value, shown: concat!("[", $id, "]"), help: $help }
+        ArgumentOf { id: $id, letter: None, kind: $kind, is_required: false, is_hidden: false, value: $value, title: concat!("[", $id, "]"), help: $help }
     };
     (@row $id:literal [$($letter:literal)?] flag $kind:expr, $value:literal, $help:literal) => {
-        ArgumentOf { id: $id, letter: rows!(@letter $($letter)?), kind: $kind, is_required: false, is_hidden: false, value: $value, shown: concat!("--", $id), help: $help }
+        ArgumentOf { id: $id, letter: rows!(@letter $($letter)?), kind: $kind, is_required: false, is_hidden: false, value: $value, title: concat!("--", $id), help: $help }
     };
     (@row $id:literal [$($letter:literal)?] hidden $kind:expr, $value:literal, $help:literal) => {
-        ArgumentOf { id: $id, letter: rows!(@letter $($letter)?), kind: $kind, is_required: false, is_hidden: true, value: $value, shown: concat!("--", $id), help: $help }
+        ArgumentOf { id: $id, letter: rows!(@letter $($letter)?), kind: $kind, is_required: false, is_hidden: true, value: $value, title: concat!("--", $id), help: $help }
     };
     (@row $id:literal [$($letter:literal)?] option $kind:expr, $value:literal, $help:literal) => {
-        ArgumentOf { id: $id, letter: rows!(@letter $($letter)?), kind: $kind, is_required: false, is_hidden: false, value: $value, shown: concat!("--", $id, " <", $value, ">"), help: $help }
+        ArgumentOf { id: $id, letter: rows!(@letter $($letter)?), kind: $kind, is_required: false, is_hidden: false, value: $value, title: concat!("--", $id, " <", $value, ">"), help: $help }
     };
     ($($id:literal $($letter:literal)? $form:ident $kind:expr, $value:literal, $help:literal;)*) => {
         &[$(rows!(@row $id [$($letter)?] $form $kind, $value, $help)),*]

@@ -10,7 +10,7 @@ use crate::TaskFault;
 use crate::archives::{dump, index, patch, rescue, scan};
 use crate::build::command_line;
 use crate::files::{copy, delete, get, put, rename};
-use crate::judging::judged;
+use crate::judging::judge_arguments;
 use crate::table::{Entry, Verb, table};
 use crate::tapes::{assemble, rim, source, tape, teletype, trace_form};
 use crate::volumes::{changed_image, check, create, list, run};
@@ -28,29 +28,29 @@ pub fn task(alloc: Global, words: &[&str]) -> Result<Task, TaskFault>
 {
     let command = command_line(alloc)?;
     let matches = command.try_get_matches_from(words)?;
-    asked(alloc, &matches)
+    task_of_matches(alloc, &matches)
 }
 
 /// The result of the subcommand that was met.
-fn asked(alloc: Global, matches: &ArgMatches<'_>) -> Result<Task, TaskFault>
+fn task_of_matches(alloc: Global, matches: &ArgMatches<'_>) -> Result<Task, TaskFault>
     requires { HasMet (subcommand_rows_of matches.now) }
     ensures { GivesMet (subcommand_rows_of matches.now) result }
 {
     match matches.subcommand() {
-        Some((name, found)) => asked_of(alloc, name, found),
+        Some((name, found)) => task_of_name(alloc, name, found),
         None => unreachable!(),
     }
 }
 
 /// The result of the subcommand of a name, with what was found for it.
-fn asked_of(alloc: Global, name: &str, found: &ArgMatches<'_>) -> Result<Task, TaskFault>
+fn task_of_name(alloc: Global, name: &str, found: &ArgMatches<'_>) -> Result<Task, TaskFault>
     requires { IsWhole name.now (rows_of (found_of found.now)) }
     ensures { Gives name.now (rows_of (found_of found.now)) result }
 {
-    match named(table(), name) {
+    match entry_of_name(table(), name) {
         Some(entry) => {
-            judged(alloc, found, entry)?;
-            let task = asked_by(alloc, entry.verb, found)?;
+            judge_arguments(alloc, found, entry)?;
+            let task = task_of_verb(alloc, entry.verb, found)?;
             Ok(task)
         }
         None => unreachable!(),
@@ -58,7 +58,7 @@ fn asked_of(alloc: Global, name: &str, found: &ArgMatches<'_>) -> Result<Task, T
 }
 
 /// The subcommand of a name.
-fn named(entries: &'static [Entry], name: &str) -> Option<&'static Entry>
+fn entry_of_name(entries: &'static [Entry], name: &str) -> Option<&'static Entry>
     ensures { option_map (λ entry. entry_of entry.now) result
         ≡ find (λ entry. bytes_eq name.now entry.word) (map entry_of entries.now) }
 {
@@ -71,7 +71,7 @@ fn named(entries: &'static [Entry], name: &str) -> Option<&'static Entry>
 }
 
 /// What a subcommand asks for, with what was found for it.
-fn asked_by(alloc: Global, verb: Verb, found: &ArgMatches<'_>) -> Result<Task, AllocError>
+fn task_of_verb(alloc: Global, verb: Verb, found: &ArgMatches<'_>) -> Result<Task, AllocError>
     requires { Needs verb (rows_of (found_of found.now)) }
     ensures { IfOk result (IsAskedBy verb (rows_of (found_of found.now))) }
 {

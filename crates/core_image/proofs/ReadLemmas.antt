@@ -3,29 +3,29 @@ use Rattle.std.proofs.Common.{◌≡◌, ℕ, ◌+◌, ◌-◌, ◌*◌, ◌/◌
 use Rattle.std.proofs.lemmas.List.{length-take-le, length-take, length-drop}
 use Rattle.std.proofs.lemmas.Bool.Decides.{nat_tests}
 use Rattle.std.proofs.Math.Seq.{take-suc}
-use Rattle.core_image.specs.Segments.{AreSegments, blocks_in, blocks_of, field_of, numbered, pages_of, pairs_in, pairs_of}
+use Rattle.core_image.specs.Segments.{AreSegments, blocks_in, blocks_of, field_of, words_from, pages_of, pairs_in, pairs_of}
 use Rattle.core_image.specs.Image.{IsImage, count_of}
 use Rattle.core_image.specs.Fault.{IsSomeImage}
 use Rattle.core_image.specs.ReadSteps.{HasReadTo, HasReadSome}
 
-numbered_more : (cell : ℕ) (words : List ℕ) (word : ℕ) → numbered cell (words ++ word ∷ []) ≡ numbered cell words ++ (cell + length words, word) ∷ []
+numbered_more : (cell : ℕ) (words : List ℕ) (word : ℕ) → words_from cell (words ++ word ∷ []) ≡ words_from cell words ++ (cell + length words, word) ∷ []
 numbered_more cell [] word = ap (λ n. (n, word) ∷ []) (omega arith)
 numbered_more cell (w ∷ words) word =
     ap (λ l. (cell, w) ∷ l) (numbered_more (cell + 1) words word)
-    ∙ ap (λ n. (cell, w) ∷ (numbered (cell + 1) words ++ (n, word) ∷ [])) (omega arith)
+    ∙ ap (λ n. (cell, w) ∷ (words_from (cell + 1) words ++ (n, word) ∷ [])) (omega arith)
 
 -- one word more of a segment
 pub word_more : (before after : List (ℕ × ℕ)) (cell : ℕ) (words : List ℕ) (at word number : ℕ) → at < length words → word ≡ get_or words at word
-    → number ≡ cell + at → before ≡ after ++ numbered cell (take at words)
-    → before ++ (number, word) ∷ [] ≡ after ++ numbered cell (take (at + 1) words)
+    → number ≡ cell + at → before ≡ after ++ words_from cell (take at words)
+    → before ++ (number, word) ∷ [] ≡ after ++ words_from cell (take (at + 1) words)
 word_more before after cell words at word number inside is number_is so =
     ap (λ l. l ++ (number, word) ∷ []) so
-    ∙ append_assoc after (numbered cell (take at words)) ((number, word) ∷ [])
+    ∙ append_assoc after (words_from cell (take at words)) ((number, word) ∷ [])
     ∙ ap (λ l. after ++ l) (
-    ap (λ n. numbered cell (take at words) ++ (n, word) ∷ []) (number_is ∙ ap (λ n. cell + n) (sym (length-take-le at words (omega (arith, inside)))))
+    ap (λ n. words_from cell (take at words) ++ (n, word) ∷ []) (number_is ∙ ap (λ n. cell + n) (sym (length-take-le at words (omega (arith, inside)))))
     ∙ sym (numbered_more cell (take at words) word)
-    ∙ ap (λ w. numbered cell (take at words ++ w ∷ [])) is
-    ∙ ap (numbered cell) (sym (rw add-one (take-suc words at word inside))))
+    ∙ ap (λ w. words_from cell (take at words ++ w ∷ [])) is
+    ∙ ap (words_from cell) (sym (rw add-one (take-suc words at word inside))))
 
 -- one segment more
 pub segment_more : (words : List ℕ) (number block more : ℕ) (older : List (ℕ × ℕ)) (segment : ℕ × ℕ) → more ≡ blocks_of segment.1 → more ≤ 16
@@ -58,20 +58,20 @@ all_read words number block count is least most read = record {
 -- the words of one segment more
 pub pairs_more : (words : List ℕ) (block cell first control pages : ℕ) (older : List (ℕ × ℕ)) (before after : List (ℕ × ℕ)) → block ≡ 1 + blocks_in older
     → pages ≡ pages_of control → cell ≡ 4096 * field_of control + first → before ≡ pairs_in words older
-    → after ≡ before ++ numbered cell (take (256 * block + 128 * pages - 256 * block) (drop (256 * block) words))
+    → after ≡ before ++ words_from cell (take (256 * block + 128 * pages - 256 * block) (drop (256 * block) words))
     → after ≡ pairs_in words ((first, control) ∷ older)
 pairs_more words block cell first control pages older before after block_is pages_is cell_is so is =
     is
-    ∙ ap (λ n. before ++ numbered cell (take n (drop (256 * block) words))) size
-    ∙ ap (λ c. before ++ numbered c (take (128 * pages_of control) (drop (256 * block) words))) cell_is
-    ∙ ap (λ l. l ++ numbered (4096 * field_of control + first) (take (128 * pages_of control) (drop (256 * block) words))) so
-    ∙ ap (λ b. pairs_in words older ++ numbered (4096 * field_of control + first) (take (128 * pages_of control) (drop (256 * b) words))) block_is
+    ∙ ap (λ n. before ++ words_from cell (take n (drop (256 * block) words))) size
+    ∙ ap (λ c. before ++ words_from c (take (128 * pages_of control) (drop (256 * block) words))) cell_is
+    ∙ ap (λ l. l ++ words_from (4096 * field_of control + first) (take (128 * pages_of control) (drop (256 * block) words))) so
+    ∙ ap (λ b. pairs_in words older ++ words_from (4096 * field_of control + first) (take (128 * pages_of control) (drop (256 * b) words))) block_is
   where
     size : 256 * block + 128 * pages - 256 * block ≡ 128 * pages_of control
     size = omega (arith, pages_is)
 
 -- a segment has a word
-some_numbered : (cell : ℕ) (words : List ℕ) → 0 < length words → 0 < length (numbered cell words)
+some_numbered : (cell : ℕ) (words : List ℕ) → 0 < length words → 0 < length (words_from cell words)
 some_numbered cell [] some = some
 some_numbered cell (word ∷ words) some = omega arith
 

@@ -27,14 +27,14 @@ blocks_in [] = 0
 blocks_in (segment ∷ older) = blocks_in older + blocks_of segment.1
 
 -- words for the cells from one on
-abbrev pub numbered : ℕ → List ℕ → List (ℕ × ℕ)
-numbered cell [] = []
-numbered cell (word ∷ words) = (cell, word) ∷ numbered (cell + 1) words
+abbrev pub words_from : ℕ → List ℕ → List (ℕ × ℕ)
+words_from cell [] = []
+words_from cell (word ∷ words) = (cell, word) ∷ words_from (cell + 1) words
 
 -- the cells of a segment with its words, which stand from this block of the file on
 abbrev pub pairs_of : List ℕ → ℕ → ℕ × ℕ → List (ℕ × ℕ)
 pairs_of words block segment =
-    numbered (FIELD * field_of segment.1 + segment.0) (take (PAGE * pages_of segment.1) (drop (BLOCK * block) words))
+    words_from (FIELD * field_of segment.1 + segment.0) (take (PAGE * pages_of segment.1) (drop (BLOCK * block) words))
 
 -- the cells of all segments with their words, in the order of the file: after the control block the segments one by one
 abbrev pub pairs_in : List ℕ → List (ℕ × ℕ) → List (ℕ × ℕ)

@@ -1,6 +1,6 @@
 ghost use Rattle.std.specs.Prelude.{◌≡◌, ℕ, ◌+◌, ◌≤◌, ◌++◌, length, MatchResult, OnOk};
 ghost use Rattle.word12.specs.declared.sizes.TheConstants.{CORE};
-ghost use Rattle.core_image.specs.Segments.{numbered};
+ghost use Rattle.core_image.specs.Segments.{words_from};
 ghost use Rattle.core_image.specs.Image.{HasHead, IsImage, count_of};
 ghost use Rattle.core_image.specs.Fault.{IsFault, IsSomeImage};
 ghost use Rattle.core_image.specs.ReadSteps.{HasKept, HasReadSome};
@@ -83,7 +83,7 @@ fn pairs_of(alloc: Global, words: &[Word], count: usize) -> Result<Vec<(Cell, Wo
 /// Puts words for the cells from one on after the others.
 fn put_words(pairs: &mut Vec<(Cell, Word)>, first: Cell, words: &[Word]) -> Result<(), AllocError>
     requires { first + length words.now ≤ CORE }
-    ensures { OnOk result (pairs.new.items ≡ pairs.old.items ++ numbered first words.now) }
+    ensures { OnOk result (pairs.new.items ≡ pairs.old.items ++ words_from first words.now) }
 {
     let mut number = first.index() as u32;
     for word in words {

@@ -4,13 +4,13 @@ use Rattle.std.proofs.lemmas.Bool.Decides.{eqb_tells}
 use Rattle.std.proofs.lemmas.Grind.{get_or-set_at}
 use Rattle.bin_tape.specs.Items.{Item, Leader, Field, Origin, Word, cell_after, words_of, tape_map}
 use Rattle.core_load.specs.Load.{IsOverlaid}
-use Rattle.core_load.specs.Steps.{laid}
+use Rattle.core_load.specs.Steps.{core_with}
 
-laid-append : (xs ys : List (ℕ × ℕ)) (core : List ℕ) → laid (xs ++ ys) core ≡ laid ys (laid xs core)
+laid-append : (xs ys : List (ℕ × ℕ)) (core : List ℕ) → core_with (xs ++ ys) core ≡ core_with ys (core_with xs core)
 laid-append [] ys core = refl
 laid-append (x ∷ xs) ys core = laid-append xs ys (slice_set core x.0 x.1)
 
-length-laid : (words : List (ℕ × ℕ)) (core : List ℕ) → length (laid words core) ≡ length core
+length-laid : (words : List (ℕ × ℕ)) (core : List ℕ) → length (core_with words core) ≡ length core
 length-laid [] core = refl
 length-laid (word ∷ words) core = length-laid words (slice_set core word.0 word.1) ∙ length-set core word.0 word.1
 
@@ -30,18 +30,18 @@ one_more core older at word cell map inside before =
     ]
 
 laid_cell : (items : List Item) (core : List ℕ) (cell : ℕ) → cell < length core
-    → slice_index (laid (words_of items) core) cell ≡ unwrap_or (tape_map items cell) (slice_index core cell)
+    → slice_index (core_with (words_of items) core) cell ≡ unwrap_or (tape_map items cell) (slice_index core cell)
 laid_cell [] core cell inside = refl
 laid_cell (Leader f ∷ older) core cell inside = laid_cell older core cell inside
 laid_cell (Field n ∷ older) core cell inside = laid_cell older core cell inside
 laid_cell (Origin high low ∷ older) core cell inside = laid_cell older core cell inside
 laid_cell (Word high low ∷ older) core cell inside =
     ap (λ c. slice_index c cell) (laid-append (words_of older) ((cell_after older, _) ∷ []) core)
-    ∙ one_more core (laid (words_of older) core) (cell_after older) _ cell (tape_map older cell)
+    ∙ one_more core (core_with (words_of older) core) (cell_after older) _ cell (tape_map older cell)
     (subst (λ (n : ℕ). cell < n) (sym (length-laid (words_of older) core)) inside)
     (laid_cell older core cell inside)
 
-pub is_overlaid : (items : List Item) (core : List ℕ) → IsOverlaid items core (laid (words_of items) core)
+pub is_overlaid : (items : List Item) (core : List ℕ) → IsOverlaid items core (core_with (words_of items) core)
 is_overlaid items core = record {
   same_size = length-laid (words_of items) core;
   cells = laid_cell items core;

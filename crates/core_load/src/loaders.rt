@@ -4,7 +4,7 @@ ghost use Rattle.bin_tape.specs.Tape.{IsTape};
 ghost use Rattle.bin_tape.specs.Fault.{IsFault};
 ghost use Rattle.bin_tape.specs.Reading.{IsWhole};
 ghost use Rattle.core_load.specs.Load.{LoadsTape, IsOverlaid};
-ghost use Rattle.core_load.specs.Steps.{laid};
+ghost use Rattle.core_load.specs.Steps.{core_with};
 
 use crate::Core;
 use bin_tape::laws::{handed_words, longer_tape};
@@ -102,7 +102,7 @@ pub fn load(alloc: Global, frames: &[u8], core: &mut Core) -> Result<(), TapeFau
 
 /// Lays words one after the other.
 fn lay_words(words: &[(Cell, Word)], core: &mut Core)
-    ensures { core.new ≡ laid words.now core.old }
+    ensures { core.new ≡ core_with words.now core.old }
 {
     for &(cell, word) in words {
         core.set(cell, word);

@@ -4,7 +4,7 @@ use Rattle.std.proofs.lemmas.Bool.{cases_eq, eq-eqb, ne_eqb}
 use Rattle.std.proofs.lemmas.List.{get_or-set_same, get_or-set_other}
 use Rattle.word12.specs.declared.sizes.TheConstants.{CORE}
 use Rattle.cpu8.specs.State.{State, next_cell}
-use Rattle.cpu8.specs.Step.{fetched}
+use Rattle.cpu8.specs.Step.{next_word}
 use Rattle.cpu8.specs.Go.{printing_step, after, answer}
 use Rattle.cpu8.specs.QuietSteps.{is_quiet, Does}
 use Rattle.cpu8.specs.Fetches.{is_fetch, fetches, fetch_count, AddsFetches, HaveRoom}
@@ -71,7 +71,7 @@ adds-one k s here old counts whole adds within ran at = record {
 }
 
 pub adds-next : (k : ℕ) (s old new : State) (here : ℕ) (from counts : List ℕ) → length from ≡ CORE → AddsFetches k s from counts
-    → old ≡ after true k s → is_quiet true old ≡ true → Does old (fetched old) new → here ≡ next_cell old → here < CORE
+    → old ≡ after true k s → is_quiet true old ≡ true → Does old (next_word old) new → here ≡ next_cell old → here < CORE
     → AddsFetches (k + 1) s from (slice_set counts here (slice_index_or counts here 0 + 1))
 adds-next k s old new here from counts whole adds at h does is within =
     let ran : answer true k s ≡ Ran None =

@@ -1,23 +1,23 @@
 -- A go, step by step.
 use Rattle.std.proofs.Common.{◌≡◌, ℕ, ◌+◌, ◌<◌, Bool, true, false, if◌then◌else◌, List, [], ◌++◌, Option, Some, None, IsSome, unwrap_or, add-one, append-nil, append_assoc, arith, refl, ap, sym, subst, ◌∙◌, below_more}
 use Rattle.cpu8.specs.State.{State}
-use Rattle.cpu8.specs.Go.{printing_step, after, answer, reason, ending, IsGo, character_of, printed_by}
+use Rattle.cpu8.specs.Go.{printing_step, after, answer, reason, ending, IsGo, character_of, characters_of}
 use Rattle.cpu8.specs.declared.outcomes.Why.{Why}
 
 pub after-none : (quick : Bool) (s : State) → after quick 0 s ≡ s
 unfolding after
 after-none quick s = refl
 
-pub printed-none : (quick : Bool) (s : State) → printed_by quick 0 s ≡ []
-unfolding printed_by
+pub printed-none : (quick : Bool) (s : State) → characters_of quick 0 s ≡ []
+unfolding characters_of
 printed-none quick s = refl
 
 pub after-next : (quick : Bool) (k : ℕ) (s : State) → after quick (k + 1) s ≡ (printing_step quick (after quick k s)).0
 unfolding after
 after-next quick k s = rw add-one refl
 
-pub printed-next : (quick : Bool) (k : ℕ) (s : State) → printed_by quick (k + 1) s ≡ printed_by quick k s ++ character_of (answer quick k s)
-unfolding printed_by
+pub printed-next : (quick : Bool) (k : ℕ) (s : State) → characters_of quick (k + 1) s ≡ characters_of quick k s ++ character_of (answer quick k s)
+unfolding characters_of
 printed-next quick k s = rw add-one refl
 
 pub ending-none : (quick : Bool) (breaks : List Bool) (s : State) → ending quick breaks s 0 ≡ (if s.running then None else Some Why.Halt)
@@ -77,7 +77,7 @@ go-whole quick breaks s n before =
 
 -- ## From what a step did
 
-pub printed-begun : (quick : Bool) (s : State) (old : List ℕ) → old ≡ old ++ printed_by quick 0 s
+pub printed-begun : (quick : Bool) (s : State) (old : List ℕ) → old ≡ old ++ characters_of quick 0 s
 printed-begun quick s old = sym (ap (λ xs. old ++ xs) (printed-none quick s) ∙ append-nil old)
 
 pub state-stepped : (quick : Bool) (k : ℕ) (s before now : State) → before ≡ after quick k s → now ≡ (printing_step quick before).0
@@ -85,12 +85,12 @@ pub state-stepped : (quick : Bool) (k : ℕ) (s before now : State) → before �
 state-stepped quick k s before now at h = h ∙ (ap (λ x. (printing_step quick x).0) at ∙ sym (after-next quick k s))
 
 pub printed-stepped : (quick : Bool) (k : ℕ) (s before : State) (old items new : List ℕ) → before ≡ after quick k s
-    → items ≡ old ++ printed_by quick k s → new ≡ items ++ character_of (printing_step quick before).1
-    → new ≡ old ++ printed_by quick (k + 1) s
+    → items ≡ old ++ characters_of quick k s → new ≡ items ++ character_of (printing_step quick before).1
+    → new ≡ old ++ characters_of quick (k + 1) s
 printed-stepped quick k s before old items new at so_far h =
     h ∙ (ap (λ x. items ++ character_of (printing_step quick x).1) at
     ∙ (ap (λ xs. xs ++ character_of (answer quick k s)) so_far
-    ∙ (append_assoc old (printed_by quick k s) (character_of (answer quick k s))
+    ∙ (append_assoc old (characters_of quick k s) (character_of (answer quick k s))
     ∙ sym (ap (λ xs. old ++ xs) (printed-next quick k s)))))
 
 pub reason-stepped : (quick : Bool) (breaks : List Bool) (k : ℕ) (s before now : State) (why : Option Why) → before ≡ after quick k s

@@ -5,7 +5,7 @@ use Rattle.cpu8.specs.State.{State, printer_done}
 use Rattle.cpu8.specs.Decoding.{operation_of, is_group_1, is_group_2, is_reversed}
 use Rattle.cpu8.specs.Operate.{group1_number, group1_row, is_met, group2_skips, group2_row, unassigned_row}
 use Rattle.cpu8.specs.Reference.{operand}
-use Rattle.cpu8.specs.Step.{row, executed, fetched, step}
+use Rattle.cpu8.specs.Step.{row, after_instruction, next_word, step}
 use Rattle.cpu8.specs.Laws.{cia, tsf, tls, after, link_and_ac, HasLinkAndAc, IsNext, IsNextWord, Skips, SkipsNot, IsTest}
 use Rattle.cpu8.specs.declared.decoding.Operation.{Operation}
 use Rattle.cpu8.specs.declared.decoding.Operation.TheVariants.{Tad, Opr}
@@ -17,8 +17,8 @@ use Rattle.cpu8.proofs.RunLemmas.{step-next}
 sum_is : (l ac word : ℕ) → 4096 * ((l + (ac + word) / 4096) % 2) + (ac + word) % 4096 ≡ (4096 * l + ac + word) % 8192
 sum_is l ac word = omega arith
 
-pub tad_sum : (s : State) → IsNext Tad s → link_and_ac (step s).0 ≡ (link_and_ac s + operand s (fetched s)) % 8192
-tad_sum s next = ap (λ r. link_and_ac r.0) (step-next Tad s next) ∙ sum_is s.l s.ac (operand s (fetched s))
+pub tad_sum : (s : State) → IsNext Tad s → link_and_ac (step s).0 ≡ (link_and_ac s + operand s (next_word s)) % 8192
+tad_sum s next = ap (λ r. link_and_ac r.0) (step-next Tad s next) ∙ sum_is s.l s.ac (operand s (next_word s))
 
 -- ## CIA
 
@@ -33,7 +33,7 @@ unfolding group1_number
 cia_number l ac = number_of_thirteen ((4096 * l + (4095 - ac) + 1) % 8192) (sum_small l ac)
 
 pub cia_ac : (s : State) → HasLinkAndAc s → (after cia s).ac ≡ (4096 - s.ac) % 4096
-unfolding executed
+unfolding after_instruction
 cia_ac s parts = ap (λ n. n % 4096) (cia_number s.l s.ac) ∙ negated s.l s.ac parts.ac
 
 -- ## The sense of the skip
@@ -47,7 +47,7 @@ higher word clear = omega arith
 
 pc_of : (word : ℕ) (s : State) → operation_of word ≡ Opr → is_group_1 word ≡ false → is_group_2 word ≡ true
     → (after word s).pc ≡ (s.pc + (if group2_skips word s.l s.ac then 2 else 1)) % 4096
-unfolding executed
+unfolding after_instruction
 pc_of word s operation not_group_1 group_2 =
     ap (λ (kind : Operation). (row kind s word).0.pc) operation
     ∙ ap (λ (b : Bool). (if b then group1_row s word else if is_group_2 word then group2_row s word else unassigned_row s word).0.pc) not_group_1
@@ -109,15 +109,15 @@ turned_skips_not word s test plain = turned_pc word s test ∙ skips_not_by (is_
 -- ## TLS and TSF
 
 flag_behind_tls : (s : State) → IsNextWord tls s → (step s).0.teletype.printer_flag ≡ false
-unfolding step executed
+unfolding step after_instruction
 flag_behind_tls s next = rw (next.running, next.undisturbed, next.fetches) refl
 
 busy_behind_tls : (s : State) → IsNextWord tls s → (step s).0.teletype.busy ≡ true
-unfolding step executed
+unfolding step after_instruction
 busy_behind_tls s next = rw (next.running, next.undisturbed, next.fetches) refl
 
 tsf_pc : (s : State) (flag : Bool) → s.teletype.printer_flag ≡ flag → IsNextWord tsf s → (step s).0.pc ≡ (s.pc + (if flag then 2 else 1)) % 4096
-unfolding step executed
+unfolding step after_instruction
 tsf_pc s flag e next = rw (next.running, next.undisturbed, next.fetches) (ap (λ (b : Bool). (s.pc + (if b then 2 else 1)) % 4096) e)
 
 done_flag : (s : State) → s.teletype.busy ≡ true → (printer_done s).teletype.printer_flag ≡ true

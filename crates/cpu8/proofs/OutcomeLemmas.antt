@@ -2,7 +2,7 @@
 use Rattle.std.proofs.Common.{◌≡◌, ℕ, Bool, true, false, true≢false, nat_eq, if◌then◌else◌, None, refl, sym, ◌∙◌}
 use Rattle.cpu8.specs.State.{State}
 use Rattle.cpu8.specs.Decoding.{pulses_of, device_of, field_of, is_group_1, is_group_2, has_hlt}
-use Rattle.cpu8.specs.Reference.{advanced}
+use Rattle.cpu8.specs.Reference.{after_fetch}
 use Rattle.cpu8.specs.Operate.{is_group1_unassigned, unassigned_row, group1_done, group1_row, group2_done, group2_row, operate_row}
 use Rattle.cpu8.specs.Transfer.{ion_row, iof_row, cdf_row, cif_row, cdf_cif_row, rdf_row, rif_row, rib_row, rmf_row, read_row, device_row}
 use Rattle.cpu8.specs.Step.{row}
@@ -36,11 +36,11 @@ either_state : (j : Bool) (s : State) (b : Bool) (x y : State) → IsOutcome j s
 either_state j s true x y hx hy = hx
 either_state j s false x y hx hy = hy
 
-advanced-outcome : (j : Bool) (s : State) → IsOutcome j s (advanced s, Ran None)
+advanced-outcome : (j : Bool) (s : State) → IsOutcome j s (after_fetch s, Ran None)
 advanced-outcome j s = record { instruction = refl; waited = λ _ _. refl; held = λ _ h. h }
 
 ion-outcome : (j : Bool) (s : State) (on : Bool) → s.interrupts_on ≡ on
-    → IsOutcome j s (if on then advanced s else record (advanced s) { interrupts_on = true; waiting = true }, Ran None)
+    → IsOutcome j s (if on then after_fetch s else record (after_fetch s) { interrupts_on = true; waiting = true }, Ran None)
 ion-outcome j s true e = advanced-outcome j s
 ion-outcome j s false e = record { instruction = refl; waited = λ on _. absurd (true≢false (sym on ∙ e)); held = λ _ h. h }
 
@@ -49,19 +49,19 @@ read-outcome j s n =
     either_state j s (nat_eq n 1) (rdf_row s) _ (record { instruction = refl; waited = λ _ _. refl; held = λ _ h. h })
     (either_state j s (nat_eq n 2) (rif_row s) _ (record { instruction = refl; waited = λ _ _. refl; held = λ _ h. h })
     (either_state j s (nat_eq n 3) (rib_row s) _ (record { instruction = refl; waited = λ _ _. refl; held = λ _ h. h })
-    (either_state j s (nat_eq n 4) (rmf_row s) (advanced s) (record { instruction = refl; waited = λ _ _. refl; held = λ _ _. refl }) (advanced-outcome j s))))
+    (either_state j s (nat_eq n 4) (rmf_row s) (after_fetch s) (record { instruction = refl; waited = λ _ _. refl; held = λ _ _. refl }) (advanced-outcome j s))))
 
 device-outcome : (j : Bool) (d : Device) (s : State) (w : ℕ) → IsOutcome j s (device_row d s w)
 device-outcome j Interrupts s w =
     either_state j s (nat_eq (pulses_of w) 1) (ion_row s) _ (ion-outcome j s s.interrupts_on refl)
-    (either_state j s (nat_eq (pulses_of w) 2) (iof_row s) (advanced s) (record { instruction = refl; waited = λ _ _. refl; held = λ _ h. h }) (advanced-outcome j s))
+    (either_state j s (nat_eq (pulses_of w) 2) (iof_row s) (after_fetch s) (record { instruction = refl; waited = λ _ _. refl; held = λ _ h. h }) (advanced-outcome j s))
 device-outcome j Keyboard s w = record { instruction = refl; waited = λ _ _. refl; held = λ _ h. h }
 device-outcome j Printer s w = record { instruction = refl; waited = λ _ _. refl; held = λ _ h. h }
 device-outcome j Fields s w =
     either_state j s (nat_eq (pulses_of w) 1) (cdf_row s (field_of w)) _ (record { instruction = refl; waited = λ _ _. refl; held = λ _ h. h })
     (either_state j s (nat_eq (pulses_of w) 2) (cif_row s (field_of w)) _ (record { instruction = refl; waited = λ _ _. refl; held = λ _ _. refl })
     (either_state j s (nat_eq (pulses_of w) 3) (cdf_cif_row s (field_of w)) _ (record { instruction = refl; waited = λ _ _. refl; held = λ _ _. refl })
-    (either_state j s (nat_eq (pulses_of w) 4) (read_row s (field_of w)) (advanced s) (read-outcome j s (field_of w)) (advanced-outcome j s))))
+    (either_state j s (nat_eq (pulses_of w) 4) (read_row s (field_of w)) (after_fetch s) (read-outcome j s (field_of w)) (advanced-outcome j s))))
 device-outcome j Other s w = advanced-outcome j s
 
 unassigned-outcome : (j : Bool) (s : State) (w : ℕ) → IsOutcome j s (unassigned_row s w)

@@ -3,8 +3,8 @@ use Rattle.std.proofs.Common.{◌≡◌, ℕ, zero, suc, ◌+◌, ◌<◌, Bool,
 use Rattle.std.proofs.lemmas.Option.{none-some}
 use Rattle.tty8.specs.Teletype.{is_requesting}
 use Rattle.cpu8.specs.State.{State, next_cell, printer_done}
-use Rattle.cpu8.specs.Step.{executed, fetched, step}
-use Rattle.cpu8.specs.Go.{printing_step, after, answer, break_ahead, reason, ending, IsGo, character_of, printed_by, is_break}
+use Rattle.cpu8.specs.Step.{after_instruction, next_word, step}
+use Rattle.cpu8.specs.Go.{printing_step, after, answer, break_ahead, reason, ending, IsGo, character_of, characters_of, is_break}
 use Rattle.cpu8.specs.QuietSteps.{is_quiet, Stays, Does, Goes, IsQuietStep, AreQuiet}
 use Rattle.cpu8.specs.declared.outcomes.Stepped.{Stepped}
 use Rattle.cpu8.specs.declared.outcomes.Stepped.TheVariants.{Ran, Stopped, Interrupted, Halted, Unassigned}
@@ -26,7 +26,7 @@ none-granted true true held false h = refl
 none-granted true false true false h = refl
 none-granted true false false false h = refl
 
-pub printing_step-quiet : (quick : Bool) (s : State) → is_quiet quick s ≡ true → printing_step quick s ≡ executed s (fetched s)
+pub printing_step-quiet : (quick : Bool) (s : State) → is_quiet quick s ≡ true → printing_step quick s ≡ after_instruction s (next_word s)
 unfolding step
 printing_step-quiet quick s h =
     let parts = quiet-parts s.running (s.interrupts_on && is_requesting s.teletype) (quick && s.teletype.busy) h in
@@ -45,13 +45,13 @@ fields-same old new stays same = stays.buffer ∙ (same ∙ sym (stays.field sam
 pub none-quiet : (quick : Bool) (breaks : List Bool) (s : State) → AreQuiet quick breaks s 0
 none-quiet quick breaks s m below = absurd (omega (arith, below))
 
-pub after-goes : (quick : Bool) (k : ℕ) (s old new : State) → old ≡ after quick k s → is_quiet quick old ≡ true → Goes old (fetched old) new
+pub after-goes : (quick : Bool) (k : ℕ) (s old new : State) → old ≡ after quick k s → is_quiet quick old ≡ true → Goes old (next_word old) new
     → new ≡ after quick (k + 1) s
 after-goes quick k s old new at h goes =
     goes.state ∙ (ap (λ p. p.0) (sym (printing_step-quiet quick old h)) ∙ (ap (λ x. (printing_step quick x).0) at ∙ sym (after-next quick k s)))
 
 pub quiet-goes : (quick : Bool) (breaks : List Bool) (k : ℕ) (s old new : State) → old ≡ after quick k s → is_quiet quick old ≡ true
-    → (0 < k → is_break breaks (next_cell old) ≡ false) → Goes old (fetched old) new → AreQuiet quick breaks s k → AreQuiet quick breaks s (k + 1)
+    → (0 < k → is_break breaks (next_cell old) ≡ false) → Goes old (next_word old) new → AreQuiet quick breaks s k → AreQuiet quick breaks s (k + 1)
 quiet-goes quick breaks k s old new at h ahead goes before = below_more _ _ before (record {
   answer = ap (λ x. (printing_step quick x).1) (sym at) ∙ (ap (λ p. p.1) (printing_step-quiet quick old h) ∙ sym goes.answer);
   ahead = λ more. ap (λ x. is_break breaks (next_cell x)) (sym at) ∙ ahead more;
@@ -60,13 +60,13 @@ quiet-goes quick breaks k s old new at h ahead goes before = below_more _ _ befo
 goes : (old new : State) (w : ℕ) → Does old w new → Goes old w new
 goes old new w does = record { state = does.state; answer = does.answer; quiet = λ quick h. stays-quiet quick old new h does.stays }
 
-pub after-quiet : (quick : Bool) (k : ℕ) (s old new : State) → old ≡ after quick k s → is_quiet quick old ≡ true → Does old (fetched old) new
+pub after-quiet : (quick : Bool) (k : ℕ) (s old new : State) → old ≡ after quick k s → is_quiet quick old ≡ true → Does old (next_word old) new
     → new ≡ after quick (k + 1) s
-after-quiet quick k s old new at h does = after-goes quick k s old new at h (goes old new (fetched old) does)
+after-quiet quick k s old new at h does = after-goes quick k s old new at h (goes old new (next_word old) does)
 
 pub quiet-next : (quick : Bool) (breaks : List Bool) (k : ℕ) (s old new : State) → old ≡ after quick k s → is_quiet quick old ≡ true
-    → (0 < k → is_break breaks (next_cell old) ≡ false) → Does old (fetched old) new → AreQuiet quick breaks s k → AreQuiet quick breaks s (k + 1)
-quiet-next quick breaks k s old new at h ahead does before = quiet-goes quick breaks k s old new at h ahead (goes old new (fetched old) does) before
+    → (0 < k → is_break breaks (next_cell old) ≡ false) → Does old (next_word old) new → AreQuiet quick breaks s k → AreQuiet quick breaks s (k + 1)
+quiet-next quick breaks k s old new at h ahead does before = quiet-goes quick breaks k s old new at h ahead (goes old new (next_word old) does) before
 
 -- ## Quiet steps behind others
 
@@ -113,14 +113,14 @@ quiet-run quick breaks a b s mid at before ahead quiet =
     (subst (λ x. AreQuiet quick breaks x b) at quiet)
 
 pub printed-quiet : (quick : Bool) (breaks : List Bool) (s : State) (a k : ℕ) → AreQuiet quick breaks (after quick a s) k
-    → printed_by quick (a + k) s ≡ printed_by quick a s
-printed-quiet quick breaks s a zero quiet = let e : a + 0 ≡ a = omega arith in ap (λ k. printed_by quick k s) e
+    → characters_of quick (a + k) s ≡ characters_of quick a s
+printed-quiet quick breaks s a zero quiet = let e : a + 0 ≡ a = omega arith in ap (λ k. characters_of quick k s) e
 printed-quiet quick breaks s a (suc k) quiet =
     let e : a + suc k ≡ a + k + 1 = omega arith in
     let h : answer quick (a + k) s ≡ Ran None = answer-add quick a k s ∙ (quiet k (omega arith)).answer in
-    ap (λ k. printed_by quick k s) e ∙ (printed-next quick (a + k) s
-    ∙ (ap (λ x. printed_by quick (a + k) s ++ character_of x) h
-    ∙ (append-nil (printed_by quick (a + k) s) ∙ printed-quiet quick breaks s a k (fewer-quiet quick breaks (after quick a s) k quiet))))
+    ap (λ k. characters_of quick k s) e ∙ (printed-next quick (a + k) s
+    ∙ (ap (λ x. characters_of quick (a + k) s ++ character_of x) h
+    ∙ (append-nil (characters_of quick (a + k) s) ∙ printed-quiet quick breaks s a k (fewer-quiet quick breaks (after quick a s) k quiet))))
 
 -- behind a quiet step only a break is a reason to stop
 ending-behind : (quick : Bool) (breaks : List Bool) (s : State) (a k : ℕ) → AreQuiet quick breaks (after quick a s) (suc k)
@@ -173,7 +173,7 @@ pub state-run : (quick : Bool) (a k : ℕ) (s mid new : State) → mid ≡ after
 state-run quick a k s mid new at h = h ∙ (ap (λ x. after quick k x) at ∙ sym (after-add quick a k s))
 
 pub printed-run : (quick : Bool) (breaks : List Bool) (a k : ℕ) (s mid : State) (old items : List ℕ) → mid ≡ after quick a s
-    → AreQuiet quick breaks mid k → items ≡ old ++ printed_by quick a s → items ≡ old ++ printed_by quick (a + k) s
+    → AreQuiet quick breaks mid k → items ≡ old ++ characters_of quick a s → items ≡ old ++ characters_of quick (a + k) s
 printed-run quick breaks a k s mid old items at quiet h =
     h ∙ ap (λ xs. old ++ xs) (sym (printed-quiet quick breaks s a k (subst (λ x. AreQuiet quick breaks x k) at quiet)))
 

@@ -2,7 +2,7 @@
 use Rattle.std.proofs.Common.{◌≡◌, ℕ, zero, suc, ◌+◌, ◌*◌, ◌/◌, ◌%◌, ◌^◌, ◌<◌, [], ◌∷◌, ◌++◌, refl, ap, sym, ◌∙◌, arith}
 use Rattle.std.proofs.Math.Nat.{pow-succ', div-div-eq-div-mul, mul-add-div_right}
 use Rattle.std.proofs.lemmas.Nat.{pow_pos, mod-pow-add}
-use Rattle.cpu8.specs.Rotation.{bits, thirteen_bits, number_after, number_of, rotated_left, rotated_right}
+use Rattle.cpu8.specs.Rotation.{bits, thirteen_bits, number_after, number_of, rotation_left, rotated_right}
 
 -- what stands above the bits does not count
 bits-high : (k a n : ℕ) → bits k (a * 2 ^ k + n) ≡ bits k n
@@ -34,7 +34,7 @@ pub number_of_thirteen : (n : ℕ) → n < 8192 → number_of (thirteen_bits n) 
 unfolding thirteen_bits
 number_of_thirteen n h = number_after-bits 13 0 n ∙ omega arith
 
-pub thirteen_bits-left : (n : ℕ) → n < 8192 → thirteen_bits (n % 4096 * 2 + n / 4096) ≡ rotated_left (thirteen_bits n)
+pub thirteen_bits-left : (n : ℕ) → n < 8192 → thirteen_bits (n % 4096 * 2 + n / 4096) ≡ rotation_left (thirteen_bits n)
 unfolding thirteen_bits
 thirteen_bits-left n h =
     let order : n % 4096 * 2 + n / 4096 ≡ 2 * (n % 4096) + n / 4096 = omega arith in

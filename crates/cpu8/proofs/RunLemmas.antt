@@ -4,8 +4,8 @@ use Rattle.std.proofs.lemmas.Bool.Decides.{eqb_tells}
 use Rattle.std.proofs.lemmas.Grind.{get_or-set_at}
 use Rattle.cpu8.specs.State.{State, place, grants_interrupt}
 use Rattle.cpu8.specs.Decoding.{is_indirect}
-use Rattle.cpu8.specs.Reference.{indexed, is_auto_index, pointer_place, effective_address, direct_address, operand_place, raised}
-use Rattle.cpu8.specs.Step.{row, executed, fetched, interrupted, step}
+use Rattle.cpu8.specs.Reference.{core_with_index, is_auto_index, pointer_place, effective_address, direct_address, operand_place, next_operand}
+use Rattle.cpu8.specs.Step.{row, after_instruction, next_word, after_interrupt, step}
 use Rattle.cpu8.specs.Laws.{IsNext, IsCallAndReturn, IsInterruptAndReturn, Resumes, rmf, jmp_i_0}
 use Rattle.cpu8.specs.declared.decoding.Operation.{Operation}
 use Rattle.cpu8.specs.declared.decoding.Operation.TheVariants.{Isz, Jms, Jmp}
@@ -13,11 +13,11 @@ use Rattle.cpu8.specs.declared.outcomes.Stepped.TheVariants.{Interrupted}
 use Rattle.cpu8.proofs.StepLemmas.{length-indexed}
 
 -- the row of the next instruction
-pub step-next : (kind : Operation) (s : State) → IsNext kind s → step s ≡ row kind s (fetched s)
-unfolding step executed
+pub step-next : (kind : Operation) (s : State) → IsNext kind s → step s ≡ row kind s (next_word s)
+unfolding step after_instruction
 step-next kind s next = rw (next.running, next.undisturbed, next.operation) refl
 
-pub step-interrupt : (s : State) → s.running ≡ true → grants_interrupt s ≡ true → step s ≡ (interrupted s, Interrupted)
+pub step-interrupt : (s : State) → s.running ≡ true → grants_interrupt s ≡ true → step s ≡ (after_interrupt s, Interrupted)
 unfolding step
 step-interrupt s running granted = rw (running, granted) refl
 
@@ -25,7 +25,7 @@ step-interrupt s running granted = rw (running, granted) refl
 jmp-indirect : (s : State) (w : ℕ) → is_indirect w ≡ true → is_auto_index s w ≡ false
     → effective_address s w ≡ slice_index s.core (pointer_place s w)
 jmp-indirect s w indirect auto =
-    ap (λ b. if b then slice_index (indexed s w) (pointer_place s w) else direct_address s w) indirect
+    ap (λ b. if b then slice_index (core_with_index s w) (pointer_place s w) else direct_address s w) indirect
     ∙ ap (λ b. slice_index (if b then slice_set s.core (pointer_place s w) ((slice_index s.core (pointer_place s w) + 1) % 4096) else s.core) (pointer_place s w)) auto
 
 -- what stands at a place that was just stored
@@ -35,40 +35,40 @@ stored core at word place same inside = get_or-set_at core at place word 0 same 
 pub subroutine_pc : (call back : State) → IsCallAndReturn call back → (step back).0.pc ≡ (call.pc + 1) % 4096
 subroutine_pc call back r =
     let called : (step call).0.core
-    ≡ slice_set (indexed call (fetched call)) (place call.instruction_buffer (effective_address call (fetched call))) ((call.pc + 1) % 4096) =
+    ≡ slice_set (core_with_index call (next_word call)) (place call.instruction_buffer (effective_address call (next_word call))) ((call.pc + 1) % 4096) =
     ap (λ r. r.0.core) (step-next Jms call r.calls) in
-    let same : pointer_place back (fetched back) ≡ place call.instruction_buffer (effective_address call (fetched call)) =
-    ap (λ f. place f (direct_address back (fetched back))) r.fields.0 ∙ ap (place call.instruction_buffer) r.through_first_word in
-    let inside : place call.instruction_buffer (effective_address call (fetched call)) < length (indexed call (fetched call)) =
-    rw (length-indexed call (fetched call)) r.first_word in
+    let same : pointer_place back (next_word back) ≡ place call.instruction_buffer (effective_address call (next_word call)) =
+    ap (λ f. place f (direct_address back (next_word back))) r.fields.0 ∙ ap (place call.instruction_buffer) r.through_first_word in
+    let inside : place call.instruction_buffer (effective_address call (next_word call)) < length (core_with_index call (next_word call)) =
+    rw (length-indexed call (next_word call)) r.first_word in
     ap (λ r. r.0.pc) (step-next Jmp back r.returns)
-    ∙ jmp-indirect back (fetched back) r.indirect r.no_auto_index
+    ∙ jmp-indirect back (next_word back) r.indirect r.no_auto_index
     ∙ r.kept
-    ∙ ap (λ core. slice_index core (pointer_place back (fetched back))) called
-    ∙ stored (indexed call (fetched call)) (place call.instruction_buffer (effective_address call (fetched call))) ((call.pc + 1) % 4096) (pointer_place back (fetched back)) same inside
+    ∙ ap (λ core. slice_index core (pointer_place back (next_word back))) called
+    ∙ stored (core_with_index call (next_word call)) (place call.instruction_buffer (effective_address call (next_word call))) ((call.pc + 1) % 4096) (pointer_place back (next_word back)) same inside
 
 pub subroutine_field : (call back : State) → IsCallAndReturn call back → (step back).0.instruction_field ≡ call.instruction_field
 subroutine_field call back r = ap (λ r. r.0.instruction_field) (step-next Jmp back r.returns) ∙ r.fields.1
 
 -- ISZ
 
-isz_pc : (s : State) (b : Bool) → nat_eq (raised s (fetched s)) 0 ≡ b → IsNext Isz s
+isz_pc : (s : State) (b : Bool) → nat_eq (next_operand s (next_word s)) 0 ≡ b → IsNext Isz s
     → (step s).0.pc ≡ (s.pc + (if b then 2 else 1)) % 4096
 isz_pc s b e next = ap (λ r. r.0.pc) (step-next Isz s next) ∙ ap (λ b. (s.pc + (if b then 2 else 1)) % 4096) e
 
-isz_word : (s : State) → IsNext Isz s → operand_place s (fetched s) < length s.core
-    → slice_index (step s).0.core (operand_place s (fetched s)) ≡ raised s (fetched s)
+isz_word : (s : State) → IsNext Isz s → operand_place s (next_word s) < length s.core
+    → slice_index (step s).0.core (operand_place s (next_word s)) ≡ next_operand s (next_word s)
 isz_word s next inside =
-    ap (λ r. slice_index r.0.core (operand_place s (fetched s))) (step-next Isz s next)
-    ∙ stored (indexed s (fetched s)) (operand_place s (fetched s)) (raised s (fetched s)) (operand_place s (fetched s)) refl (rw (length-indexed s (fetched s)) inside)
+    ap (λ r. slice_index r.0.core (operand_place s (next_word s))) (step-next Isz s next)
+    ∙ stored (core_with_index s (next_word s)) (operand_place s (next_word s)) (next_operand s (next_word s)) (operand_place s (next_word s)) refl (rw (length-indexed s (next_word s)) inside)
 
-pub isz_zero : (s : State) → IsNext Isz s → operand_place s (fetched s) < length s.core
-    → slice_index (step s).0.core (operand_place s (fetched s)) ≡ 0 → (step s).0.pc ≡ (s.pc + 2) % 4096
-isz_zero s next inside zero = isz_pc s true (eq-eqb (raised s (fetched s)) 0 (sym (isz_word s next inside) ∙ zero)) next
+pub isz_zero : (s : State) → IsNext Isz s → operand_place s (next_word s) < length s.core
+    → slice_index (step s).0.core (operand_place s (next_word s)) ≡ 0 → (step s).0.pc ≡ (s.pc + 2) % 4096
+isz_zero s next inside zero = isz_pc s true (eq-eqb (next_operand s (next_word s)) 0 (sym (isz_word s next inside) ∙ zero)) next
 
-pub isz_other : (s : State) → IsNext Isz s → operand_place s (fetched s) < length s.core
-    → slice_index (step s).0.core (operand_place s (fetched s)) ≢ 0 → (step s).0.pc ≡ (s.pc + 1) % 4096
-isz_other s next inside other = elim (eqb_tells (raised s (fetched s)) 0) [
+pub isz_other : (s : State) → IsNext Isz s → operand_place s (next_word s) < length s.core
+    → slice_index (step s).0.core (operand_place s (next_word s)) ≢ 0 → (step s).0.pc ≡ (s.pc + 1) % 4096
+isz_other s next inside other = elim (eqb_tells (next_operand s (next_word s)) 0) [
   | inl same ↦ absurd (other (isz_word s next inside ∙ same.1))
   | inr apart ↦ isz_pc s false apart.0 next
 ]
@@ -76,7 +76,7 @@ isz_other s next inside other = elim (eqb_tells (raised s (fetched s)) 0) [
 -- Interrupts
 
 -- RMF
-restored : (s : State) → s.running ≡ true → grants_interrupt s ≡ false → fetched s ≡ rmf
+restored : (s : State) → s.running ≡ true → grants_interrupt s ≡ false → next_word s ≡ rmf
     → (step s).0 ≡ record s {
       pc = (s.pc + 1) % 4096;
       waiting = false;
@@ -84,18 +84,18 @@ restored : (s : State) → s.running ≡ true → grants_interrupt s ≡ false �
       data_field = s.save_field % 8;
       held_off = true;
     }
-unfolding step executed
+unfolding step after_instruction
 restored s running undisturbed word = rw (running, undisturbed, word) refl
 
 -- JMP I 0 in field 0
-jumped : (s : State) → s.running ≡ true → grants_interrupt s ≡ false → s.instruction_field ≡ 0 → fetched s ≡ jmp_i_0
+jumped : (s : State) → s.running ≡ true → grants_interrupt s ≡ false → s.instruction_field ≡ 0 → next_word s ≡ jmp_i_0
     → (step s).0 ≡ record s {
       pc = slice_index s.core 0;
       waiting = false;
       instruction_field = s.instruction_buffer;
       held_off = false;
     }
-unfolding step executed
+unfolding step after_instruction
 jumped s running undisturbed field word = rw (running, undisturbed, word, field) refl
 
 none_granted : (on : Bool) → (on && false) ≡ false
@@ -122,7 +122,7 @@ returned back = record back {
 
 returned-is : (program back : State) → IsInterruptAndReturn program back → (step (step back).0).0 ≡ returned back
 returned-is program back r =
-    let word : fetched back ≡ rmf = ap (slice_index back.core) (in_field_0 back.instruction_field back.pc r.field_0) ∙ r.restores in
+    let word : next_word back ≡ rmf = ap (slice_index back.core) (in_field_0 back.instruction_field back.pc r.field_0) ∙ r.restores in
     let next : slice_index back.core (place back.instruction_field ((back.pc + 1) % 4096)) ≡ jmp_i_0 =
     ap (slice_index back.core) (in_field_0 back.instruction_field ((back.pc + 1) % 4096) r.field_0) ∙ r.jumps in
     ap (λ s. (step s).0) (restored back r.back_running r.undisturbed word)

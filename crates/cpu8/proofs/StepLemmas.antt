@@ -2,10 +2,10 @@
 use Rattle.std.proofs.Common.{◌≡◌, ℕ, Bool, true, false, nat_eq, if◌then◌else◌, List, length, slice_index, slice_set, length-set, ◌+◌, ◌%◌, None, refl, ap, ◌∙◌}
 use Rattle.cpu8.specs.State.{State, grants_interrupt}
 use Rattle.cpu8.specs.Decoding.{operation_of, pulses_of, device_of, field_of, is_group_1, is_group_2, has_hlt}
-use Rattle.cpu8.specs.Reference.{indexed, is_auto_index, pointer_place, advanced}
+use Rattle.cpu8.specs.Reference.{core_with_index, is_auto_index, pointer_place, after_fetch}
 use Rattle.cpu8.specs.Operate.{is_group1_unassigned, unassigned_row, group1_done, group1_row, group2_done, group2_row, operate_row}
 use Rattle.cpu8.specs.Transfer.{ion_row, iof_row, cdf_row, cif_row, cdf_cif_row, rdf_row, rif_row, rib_row, rmf_row, read_row, device_row}
-use Rattle.cpu8.specs.Step.{row, executed, fetched, interrupted, step}
+use Rattle.cpu8.specs.Step.{row, after_instruction, next_word, after_interrupt, step}
 use Rattle.cpu8.specs.Laws.{runs_on}
 use Rattle.cpu8.specs.declared.decoding.Operation.{Operation}
 use Rattle.cpu8.specs.declared.decoding.Operation.TheVariants.{And, Tad, Isz, Dca, Jms, Jmp, Iot, Opr}
@@ -31,13 +31,13 @@ length-if : (b : Bool) (core : List ℕ) (at word : ℕ) → length (if b then s
 length-if true core at word = length-set core at word
 length-if false core at word = refl
 
-pub length-indexed : (s : State) (w : ℕ) → length (indexed s w) ≡ length s.core
+pub length-indexed : (s : State) (w : ℕ) → length (core_with_index s w) ≡ length s.core
 length-indexed s w = length-if (is_auto_index s w) s.core (pointer_place s w) ((slice_index s.core (pointer_place s w) + 1) % 4096)
 
-length-stored : (s : State) (w at word : ℕ) → length (slice_set (indexed s w) at word) ≡ length s.core
-length-stored s w at word = length-set (indexed s w) at word ∙ length-indexed s w
+length-stored : (s : State) (w at word : ℕ) → length (slice_set (core_with_index s w) at word) ≡ length s.core
+length-stored s w at word = length-set (core_with_index s w) at word ∙ length-indexed s w
 
-advanced-keeps : (s : State) → s.running ≡ true → Keeps s (advanced s, Ran None)
+advanced-keeps : (s : State) → s.running ≡ true → Keeps s (after_fetch s, Ran None)
 advanced-keeps s h = record { running = h; size = refl }
 
 read-keeps : (s : State) (n : ℕ) → s.running ≡ true → Keeps s (read_row s n, Ran None)
@@ -45,22 +45,22 @@ read-keeps s n h =
     either_state s (nat_eq n 1) (rdf_row s) _ _ (record { running = h; size = refl })
     (either_state s (nat_eq n 2) (rif_row s) _ _ (record { running = h; size = refl })
     (either_state s (nat_eq n 3) (rib_row s) _ _ (record { running = h; size = refl })
-    (either_state s (nat_eq n 4) (rmf_row s) (advanced s) _ (record { running = h; size = refl }) (advanced-keeps s h))))
+    (either_state s (nat_eq n 4) (rmf_row s) (after_fetch s) _ (record { running = h; size = refl }) (advanced-keeps s h))))
 
 ion-keeps : (s : State) → s.running ≡ true → Keeps s (ion_row s, Ran None)
-ion-keeps s h = either_state s s.interrupts_on (advanced s) _ _ (advanced-keeps s h) (record { running = h; size = refl })
+ion-keeps s h = either_state s s.interrupts_on (after_fetch s) _ _ (advanced-keeps s h) (record { running = h; size = refl })
 
 device-keeps : (d : Device) (s : State) (w : ℕ) → s.running ≡ true → Keeps s (device_row d s w)
 device-keeps Interrupts s w h =
     either_state s (nat_eq (pulses_of w) 1) (ion_row s) _ _ (ion-keeps s h)
-    (either_state s (nat_eq (pulses_of w) 2) (iof_row s) (advanced s) _ (record { running = h; size = refl }) (advanced-keeps s h))
+    (either_state s (nat_eq (pulses_of w) 2) (iof_row s) (after_fetch s) _ (record { running = h; size = refl }) (advanced-keeps s h))
 device-keeps Keyboard s w h = record { running = h; size = refl }
 device-keeps Printer s w h = record { running = h; size = refl }
 device-keeps Fields s w h =
     either_state s (nat_eq (pulses_of w) 1) (cdf_row s (field_of w)) _ _ (record { running = h; size = refl })
     (either_state s (nat_eq (pulses_of w) 2) (cif_row s (field_of w)) _ _ (record { running = h; size = refl })
     (either_state s (nat_eq (pulses_of w) 3) (cdf_cif_row s (field_of w)) _ _ (record { running = h; size = refl })
-    (either_state s (nat_eq (pulses_of w) 4) (read_row s (field_of w)) (advanced s) _ (read-keeps s (field_of w) h) (advanced-keeps s h))))
+    (either_state s (nat_eq (pulses_of w) 4) (read_row s (field_of w)) (after_fetch s) _ (read-keeps s (field_of w) h) (advanced-keeps s h))))
 device-keeps Other s w h = advanced-keeps s h
 
 halting : (s x : State) (halts : Bool) → s.running ≡ true → x.running ≡ (if halts then false else s.running) → x.core ≡ s.core
@@ -86,16 +86,16 @@ row-keeps Jmp s w h = record { running = h; size = length-indexed s w }
 row-keeps Iot s w h = device-keeps (device_of w) s w h
 row-keeps Opr s w h = operate-keeps s w h
 
-running-keeps : (s : State) → s.running ≡ true → Keeps s (if grants_interrupt s then (interrupted s, Interrupted) else row (operation_of (fetched s)) s (fetched s))
+running-keeps : (s : State) → s.running ≡ true → Keeps s (if grants_interrupt s then (after_interrupt s, Interrupted) else row (operation_of (next_word s)) s (next_word s))
 running-keeps s h =
-    either s (grants_interrupt s) (interrupted s, Interrupted) (row (operation_of (fetched s)) s (fetched s)) (record { running = h; size = length-set s.core 0 s.pc })
-    (row-keeps (operation_of (fetched s)) s (fetched s) h)
+    either s (grants_interrupt s) (after_interrupt s, Interrupted) (row (operation_of (next_word s)) s (next_word s)) (record { running = h; size = length-set s.core 0 s.pc })
+    (row-keeps (operation_of (next_word s)) s (next_word s) h)
 
 chosen-keeps : (s : State) (b : Bool) → s.running ≡ b
-    → Keeps s (if b then (if grants_interrupt s then (interrupted s, Interrupted) else row (operation_of (fetched s)) s (fetched s)) else (s, Stopped))
+    → Keeps s (if b then (if grants_interrupt s then (after_interrupt s, Interrupted) else row (operation_of (next_word s)) s (next_word s)) else (s, Stopped))
 chosen-keeps s true h = running-keeps s h
 chosen-keeps s false h = record { running = h; size = refl }
 
 pub step-keeps : (s : State) → Keeps s (step s)
-unfolding step executed
+unfolding step after_instruction
 step-keeps s = chosen-keeps s s.running refl

@@ -59,6 +59,6 @@ character_of Halted = []
 character_of (Unassigned word) = []
 
 -- what so many steps print
-unfoldable pub printed_by : Bool → ℕ → State → List ℕ
-printed_by quick zero s = []
-printed_by quick (suc k) s = printed_by quick k s ++ character_of (answer quick k s)
+unfoldable pub characters_of : Bool → ℕ → State → List ℕ
+characters_of quick zero s = []
+characters_of quick (suc k) s = characters_of quick k s ++ character_of (answer quick k s)

@@ -4,7 +4,7 @@ use Rattle.tty8.specs.Teletype.{is_requesting}
 use Rattle.cpu8.specs.State.{State, place, grants_interrupt}
 use Rattle.cpu8.specs.Decoding.{operation_of, is_indirect, is_group_1, is_group_2, is_reversed}
 use Rattle.cpu8.specs.Reference.{direct_address, is_auto_index, pointer_place, effective_address, operand_place}
-use Rattle.cpu8.specs.Step.{executed, fetched, step}
+use Rattle.cpu8.specs.Step.{after_instruction, next_word, step}
 use Rattle.cpu8.specs.Go as Go
 use Rattle.cpu8.specs.declared.decoding.Operation.{Operation}
 use Rattle.cpu8.specs.declared.decoding.Operation.TheVariants.{And, Tad, Isz, Dca, Jms, Jmp, Iot, Opr}
@@ -53,7 +53,7 @@ jmp_i_0 = 0o5400
 
 -- the state that an instruction of this word leaves
 abbrev pub after : ℕ → State → State
-after word s = (executed s word).0
+after word s = (after_instruction s word).0
 
 -- L and AC as one number of thirteen bits
 abbrev pub link_and_ac : State → ℕ
@@ -70,7 +70,7 @@ pub record HasLinkAndAc (s : State) : Type 0 where
 pub record IsNext (kind : Operation) (s : State) : Type 0 where
   pub running : s.running ≡ true
   pub undisturbed : grants_interrupt s ≡ false
-  pub operation : operation_of (fetched s) ≡ kind
+  pub operation : operation_of (next_word s) ≡ kind
 
 -- whether a machine runs on after such a step
 abbrev pub runs_on : Stepped → Bool
@@ -85,13 +85,13 @@ runs_on (Unassigned word) = false
 -- instruction buffer.
 pub record IsCallAndReturn (call back : State) : Type 0 where
   pub calls : IsNext Jms call
-  pub first_word : place call.instruction_buffer (effective_address call (fetched call)) < length call.core
+  pub first_word : place call.instruction_buffer (effective_address call (next_word call)) < length call.core
   pub returns : IsNext Jmp back
   pub fields : (back.instruction_field ≡ call.instruction_buffer) × (back.instruction_buffer ≡ call.instruction_field)
-  pub indirect : is_indirect (fetched back) ≡ true
-  pub through_first_word : direct_address back (fetched back) ≡ effective_address call (fetched call)
-  pub no_auto_index : is_auto_index back (fetched back) ≡ false
-  pub kept : slice_index back.core (pointer_place back (fetched back)) ≡ slice_index (step call).0.core (pointer_place back (fetched back))
+  pub indirect : is_indirect (next_word back) ≡ true
+  pub through_first_word : direct_address back (next_word back) ≡ effective_address call (next_word call)
+  pub no_auto_index : is_auto_index back (next_word back) ≡ false
+  pub kept : slice_index back.core (pointer_place back (next_word back)) ≡ slice_index (step call).0.core (pointer_place back (next_word back))
 
 -- A program is interrupted, and later, in field 0 with no request granted, RMF and JMP I 0 come next. Cell 0 and the
 -- save field are still what the interrupt left there.
@@ -140,7 +140,7 @@ pub record IsTest (word : ℕ) : Type 0 where
 pub record IsIon (s : State) : Type 0 where
   pub running : s.running ≡ true
   pub off : s.interrupts_on ≡ false
-  pub word : fetched s ≡ ion
+  pub word : next_word s ≡ ion
 
 -- interrupts are on and not held off, and one is requested
 pub record IsRequested (s : State) : Type 0 where
@@ -153,7 +153,7 @@ pub record IsRequested (s : State) : Type 0 where
 pub record IsNextWord (word : ℕ) (s : State) : Type 0 where
   pub running : s.running ≡ true
   pub undisturbed : grants_interrupt s ≡ false
-  pub fetches : fetched s ≡ word
+  pub fetches : next_word s ≡ word
 
 abbrev pub is_jump : Operation → Bool
 is_jump And = false
@@ -171,7 +171,7 @@ later k s = Go.after false k s
 
 -- none of the next k steps finds a JMP or JMS at PC
 abbrev pub NoJump : State → ℕ → Type 0
-NoJump s k = (m : ℕ) → m < k → is_jump (operation_of (fetched (later m s))) ≡ false
+NoJump s k = (m : ℕ) → m < k → is_jump (operation_of (next_word (later m s))) ≡ false
 
 -- ## Auto-indexing
 
@@ -200,10 +200,10 @@ StoresApart Opr s w = Unit {0}
 pub record UsesAutoIndex (kind : Operation) (s : State) : Type 0 where
   pub next : IsNext kind s
   pub reference : refers kind ≡ true
-  pub auto_index : is_auto_index s (fetched s) ≡ true
-  pub core : pointer_place s (fetched s) < length s.core
-  pub apart : StoresApart kind s (fetched s)
+  pub auto_index : is_auto_index s (next_word s) ≡ true
+  pub core : pointer_place s (next_word s) < length s.core
+  pub apart : StoresApart kind s (next_word s)
 
 -- the word of the pointer of the next instruction, made one more
 abbrev pub next_pointer : State → ℕ
-next_pointer s = (slice_index s.core (pointer_place s (fetched s)) + 1) % 0o10000
+next_pointer s = (slice_index s.core (pointer_place s (next_word s)) + 1) % 0o10000

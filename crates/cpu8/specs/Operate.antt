@@ -4,8 +4,8 @@ use Rattle.std.specs.Prelude.{ℕ, ◌+◌, ◌-◌, ◌*◌, ◌/◌, ◌%◌, 
 use Rattle.tty8.specs.Bits.{has}
 use Rattle.cpu8.specs.State.{State}
 use Rattle.cpu8.specs.Decoding.{is_group_1, is_group_2, has_cla, has_cll, has_cma, has_cml, has_rar, has_ral, rotates_twice, iac_of, has_sma, has_sza, has_snl, is_reversed, has_osr, has_hlt}
-use Rattle.cpu8.specs.Reference.{advanced}
-use Rattle.cpu8.specs.Rotation.{thirteen_bits, number_of, rotated_left, rotated_right}
+use Rattle.cpu8.specs.Reference.{after_fetch}
+use Rattle.cpu8.specs.Rotation.{thirteen_bits, number_of, rotation_left, rotated_right}
 use Rattle.cpu8.specs.declared.outcomes.Stepped.{Stepped}
 use Rattle.cpu8.specs.declared.outcomes.Stepped.TheVariants.{Ran, Halted, Unassigned}
 
@@ -36,18 +36,18 @@ abbrev pub group1_sum : ℕ → ℕ → ℕ → ℕ
 group1_sum w l ac = (0o10000 * group1_l w l + group1_ac w ac + iac_of w) % 0o20000
 
 -- then RAR rotates L and AC right, and RAL left
-abbrev pub rotated : ℕ → List ℕ → List ℕ
-rotated w bs =
+abbrev pub rotation_of : ℕ → List ℕ → List ℕ
+rotation_of w bs =
     if has_rar w then (if rotates_twice w then rotated_right (rotated_right bs) else rotated_right bs)
-    else if has_ral w then (if rotates_twice w then rotated_left (rotated_left bs) else rotated_left bs)
+    else if has_ral w then (if rotates_twice w then rotation_left (rotation_left bs) else rotation_left bs)
     else bs
 
 -- L and AC after group 1, as one number of thirteen bits
 unfoldable pub group1_number : ℕ → ℕ → ℕ → ℕ
-group1_number w l ac = number_of (rotated w (thirteen_bits (group1_sum w l ac)))
+group1_number w l ac = number_of (rotation_of w (thirteen_bits (group1_sum w l ac)))
 
 abbrev pub group1_done : State → ℕ → State
-group1_done s w = record (advanced s) {
+group1_done s w = record (after_fetch s) {
   l = group1_number w s.l s.ac / 0o10000;
   ac = group1_number w s.l s.ac % 0o10000;
 }
@@ -73,7 +73,7 @@ group2_ac w ac switches =
 
 -- then HLT halts
 abbrev pub group2_done : State → ℕ → State
-group2_done s w = record (advanced s) {
+group2_done s w = record (after_fetch s) {
   pc = (s.pc + (if group2_skips w s.l s.ac then 2 else 1)) % 0o10000;
   ac = group2_ac w s.ac s.switches;
   running = if has_hlt w then false else s.running;

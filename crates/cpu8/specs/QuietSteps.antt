@@ -5,7 +5,7 @@ use Rattle.tty8.specs.Teletype.{is_requesting}
 use Rattle.cpu8.specs.State.{State, place, next_cell}
 use Rattle.cpu8.specs.Decoding.{is_group_1, is_group_2, has_hlt}
 use Rattle.cpu8.specs.Operate.{is_group1_unassigned}
-use Rattle.cpu8.specs.Step.{executed}
+use Rattle.cpu8.specs.Step.{after_instruction}
 use Rattle.cpu8.specs.Go.{after, answer, is_break}
 use Rattle.cpu8.specs.declared.outcomes.Stepped.TheVariants.{Ran}
 
@@ -27,8 +27,8 @@ pub record Stays (old new : State) : Type 0 where
 
 -- an instruction of this word is done, prints nothing and goes on
 pub record Does (old : State) (w : ℕ) (new : State) : Type 0 where
-  pub state : new ≡ (executed old w).0
-  pub answer : Ran None ≡ (executed old w).1
+  pub state : new ≡ (after_instruction old w).0
+  pub answer : Ran None ≡ (after_instruction old w).1
   pub stays : Stays old new
 
 -- that, or nothing
@@ -38,8 +38,8 @@ DoesOrNot old w false new = new ≡ old
 
 -- an instruction of this word is done, prints nothing and goes on, and leaves a quiet machine quiet
 pub record Goes (old : State) (w : ℕ) (new : State) : Type 0 where
-  pub state : new ≡ (executed old w).0
-  pub answer : Ran None ≡ (executed old w).1
+  pub state : new ≡ (after_instruction old w).0
+  pub answer : Ran None ≡ (after_instruction old w).1
   pub quiet : (quick : Bool) → is_quiet quick old ≡ true → is_quiet quick new ≡ true
 
 -- that, or nothing
@@ -48,9 +48,9 @@ GoesOrNot old w true new = Goes old w new
 GoesOrNot old w false new = new ≡ old
 
 -- the latter where IOTs are among the steps, else the former
-abbrev pub DoneOrNot : Bool → State → ℕ → Bool → State → Type 0
-DoneOrNot true old w done new = GoesOrNot old w done new
-DoneOrNot false old w done new = DoesOrNot old w done new
+abbrev pub MakesOrNot : Bool → State → ℕ → Bool → State → Type 0
+MakesOrNot true old w done new = GoesOrNot old w done new
+MakesOrNot false old w done new = DoesOrNot old w done new
 
 -- no cell of this field has a break
 abbrev pub IsUnbroken : List Bool → ℕ → Type 0

@@ -19,8 +19,8 @@ abbrev pub number_of : List ℕ → ℕ
 number_of bs = number_after 0 bs
 
 -- each bit goes one place to the left, the first to the end
-abbrev pub rotated_left : List ℕ → List ℕ
-rotated_left bs = drop 1 bs ++ take 1 bs
+abbrev pub rotation_left : List ℕ → List ℕ
+rotation_left bs = drop 1 bs ++ take 1 bs
 
 -- each of thirteen bits goes one place to the right, the last to the left end
 abbrev pub rotated_right : List ℕ → List ℕ

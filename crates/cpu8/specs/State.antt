@@ -1,7 +1,7 @@
 -- The state of a PDP-8/I with MC8 extended memory and a Teletype (Small Computer Handbook).
 use Rattle.std.specs.Prelude.{ℕ, ◌+◌, ◌*◌, ◌/◌, ◌%◌, Bool, true, false, ◌&&◌, not, List, slice_set}
 use Rattle.word12.specs.declared.sizes.TheConstants.{FIELD}
-use Rattle.tty8.specs.Teletype.{TeletypeState, idle, cleared, struck, finished, is_requesting}
+use Rattle.tty8.specs.Teletype.{TeletypeState, idle, with_flags_clear, with_key, with_character_ended, is_requesting}
 
 pub record State : Type 0 where
   -- the words of core, each at the number of its cell
@@ -45,8 +45,8 @@ with_core s core = record s { core = core }
 -- ## What the console and the Teletype do
 
 -- a new machine with this core is stopped, and all its registers and flags are 0
-abbrev pub stopped : List ℕ → State
-stopped core = record {
+abbrev pub new_machine : List ℕ → State
+new_machine core = record {
   core = core;
   l = 0;
   ac = 0;
@@ -65,15 +65,15 @@ stopped core = record {
 
 -- A start at a cell clears all but core, the keyboard's buffer and the switches; PC is the cell's address, and the three
 -- fields are its field (this project's profile).
-abbrev pub started : State → ℕ → State
-started s cell = record (stopped s.core) {
+abbrev pub after_start : State → ℕ → State
+after_start s cell = record (new_machine s.core) {
   pc = cell % FIELD;
   instruction_field = cell / FIELD;
   instruction_buffer = cell / FIELD;
   data_field = cell / FIELD;
   switches = s.switches;
   running = true;
-  teletype = cleared s.teletype;
+  teletype = with_flags_clear s.teletype;
 }
 
 -- the switches are set to this word
@@ -81,16 +81,16 @@ abbrev pub switches_set : State → ℕ → State
 switches_set s word = record s { switches = word }
 
 -- a cell is given a word, as by DEP at the console
-abbrev pub deposited : State → ℕ → ℕ → State
-deposited s cell word = record s { core = slice_set s.core cell word }
+abbrev pub after_deposit : State → ℕ → ℕ → State
+after_deposit s cell word = record s { core = slice_set s.core cell word }
 
 -- a key of this character is struck
 abbrev pub key_struck : State → ℕ → State
-key_struck s character = record s { teletype = struck s.teletype character }
+key_struck s character = record s { teletype = with_key s.teletype character }
 
 -- the printer ends its character, if it has one
 abbrev pub printer_done : State → State
-printer_done s = record s { teletype = finished s.teletype }
+printer_done s = record s { teletype = with_character_ended s.teletype }
 
 -- Whether an interrupt request is granted, by which an interrupt comes in place of the next instruction. Interrupts are
 -- on, the instruction after ION is done, no CIF or RMF waits for its jump, and a flag of the Teletype requests one.

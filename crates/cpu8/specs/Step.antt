@@ -22,12 +22,12 @@ row Iot s w = transfer_row s w
 row Opr s w = operate_row s w
 
 -- an instruction of this word
-unfoldable pub executed : State → ℕ → State × Stepped
-executed s w = row (operation_of w) s w
+unfoldable pub after_instruction : State → ℕ → State × Stepped
+after_instruction s w = row (operation_of w) s w
 
 -- An interrupt: PC is stored in cell 0 of field 0 and becomes 1, interrupts go off, the fields are saved and become 0.
-abbrev pub interrupted : State → State
-interrupted s = record s {
+abbrev pub after_interrupt : State → State
+after_interrupt s = record s {
   core = slice_set s.core 0 s.pc;
   pc = 1;
   interrupts_on = false;
@@ -38,11 +38,11 @@ interrupted s = record s {
 }
 
 -- the word of the next instruction
-abbrev pub fetched : State → ℕ
-fetched s = slice_index s.core (next_cell s)
+abbrev pub next_word : State → ℕ
+next_word s = slice_index s.core (next_cell s)
 
 -- A step: nothing where the machine is stopped, else an interrupt where a request is granted, else the next instruction.
 unfoldable pub step : State → State × Stepped
 step s =
-    if s.running then (if grants_interrupt s then (interrupted s, Interrupted) else executed s (fetched s))
+    if s.running then (if grants_interrupt s then (after_interrupt s, Interrupted) else after_instruction s (next_word s))
     else (s, Stopped)

@@ -3,7 +3,7 @@
 use Rattle.std.specs.Prelude.{◌≡◌, ℕ, ◌<◌, ◌/◌, Bool, true, false, ◌&&◌, not, nat_eq, None}
 use Rattle.tty8.specs.Bits.{has}
 use Rattle.cpu8.specs.State.{State}
-use Rattle.cpu8.specs.Step.{fetched}
+use Rattle.cpu8.specs.Step.{next_word}
 use Rattle.cpu8.specs.Go.{after, answer}
 use Rattle.cpu8.specs.declared.outcomes.Stepped.TheVariants.{Ran}
 
@@ -13,7 +13,7 @@ is_ksf word = nat_eq (word / 0o10) 0o603 && has word 1
 
 -- the next instruction is a KSF, and the keyboard flag is clear
 abbrev pub finds_no_key : State → Bool
-finds_no_key s = not s.teletype.keyboard_flag && is_ksf (fetched s)
+finds_no_key s = not s.teletype.keyboard_flag && is_ksf (next_word s)
 
 -- The step after the first m does an instruction that prints nothing, goes on and is no KSF that finds the keyboard flag clear.
 -- Interrupts are as at first, on or off.

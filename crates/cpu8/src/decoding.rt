@@ -47,7 +47,7 @@ pub const SZA: u16 = 0o040;
 pub const SNL: u16 = 0o020;
 
 /// The sense of the skip is reversed.
-pub const REVERSED: u16 = 0o010;
+pub const REVERSE: u16 = 0o010;
 
 pub const OSR: u16 = 0o004;
 

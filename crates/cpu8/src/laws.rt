@@ -3,7 +3,7 @@
 ghost use Rattle.std.specs.Prelude.{◌≡◌, ◌≢◌, ℕ, ◌+◌, ◌-◌, ◌%◌, ◌<◌, Bool, true, false, List, [], length, slice_index};
 ghost use Rattle.cpu8.specs.State.{State, printer_done};
 ghost use Rattle.cpu8.specs.Reference.{effective_address, operand, operand_place, pointer_place};
-ghost use Rattle.cpu8.specs.Step.{fetched, step};
+ghost use Rattle.cpu8.specs.Step.{next_word, step};
 ghost use Rattle.cpu8.specs.declared.decoding.Operation.{Operation};
 ghost use Rattle.cpu8.specs.declared.decoding.Operation.TheVariants.{Tad, Isz, Jms, Jmp};
 ghost use Rattle.cpu8.specs.declared.outcomes.Stepped.TheVariants.{Interrupted};
@@ -33,7 +33,7 @@ pub fn link_set()
 /// TAD adds its operand to L and AC as one number of thirteen bits.
 pub fn addition()
     ensures { (s : State) → IsNext Tad s → link_and_ac (step s).0
-        ≡ (link_and_ac s + operand s (fetched s)) % 0o20000 }
+        ≡ (link_and_ac s + operand s (next_word s)) % 0o20000 }
 {}
 
 /// CIA negates AC: what it leaves is 0o10000 less AC, or 0 where AC is 0.
@@ -90,9 +90,9 @@ pub fn interrupts_held_off()
 /// The pointer of an auto-index is one more after each use, and the effective address is the pointer then.
 pub fn auto_index()
     ensures address { (kind : Operation) (s : State) → UsesAutoIndex kind s
-        → effective_address s (fetched s) ≡ next_pointer s }
+        → effective_address s (next_word s) ≡ next_pointer s }
     ensures pointer { (kind : Operation) (s : State) → UsesAutoIndex kind s
-        → slice_index (step s).0.core (pointer_place s (fetched s)) ≡ next_pointer s }
+        → slice_index (step s).0.core (pointer_place s (next_word s)) ≡ next_pointer s }
 {}
 
 /// A go without breaks is one with breaks of which no cell has one.
@@ -104,11 +104,11 @@ pub fn unset_breaks()
 
 /// ISZ skips exactly where the word that it leaves is 0.
 pub fn increment_and_skip()
-    ensures zero { (s : State) → IsNext Isz s → operand_place s (fetched s) < length s.core
-        → slice_index (step s).0.core (operand_place s (fetched s)) ≡ 0
+    ensures zero { (s : State) → IsNext Isz s → operand_place s (next_word s) < length s.core
+        → slice_index (step s).0.core (operand_place s (next_word s)) ≡ 0
         → (step s).0.pc ≡ (s.pc + 2) % 0o10000 }
-    ensures other { (s : State) → IsNext Isz s → operand_place s (fetched s) < length s.core
-        → slice_index (step s).0.core (operand_place s (fetched s)) ≢ 0
+    ensures other { (s : State) → IsNext Isz s → operand_place s (next_word s) < length s.core
+        → slice_index (step s).0.core (operand_place s (next_word s)) ≢ 0
         → (step s).0.pc ≡ (s.pc + 1) % 0o10000 }
 {}
 

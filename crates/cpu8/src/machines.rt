@@ -1,6 +1,6 @@
 ghost use Rattle.std.specs.Prelude.{◌≡◌};
 ghost use Rattle.std.specs.Borrow.{sem};
-ghost use Rattle.cpu8.specs.State.{stopped, started, key_struck, printer_done, switches_set, with_core};
+ghost use Rattle.cpu8.specs.State.{new_machine, after_start, key_struck, printer_done, switches_set, with_core};
 ghost use Rattle.cpu8.specs.Step.{step};
 
 use crate::Stepped;
@@ -32,7 +32,7 @@ impl Machine {
 
     /// A machine with this core, stopped, with all registers and flags 0.
     pub fn new(core: Core) -> Machine
-        ensures { result ≡ stopped core }
+        ensures { result ≡ new_machine core }
     {
         Machine {
             core,
@@ -44,7 +44,7 @@ impl Machine {
     /// interrupts go off. PC is the cell's address, and the three fields are its field. Core, the keyboard's buffer and
     /// the switches stay (this project's profile).
     pub fn start(&mut self, cell: Cell)
-        ensures { self.new ≡ started self.old cell }
+        ensures { self.new ≡ after_start self.old cell }
     {
         self.processor.start(cell);
     }
@@ -58,10 +58,10 @@ impl Machine {
     }
 
     /// The printer ends a character: where it is busy it no longer is, and the printer flag is set. Else nothing changes.
-    pub fn done(&mut self)
+    pub fn end_character(&mut self)
         ensures { self.new ≡ printer_done self.old }
     {
-        self.processor.teletype.done();
+        self.processor.teletype.end_character();
     }
 
     /// Sets the switch register.

@@ -2,8 +2,8 @@
 
 ghost use Rattle.std.specs.Prelude.{◌≡◌, ◌<◌, []};
 ghost use Rattle.word12.specs.declared.sizes.TheConstants.{CORE};
-ghost use Rattle.cpu8.specs.State.{started, next_cell, stopped, grants_interrupt, with_core};
-ghost use Rattle.cpu8.specs.Step.{executed, interrupted, step};
+ghost use Rattle.cpu8.specs.State.{after_start, next_cell, new_machine, grants_interrupt, with_core};
+ghost use Rattle.cpu8.specs.Step.{after_instruction, after_interrupt, step};
 
 use crate::Stepped;
 use crate::decoding::{Operation, operation_of};
@@ -83,7 +83,7 @@ impl Model for Processor {
 impl Processor {
     /// A processor that is stopped, with all registers and flags 0.
     pub(crate) fn new() -> Processor
-        ensures { result ≡ stopped [] }
+        ensures { result ≡ new_machine [] }
     {
         Processor {
             teletype: Teletype::new(),
@@ -103,7 +103,7 @@ impl Processor {
     }
 
     pub(crate) fn start(&mut self, cell: Cell)
-        ensures { self.new ≡ started self.old cell }
+        ensures { self.new ≡ after_start self.old cell }
     {
         let field = cell.field();
         self.teletype.clear();
@@ -157,7 +157,7 @@ impl Processor {
     /// off.
     #[inline(always)]
     fn interrupt(&mut self, core: &mut Core)
-        ensures { with_core self.new core.new ≡ interrupted (with_core self.old core.old) }
+        ensures { with_core self.new core.new ≡ after_interrupt (with_core self.old core.old) }
     {
         core.set(Cell::at(0, Word::ZERO), self.pc);
         self.pc = Word::ONE;
@@ -169,11 +169,11 @@ impl Processor {
     }
 
     /// An instruction of this word.
-    #[tactic(auto, unfolding(crate::specs::Step::executed))]
+    #[tactic(auto, unfolding(crate::specs::Step::after_instruction))]
     #[inline(always)]
     fn execute(&mut self, core: &mut Core, word: Word) -> Stepped
-        ensures state { with_core self.new core.new ≡ (executed (with_core self.old core.old) word).0 }
-        ensures answer { result ≡ (executed (with_core self.old core.old) word).1 }
+        ensures state { with_core self.new core.new ≡ (after_instruction (with_core self.old core.old) word).0 }
+        ensures answer { result ≡ (after_instruction (with_core self.old core.old) word).1 }
     {
         match operation_of(word) {
             Operation::And => self.and(core, word),

@@ -1,8 +1,8 @@
 //! L and AC as one number of thirteen bits, 0o10000 times L plus AC, and its rotation.
 
 ghost use Rattle.std.specs.Prelude.{◌≡◌, ◌<◌};
-ghost use Rattle.cpu8.specs.Rotation.{thirteen_bits, rotated_left, rotated_right};
-ghost use Rattle.cpu8.specs.Operate.{rotated};
+ghost use Rattle.cpu8.specs.Rotation.{thirteen_bits, rotation_left, rotated_right};
+ghost use Rattle.cpu8.specs.Operate.{rotation_of};
 
 use crate::decoding::{RAL, RAR, TWICE, has};
 use word12::Word;
@@ -11,7 +11,7 @@ use word12::Word;
 #[inline(always)]
 fn left(number: u16) -> u16
     requires { number < 0o20000 }
-    ensures bits { thirteen_bits result ≡ rotated_left (thirteen_bits number) }
+    ensures bits { thirteen_bits result ≡ rotation_left (thirteen_bits number) }
     ensures range { result < 0o20000 }
 {
     number % 0o10000 * 2 + number / 0o10000
@@ -31,7 +31,7 @@ fn right(number: u16) -> u16
 #[inline(always)]
 pub(crate) fn rotate(word: Word, number: u16) -> u16
     requires { number < 0o20000 }
-    ensures bits { thirteen_bits result ≡ rotated word (thirteen_bits number) }
+    ensures bits { thirteen_bits result ≡ rotation_of word (thirteen_bits number) }
     ensures range { result < 0o20000 }
 {
     let twice = has(word, TWICE);

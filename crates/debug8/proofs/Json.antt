@@ -5,7 +5,7 @@ use Rattle.cpu8.specs.State.{State}
 use Rattle.json.specs.Print.{escape, escape_byte, quoted}
 use Rattle.serde_json.specs.Data.{boolean, string, object, Members, put}
 use Rattle.serde_json.specs.Written.{compact_text, members_text}
-use Rattle.debug8.specs.Snapshot.{octal1, octal2, octal3, Shown, digits, truth, members, shown_text, member_text, later_text, object_text, snapshot}
+use Rattle.debug8.specs.Snapshot.{octal1, octal2, octal3, KeyValue, digits, truth, members, shown_text, member_text, later_text, object_text, snapshot}
 use Rattle.debug8.specs.ValueSteps.{data_of, members_of}
 use Rattle.debug8.proofs.Digits.{escape-digit}
 
@@ -13,21 +13,21 @@ use Rattle.debug8.proofs.Digits.{escape-digit}
 abbrev pub IsPlain : List ℕ → Type 0
 IsPlain bytes = escape bytes ≡ bytes
 
-abbrev pub IsShownPlain : Shown → Type 0
+abbrev pub IsShownPlain : KeyValue → Type 0
 IsShownPlain (digits ds) = IsPlain ds
 IsShownPlain (truth b) = Unit {0}
 
-abbrev pub ArePlain : List (List ℕ × Shown) → Type 0
+abbrev pub ArePlain : List (List ℕ × KeyValue) → Type 0
 ArePlain [] = Unit {0}
 ArePlain (m ∷ ms) = IsPlain m.0 × IsShownPlain m.1 × ArePlain ms
 
-shown-text : (v : Shown) → IsShownPlain v → compact_text (data_of v) ≡ shown_text v
+shown-text : (v : KeyValue) → IsShownPlain v → compact_text (data_of v) ≡ shown_text v
 shown-text (digits ds) h = ap (λ bytes. 34 ∷ (bytes ++ 34 ∷ [])) h
 shown-text (truth true) h = refl
 shown-text (truth false) h = refl
 
 -- a member, before what follows it
-member-text : (key : List ℕ) (v : Shown) (rest : List ℕ) → IsPlain key → IsShownPlain v
+member-text : (key : List ℕ) (v : KeyValue) (rest : List ℕ) → IsPlain key → IsShownPlain v
     → quoted key ++ 58 ∷ (compact_text (data_of v) ++ rest) ≡ member_text (key, v) ++ rest
 member-text key v rest k h =
     ap (λ bytes. (34 ∷ (bytes ++ 34 ∷ [])) ++ 58 ∷ (compact_text (data_of v) ++ rest)) k
@@ -35,14 +35,14 @@ member-text key v rest k h =
     ∙ (ap (λ bytes. 34 ∷ bytes) (append_assoc key (34 ∷ []) (58 ∷ (shown_text v ++ rest))
     ∙ sym (append_assoc key (34 ∷ 58 ∷ shown_text v) rest))))
 
-later-text : (ms : List (List ℕ × Shown)) → ArePlain ms → members_text true (members_of ms) ≡ later_text ms ++ 125 ∷ []
+later-text : (ms : List (List ℕ × KeyValue)) → ArePlain ms → members_text true (members_of ms) ≡ later_text ms ++ 125 ∷ []
 later-text [] h = refl
 later-text (m ∷ ms) h =
     ap (λ bytes. 44 ∷ (quoted m.0 ++ 58 ∷ (compact_text (data_of m.1) ++ bytes))) (later-text ms h.2)
     ∙ (ap (λ bytes. 44 ∷ bytes) (member-text m.0 m.1 (later_text ms ++ 125 ∷ []) h.0 h.1
     ∙ sym (append_assoc (member_text m) (later_text ms) (125 ∷ []))))
 
-pub object-text : (ms : List (List ℕ × Shown)) → ArePlain ms → compact_text (object (members_of ms)) ≡ object_text ms
+pub object-text : (ms : List (List ℕ × KeyValue)) → ArePlain ms → compact_text (object (members_of ms)) ≡ object_text ms
 object-text [] h = refl
 object-text (m ∷ ms) h =
     ap (λ bytes. 123 ∷ (quoted m.0 ++ 58 ∷ (compact_text (data_of m.1) ++ bytes))) (later-text ms h.2)

@@ -3,7 +3,7 @@ use Rattle.std.proofs.Common.{◌≡◌, ℕ, zero, suc, ◌+◌, ◌/◌, ◌%�
 use Rattle.word12.specs.Octal.{octal4}
 use Rattle.tty8.specs.Teletype.{TeletypeState}
 use Rattle.cpu8.specs.State.{State, with_core}
-use Rattle.debug8.specs.Snapshot.{octal1, octal2, octal3, Shown, digits, truth, members, shown_text, member_text, later_text, object_text, snapshot}
+use Rattle.debug8.specs.Snapshot.{octal1, octal2, octal3, KeyValue, digits, truth, members, shown_text, member_text, later_text, object_text, snapshot}
 use Rattle.debug8.specs.Laws.{HasRegisters}
 
 -- ## Lists
@@ -31,20 +31,20 @@ append_same (p ∷ a) (q ∷ b) x y n e =
 -- ## Members
 
 -- digits as many, or truth values
-abbrev IsLike : Shown → Shown → Type 0
+abbrev IsLike : KeyValue → KeyValue → Type 0
 IsLike (digits a) (digits b) = length a ≡ length b
 IsLike (digits a) (truth b) = ⊥
 IsLike (truth a) (digits b) = ⊥
 IsLike (truth a) (truth b) = Unit {0}
 
-record SameShown (v w : Shown) (x y : List ℕ) : Type 0 where
+record SameShown (v w : KeyValue) (x y : List ℕ) : Type 0 where
   shown : v ≡ w
   rest : x ≡ y
 
 apart : ◌≡◌ {A = ℕ} 116 102 → ⊥
 apart e = omega (arith, e)
 
-shown_same : (v w : Shown) (x y : List ℕ) → IsLike v w → shown_text v ++ x ≡ shown_text w ++ y → SameShown v w x y
+shown_same : (v w : KeyValue) (x y : List ℕ) → IsLike v w → shown_text v ++ x ≡ shown_text w ++ y → SameShown v w x y
 shown_same (digits a) (digits b) x y n e =
     let same = append_same a b (34 ∷ x) (34 ∷ y) n (sym (append_assoc a (34 ∷ []) x) ∙ ap tail e ∙ append_assoc b (34 ∷ []) y) in
     record { shown = ap digits same.prefix; rest = ap tail same.rest }
@@ -55,37 +55,37 @@ shown_same (truth false) (truth false) x y n e = record { shown = refl; rest = a
 shown_same (truth true) (truth false) x y n e = absurd (apart (ap head e))
 shown_same (truth false) (truth true) x y n e = absurd (apart (sym (ap head e)))
 
-record IsLikeMember (m n : List ℕ × Shown) : Type 0 where
+record IsLikeMember (m n : List ℕ × KeyValue) : Type 0 where
   key : m.0 ≡ n.0
   like : IsLike m.1 n.1
 
-parted : (key : List ℕ) (v : Shown) (x : List ℕ) → tail (member_text (key, v) ++ x) ≡ key ++ 34 ∷ 58 ∷ (shown_text v ++ x)
+parted : (key : List ℕ) (v : KeyValue) (x : List ℕ) → tail (member_text (key, v) ++ x) ≡ key ++ 34 ∷ 58 ∷ (shown_text v ++ x)
 parted key v x = append_assoc key (34 ∷ 58 ∷ shown_text v) x
 
-member_same : (m n : List ℕ × Shown) (x y : List ℕ) → IsLikeMember m n → member_text m ++ x ≡ member_text n ++ y → SameShown m.1 n.1 x y
+member_same : (m n : List ℕ × KeyValue) (x y : List ℕ) → IsLikeMember m n → member_text m ++ x ≡ member_text n ++ y → SameShown m.1 n.1 x y
 member_same m n x y alike e =
     let same = append_same m.0 n.0 (34 ∷ 58 ∷ (shown_text m.1 ++ x)) (34 ∷ 58 ∷ (shown_text n.1 ++ y)) (ap length alike.key)
     (sym (parted m.0 m.1 x) ∙ ap tail e ∙ parted n.0 n.1 y) in
     shown_same m.1 n.1 x y alike.like (ap (λ l. tail (tail l)) same.rest)
 
-abbrev AreLike : List (List ℕ × Shown) → List (List ℕ × Shown) → Type 0
+abbrev AreLike : List (List ℕ × KeyValue) → List (List ℕ × KeyValue) → Type 0
 AreLike [] [] = Unit {0}
 AreLike [] (n ∷ ns) = ⊥
 AreLike (m ∷ ms) [] = ⊥
 AreLike (m ∷ ms) (n ∷ ns) = IsLikeMember m n × AreLike ms ns
 
 -- what a member has, by its place
-abbrev value_at : ℕ → List (List ℕ × Shown) → Shown
+abbrev value_at : ℕ → List (List ℕ × KeyValue) → KeyValue
 value_at k [] = truth false
 value_at zero (m ∷ ms) = m.1
 value_at (suc k) (m ∷ ms) = value_at k ms
 
-value_by : (m n : List ℕ × Shown) (ms ns : List (List ℕ × Shown)) → m.1 ≡ n.1 → ((k : ℕ) → value_at k ms ≡ value_at k ns)
+value_by : (m n : List ℕ × KeyValue) (ms ns : List (List ℕ × KeyValue)) → m.1 ≡ n.1 → ((k : ℕ) → value_at k ms ≡ value_at k ns)
     → (k : ℕ) → value_at k (m ∷ ms) ≡ value_at k (n ∷ ns)
 value_by m n ms ns first later zero = first
 value_by m n ms ns first later (suc k) = later k
 
-later_same : (ms ns : List (List ℕ × Shown)) (x y : List ℕ) → AreLike ms ns → later_text ms ++ x ≡ later_text ns ++ y
+later_same : (ms ns : List (List ℕ × KeyValue)) (x y : List ℕ) → AreLike ms ns → later_text ms ++ x ≡ later_text ns ++ y
     → (k : ℕ) → value_at k ms ≡ value_at k ns
 later_same [] [] x y like e = λ k. refl
 later_same [] (n ∷ ns) x y like e = absurd like
@@ -95,24 +95,24 @@ later_same (m ∷ ms) (n ∷ ns) x y like e =
     (sym (append_assoc (member_text m) (later_text ms) x) ∙ ap tail e ∙ append_assoc (member_text n) (later_text ns) y) in
     value_by m n ms ns same.shown (later_same ms ns x y like.1 same.rest)
 
-first_same : (m n : List ℕ × Shown) (ms ns : List (List ℕ × Shown)) → IsLikeMember m n → AreLike ms ns
+first_same : (m n : List ℕ × KeyValue) (ms ns : List (List ℕ × KeyValue)) → IsLikeMember m n → AreLike ms ns
     → member_text m ++ (later_text ms ++ 125 ∷ []) ≡ member_text n ++ (later_text ns ++ 125 ∷ [])
     → (k : ℕ) → value_at k (m ∷ ms) ≡ value_at k (n ∷ ns)
 first_same m n ms ns alike like e =
     let same = member_same m n (later_text ms ++ 125 ∷ []) (later_text ns ++ 125 ∷ []) alike e in
     value_by m n ms ns same.shown (later_same ms ns (125 ∷ []) (125 ∷ []) like same.rest)
 
-object_same : (ms ns : List (List ℕ × Shown)) → AreLike ms ns → object_text ms ≡ object_text ns → (k : ℕ) → value_at k ms ≡ value_at k ns
+object_same : (ms ns : List (List ℕ × KeyValue)) → AreLike ms ns → object_text ms ≡ object_text ns → (k : ℕ) → value_at k ms ≡ value_at k ns
 object_same [] [] like e = λ k. refl
 object_same [] (n ∷ ns) like e = absurd like
 object_same (m ∷ ms) [] like e = absurd like
 object_same (m ∷ ms) (n ∷ ns) like e = first_same m n ms ns like.0 like.1 (ap tail e)
 
-digits_of : Shown → List ℕ
+digits_of : KeyValue → List ℕ
 digits_of (digits ds) = ds
 digits_of (truth b) = []
 
-truth_of : Shown → Bool
+truth_of : KeyValue → Bool
 truth_of (digits ds) = false
 truth_of (truth b) = b
 

@@ -14,12 +14,12 @@ abbrev pub octal3 : ℕ → List ℕ
 octal3 n = octal_digit (n / 64) ∷ octal2 n
 
 -- What a key has: a text of octal digits, or a truth value.
-pub data Shown : Type 0 where
-  digits : List ℕ → Shown
-  truth : Bool → Shown
+pub data KeyValue : Type 0 where
+  digits : List ℕ → KeyValue
+  truth : Bool → KeyValue
 
 -- the keys in their order, with what each has
-abbrev pub members : State → List (List ℕ × Shown)
+abbrev pub members : State → List (List ℕ × KeyValue)
 members s =
     (codes "ac", digits (octal4 s.ac))
     ∷ (codes "busy", truth s.teletype.busy)
@@ -39,22 +39,22 @@ members s =
     ∷ (codes "wait", truth s.waiting)
     ∷ []
 
-abbrev pub shown_text : Shown → List ℕ
+abbrev pub shown_text : KeyValue → List ℕ
 shown_text (digits ds) = codes "\"" ++ (ds ++ codes "\"")
 shown_text (truth true) = codes "true"
 shown_text (truth false) = codes "false"
 
 -- a key, a colon and what it has
-abbrev pub member_text : List ℕ × Shown → List ℕ
+abbrev pub member_text : List ℕ × KeyValue → List ℕ
 member_text m = codes "\"" ++ (m.0 ++ (codes "\":" ++ shown_text m.1))
 
 -- members after the first, each with a comma before it
-abbrev pub later_text : List (List ℕ × Shown) → List ℕ
+abbrev pub later_text : List (List ℕ × KeyValue) → List ℕ
 later_text [] = []
 later_text (m ∷ ms) = codes "," ++ (member_text m ++ later_text ms)
 
 -- an object of members, with no space
-abbrev pub object_text : List (List ℕ × Shown) → List ℕ
+abbrev pub object_text : List (List ℕ × KeyValue) → List ℕ
 object_text [] = codes "{}"
 object_text (m ∷ ms) = codes "{" ++ (member_text m ++ (later_text ms ++ codes "}"))
 

@@ -1,7 +1,7 @@
 ghost use Rattle.std.specs.Prelude.{◌≡◌, ◌+◌, ◌<◌, ◌≤◌, ◌++◌, [], IfOk, IsOkUnless, slice_index, vec_len, vec_capacity, false};
 ghost use Rattle.word12.specs.declared.sizes.TheConstants.{CORE};
-ghost use Rattle.cpu8.specs.State.{deposited};
-ghost use Rattle.cpu8.specs.Go.{IsGo, after, printed_by};
+ghost use Rattle.cpu8.specs.State.{after_deposit};
+ghost use Rattle.cpu8.specs.Go.{IsGo, after, characters_of};
 ghost use Rattle.debug8.specs.Breaks.{SetsBreak, break_cleared, no_breaks};
 ghost use Rattle.debug8.specs.declared.faults.DebugFault.TheVariants.{Memory};
 
@@ -78,7 +78,7 @@ impl Debugger {
         requires room { vec_len printed.old + n ≤ vec_capacity printed.old }
         ensures steps { IsGo quick self.now machine.old n result.steps result.why }
         ensures state { machine.new ≡ after quick result.steps machine.old }
-        ensures printed { printed.new.items ≡ printed.old.items ++ printed_by quick result.steps machine.old }
+        ensures printed { printed.new.items ≡ printed.old.items ++ characters_of quick result.steps machine.old }
         ensures capacity { vec_capacity printed.new ≡ vec_capacity printed.old }
     {
         if self.count == 0 {
@@ -93,7 +93,7 @@ impl Debugger {
         requires room { vec_len printed.old + n ≤ vec_capacity printed.old }
         ensures steps { IsGo false [] machine.old n result.steps result.why }
         ensures state { machine.new ≡ after false result.steps machine.old }
-        ensures printed { printed.new.items ≡ printed.old.items ++ printed_by false result.steps machine.old }
+        ensures printed { printed.new.items ≡ printed.old.items ++ characters_of false result.steps machine.old }
         ensures capacity { vec_capacity printed.new ≡ vec_capacity printed.old }
     {
         machine.run(n, false, &[], printed)
@@ -110,7 +110,7 @@ impl Debugger {
     /// Gives a cell of a machine a word, as DEP at the console does (Small Computer Handbook). Its other cells, its
     /// registers and its flags stay.
     pub fn deposit(machine: &mut Machine, cell: Cell, word: Word)
-        ensures { machine.new ≡ deposited machine.old cell word }
+        ensures { machine.new ≡ after_deposit machine.old cell word }
     {
         machine.core_mut().set(cell, word);
     }

@@ -7,7 +7,7 @@ use Rattle.disk8.specs.declared.layouts.Layout.{Layout}
 use Rattle.disk8.specs.declared.layouts.Layout.TheVariants.{First, Second, Dectape}
 use Rattle.disk8.specs.declared.sizes.TheConstants.{DISK_VOLUME, DISK, TAPE}
 use Rattle.disk8.specs.Disks.{image_size, place, IsOutside}
-use Rattle.disk8.specs.Files.{IsUsed, HasLaid, needed}
+use Rattle.disk8.specs.Files.{IsUsed, HasLaid, needed_bytes}
 use Rattle.disk8.specs.Kept.{IsKept, most_bytes}
 use Rattle.disk8.proofs.CopyLemmas.{outside_first, outside_second}
 
@@ -20,7 +20,7 @@ pub record IsWritten (layout : Layout) (old image new : List ℕ) : Type 0 where
 
 -- behind the end of what is needed there are zeros
 zeros_behind : (layout : Layout) (old image new : List ℕ) (count used : ℕ) → IsKept layout old count → IsWritten layout old image new → IsUsed image used
-    → (k : ℕ) → max count (needed layout used) ≤ k → slice_index new k ≡ 0
+    → (k : ℕ) → max count (needed_bytes layout used) ≤ k → slice_index new k ≡ 0
 zeros_behind First old image new count used kept w is k from = elim (cases_lt k DISK_VOLUME) [
   | inl inside ↦ w.volume k inside ∙ is.zeros k (omega arith)
   | inr behind ↦ w.others k (outside_first k behind) ∙ kept.zeros k (omega arith)
@@ -46,22 +46,22 @@ zeros_behind Second old image new count (suc more) kept w is k from = elim (case
 zeros_behind Dectape old image new count used kept w is k from =
     get_or-eq_default new 0 (omega (arith, kept.whole, kept.tape refl, w.size))
 
-needed_most : (layout : Layout) (used : ℕ) → 512 * used ≤ image_size layout → needed layout used ≤ most_bytes layout
+needed_most : (layout : Layout) (used : ℕ) → 512 * used ≤ image_size layout → needed_bytes layout used ≤ most_bytes layout
 needed_most First used most = omega arith
 needed_most Second zero most = omega arith
 needed_most Second (suc more) most = omega arith
 needed_most Dectape used most = omega arith
 
-whole_tape : (layout : Layout) (count used : ℕ) → (layout ≡ Dectape → count ≡ TAPE) → layout ≡ Dectape → max count (needed layout used) ≡ TAPE
+whole_tape : (layout : Layout) (count used : ℕ) → (layout ≡ Dectape → count ≡ TAPE) → layout ≡ Dectape → max count (needed_bytes layout used) ≡ TAPE
 whole_tape First count used tape is = absurd (cc)
 whole_tape Second count used tape is = absurd (cc)
 whole_tape Dectape count used tape is = omega (arith, tape is)
 
 -- the file is kept as before
 pub kept_written : (layout : Layout) (old image new : List ℕ) (count used : ℕ) → IsKept layout old count → IsWritten layout old image new → IsUsed image used
-    → 512 * used ≤ length image → IsKept layout new (max count (needed layout used))
+    → 512 * used ≤ length image → IsKept layout new (max count (needed_bytes layout used))
 kept_written layout old image new count used kept w is most =
-    let low : needed layout used ≤ most_bytes layout = needed_most layout used (omega (arith, w.fits)) in
+    let low : needed_bytes layout used ≤ most_bytes layout = needed_most layout used (omega (arith, w.fits)) in
     record {
       whole = w.size ∙ kept.whole;
       within = omega (arith, kept.within, kept.whole, w.size, low);
@@ -79,28 +79,28 @@ byte_kept layout bytes count kept k = elim (cases_lt k count) [
 -- what the file has of the image that was written
 pub laid_written : (layout : Layout) (old image new : List ℕ) (count used : ℕ) → IsKept layout old count → IsWritten layout old image new → IsUsed image used
     → 512 * used ≤ length image
-    → HasLaid (record { layout = layout; bytes = take count old }) image (record { layout = layout; bytes = take (max count (needed layout used)) new })
+    → HasLaid (record { layout = layout; bytes = take count old }) image (record { layout = layout; bytes = take (max count (needed_bytes layout used)) new })
 laid_written layout old image new count used kept w is most =
     let after = kept_written layout old image new count used kept w is most in
     record {
       fits = w.fits;
       layout = refl;
-      volume = λ k inside. byte_kept layout new (max count (needed layout used)) after (place layout k) ∙ w.volume k inside;
-      others = λ at out. byte_kept layout new (max count (needed layout used)) after at ∙ w.others at out ∙ sym (byte_kept layout old count kept at);
+      volume = λ k inside. byte_kept layout new (max count (needed_bytes layout used)) after (place layout k) ∙ w.volume k inside;
+      others = λ at out. byte_kept layout new (max count (needed_bytes layout used)) after at ∙ w.others at out ∙ sym (byte_kept layout old count kept at);
       used = used;
       is_used = is;
-      size = omega (arith, length-take count old, length-take (max count (needed layout used)) new, kept.within, after.within);
+      size = omega (arith, length-take count old, length-take (max count (needed_bytes layout used)) new, kept.within, after.within);
     }
 
 -- the same where the bytes stand in a vector's room, and the numbers are what calls gave
 pub kept_lay : (layout : Layout) (old image new : List ℕ) (room count used end most : ℕ) → length new ≡ room → IsKept layout old count → IsWritten layout old image new
-    → IsUsed image used → 512 * used ≤ length image → end ≡ needed layout used → most ≡ max count end → IsKept layout (take room (new ++ drop (length new) old)) most
+    → IsUsed image used → 512 * used ≤ length image → end ≡ needed_bytes layout used → most ≡ max count end → IsKept layout (take room (new ++ drop (length new) old)) most
 kept_lay layout old image new room count used end most fits kept w is low end_is most_is =
     subst (λ (l : List ℕ). IsKept layout l most) (sym (take_at new (drop (length new) old) room fits))
     (subst (λ (n : ℕ). IsKept layout new n) (sym (most_is ∙ ap (max count) end_is)) (kept_written layout old image new count used kept w is low))
 
 pub laid_lay : (layout : Layout) (old image new : List ℕ) (room count used end most : ℕ) → length new ≡ room → IsKept layout old count → IsWritten layout old image new
-    → IsUsed image used → 512 * used ≤ length image → end ≡ needed layout used → most ≡ max count end
+    → IsUsed image used → 512 * used ≤ length image → end ≡ needed_bytes layout used → most ≡ max count end
     → HasLaid (record { layout = layout; bytes = take count old }) image (record { layout = layout; bytes = take most (take room (new ++ drop (length new) old)) })
 laid_lay layout old image new room count used end most fits kept w is low end_is most_is =
     subst (λ (l : List ℕ). HasLaid (record { layout = layout; bytes = take count old }) image (record { layout = layout; bytes = take most l })) (sym (take_at new (drop (length new) old) room fits))

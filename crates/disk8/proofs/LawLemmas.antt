@@ -7,7 +7,7 @@ use Rattle.disk8.specs.declared.layouts.Layout.{Layout}
 use Rattle.disk8.specs.declared.layouts.Layout.TheVariants.{First, Second, Dectape}
 use Rattle.disk8.specs.declared.sizes.TheConstants.{DISK_VOLUME, DISK}
 use Rattle.disk8.specs.Disks.{byte, image_size, place, IsImageIn, IsOutside}
-use Rattle.disk8.specs.Files.{Disk, IsUsed, HasLaid, needed}
+use Rattle.disk8.specs.Files.{Disk, IsUsed, HasLaid, needed_bytes}
 use Rattle.disk8.proofs.CopyLemmas.{outside_first, outside_second}
 
 -- what was laid is read again
@@ -80,7 +80,7 @@ zeros_read layout file image fewer is behind k from = elim (cases_lt k (image_si
 ]
 
 -- what is needed ends in the last block of the file
-needed_low : (layout : Layout) (file image : List ℕ) (used : ℕ) → IsImageIn layout file image → IsUsed image used → needed layout used ≤ 512 * ((length file + 511) / 512)
+needed_low : (layout : Layout) (file image : List ℕ) (used : ℕ) → IsImageIn layout file image → IsUsed image used → needed_bytes layout used ≤ 512 * ((length file + 511) / 512)
 needed_low First file image used is u =
     let fewer = (length file + 511) / 512 in
     let low : used ≤ fewer = u.least fewer (zeros_read First file image fewer is (λ k from. omega arith)) in
@@ -107,8 +107,8 @@ pub whole_stays : (old new : Disk) (image : List ℕ) → IsImageIn old.layout o
 whole_stays old new image is laid whole =
     same_file old new image is laid (omega (arith, laid.size, needed_low old.layout old.bytes image laid.used is laid.is_used))
 
-tape_needs : (layout : Layout) (used : ℕ) → layout ≡ Dectape → needed layout used ≡ 0
-tape_needs layout used is = subst (λ (l : Layout). needed l used ≡ 0) (sym is) refl
+tape_needs : (layout : Layout) (used : ℕ) → layout ≡ Dectape → needed_bytes layout used ≡ 0
+tape_needs layout used is = subst (λ (l : Layout). needed_bytes l used ≡ 0) (sym is) refl
 
 pub tape_stays : (old new : Disk) (image : List ℕ) → IsImageIn old.layout old.bytes image → HasLaid old image new → old.layout ≡ Dectape → new ≡ old
 tape_stays old new image is laid tape =

@@ -30,11 +30,11 @@ pub record IsUsed (image : List ℕ) (blocks : ℕ) : Type 0 where
   pub least : (fewer : ℕ) → ((k : ℕ) → 512 * fewer ≤ k → byte image k ≡ 0) → blocks ≤ fewer
 
 -- where the last of so many blocks of the volume ends in the file; of none nothing is needed, and a DECtape is whole
-abbrev pub needed : Layout → ℕ → ℕ
-needed First blocks = 512 * blocks
-needed Second zero = 0
-needed Second (suc more) = DISK_VOLUME + 512 * suc more
-needed Dectape blocks = 0
+abbrev pub needed_bytes : Layout → ℕ → ℕ
+needed_bytes First blocks = 512 * blocks
+needed_bytes Second zero = 0
+needed_bytes Second (suc more) = DISK_VOLUME + 512 * suc more
+needed_bytes Dectape blocks = 0
 
 -- A file has this image in place of its volume's bytes. Each byte that is none of the volume's is as it was. The file is longer
 -- only where a block that isn't zeros alone ends after it.
@@ -45,7 +45,7 @@ pub record HasLaid (old : Disk) (image : List ℕ) (new : Disk) : Type 0 where
   pub others : (at : ℕ) → IsOutside old.layout at → byte new.bytes at ≡ byte old.bytes at
   pub used : ℕ
   pub is_used : IsUsed image used
-  pub size : length new.bytes ≡ max (length old.bytes) (needed old.layout used)
+  pub size : length new.bytes ≡ max (length old.bytes) (needed_bytes old.layout used)
 
 -- what is answered where an image is to be laid in a file: one of another size leaves the file as it is
 abbrev pub Lays : Disk → List ℕ → Bool → Disk → Type 0

@@ -6,8 +6,8 @@ use Rattle.disk8.specs.Disks.{byte, IsImageIn}
 use Rattle.disk8.specs.Files.{Disk, Lays}
 
 -- what was laid is read again
-abbrev pub LaidIsRead : Type 0
-LaidIsRead = (old new : Disk) (image read : List ℕ) → Lays old image true new → IsImageIn new.layout new.bytes read → read ≡ image
+abbrev pub ReadsWhatItLays : Type 0
+ReadsWhatItLays = (old new : Disk) (image read : List ℕ) → Lays old image true new → IsImageIn new.layout new.bytes read → read ≡ image
 
 -- where the first volume was laid, each byte from the second on is as it was, and the second is read as before
 pub record SecondStays : Type 0 where
@@ -30,7 +30,7 @@ WordsStay = (old new : Disk) (image : List ℕ) → old.layout ≡ Dectape → L
 
 -- A file in which the image that was read of it is laid has the bytes that it had. It has just those where it was whole blocks of
 -- 512 bytes, or a DECtape. Else it may have zeros after them to the end of its last block.
-pub record ReadIsLaid : Type 0 where
+pub record LaysWhatItReads : Type 0 where
   pub bytes : (old new : Disk) (image : List ℕ) → IsImageIn old.layout old.bytes image → Lays old image true new
       → (at : ℕ) → byte new.bytes at ≡ byte old.bytes at
   pub whole : (old new : Disk) (image : List ℕ) → IsImageIn old.layout old.bytes image → Lays old image true new

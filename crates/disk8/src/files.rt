@@ -1,6 +1,6 @@
 ghost use Rattle.std.specs.Prelude.{◌≡◌, ℕ, ◌*◌, ◌<◌, ◌≤◌, IfOk};
 ghost use Rattle.disk8.specs.Disks.{IsImageIn, image_size as size_of_image};
-ghost use Rattle.disk8.specs.Files.{Disk, Opens, Lays, MakesTape, needed as needed_of};
+ghost use Rattle.disk8.specs.Files.{Disk, Opens, Lays, MakesTape, needed_bytes as needed_of};
 ghost use Rattle.disk8.specs.Kept.{most_bytes as most_of};
 ghost use Rattle.disk8.specs.Steps.{Judges};
 
@@ -64,7 +64,7 @@ impl DiskFile {
         }
         let used = used_blocks(image);
         put_volume(self.layout, self.bytes.as_mut_slice(), image);
-        self.length = self.length.max(needed(self.layout, used));
+        self.length = self.length.max(needed_bytes(self.layout, used));
         true
     }
 
@@ -120,7 +120,7 @@ fn most_bytes(layout: Layout) -> usize
 }
 
 /// Where the last of so many blocks of the volume ends in the file.
-fn needed(layout: Layout, blocks: usize) -> usize
+fn needed_bytes(layout: Layout, blocks: usize) -> usize
     requires { 512 * blocks ≤ size_of_image layout }
     ensures { result ≡ needed_of layout blocks }
 {

@@ -24,7 +24,7 @@ pub struct InMemory {
     pub has_links: bool,
 
     /// How many calls pass until one fails, if one is to.
-    pub left: Option<u64>,
+    pub calls_left: Option<u64>,
 }
 
 /// The first bytes of these, one more than are wanted at most.
@@ -77,20 +77,20 @@ impl InMemory {
             is_alone: true,
             is_mount: false,
             has_links: true,
-            left,
+            calls_left: left,
         }
     }
 
     /// Counts a call, and fails the one that is to.
     pub(crate) fn pass(&mut self) -> Result<(), HostFault> {
-        match self.left {
+        match self.calls_left {
             None => Ok(()),
             Some(0) => {
-                self.left = None;
+                self.calls_left = None;
                 Err(HostFault::Failed)
             }
             Some(more) => {
-                self.left = Some(more - 1);
+                self.calls_left = Some(more - 1);
                 Ok(())
             }
         }

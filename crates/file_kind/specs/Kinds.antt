@@ -2,7 +2,7 @@
 use Rattle.std.specs.Prelude.{◌≡◌, ℕ, ◌<◌, true, false, List, length, slice_index}
 use Rattle.bin_tape.specs.Items.{Item}
 use Rattle.bin_tape.specs.Tape.{IsTape}
-use Rattle.char_pack.specs.Packing.{packed}
+use Rattle.char_pack.specs.Packing.{words_of_bytes}
 use Rattle.core_image.specs.Fault.{IsSomeImage}
 use Rattle.core_image.specs.Image.{IsImage}
 use Rattle.rim_tape.specs.Fault.{IsSomeRim}
@@ -18,10 +18,10 @@ AreZeros frames = (k : ℕ) → k < length frames → slice_index frames k ≡ 0
 pub record IsCore (frames : List ℕ) (start : ℕ) : Type 0 where
   pub pairs : List (ℕ × ℕ)
   pub status : ℕ
-  pub is_image : IsImage (packed frames) pairs start status
+  pub is_image : IsImage (words_of_bytes frames) pairs start status
 
 abbrev pub IsNoCore : List ℕ → Type 0
-IsNoCore frames = IsSomeImage (packed frames) → ⊥
+IsNoCore frames = IsSomeImage (words_of_bytes frames) → ⊥
 
 -- the frames are a BIN tape
 pub record IsSomeTape (frames : List ℕ) : Type 0 where

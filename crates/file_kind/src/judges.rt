@@ -1,6 +1,6 @@
 //! Whether frames are of one kind.
 ghost use Rattle.std.specs.Prelude.{◌≡◌, ◌↔◌, ℕ, List, IsTrue, IfOk, MatchOption};
-ghost use Rattle.char_pack.specs.Packing.{packed};
+ghost use Rattle.char_pack.specs.Packing.{words_of_bytes};
 ghost use Rattle.core_image.specs.Fault as core;
 ghost use Rattle.rim_tape.specs.Fault as rim;
 ghost use Rattle.rim_tape.specs.Fault.{IsSomeRim};
@@ -37,7 +37,7 @@ pub fn core_start(alloc: Global, frames: &[u8]) -> Result<Option<Cell>, KindFaul
 
 /// What is known of frames that have this fault as a core image: they are none, or memory ran out.
 fn no_start(fault: CoreFault) -> Result<Option<Cell>, KindFault>
-    ensures { (frames : List ℕ) → core.IsFault (packed frames) fault
+    ensures { (frames : List ℕ) → core.IsFault (words_of_bytes frames) fault
         → IfOk result (λ start. MatchOption start (IsNoCore frames) (IsCore frames)) }
 {
     one_core_fault();
@@ -50,7 +50,7 @@ fn no_start(fault: CoreFault) -> Result<Option<Cell>, KindFault>
 
 /// The words of frames.
 fn words_of(alloc: Global, frames: &[u8]) -> Result<Vec<Word>, KindFault>
-    ensures { IfOk result (λ words. words.items ≡ packed frames.now) }
+    ensures { IfOk result (λ words. words.items ≡ words_of_bytes frames.now) }
 {
     match pack(alloc, frames) {
         Ok(words) => Ok(words),

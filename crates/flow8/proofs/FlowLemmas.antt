@@ -7,7 +7,7 @@ use Rattle.std.proofs.Math.ListN.{get_or-eq_default}
 use Rattle.word12.specs.declared.sizes.TheConstants.{CORE}
 use Rattle.flow8.specs.Exits.{exits, IsExit}
 use Rattle.flow8.specs.Flow.{IsAmong, Reaches, start, goes, IsFlow, word_in}
-use Rattle.flow8.specs.FlowSteps.{AreUnmarked, GivesWord, IsMarked, MarksCells, cells_behind, exit_list, unmarked}
+use Rattle.flow8.specs.FlowSteps.{AreUnmarked, GivesWord, IsMarked, MarksCells, cells_after, exit_list, count_of_unmarked}
 
 -- ## Lists of cells
 
@@ -131,9 +131,9 @@ marks_new words old waiting cell word within gives new = record {
     here : IsMarked (slice_set old cell true) cell
     here = get_or-set_same old cell true false within
 
-    total : unmarked (slice_set old cell true) + 1 ≡ unmarked old + 0
+    total : count_of_unmarked (slice_set old cell true) + 1 ≡ count_of_unmarked old + 0
     total =
-        ap (λ mark. unmarked (slice_set old cell true) + (if mark then 0 else 1)) (sym new)
+        ap (λ mark. count_of_unmarked (slice_set old cell true) + (if mark then 0 else 1)) (sym new)
         ∙ sum_by-set (λ mark. if mark then 0 else 1) old cell true false within
 
     one_more : length (waiting ++ cell ∷ []) ≡ length waiting + 1
@@ -154,7 +154,7 @@ marks_given words old waiting waiting' cell at (Some word) is within gives some 
 
 -- ## Exits
 
-pub exits_among : (words : List (Option ℕ)) (cell word next : ℕ) → GivesWord words cell word → IsExit cell word next → IsAmong next (cells_behind words cell)
+pub exits_among : (words : List (Option ℕ)) (cell word next : ℕ) → GivesWord words cell word → IsExit cell word next → IsAmong next (cells_after words cell)
 exits_among words cell word next gives exit =
     subst (λ given. IsAmong next (exit_list cell given)) (sym gives) (one_of exit)
   where
@@ -172,7 +172,7 @@ exits_among words cell word next gives exit =
     one_of (inl first) = among_left next (option_to_list (exits cell word).0) (option_to_list (exits cell word).1) (of_option (exits cell word).0 first)
     one_of (inr second) = among_right next (option_to_list (exits cell word).0) (option_to_list (exits cell word).1) (of_option (exits cell word).1 second)
 
-pub among_exits : (words : List (Option ℕ)) (cell next : ℕ) → IsAmong next (cells_behind words cell)
+pub among_exits : (words : List (Option ℕ)) (cell next : ℕ) → IsAmong next (cells_after words cell)
     → (word : ℕ) × GivesWord words cell word × IsExit cell word next
 among_exits words cell next is = given (slice_index_or words cell None) refl is
   where
@@ -199,7 +199,7 @@ pub record IsOnTheWay (words : List (Option ℕ)) (starts : List ℕ) (reached :
   pub starts_are : (cell word : ℕ) → IsAmong cell starts → GivesWord words cell word → IsMarked reached cell
   pub marked : (cell : ℕ) → IsAmong cell waiting → IsMarked reached cell
   pub closed : (cell : ℕ) → IsMarked reached cell → IsAmong cell waiting
-      ⊎ ((next word : ℕ) → IsAmong next (cells_behind words cell) → GivesWord words next word → IsMarked reached next)
+      ⊎ ((next word : ℕ) → IsAmong next (cells_after words cell) → GivesWord words next word → IsMarked reached next)
 
 pub none_marked : (count : ℕ) → AreUnmarked (replicate count false)
 none_marked count cell has = true≢false (sym has ∙ unmarked_at (cases_lt cell count))
@@ -230,7 +230,7 @@ begins words starts none reached before waiting size empty nothing marks = recor
 -- one cell waits no more
 pub goes_on : (words : List (Option ℕ)) (starts : List ℕ) (old new : List Bool) (all rest waiting : List ℕ) (cell : ℕ)
     → IsOnTheWay words starts old all → all ≡ rest ++ cell ∷ []
-    → MarksCells words old new rest waiting (cells_behind words cell) → IsOnTheWay words starts new waiting
+    → MarksCells words old new rest waiting (cells_after words cell) → IsOnTheWay words starts new waiting
 goes_on words starts old new all rest waiting cell way is marks = record {
   size = marks.size ∙ way.size;
   sound = λ other marked. elim (marks.only other marked) [
@@ -248,7 +248,7 @@ goes_on words starts old new all rest waiting cell way is marks = record {
     | inl before ↦ elim (way.closed other before) [
       | inl waits ↦ elim (among_parts other rest (cell ∷ []) (subst (λ l. IsAmong other l) is waits)) [
         | inl still ↦ inl (marks.still_waits other still)
-        | inr last ↦ inr (λ next word among gives. marks.marks next word (subst (λ c. IsAmong next (cells_behind words c)) (only_cell last) among) gives)
+        | inr last ↦ inr (λ next word among gives. marks.marks next word (subst (λ c. IsAmong next (cells_after words c)) (only_cell last) among) gives)
       ]
       | inr done ↦ inr (λ next word among gives. marks.kept next (done next word among gives))
     ]
@@ -277,7 +277,7 @@ ends words starts reached way = record { size = way.size; cells = λ cell. (way.
 
 -- fewer cells are left to be marked or to wait
 pub fewer : (words : List (Option ℕ)) (old new : List Bool) (all rest waiting : List ℕ) (cell : ℕ) → all ≡ rest ++ cell ∷ []
-    → MarksCells words old new rest waiting (cells_behind words cell) → 2 * unmarked new + length waiting < 2 * unmarked old + length all
+    → MarksCells words old new rest waiting (cells_after words cell) → 2 * count_of_unmarked new + length waiting < 2 * count_of_unmarked old + length all
 fewer words old new all rest waiting cell is marks = omega (arith, marks.sum, one_more)
   where
     one_more : length all ≡ length rest + 1

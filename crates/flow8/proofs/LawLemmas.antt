@@ -6,17 +6,17 @@ use Rattle.word12.specs.declared.sizes.TheConstants.{FIELD, PAGE}
 use Rattle.tty8.specs.Bits.{has}
 use Rattle.cpu8.specs.State.{State, place, next_cell}
 use Rattle.cpu8.specs.Decoding.{pulses_of, is_indirect, is_in_current_page, offset_of, is_group_1, is_group_2, has_sma, has_sza, has_snl, is_reversed, has_hlt}
-use Rattle.cpu8.specs.Reference.{direct_address, isz_row, jms_row, jmp_row, raised}
+use Rattle.cpu8.specs.Reference.{direct_address, isz_row, jms_row, jmp_row, next_operand}
 use Rattle.cpu8.specs.Operate.{is_group1_unassigned, operate_row, group2_row}
 use Rattle.cpu8.specs.Transfer.{transfer_row, interrupts_row, fields_row, read_row}
-use Rattle.cpu8.specs.Step.{step, executed, fetched}
+use Rattle.cpu8.specs.Step.{step, after_instruction, next_word}
 use Rattle.cpu8.specs.Laws.{runs_on}
-use Rattle.flow8.specs.Exits.{behind, exits, goes_on, group2_exits, ion_exits, iot_exits, jmp_exits, jms_exits, may_skip, operate_exits, referred, referred_cell, skips, IsExit}
+use Rattle.flow8.specs.Exits.{cell_after, exits, goes_on, group2_exits, ion_exits, iot_exits, jmp_exits, jms_exits, may_skip, operate_exits, address_of_reference, referred_cell, skips, IsExit}
 use Rattle.flow8.specs.Laws.{IsTold, jumps_through_pointer}
 
 -- ## Cells
 
-pub place_behind : (field pc count : ℕ) → pc < FIELD → behind count (place field pc) ≡ place field ((pc + count) % FIELD)
+pub place_behind : (field pc count : ℕ) → pc < FIELD → cell_after count (place field pc) ≡ place field ((pc + count) % FIELD)
 place_behind field pc count small = ap (λ f. place f ((place field pc % FIELD + count) % FIELD)) over ∙ ap (λ a. place field ((a + count) % FIELD)) within
   where
     over : place field pc / FIELD ≡ field
@@ -30,12 +30,12 @@ abbrev pub IsOneOf : Option ℕ × Option ℕ → ℕ → Type 0
 IsOneOf cells next = (cells.0 ≡ Some next) ⊎ (cells.1 ≡ Some next)
 
 pub next_is : (field pc : ℕ) (other : Option ℕ) (at : ℕ) → pc < FIELD → at ≡ (pc + 1) % FIELD
-    → IsOneOf (Some (behind 1 (place field pc)), other) (place field at)
+    → IsOneOf (Some (cell_after 1 (place field pc)), other) (place field at)
 next_is field pc other at small is = inl (ap Some (place_behind field pc 1 small ∙ ap (place field) (sym is)))
 
 pub next_or_skip : (field pc : ℕ) (skips : Bool) (at : ℕ) → pc < FIELD → at ≡ (pc + (if skips then 2 else 1)) % FIELD
     → IsOneOf (may_skip (place field pc)) (place field at)
-next_or_skip field pc false at small is = next_is field pc (Some (behind 2 (place field pc))) at small is
+next_or_skip field pc false at small is = next_is field pc (Some (cell_after 2 (place field pc))) at small is
 next_or_skip field pc true at small is = inr (ap Some (place_behind field pc 2 small ∙ ap (place field) (sym is)))
 
 pub skip_is : (field pc at : ℕ) → pc < FIELD → at ≡ (pc + 2) % FIELD → IsOneOf (skips (place field pc)) (place field at)
@@ -52,8 +52,8 @@ by_bit at word (suc (suc more)) is = absurd (omega (arith, is))
 pub named_is : (field pc word : ℕ) → pc < FIELD
     → referred_cell (place field pc) word ≡ place field (if is_in_current_page word then pc / PAGE * PAGE + offset_of word else offset_of word)
 named_is field pc word small =
-    ap (λ f. place f (referred (place field pc % FIELD) word)) over
-    ∙ ap (λ a. place field (referred a word)) within
+    ap (λ f. place f (address_of_reference (place field pc % FIELD) word)) over
+    ∙ ap (λ a. place field (address_of_reference a word)) within
     ∙ ap (place field) (by_bit pc word (word / 0o200 % 2) refl)
   where
     over : place field pc / FIELD ≡ field
@@ -69,7 +69,7 @@ direct_small false pc word small = omega (arith, small)
 -- ## References to memory
 
 pub told_isz : (s : State) (word : ℕ) → s.pc < FIELD → IsOneOf (may_skip (next_cell s)) (next_cell (isz_row s word))
-told_isz s word small = next_or_skip s.instruction_field s.pc (nat_eq (raised s word) 0) _ small refl
+told_isz s word small = next_or_skip s.instruction_field s.pc (nat_eq (next_operand s word) 0) _ small refl
 
 pub told_jmp : (s : State) (word : ℕ) → s.pc < FIELD → s.instruction_buffer ≡ s.instruction_field → is_indirect word ≡ false
     → IsOneOf (jmp_exits (next_cell s) word) (next_cell (jmp_row s word))
@@ -79,7 +79,7 @@ told_jmp s word small field direct = rw direct (inl (ap Some (named_is s.instruc
 pub told_jms : (s : State) (word : ℕ) → s.pc < FIELD → s.instruction_buffer ≡ s.instruction_field → is_indirect word ≡ false
     → IsOneOf (jms_exits (next_cell s) word) (next_cell (jms_row s word))
 told_jms s word small field direct = rw direct (inr (ap Some (
-    ap (behind 1) (named_is s.instruction_field s.pc word small)
+    ap (cell_after 1) (named_is s.instruction_field s.pc word small)
     ∙ place_behind s.instruction_field (direct_address s word) 1 (direct_small (is_in_current_page word) s.pc word small)
     ∙ ap (λ f. place f ((direct_address s word + 1) % FIELD)) (sym field))))
 
@@ -89,9 +89,9 @@ told_jms s word small field direct = rw direct (inr (ap Some (
 abbrev pub IsAdvanced : State → State → Type 0
 IsAdvanced s now = (now.pc ≡ (s.pc + 1) % FIELD) × (now.instruction_field ≡ s.instruction_field)
 
-pub told_next : (s now : State) (other : Option ℕ) → s.pc < FIELD → IsAdvanced s now → IsOneOf (Some (behind 1 (next_cell s)), other) (next_cell now)
+pub told_next : (s now : State) (other : Option ℕ) → s.pc < FIELD → IsAdvanced s now → IsOneOf (Some (cell_after 1 (next_cell s)), other) (next_cell now)
 told_next s now other small is =
-    subst (λ f. IsOneOf (Some (behind 1 (next_cell s)), other) (place f now.pc)) (sym is.1) (next_is s.instruction_field s.pc other now.pc small is.0)
+    subst (λ f. IsOneOf (Some (cell_after 1 (next_cell s)), other) (place f now.pc)) (sym is.1) (next_is s.instruction_field s.pc other now.pc small is.0)
 
 pub either : {A : Type 0} (P : A → Type 0) (b : Bool) (x y : A) → P x → P y → P (if b then x else y)
 either P true x y px py = px
@@ -176,21 +176,21 @@ told_operate s word small runs = elim (cases_Bool (is_group_1 word)) [
 -- ## Steps
 
 -- a step of a machine that is not interrupted is an instruction
-stepped : (s : State) → IsTold s → step s ≡ executed s (fetched s)
+stepped : (s : State) → IsTold s → step s ≡ after_instruction s (next_word s)
 unfolding step
 stepped s told = rw (told.running, told.undisturbed) refl
 
 -- a word of no other operation is an operate
 operates : (s : State) (word : ℕ) → nat_eq (word / 0o1000) 0 ≡ false → nat_eq (word / 0o1000) 1 ≡ false → nat_eq (word / 0o1000) 2 ≡ false
     → nat_eq (word / 0o1000) 3 ≡ false → nat_eq (word / 0o1000) 4 ≡ false → nat_eq (word / 0o1000) 5 ≡ false → nat_eq (word / 0o1000) 6 ≡ false
-    → operate_row s word ≡ executed s word
-unfolding executed
+    → operate_row s word ≡ after_instruction s word
+unfolding after_instruction
 operates s word h0 h1 h2 h3 h4 h5 h6 = rw (h0, h1, h2, h3, h4, h5, h6) refl
 
 -- where an instruction of this word goes
 told_word : (s : State) (word : ℕ) → s.pc < FIELD → s.instruction_buffer ≡ s.instruction_field → jumps_through_pointer word ≡ false
-    → runs_on (executed s word).1 ≡ true → IsOneOf (exits (next_cell s) word) (next_cell (executed s word).0)
-unfolding executed
+    → runs_on (after_instruction s word).1 ≡ true → IsOneOf (exits (next_cell s) word) (next_cell (after_instruction s word).0)
+unfolding after_instruction
 told_word s word small field direct runs = elim (eqb_tells (word / 0o1000) 0) [
   | inl h ↦ rw h.0 (next_is s.instruction_field s.pc None _ small refl)
   | inr h0 ↦ elim (eqb_tells (word / 0o1000) 1) [
@@ -220,7 +220,7 @@ told_word s word small field direct runs = elim (eqb_tells (word / 0o1000) 0) [
     pointer false false (inl is) direct = absurd (true≢false (sym is))
     pointer false false (inr is) direct = absurd (true≢false (sym is))
 
-pub told : (s : State) → IsTold s → runs_on (step s).1 ≡ true → IsExit (next_cell s) (fetched s) (next_cell (step s).0)
+pub told : (s : State) → IsTold s → runs_on (step s).1 ≡ true → IsExit (next_cell s) (next_word s) (next_cell (step s).0)
 told s is runs =
-    subst (λ now. IsOneOf (exits (next_cell s) (fetched s)) (next_cell now.0)) (sym (stepped s is))
-    (told_word s (fetched s) is.pc is.field is.direct (ap (λ now. runs_on now.1) (sym (stepped s is)) ∙ runs))
+    subst (λ now. IsOneOf (exits (next_cell s) (next_word s)) (next_cell now.0)) (sym (stepped s is))
+    (told_word s (next_word s) is.pc is.field is.direct (ap (λ now. runs_on now.1) (sym (stepped s is)) ∙ runs))

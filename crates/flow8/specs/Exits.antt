@@ -7,16 +7,16 @@ use Rattle.cpu8.specs.Decoding.{pulses_of, is_indirect, is_group_1, is_group_2, 
 use Rattle.cpu8.specs.Operate.{is_group1_unassigned}
 
 -- the cell so many words after this one, in its field
-abbrev pub behind : ℕ → ℕ → ℕ
-behind count cell = place (cell / FIELD) ((cell % FIELD + count) % FIELD)
+abbrev pub cell_after : ℕ → ℕ → ℕ
+cell_after count cell = place (cell / FIELD) ((cell % FIELD + count) % FIELD)
 
 -- the address that a memory reference at an address has: on page zero, or on its own page where the page bit, 0200, is set
-abbrev pub referred : ℕ → ℕ → ℕ
-referred at word = if nat_eq (word / 0o200 % 2) 0 then word % PAGE else PAGE * (at / PAGE) + word % PAGE
+abbrev pub address_of_reference : ℕ → ℕ → ℕ
+address_of_reference at word = if nat_eq (word / 0o200 % 2) 0 then word % PAGE else PAGE * (at / PAGE) + word % PAGE
 
 -- the cell that a memory reference in a cell names: the one of its field at that address
 abbrev pub referred_cell : ℕ → ℕ → ℕ
-referred_cell cell word = place (cell / FIELD) (referred (cell % FIELD) word)
+referred_cell cell word = place (cell / FIELD) (address_of_reference (cell % FIELD) word)
 
 -- ## Kinds of ends
 
@@ -24,26 +24,26 @@ abbrev pub stops : Option ℕ × Option ℕ
 stops = (None, None)
 
 abbrev pub goes_on : ℕ → Option ℕ × Option ℕ
-goes_on cell = (Some (behind 1 cell), None)
+goes_on cell = (Some (cell_after 1 cell), None)
 
 abbrev pub may_skip : ℕ → Option ℕ × Option ℕ
-may_skip cell = (Some (behind 1 cell), Some (behind 2 cell))
+may_skip cell = (Some (cell_after 1 cell), Some (cell_after 2 cell))
 
 abbrev pub skips : ℕ → Option ℕ × Option ℕ
-skips cell = (Some (behind 2 cell), None)
+skips cell = (Some (cell_after 2 cell), None)
 
 -- ## Instructions
 
 -- a subroutine begins after the cell that the JMS names, and comes back after the JMS
 abbrev pub jms_exits : ℕ → ℕ → Option ℕ × Option ℕ
-jms_exits cell word = (Some (behind 1 cell), if is_indirect word then None else Some (behind 1 (referred_cell cell word)))
+jms_exits cell word = (Some (cell_after 1 cell), if is_indirect word then None else Some (cell_after 1 (referred_cell cell word)))
 
 abbrev pub jmp_exits : ℕ → ℕ → Option ℕ × Option ℕ
 jmp_exits cell word = (if is_indirect word then None else Some (referred_cell cell word), None)
 
 -- once ION turned interrupts on, one may come: it goes to cell 1 of field 0
 abbrev pub ion_exits : ℕ → Option ℕ × Option ℕ
-ion_exits cell = (Some (behind 1 cell), Some 1)
+ion_exits cell = (Some (cell_after 1 cell), Some 1)
 
 -- 6001 is ION; pulse 1 of the keyboard, 603, and of the printer, 604, skips where the flag is set (KSF, TSF)
 abbrev pub iot_exits : ℕ → ℕ → Option ℕ × Option ℕ

@@ -8,8 +8,8 @@ abbrev pub GivesWord : List (Option ℕ) → ℕ → ℕ → Type 0
 GivesWord words cell word = word_in words cell ≡ Some word
 
 -- how many cells are not marked
-abbrev pub unmarked : List Bool → ℕ
-unmarked reached = sum_by (λ mark. if mark then 0 else 1) reached
+abbrev pub count_of_unmarked : List Bool → ℕ
+count_of_unmarked reached = sum_by (λ mark. if mark then 0 else 1) reached
 
 -- a cell of the table is marked
 abbrev pub IsMarked : List Bool → ℕ → Type 0
@@ -28,7 +28,7 @@ pub record MarksCells (words : List (Option ℕ)) (old new : List Bool) (waiting
   pub waits : (cell : ℕ) → IsMarked new cell → IsMarked old cell ⊎ IsAmong cell waiting'
   pub still_waits : (cell : ℕ) → IsAmong cell waiting → IsAmong cell waiting'
   pub waiting_are : (cell : ℕ) → IsAmong cell waiting' → IsAmong cell waiting ⊎ IsMarked new cell
-  pub sum : 2 * unmarked new + length waiting' ≤ 2 * unmarked old + length waiting
+  pub sum : 2 * count_of_unmarked new + length waiting' ≤ 2 * count_of_unmarked old + length waiting
 
 -- the exits of a word, as a list
 abbrev pub exit_list : ℕ → Option ℕ → List ℕ
@@ -36,5 +36,5 @@ exit_list cell None = []
 exit_list cell (Some word) = option_to_list (exits cell word).0 ++ option_to_list (exits cell word).1
 
 -- those of the word that the tape gives a cell
-abbrev pub cells_behind : List (Option ℕ) → ℕ → List ℕ
-cells_behind words cell = exit_list cell (slice_index_or words cell None)
+abbrev pub cells_after : List (Option ℕ) → ℕ → List ℕ
+cells_after words cell = exit_list cell (slice_index_or words cell None)

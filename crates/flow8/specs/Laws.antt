@@ -3,7 +3,7 @@ use Rattle.std.specs.Prelude.{◌≡◌, ℕ, ◌/◌, ◌<◌, Bool, true, fals
 use Rattle.word12.specs.declared.sizes.TheConstants.{FIELD}
 use Rattle.cpu8.specs.State.{State, grants_interrupt}
 use Rattle.cpu8.specs.Decoding.{is_indirect}
-use Rattle.cpu8.specs.Step.{fetched}
+use Rattle.cpu8.specs.Step.{next_word}
 
 -- a JMS or JMP through a pointer
 abbrev pub jumps_through_pointer : ℕ → Bool
@@ -15,4 +15,4 @@ pub record IsTold (s : State) : Type 0 where
   pub undisturbed : grants_interrupt s ≡ false
   pub pc : s.pc < FIELD
   pub field : s.instruction_buffer ≡ s.instruction_field
-  pub direct : jumps_through_pointer (fetched s) ≡ false
+  pub direct : jumps_through_pointer (next_word s) ≡ false

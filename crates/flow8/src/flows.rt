@@ -1,7 +1,7 @@
 ghost use Rattle.std.specs.Prelude.{◌≡◌, [], ◌∷◌, length, IfOk, OnOk, option_to_list, vec_len};
 ghost use Rattle.word12.specs.declared.sizes.TheConstants.{CORE};
 ghost use Rattle.flow8.specs.Flow.{IsFlow};
-ghost use Rattle.flow8.specs.FlowSteps.{AreUnmarked, MarksCells, cells_behind};
+ghost use Rattle.flow8.specs.FlowSteps.{AreUnmarked, MarksCells, cells_after};
 
 use crate::exits;
 use std::alloc::{AllocError, Global};
@@ -76,7 +76,7 @@ fn mark_exits(
     requires words { length words.now ≡ CORE }
     requires reached { length reached.old ≡ CORE }
     ensures { OnOk result (MarksCells words.now reached.old reached.new waiting.old.items waiting.new.items
-        (cells_behind words.now cell)) }
+        (cells_after words.now cell)) }
 {
     let Some(word) = words[cell.index()] else {
         return Ok(());

@@ -3,7 +3,7 @@
 ghost use Rattle.std.specs.Prelude.{◌≡◌, true};
 ghost use Rattle.cpu8.specs.Laws.{runs_on};
 ghost use Rattle.cpu8.specs.State.{State, next_cell};
-ghost use Rattle.cpu8.specs.Step.{fetched, step};
+ghost use Rattle.cpu8.specs.Step.{next_word, step};
 ghost use Rattle.flow8.specs.Exits.{IsExit};
 ghost use Rattle.flow8.specs.Laws.{IsTold};
 
@@ -11,5 +11,5 @@ ghost use Rattle.flow8.specs.Laws.{IsTold};
 /// cells that the instruction's word gives.
 pub fn steps_are_told()
     ensures { (s : State) → IsTold s → runs_on (step s).1 ≡ true
-        → IsExit (next_cell s) (fetched s) (next_cell (step s).0) }
+        → IsExit (next_cell s) (next_word s) (next_cell (step s).0) }
 {}

@@ -1,10 +1,10 @@
 ghost use Rattle.std.specs.Prelude.{◌≡◌, ◌<◌, ◌≤◌};
 ghost use Rattle.word12.specs.declared.sizes.TheConstants.{CORE};
 ghost use Rattle.cpu8.specs.Operate.{is_group1_unassigned};
-ghost use Rattle.flow8.specs.Exits.{behind, exits, goes_on, group2_exits, ion_exits, iot_exits, jmp_exits, jms_exits, may_skip, operate_exits, referred, referred_cell};
+ghost use Rattle.flow8.specs.Exits.{cell_after, exits, goes_on, group2_exits, ion_exits, iot_exits, jmp_exits, jms_exits, may_skip, operate_exits, address_of_reference, referred_cell};
 
 use cpu8::decoding::{
-    CURRENT_PAGE, GROUP_2_OR_3, GROUP_3, HLT, INDIRECT, RAL, RAR, REVERSED, SMA, SNL, SZA, TWICE,
+    CURRENT_PAGE, GROUP_2_OR_3, GROUP_3, HLT, INDIRECT, RAL, RAR, REVERSE, SMA, SNL, SZA, TWICE,
     has,
 };
 use word12::{Cell, PAGE, Word};
@@ -30,24 +30,24 @@ pub fn exits(cell: Cell, word: Word) -> (Option<Cell>, Option<Cell>)
 fn goes_on(cell: Cell) -> (Option<Cell>, Option<Cell>)
     ensures { result ≡ goes_on cell }
 {
-    (Some(behind(cell, 1)), None)
+    (Some(cell_after(cell, 1)), None)
 }
 
 fn may_skip(cell: Cell) -> (Option<Cell>, Option<Cell>)
     ensures { result ≡ may_skip cell }
 {
-    (Some(behind(cell, 1)), Some(behind(cell, 2)))
+    (Some(cell_after(cell, 1)), Some(cell_after(cell, 2)))
 }
 
 fn jms_exits(cell: Cell, word: Word) -> (Option<Cell>, Option<Cell>)
     ensures { result ≡ jms_exits cell word }
 {
     if has(word, INDIRECT) {
-        return (Some(behind(cell, 1)), None);
+        return (Some(cell_after(cell, 1)), None);
     }
     (
-        Some(behind(cell, 1)),
-        Some(behind(referred_cell(cell, word), 1)),
+        Some(cell_after(cell, 1)),
+        Some(cell_after(referred_cell(cell, word), 1)),
     )
 }
 
@@ -73,7 +73,7 @@ fn iot_exits(cell: Cell, word: Word) -> (Option<Cell>, Option<Cell>)
 fn ion_exits(cell: Cell) -> (Option<Cell>, Option<Cell>)
     ensures { result ≡ ion_exits cell }
 {
-    (Some(behind(cell, 1)), Some(Cell::of(1)))
+    (Some(cell_after(cell, 1)), Some(Cell::of(1)))
 }
 
 fn operate_exits(cell: Cell, word: Word) -> (Option<Cell>, Option<Cell>)
@@ -100,8 +100,8 @@ fn group2_exits(cell: Cell, word: Word) -> (Option<Cell>, Option<Cell>)
     if has(word, SMA) || (has(word, SZA) || has(word, SNL)) {
         return may_skip(cell);
     }
-    if has(word, REVERSED) {
-        return (Some(behind(cell, 2)), None);
+    if has(word, REVERSE) {
+        return (Some(cell_after(cell, 2)), None);
     }
     goes_on(cell)
 }
@@ -116,9 +116,9 @@ fn is_unassigned(word: Word) -> bool
 }
 
 /// The cell so many words after this one, in its field.
-fn behind(cell: Cell, count: u16) -> Cell
+fn cell_after(cell: Cell, count: u16) -> Cell
     requires { count ≤ 2 }
-    ensures value { result ≡ behind count cell }
+    ensures value { result ≡ cell_after count cell }
     ensures range { result < CORE }
 {
     Cell::at(cell.field(), Word::low(cell.address().get() + count))
@@ -126,8 +126,8 @@ fn behind(cell: Cell, count: u16) -> Cell
 
 /// The address that a memory reference at an address has: on page zero, or on its own page where its page bit is set (Small Computer
 /// Handbook).
-pub fn referred(at: Word, word: Word) -> Word
-    ensures value { result ≡ referred at word }
+pub fn address_of_reference(at: Word, word: Word) -> Word
+    ensures value { result ≡ address_of_reference at word }
     ensures range { result < 0o10000 }
 {
     let offset = word.get() % PAGE;
@@ -143,5 +143,5 @@ pub fn referred_cell(cell: Cell, word: Word) -> Cell
     ensures number { result ≡ referred_cell cell word }
     ensures range { result < CORE }
 {
-    Cell::at(cell.field(), referred(cell.address(), word))
+    Cell::at(cell.field(), address_of_reference(cell.address(), word))
 }

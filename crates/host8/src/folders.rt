@@ -16,13 +16,13 @@ pub enum Durability {
 
 /// Brings the names in the folder of a file to the disk. No memory is taken.
 pub fn sync_folder<R: Files<File = File>>(rt: &R, path: &str) -> Durability {
-    match synced(rt, Path::new(path)) {
+    match sync_open_folder(rt, Path::new(path)) {
         Ok(()) => Durability::Certain,
         Err(_) => Durability::Unknown,
     }
 }
 
-fn synced<R: Files<File = File>>(rt: &R, path: Path<'_>) -> io::Result<()> {
+fn sync_open_folder<R: Files<File = File>>(rt: &R, path: Path<'_>) -> io::Result<()> {
     let folder = match path.parent() {
         Some(folder) => folder.as_os_str(),
         None => "",

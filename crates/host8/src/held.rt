@@ -17,7 +17,7 @@ use word12::{BLOCK, FIRST_FILE_BLOCK};
 const TRIES: u16 = 1000;
 
 /// How many times a second a held file is asked for again.
-const ASKED: usize = 20;
+const ASKS_A_SECOND: usize = 20;
 
 /// A file whose lock is held, from before it is read until this value is gone.
 #[derive(Drop)]
@@ -34,7 +34,7 @@ pub fn hold_within<R: Files<File = File> + Clock + AllocGlobal>(
     name: &str,
     seconds: usize,
 ) -> Result<HeldFile, HoldFault> {
-    for _ in 0..seconds.saturating_mul(ASKED) {
+    for _ in 0..seconds.saturating_mul(ASKS_A_SECOND) {
         match hold(rt, name) {
             Err(HoldFault::Busy) => thread::sleep(rt, Duration::from_millis(50)),
             answer => return answer,
@@ -56,7 +56,7 @@ pub fn hold<R: Files<File = File> + AllocGlobal>(
     }
     let mut besides = Besides::new(rt.alloc(), &path)?;
     for _ in 0..TRIES {
-        let file = opened(rt, &path)?;
+        let file = open_file(rt, &path)?;
         let has_lock = has_taken_lock(&file)?;
         if leads_to(rt, &path, &file) {
             remove_besides(rt, &file.metadata()?, &mut besides)?;
@@ -79,7 +79,7 @@ fn is_pipe<R: Files<File = File>>(rt: &R, path: &str) -> bool {
     }
 }
 
-fn opened<R: Files<File = File>>(rt: &R, path: &str) -> io::Result<File> {
+fn open_file<R: Files<File = File>>(rt: &R, path: &str) -> io::Result<File> {
     apart(OpenOptions::new().read(true).write(true).open(rt, path)?)
 }
 
@@ -132,7 +132,7 @@ impl HeldFile {
     ) -> Result<Durability, Unwritten> {
         let beside = self.besides.last();
         let mut own = file;
-        let is_whole = taken_over(rt, &own, beside, old).is_ok()
+        let is_whole = take_owner(rt, &own, beside, old).is_ok()
             && has_taken_lock(&own).is_ok()
             && put_synced(&mut own, bytes).is_ok()
             && leads_to(rt, self.path.as_str(), &self.file);
@@ -169,7 +169,7 @@ fn stands_alone(own: &Metadata) -> bool {
 }
 
 /// Gives a file the owner and the permissions of an older one.
-fn taken_over<R: Files<File = File>>(
+fn take_owner<R: Files<File = File>>(
     rt: &R,
     file: &File,
     name: &str,

@@ -54,7 +54,7 @@ pub fn print_rows<R: Print + AllocGlobal>(rt: &R) -> Option<()> {
 fn print_row<R: Print + AllocGlobal>(rt: &R, trial: Trial, number: u64) -> Option<()> {
     let alloc = rt.alloc();
     let mut host = Fake::new(memory_of(alloc, trial, number)?);
-    let ended = tried(&mut host, alloc, trial);
+    let ended = try_row(&mut host, alloc, trial);
     let file = state_of(&host.memory.file);
     let beside = host.memory.beside.is_some();
     println!(rt;
@@ -80,7 +80,7 @@ fn memory_of(alloc: Global, trial: Trial, number: u64) -> Option<InMemory> {
 }
 
 /// How a trial ends.
-fn tried(host: &mut Fake, alloc: Global, trial: Trial) -> &'static str {
+fn try_row(host: &mut Fake, alloc: Global, trial: Trial) -> &'static str {
     match trial {
         Trial::Save | Trial::SaveOver | Trial::SaveMount => {
             match save_file(host, alloc, "DISK", 3, NEW) {

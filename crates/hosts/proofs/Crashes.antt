@@ -2,12 +2,12 @@
 use Rattle.std.proofs.Common.{◌≡◌, ℕ, Bool, true, false, List, [], ◌∷◌, ◌++◌, Option, Some, inl, inr, refl}
 use Rattle.std.specs.Str.{bytes_eq}
 use Rattle.hosts.specs.Event.{Event, Call, Change, Alter, MakeBeside, OwnBeside, WriteBeside, SyncBeside, DropBeside, Rename, LinkNew, Claim, DropClaim, SyncFolder, WriteOver, FinishOver, Resolve, Hold, DropSeconds, Look, TakeInput, Alone, Leads, LockBeside, Free, There, MakeFolder, Print, Tell, Terminal, Seconds, Words}
-use Rattle.hosts.specs.Place.{Place, Step, Left, Anything, Leaves, may_leave, after, replay, with_moment, ever, with_step, about}
+use Rattle.hosts.specs.Place.{Place, Step, Remainder, Anything, Leaves, may_leave, after, replay, with_moment, ever, with_step, about}
 use Rattle.hosts.specs.Saving.{IsSaved}
 use Rattle.hosts.specs.Laws.{IsSound}
 
 -- what a change leaves is among what its moment adds
-pub among : (c : Change) (ok : Bool) (number : ℕ) (bytes : List ℕ) (p : Place) (before : List Left) → ((f : Option (List ℕ)) → Leaves (may_leave p) f → Leaves before f) → (f : Option (List ℕ)) → Leaves (may_leave (after c ok number bytes p)) f → Leaves (with_moment c p before) f
+pub among : (c : Change) (ok : Bool) (number : ℕ) (bytes : List ℕ) (p : Place) (before : List Remainder) → ((f : Option (List ℕ)) → Leaves (may_leave p) f → Leaves before f) → (f : Option (List ℕ)) → Leaves (may_leave (after c ok number bytes p)) f → Leaves (with_moment c p before) f
 among MakeBeside ok number bytes p before h f l = h f l
 among OwnBeside ok number bytes p before h f l = h f l
 among WriteBeside ok number bytes p before h f l = h f l
@@ -33,7 +33,7 @@ among WriteOver false number bytes p before h f l = inl tt
 among FinishOver true number bytes p before h f l = inl tt
 among FinishOver false number bytes p before h f l = inl tt
 
-stays : (c : Change) (p : Place) (before : List Left) (f : Option (List ℕ)) → Leaves before f → Leaves (with_moment c p before) f
+stays : (c : Change) (p : Place) (before : List Remainder) (f : Option (List ℕ)) → Leaves before f → Leaves (with_moment c p before) f
 stays MakeBeside p before f l = l
 stays OwnBeside p before f l = l
 stays WriteBeside p before f l = l

@@ -2,7 +2,7 @@
 use Rattle.std.proofs.Common.{◌≡◌, ℕ, zero, suc, true, List, [], ◌∷◌, ◌++◌, length, take, drop, Some, refl, ap, sym, append_assoc}
 use Rattle.std.proofs.lemmas.List.{take-append-drop}
 use Rattle.hosts.specs.Event.{WriteOver, FinishOver}
-use Rattle.hosts.specs.Place.{Step, Left, Just, replay, patched, patched_left, cut_left}
+use Rattle.hosts.specs.Place.{Step, Remainder, Just, replay, with_bytes_over, remainder_with_bytes_over, cut_left}
 use Rattle.hosts.specs.Saving.{IsWrittenOver}
 
 take_all : (xs ys : List ℕ) → take (length xs) (xs ++ ys) ≡ xs
@@ -10,23 +10,23 @@ take_all [] ys = refl
 take_all (x ∷ xs) ys = ap (λ rest. x ∷ rest) (take_all xs ys)
 
 -- what stands from a byte on, after bytes were written there
-tail_of : (at : ℕ) (new old : List ℕ) → (rest : List ℕ) × (drop at (patched at new old) ≡ new ++ rest)
+tail_of : (at : ℕ) (new old : List ℕ) → (rest : List ℕ) × (drop at (with_bytes_over at new old) ≡ new ++ rest)
 tail_of zero new old = (drop (length new) old, refl)
 tail_of (suc at) new [] = tail_of at new []
 tail_of (suc at) new (byte ∷ old) = tail_of at new old
 
-pub over_head : (head was : List ℕ) → take (length head) (patched 0 head was) ≡ head
+pub over_head : (head was : List ℕ) → take (length head) (with_bytes_over 0 head was) ≡ head
 over_head head was = take_all head (drop (length head) was)
 
-pub over_both : (head rest was : List ℕ) → take (length (head ++ rest)) (patched 0 head (patched (length head) rest was)) ≡ head ++ rest
+pub over_both : (head rest was : List ℕ) → take (length (head ++ rest)) (with_bytes_over 0 head (with_bytes_over (length head) rest was)) ≡ head ++ rest
 over_both head rest was =
     let behind = tail_of (length head) rest was in
     rw behind.1 (rw (← append_assoc head rest behind.0) (take_all (head ++ rest) behind.0))
 
-over_left : (bytes head rest was : List ℕ) (seen : Left) → seen ≡ Just (Some was) → bytes ≡ head ++ rest → cut_left (length bytes) (patched_left 0 head (patched_left (length head) rest seen)) ≡ Just (Some bytes)
+over_left : (bytes head rest was : List ℕ) (seen : Remainder) → seen ≡ Just (Some was) → bytes ≡ head ++ rest → cut_left (length bytes) (remainder_with_bytes_over 0 head (remainder_with_bytes_over (length head) rest seen)) ≡ Just (Some bytes)
 over_left bytes head rest was seen is parts = rw is (rw parts (ap (λ found. Just (Some found)) (over_both head rest was)))
 
-head_left : (bytes was : List ℕ) (seen : Left) → seen ≡ Just (Some was) → cut_left (length bytes) (patched_left 0 bytes seen) ≡ Just (Some bytes)
+head_left : (bytes was : List ℕ) (seen : Remainder) → seen ≡ Just (Some was) → cut_left (length bytes) (remainder_with_bytes_over 0 bytes seen) ≡ Just (Some bytes)
 head_left bytes was seen is = rw is (ap (λ found. Just (Some found)) (over_head bytes was))
 
 abbrev pub over_step : ℕ → List ℕ → Step

@@ -60,8 +60,8 @@ number_of is = if is then 1 else 0
 abbrev pub event_at : Call → List ℕ → Bool → List ℕ → Event
 event_at call name ok bytes = record { call = call; ok = ok; name = name; bytes = bytes; number = 0 }
 
-abbrev pub numbered : Call → List ℕ → Bool → ℕ → List ℕ → Event
-numbered call name ok number bytes = record { call = call; ok = ok; name = name; bytes = bytes; number = number }
+abbrev pub event_of_number : Call → List ℕ → Bool → ℕ → List ℕ → Event
+event_of_number call name ok number bytes = record { call = call; ok = ok; name = name; bytes = bytes; number = number }
 
 -- a name led to a path
 abbrev pub resolve_call : List ℕ → Bool → List ℕ → Event
@@ -84,7 +84,7 @@ input_call ok bytes = event_at TakeInput [] ok bytes
 
 -- it was asked whether a new file may take the path with nothing lost, and `number` is the answer
 abbrev pub alone_call : List ℕ → Bool → ℕ → Event
-alone_call path ok is = numbered Alone path ok is []
+alone_call path ok is = event_of_number Alone path ok is []
 
 -- it was asked whether the path still leads to the file that is held, and this was the answer
 abbrev pub leads_call : List ℕ → Bool → Event
@@ -110,11 +110,11 @@ drop_call path ok = event_at (Alter DropBeside) path ok []
 
 -- `is_mount` is 1 where the path is a mount's, which no other file can take
 abbrev pub rename_call : List ℕ → Bool → ℕ → Event
-rename_call path ok is_mount = numbered (Alter Rename) path ok is_mount []
+rename_call path ok is_mount = event_of_number (Alter Rename) path ok is_mount []
 
 -- `is_none` is 1 where the file system has no further names
 abbrev pub link_call : List ℕ → Bool → ℕ → Event
-link_call path ok is_none = numbered (Alter LinkNew) path ok is_none []
+link_call path ok is_none = event_of_number (Alter LinkNew) path ok is_none []
 
 abbrev pub claim_call : List ℕ → Bool → Event
 claim_call path ok = event_at (Alter Claim) path ok []
@@ -126,10 +126,10 @@ abbrev pub sync_folder_call : List ℕ → Bool → Event
 sync_folder_call path ok = event_at (Alter SyncFolder) path ok []
 
 abbrev pub write_over_call : List ℕ → Bool → ℕ → List ℕ → Event
-write_over_call path ok at bytes = numbered (Alter WriteOver) path ok at bytes
+write_over_call path ok at bytes = event_of_number (Alter WriteOver) path ok at bytes
 
 abbrev pub finish_over_call : List ℕ → Bool → ℕ → Event
-finish_over_call path ok size = numbered (Alter FinishOver) path ok size []
+finish_over_call path ok size = event_of_number (Alter FinishOver) path ok size []
 
 -- a name led to a path that no file has
 abbrev pub free_call : List ℕ → Bool → List ℕ → Event
@@ -143,7 +143,7 @@ folder_call name ok = event_at MakeFolder name ok []
 
 -- these bytes were written to standard output; `is_abandoned` is 1 where that is a pipe which nobody reads any more
 abbrev pub print_call : Bool → ℕ → List ℕ → Event
-print_call ok is_abandoned bytes = numbered Print [] ok is_abandoned bytes
+print_call ok is_abandoned bytes = event_of_number Print [] ok is_abandoned bytes
 
 -- these bytes were written to standard error
 abbrev pub tell_call : Bool → List ℕ → Event
@@ -151,7 +151,7 @@ tell_call ok bytes = event_at Tell [] ok bytes
 
 -- it was asked whether standard output, 1, or standard error, 2, is a terminal, and this was the answer
 abbrev pub terminal_call : Bool → ℕ → Event
-terminal_call is stream = numbered Terminal [] is stream []
+terminal_call is stream = event_of_number Terminal [] is stream []
 
 abbrev pub seconds_call : Event
 seconds_call = event_at Seconds [] true []

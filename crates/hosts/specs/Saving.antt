@@ -1,7 +1,7 @@
 -- What becomes of a path that is to have other bytes. `old` and `new` are the changes of the path before and after.
 use Rattle.std.specs.Prelude.{◌≡◌, ℕ, ◌+◌, Bool, true, false, List, [], ◌∷◌, None, Some, Result, Ok, Err, ◌⊎◌}
 use Rattle.hosts.specs.Event.{Change, Claim, Rename, WriteOver}
-use Rattle.hosts.specs.Place.{Place, Step, Left, Just, replay, ever}
+use Rattle.hosts.specs.Place.{Place, Step, Remainder, Just, replay, ever}
 use Rattle.hosts.specs.declared.faults.HostFault.{HostFault}
 use Rattle.hosts.specs.declared.faults.Durability.{Durability}
 use Rattle.hosts.specs.declared.faults.Durability.TheVariants.{Certain, Unknown}
@@ -72,7 +72,7 @@ still_may (Err Mount) before = false
 still_may (Err Failed) before = before
 
 -- each crash at any moment since leaves what it might have left at one before, or else the bytes, all of them
-abbrev pub IsOldOrNew : List ℕ → List Left → List Left → Type 0
+abbrev pub IsOldOrNew : List ℕ → List Remainder → List Remainder → Type 0
 IsOldOrNew bytes old new = (new ≡ old) ⊎ (new ≡ Just (Some bytes) ∷ old)
 
 abbrev pub AnyMoment : List ℕ → List Step → List Step → Type 0

@@ -57,9 +57,9 @@ with_freed Free path before = path
 with_freed _ path before = before
 
 -- the path that the host gave last for a name that no file has
-abbrev pub freed : List Event → List ℕ
-freed [] = []
-freed (e ∷ earlier) = with_freed e.call e.bytes (freed earlier)
+abbrev pub path_of_name : List Event → List ℕ
+path_of_name [] = []
+path_of_name (e ∷ earlier) = with_freed e.call e.bytes (path_of_name earlier)
 
 -- an answer stands until it is asked again, or a rename shows that the path is a mount's; where the host doesn't know, nothing is written
 abbrev pub with_alone : Call → Bool → ℕ → Bool → Bool

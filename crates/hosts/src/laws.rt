@@ -2,7 +2,7 @@
 ghost use Rattle.std.specs.Prelude.{◌≡◌, ℕ, Bool, true, false, List, [], ◌∷◌, ◌++◌, Option, Some};
 ghost use Rattle.std.specs.Str.{bytes_eq};
 ghost use Rattle.hosts.specs.Event.{Event, Change, Rename, WriteBeside, SyncFolder};
-ghost use Rattle.hosts.specs.Place.{Place, Step, Left, Anything, Leaves, may_leave, about, after, replay, with_moment, ever};
+ghost use Rattle.hosts.specs.Place.{Place, Step, Remainder, Anything, Leaves, may_leave, about, after, replay, with_moment, ever};
 ghost use Rattle.hosts.specs.Saving.{IsSaved};
 ghost use Rattle.hosts.specs.Laws.{IsSound};
 ghost use Rattle.hosts.specs.Holding.{holder, turns, IsLawful, GoesOn, AllOwn};

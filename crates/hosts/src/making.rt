@@ -3,7 +3,7 @@ ghost use Rattle.std.specs.Str.{bytes_eq};
 ghost use Rattle.hosts.specs.Place.{about};
 ghost use Rattle.hosts.specs.Saving.{Makes, AnyMomentOf, replacements};
 ghost use Rattle.hosts.specs.SavingSteps.{Takes, IsQuiet, new_calls};
-ghost use Rattle.hosts.specs.Streams.{output, errors, read, failures, freed, has_links};
+ghost use Rattle.hosts.specs.Streams.{output, errors, read, failures, path_of_name, has_links};
 
 use crate::saving::give_up;
 use crate::{Durability, Host, HostFault, LinkFault};
@@ -18,11 +18,11 @@ pub fn make<H: Host>(
     name: &str,
     bytes: &[u8],
 ) -> Result<Durability, HostFault>
-    ensures replaced { replacements (about (freed (H.history host.new)) (H.history host.new)) ≡ replacements (about (freed (H.history host.new)) (H.history host.old)) }
-    ensures makes { Makes result bytes.now (about (freed (H.history host.new)) (H.history host.old)) (about (freed (H.history host.new)) (H.history host.new)) }
-    ensures any_moment { AnyMomentOf (has_links (H.history host.new)) bytes.now (about (freed (H.history host.new)) (H.history host.old)) (about (freed (H.history host.new)) (H.history host.new)) }
+    ensures replaced { replacements (about (path_of_name (H.history host.new)) (H.history host.new)) ≡ replacements (about (path_of_name (H.history host.new)) (H.history host.old)) }
+    ensures makes { Makes result bytes.now (about (path_of_name (H.history host.new)) (H.history host.old)) (about (path_of_name (H.history host.new)) (H.history host.new)) }
+    ensures any_moment { AnyMomentOf (has_links (H.history host.new)) bytes.now (about (path_of_name (H.history host.new)) (H.history host.old)) (about (path_of_name (H.history host.new)) (H.history host.new)) }
     ensures cause { OnErr result (failures (H.history host.old) < failures (H.history host.new)) }
-    ensures others { (other : List ℕ) → bytes_eq (freed (H.history host.new)) other ≡ false
+    ensures others { (other : List ℕ) → bytes_eq (path_of_name (H.history host.new)) other ≡ false
         → about other (H.history host.new) ≡ about other (H.history host.old) }
     ensures output { output (H.history host.new) ≡ output (H.history host.old) }
     ensures errors { errors (H.history host.new) ≡ errors (H.history host.old) }
@@ -52,7 +52,7 @@ pub fn make_at<H: Host>(
     ensures output { output (H.history host.new) ≡ output (H.history host.old) }
     ensures errors { errors (H.history host.new) ≡ errors (H.history host.old) }
     ensures read { read (H.history host.new) ≡ read (H.history host.old) }
-    ensures path { freed (H.history host.new) ≡ freed (H.history host.old) }
+    ensures path { path_of_name (H.history host.new) ≡ path_of_name (H.history host.old) }
 {
     prepare_new(host, alloc, path, bytes)?;
     match host.link_new(path) {
@@ -94,7 +94,7 @@ pub(crate) fn take_path<H: Host>(host: &mut H, path: &str) -> Result<(), HostFau
     ensures output { output (H.history host.new) ≡ output (H.history host.old) }
     ensures errors { errors (H.history host.new) ≡ errors (H.history host.old) }
     ensures read { read (H.history host.new) ≡ read (H.history host.old) }
-    ensures path { freed (H.history host.new) ≡ freed (H.history host.old) }
+    ensures path { path_of_name (H.history host.new) ≡ path_of_name (H.history host.old) }
     ensures links { has_links (H.history host.new) ≡ has_links (H.history host.old) }
 {
     if host.claim(path).is_err() {

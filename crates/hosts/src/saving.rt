@@ -4,7 +4,7 @@ ghost use Rattle.hosts.specs.Event.{Event, drop_call, leads_call};
 ghost use Rattle.hosts.specs.Place.{about};
 ghost use Rattle.hosts.specs.Saving.{Saves, SavesFile, AnyMoment, AnyMomentOf, IsWrittenOver, still_may, last_over};
 ghost use Rattle.hosts.specs.SavingSteps.{IsQuiet, ready_calls};
-ghost use Rattle.hosts.specs.Streams.{output, errors, read, failures, may_replace, freed};
+ghost use Rattle.hosts.specs.Streams.{output, errors, read, failures, may_replace, path_of_name};
 
 use crate::{Durability, Host, HostFault, RenameFault, Unwritten};
 use std::alloc::Global;

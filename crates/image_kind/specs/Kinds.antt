@@ -28,16 +28,16 @@ fits bytes Disk before =
 fits bytes Volume before = is_head bytes (before + BLOCK_BYTES) (volume_blocks (length bytes))
 
 -- with so many bytes beyond those of the form, which stand after all or before it
-abbrev pub placed : List ℕ → Form → Option ℕ → Option ImageKind
-placed bytes form None = None
-placed bytes form (Some excess) =
+abbrev pub kind_with_bytes : List ℕ → Form → Option ℕ → Option ImageKind
+kind_with_bytes bytes form None = None
+kind_with_bytes bytes form (Some excess) =
     if fits bytes form 0 then Some (record { form = form; before = 0; after = excess })
     else if fits bytes form excess then Some (record { form = form; before = excess; after = 0 })
     else None
 
 -- a file as one of this form
 abbrev pub kind_in : List ℕ → Form → Option ImageKind
-kind_in bytes form = placed bytes form (excess form (length bytes))
+kind_in bytes form = kind_with_bytes bytes form (excess form (length bytes))
 
 -- the first of two that there is
 abbrev pub or_else : Option ImageKind → Option ImageKind → Option ImageKind

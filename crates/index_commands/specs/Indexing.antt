@@ -6,7 +6,7 @@ use Rattle.disk8.specs.declared.layouts.Layout.{Layout}
 use Rattle.script8.specs.declared.faults.SessionFault.TheVariants.{Memory}
 use Rattle.task8.specs.declared.forms.ImageForm.{ImageForm}
 use Rattle.archive8.specs.declared.faults.ArchiveFault.{ArchiveFault}
-use Rattle.many8.specs.Patterns.{is_choice}
+use Rattle.archive_many.specs.Patterns.{is_choice}
 use Rattle.volume_index.specs.Indexing.{Indexes as GivesLines}
 use Rattle.volume_index.specs.declared.styles.IndexStyle.{IndexStyle}
 use Rattle.outcome.specs.Endings.{ending_of_archive}
@@ -69,13 +69,13 @@ IndexesImage style layout name = Then (Purely (IsWholeFile name)) (λ form. Read
 -- ## The command
 
 -- the result of a command that refused an image, or none
-abbrev pub ended : Bool → Result (Unit {0}) Ending
-ended true = Err Failure
-ended false = Ok tt
+abbrev pub ending_of_refusal : Bool → Result (Unit {0}) Ending
+ending_of_refusal true = Err Failure
+ending_of_refusal false = Ok tt
 
 -- Images are read in order, one at a time; of each the index is printed, or why it is passed over.
 abbrev pub IndexesImages : IndexStyle → Option Layout → List (List ℕ) → Bool → List Event → Result (Unit {0}) Ending → List Event → Type 0
-IndexesImages style layout [] is_refused old result new = (result ≡ ended is_refused) × (new ≡ old)
+IndexesImages style layout [] is_refused old result new = (result ≡ ending_of_refusal is_refused) × (new ≡ old)
 IndexesImages style layout (name ∷ names) is_refused old result new =
     Then (IndexesImage style layout name) (λ more. IndexesImages style layout names (is_refused || more)) old result new
 

@@ -3,7 +3,7 @@ use Rattle.std.specs.Prelude.{◌≡◌, ℕ, Bool, true, codes, decimal, Option
 use Rattle.hosts.specs.Event.{Event}
 use Rattle.script8.specs.declared.faults.SessionFault.TheVariants.{Memory}
 use Rattle.report8.specs.Program.{program_line}
-use Rattle.report8.specs.Prefixes.{prefixed}
+use Rattle.report8.specs.Prefixes.{with_prefixes}
 use Rattle.outcome.specs.declared.endings.Ending.{Ending}
 use Rattle.outcome.specs.declared.endings.Ending.TheVariants as ending
 use Rattle.volume_commands.specs.Ending.{TellsLine}
@@ -20,7 +20,7 @@ prefix_of name number = name ++ number_text number ++ codes ": "
 -- A volume is refused with a line, which standard error gets with the volume's name before it; the work goes on. Want of memory, and what else
 -- is no refusal, ends it.
 abbrev pub PassesOver : List ℕ → Option ℕ → Ending → List Event → Result Bool Ending → List Event → Type 0
-PassesOver name number (ending.Line line) old (Ok is_refused) new = (is_refused ≡ true) × TellsLine (prefixed (prefix_of name number) (program_line line)) old new
+PassesOver name number (ending.Line line) old (Ok is_refused) new = (is_refused ≡ true) × TellsLine (with_prefixes (prefix_of name number) (program_line line)) old new
 PassesOver name number (ending.Line line) old (Err ended) new = (ended ≡ ending.Fault Memory) × (new ≡ old)
 PassesOver name number other old (Ok is_refused) new = ⊥
 PassesOver name number other old (Err ended) new = (ended ≡ other) × (new ≡ old)

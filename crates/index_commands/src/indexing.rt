@@ -8,7 +8,7 @@ use crate::volumes::{body_in, number_of, volume_at};
 use disk8::Layout;
 use hosts::Host;
 use image_kind::{Form, kind_of};
-use many8::{ChoiceFault, chosen};
+use archive_many::{ChoiceFault, choose_files};
 use outcome::Ending;
 use std::alloc::Global;
 use task8::ImageForm;
@@ -36,7 +36,7 @@ pub fn index_images<H: Host>(
 fn check_word<H: Host>(host: &mut H, alloc: Global, word: &[u8]) -> Result<(), Ending>
     ensures { ChecksWord word.now (H.history host.old) result (H.history host.new) }
 {
-    match chosen(alloc, &[], word) {
+    match choose_files(alloc, &[], word) {
         Err(ChoiceFault::BadName) => {
             let _ = host.tell(
                 "error: --find takes a name, or a pattern of letters, digits, * and ?\n",

@@ -1,6 +1,6 @@
 //! Images that are passed over.
 ghost use Rattle.std.specs.Prelude.{◌≡◌, ◌++◌, OnOk};
-ghost use Rattle.report8.specs.Prefixes.{prefixed};
+ghost use Rattle.report8.specs.Prefixes.{with_prefixes};
 ghost use Rattle.report8.specs.Program.{program_line};
 ghost use Rattle.volume_commands.specs.Answers.{AreLines};
 ghost use Rattle.volume_commands.specs.Ending.{TellsLine};
@@ -38,7 +38,7 @@ fn refusal(
     number: Option<u64>,
     line: &ProgramLine,
 ) -> Result<Vec<u8>, Ending>
-    ensures { AreLines (prefixed (prefix_of name.now number) (program_line line.now)) result }
+    ensures { AreLines (with_prefixes (prefix_of name.now number) (program_line line.now)) result }
 {
     let mut text = Vec::new(alloc);
     put_program(line, &mut text)?;

@@ -2,7 +2,7 @@
 use Rattle.std.proofs.Common.{◌≡◌, ℕ, ◌+◌, ◌-◌, ◌*◌, ◌/◌, ◌%◌, ◌<◌, nat_eq, Bool, true, false, true≢false, ◌&&◌, if◌then◌else◌, List, [], ◌∷◌, ◌++◌, refl, ap, sym, ◌∙◌, arith}
 use Rattle.std.proofs.lemmas.Bool.Decides.{nat_tests}
 use Rattle.word12.specs.Octal.{octal_digit}
-use Rattle.index_line.specs.Quoting.{is_plain, quoted, quoted_byte}
+use Rattle.index_line.specs.Quoting.{is_plain, with_quotes, quoted_byte}
 use Rattle.index_line.specs.Laws.{AreBytes, are_graphic, is_graphic}
 
 -- ## Graphic characters
@@ -32,9 +32,9 @@ byte_graphic c = by (is_plain c) refl
         ∙ ap (λ (t : Bool). t && (is_graphic (octal_digit c) && true)) (octal_graphic (c / 8))
         ∙ ap (λ (t : Bool). t && true) (octal_graphic c)
 
-pub quoted_is_graphic : (bytes : List ℕ) → are_graphic (quoted bytes) ≡ true
+pub quoted_is_graphic : (bytes : List ℕ) → are_graphic (with_quotes bytes) ≡ true
 quoted_is_graphic [] = refl
-quoted_is_graphic (c ∷ cs) = joined_graphic (quoted_byte c) (quoted cs) (byte_graphic c) (quoted_is_graphic cs)
+quoted_is_graphic (c ∷ cs) = joined_graphic (quoted_byte c) (with_quotes cs) (byte_graphic c) (quoted_is_graphic cs)
 
 -- ## Reading
 
@@ -67,9 +67,9 @@ byte_back c t small = by (is_plain c) refl
     by true e = plain_read c t (plain_apart c e)
     by false e = ap (λ n. n ∷ unquoted t) (octal_back c small)
 
-bytes_back : (bytes : List ℕ) → AreBytes bytes → unquoted (quoted bytes) ≡ bytes
+bytes_back : (bytes : List ℕ) → AreBytes bytes → unquoted (with_quotes bytes) ≡ bytes
 bytes_back [] all = refl
-bytes_back (c ∷ cs) all = byte_back c (quoted cs) all.0 ∙ ap (λ t. c ∷ t) (bytes_back cs all.1)
+bytes_back (c ∷ cs) all = byte_back c (with_quotes cs) all.0 ∙ ap (λ t. c ∷ t) (bytes_back cs all.1)
 
-pub quoted_is_read : (one other : List ℕ) → AreBytes one → AreBytes other → quoted one ≡ quoted other → one ≡ other
+pub quoted_is_read : (one other : List ℕ) → AreBytes one → AreBytes other → with_quotes one ≡ with_quotes other → one ≡ other
 quoted_is_read one other all each same = sym (bytes_back one all) ∙ ap unquoted same ∙ bytes_back other each

@@ -11,6 +11,6 @@ abbrev pub quoted_byte : ℕ → List ℕ
 quoted_byte byte =
     if is_plain byte then byte ∷ [] else 0o134 ∷ octal_digit (byte / 0o100) ∷ octal_digit (byte / 8) ∷ octal_digit byte ∷ []
 
-abbrev pub quoted : List ℕ → List ℕ
-quoted [] = []
-quoted (byte ∷ bytes) = quoted_byte byte ++ quoted bytes
+abbrev pub with_quotes : List ℕ → List ℕ
+with_quotes [] = []
+with_quotes (byte ∷ bytes) = quoted_byte byte ++ with_quotes bytes

@@ -1,5 +1,5 @@
 //! Laws of index lines. Each function does nothing: its contract is the law.
-ghost use Rattle.index_line.specs.Laws.{QuotedIsGraphic, QuotedIsRead};
+ghost use Rattle.index_line.specs.Laws.{QuotedIsGraphic, ReadsWhatItQuotes};
 
 /// A name of any bytes is one column: it has graphic characters alone, so neither a tab nor an end of a line.
 pub fn quoted_names()
@@ -8,5 +8,5 @@ pub fn quoted_names()
 
 /// Names that are quoted alike are the same.
 pub fn one_name()
-    ensures { QuotedIsRead }
+    ensures { ReadsWhatItQuotes }
 {}

@@ -1,13 +1,13 @@
 //! Names of any bytes in one column.
 ghost use Rattle.std.specs.Prelude.{◌≡◌, ◌++◌, ◌∷◌, [], OnOk};
-ghost use Rattle.index_line.specs.Quoting.{quoted, quoted_byte};
+ghost use Rattle.index_line.specs.Quoting.{with_quotes, quoted_byte};
 
 use std::alloc::AllocError;
 
 /// Appends bytes as one column of a line. A graphic character of ASCII other than `\` stands as it is, any other byte as `\` and three
 /// octal digits (this project's profile).
 pub fn put_quoted(text: &mut Vec<u8>, bytes: &[u8]) -> Result<(), AllocError>
-    ensures { OnOk result (text.new.items ≡ text.old.items ++ quoted bytes.now) }
+    ensures { OnOk result (text.new.items ≡ text.old.items ++ with_quotes bytes.now) }
 {
     let mut rest = bytes;
     while let [byte, others @ ..] = rest {

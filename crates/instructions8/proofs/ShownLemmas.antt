@@ -2,11 +2,11 @@
 use Rattle.std.proofs.Common.{◌≡◌, ℕ, ◌+◌, ◌*◌, ◌/◌, ◌%◌, ◌<◌, nat_eq, Bool, true, if◌then◌else◌, List, [], ◌∷◌, ◌++◌, refl, ap, ◌∙◌}
 use Rattle.std.specs.Prelude.{codes}
 use Rattle.word12.specs.Octal.{octal4}
-use Rattle.pal_list.specs.Patterns.{patterns, chosen, names}
-use Rattle.pal_list.specs.Fewest.{group_1, group_2}
-use Rattle.pal_list.specs.References.{operation_name, is_reference}
-use Rattle.pal_list.specs.Tags.{tag}
-use Rattle.pal_list.specs.Statements.{address, reference, is_named, instruction}
+use Rattle.tape_source.specs.Patterns.{patterns, patterns_of, names}
+use Rattle.tape_source.specs.Fewest.{group_1, group_2}
+use Rattle.tape_source.specs.References.{operation_name, is_reference}
+use Rattle.tape_source.specs.Tags.{tag}
+use Rattle.tape_source.specs.Statements.{address, reference, is_named, instruction}
 use Rattle.instructions8.specs.Instructions.{instructions, Each}
 use Rattle.instructions8.specs.Shown.{BeginsWith, field_pieces, IsShown, is_of_group_1, is_of_group_2, codes_where}
 use Rattle.instructions8.proofs.RowLemmas.{◌⊗◌, of_fields}
@@ -19,7 +19,7 @@ begins : (digit : ℕ) (tagged : ℕ → Bool) (cell word : ℕ) → word / 0o10
 begins digit tagged cell word top refers = record {
   others = behind tagged cell word;
   pieces_are =
-      ap (λ b. if b then reference tag tagged cell word else (if is_named word then names (chosen word patterns) else octal4 word ∷ [])) refers
+      ap (λ b. if b then reference tag tagged cell word else (if is_named word then names (patterns_of word patterns) else octal4 word ∷ [])) refers
       ∙ ap (λ d. operation_name d ∷ behind tagged cell word) top;
 }
 

@@ -2,27 +2,27 @@
 use Rattle.std.proofs.Common.{◌≡◌, ℕ, ◌+◌, ◌*◌, ◌<◌, None, refl, ◌∙◌}
 use Rattle.cpu8.specs.State.{State}
 use Rattle.cpu8.specs.Transfer.{cdf_row, cif_row}
-use Rattle.cpu8.specs.Step.{executed, step}
+use Rattle.cpu8.specs.Step.{after_instruction, step}
 use Rattle.cpu8.specs.Laws.{IsNextWord}
 use Rattle.cpu8.specs.declared.outcomes.Stepped.TheVariants.{Ran}
 use Rattle.instructions8.specs.Instructions.{instructions, Each}
 use Rattle.instructions8.specs.Steps.{IsDone}
 use Rattle.instructions8.proofs.RowLemmas.{◌⊗◌, of_fields}
 
-stepped : (word : ℕ) (s : State) → IsNextWord word s → step s ≡ executed s word
+stepped : (word : ℕ) (s : State) → IsNextWord word s → step s ≡ after_instruction s word
 unfolding step
 stepped word s next = rw (next.running, next.undisturbed, next.fetches) refl
 
 cdf : (field : ℕ) → field < 8 → (s : State) → IsNextWord (0o6201 + 0o10 * field) s → step s ≡ (cdf_row s field, Ran None)
-unfolding executed
+unfolding after_instruction
 cdf = of_fields (λ field. (s : State) → IsNextWord (0o6201 + 0o10 * field) s → step s ≡ (cdf_row s field, Ran None)) (stepped 0o6201, stepped 0o6211, stepped 0o6221, stepped 0o6231, stepped 0o6241, stepped 0o6251, stepped 0o6261, stepped 0o6271)
 
 cif : (field : ℕ) → field < 8 → (s : State) → IsNextWord (0o6202 + 0o10 * field) s → step s ≡ (cif_row s field, Ran None)
-unfolding executed
+unfolding after_instruction
 cif = of_fields (λ field. (s : State) → IsNextWord (0o6202 + 0o10 * field) s → step s ≡ (cif_row s field, Ran None)) (stepped 0o6202, stepped 0o6212, stepped 0o6222, stepped 0o6232, stepped 0o6242, stepped 0o6252, stepped 0o6262, stepped 0o6272)
 
 pub done : Each IsDone instructions
-unfolding instructions executed
+unfolding instructions after_instruction
 done =
     (λ word s top next. stepped word s next ∙ rw top refl)
     ⊗ (λ word s top next. stepped word s next ∙ rw top refl)

@@ -18,7 +18,7 @@ pub data Bit : Type 0 where
   Sma : Bit
   Sza : Bit
   Snl : Bit
-  Reversed : Bit
+  Reverse : Bit
   Osr : Bit
   Hlt : Bit
 
@@ -73,13 +73,13 @@ instructions =
     line (codes "STA") 0o7240 (Group1 (Cla ∷ Cma ∷ [])) ∷
     line (codes "HLT") 0o7402 (Group2 (Hlt ∷ [])) ∷
     line (codes "OSR") 0o7404 (Group2 (Osr ∷ [])) ∷
-    line (codes "SKP") 0o7410 (Group2 (Reversed ∷ [])) ∷
+    line (codes "SKP") 0o7410 (Group2 (Reverse ∷ [])) ∷
     line (codes "SNL") 0o7420 (Group2 (Snl ∷ [])) ∷
-    line (codes "SZL") 0o7430 (Group2 (Snl ∷ Reversed ∷ [])) ∷
+    line (codes "SZL") 0o7430 (Group2 (Snl ∷ Reverse ∷ [])) ∷
     line (codes "SZA") 0o7440 (Group2 (Sza ∷ [])) ∷
-    line (codes "SNA") 0o7450 (Group2 (Sza ∷ Reversed ∷ [])) ∷
+    line (codes "SNA") 0o7450 (Group2 (Sza ∷ Reverse ∷ [])) ∷
     line (codes "SMA") 0o7500 (Group2 (Sma ∷ [])) ∷
-    line (codes "SPA") 0o7510 (Group2 (Sma ∷ Reversed ∷ [])) ∷
+    line (codes "SPA") 0o7510 (Group2 (Sma ∷ Reverse ∷ [])) ∷
     line (codes "LAS") 0o7604 (Group2 (Cla ∷ Osr ∷ [])) ∷
     line (codes "ION") 0o6001 (Transfer ion_row) ∷
     line (codes "IOF") 0o6002 (Transfer iof_row) ∷

@@ -1,8 +1,8 @@
 -- What the table of instructions says of the source of a tape: how the instruction of a word is spelled.
 use Rattle.std.specs.Prelude.{◌≡◌, ℕ, ◌+◌, ◌*◌, ◌/◌, ◌%◌, ◌<◌, nat_eq, Bool, true, false, if◌then◌else◌, List, [], ◌∷◌}
 use Rattle.word12.specs.Octal.{octal_digit}
-use Rattle.pal_list.specs.References.{is_reference}
-use Rattle.pal_list.specs.Statements.{instruction}
+use Rattle.tape_source.specs.References.{is_reference}
+use Rattle.tape_source.specs.Statements.{instruction}
 use Rattle.instructions8.specs.Instructions.{Kind, Instruction}
 use Rattle.instructions8.specs.Instructions.Kind.{Reference, Group1, Group2, EitherGroup, Transfer, FieldTransfer, Keyboard, Printer, PaperTape}
 

@@ -2,14 +2,14 @@
 use Rattle.std.specs.Prelude.{◌≡◌, ℕ, ◌+◌, ◌*◌, ◌/◌, ◌<◌, nat_eq, Bool, if◌then◌else◌, None, List, [], ◌∷◌, ◌++◌}
 use Rattle.cpu8.specs.State.{State}
 use Rattle.cpu8.specs.Decoding.{has_cla, has_cll, has_cma, has_cml, has_rar, has_ral, rotates_twice, iac_of, has_sma, has_sza, has_snl, is_reversed, has_osr, has_hlt}
-use Rattle.cpu8.specs.Reference.{advanced}
+use Rattle.cpu8.specs.Reference.{after_fetch}
 use Rattle.cpu8.specs.Operate.{group1_done, group2_row}
 use Rattle.cpu8.specs.Transfer.{keyboard_row, printer_row}
 use Rattle.cpu8.specs.Step.{step}
 use Rattle.cpu8.specs.Laws.{IsNextWord}
 use Rattle.cpu8.specs.declared.outcomes.Stepped.TheVariants.{Ran}
 use Rattle.instructions8.specs.Instructions.{Bit, Kind, Instruction}
-use Rattle.instructions8.specs.Instructions.Bit.{Cla, Cll, Cma, Cml, Rar, Ral, Twice, Iac, Sma, Sza, Snl, Reversed, Osr, Hlt}
+use Rattle.instructions8.specs.Instructions.Bit.{Cla, Cll, Cma, Cml, Rar, Ral, Twice, Iac, Sma, Sza, Snl, Reverse, Osr, Hlt}
 use Rattle.instructions8.specs.Instructions.Kind.{Reference, Group1, Group2, EitherGroup, Transfer, FieldTransfer, Keyboard, Printer, PaperTape}
 
 -- a bit, where a word has it
@@ -25,7 +25,7 @@ group1_bits w =
 abbrev pub group2_bits : ℕ → List Bit
 group2_bits w =
     where_set (has_cla w) Cla ++ where_set (has_sma w) Sma ++ where_set (has_sza w) Sza ++ where_set (has_snl w) Snl
-    ++ where_set (is_reversed w) Reversed ++ where_set (has_osr w) Osr ++ where_set (has_hlt w) Hlt
+    ++ where_set (is_reversed w) Reverse ++ where_set (has_osr w) Osr ++ where_set (has_hlt w) Hlt
 
 -- a word is an operate of group 1 with just these bits, and a step does it as one
 pub record IsGroup1 (word : ℕ) (bits : List Bit) : Type 0 where
@@ -49,7 +49,7 @@ StepsAs code (FieldTransfer row) =
     (field : ℕ) → field < 8 → (s : State) → IsNextWord (code + 0o10 * field) s → step s ≡ (row s field, Ran None)
 StepsAs code (Keyboard pulses) = (s : State) → IsNextWord code s → step s ≡ (keyboard_row s pulses, Ran None)
 StepsAs code (Printer pulses) = (s : State) → IsNextWord code s → step s ≡ printer_row s pulses
-StepsAs code PaperTape = (s : State) → IsNextWord code s → step s ≡ (advanced s, Ran None)
+StepsAs code PaperTape = (s : State) → IsNextWord code s → step s ≡ (after_fetch s, Ran None)
 
 -- an instruction's code is decoded as its kind
 abbrev pub IsDone : Instruction → Type 0

@@ -2,7 +2,7 @@
 
 ghost use Rattle.std.specs.Prelude.{◌≡◌, ℕ, true};
 ghost use Rattle.pal_sym.specs.Permanent.{permanent};
-ghost use Rattle.pal_list.specs.Fewest.{group_1, group_2};
+ghost use Rattle.tape_source.specs.Fewest.{group_1, group_2};
 ghost use Rattle.instructions8.specs.Instructions.{instructions, Each};
 ghost use Rattle.instructions8.specs.Names.{code_of, are_named, are_different};
 ghost use Rattle.instructions8.specs.Shown.{IsShown, is_of_group_1, is_of_group_2, codes_where};

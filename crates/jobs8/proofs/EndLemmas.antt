@@ -1,13 +1,13 @@
 -- The end of all jobs.
 use Rattle.std.proofs.Common.{◌≡◌, ◌∙◌, ℕ, zero, suc, ◌+◌, ◌<◌, ◌≤◌, Option, Some, None, List, [], ◌∷◌, ◌++◌, length, take, drop, get_or, slice_set, refl, ap, sym, subst, add-one, arith}
 use Rattle.os8_files.specs.Holds.{times}
-use Rattle.os8_files.specs.Mounted.{Mounted}
-use Rattle.jobs8.specs.Steps.{without_job, without_jobs, cleared}
+use Rattle.os8_files.specs.Mounted.{MountState}
+use Rattle.jobs8.specs.Steps.{without_job, without_jobs, no_jobs}
 use Rattle.jobs8.specs.Settled.{AreHeld, IsSettled, plain_jobs}
 use Rattle.jobs8.specs.declared.kinds.Job.{Job}
 use Rattle.jobs8.specs.declared.kinds.Work.{Work}
 use Rattle.jobs8.specs.declared.kinds.Work.TheVariants as work
-use Rattle.jobs8.specs.Jobs.{held_by}
+use Rattle.jobs8.specs.Jobs.{names_of_jobs}
 use Rattle.jobs8.specs.Sources.{names_of}
 use Rattle.jobs8.proofs.TimesLemmas.{self_once, times-append}
 use Rattle.jobs8.proofs.PlaceLemmas.{ReleasedLaw, times_without}
@@ -33,8 +33,8 @@ fewer_held law (Some it) jobs holds held = by_work it.work it.left held
         omega (
           arith,
           h name,
-          times-append name (names_of a.holds) (held_by (plain_jobs jobs)),
-          times_without law a.holds holds name (λ n. omega (arith, h n, times-append n (names_of a.holds) (held_by (plain_jobs jobs)))),
+          times-append name (names_of a.holds) (names_of_jobs (plain_jobs jobs)),
+          times_without law a.holds holds name (λ n. omega (arith, h n, times-append n (names_of a.holds) (names_of_jobs (plain_jobs jobs)))),
         )
     by_work (work.Squeezing clean) left h = h
 
@@ -44,10 +44,10 @@ all_let_go law [] holds held = none_held holds held
 all_let_go law (it ∷ jobs) holds held = all_let_go law jobs (without_job it holds) (fewer_held law it jobs holds held)
 
 -- one more has let go
-pub cleared_more : {A : Type 0} (jobs old : List (Option A)) (place : ℕ) → place < length old → jobs ≡ cleared (take place old) ++ drop place old → slice_set jobs place None ≡ cleared (take (place + 1) old) ++ drop (place + 1) old
-cleared_more jobs old place short is = rw is (set_more old place short ∙ ap (λ n. cleared (take n old) ++ drop n old) (sym (add-one place)))
+pub cleared_more : {A : Type 0} (jobs old : List (Option A)) (place : ℕ) → place < length old → jobs ≡ no_jobs (take place old) ++ drop place old → slice_set jobs place None ≡ no_jobs (take (place + 1) old) ++ drop (place + 1) old
+cleared_more jobs old place short is = rw is (set_more old place short ∙ ap (λ n. no_jobs (take n old) ++ drop n old) (sym (add-one place)))
   where
-    set_more : {A : Type 0} (old : List (Option A)) (place : ℕ) → place < length old → slice_set (cleared (take place old) ++ drop place old) place None ≡ cleared (take (suc place) old) ++ drop (suc place) old
+    set_more : {A : Type 0} (old : List (Option A)) (place : ℕ) → place < length old → slice_set (no_jobs (take place old) ++ drop place old) place None ≡ no_jobs (take (suc place) old) ++ drop (suc place) old
     set_more [] place short = absurd (nothing place short)
       where
         nothing : (n : ℕ) → n < 0 → ⊥
@@ -56,10 +56,10 @@ cleared_more jobs old place short is = rw is (set_more old place short ∙ ap (�
     set_more (j ∷ old) (suc place) short = ap (λ l. None ∷ l) (set_more old place (omega (arith, short)))
 
 -- the job that lets go is the one at its place
-pub at_place : {A : Type 0} (jobs old : List (Option A)) (place : ℕ) → place < length old → jobs ≡ cleared (take place old) ++ drop place old → get_or jobs place None ≡ get_or old place None
+pub at_place : {A : Type 0} (jobs old : List (Option A)) (place : ℕ) → place < length old → jobs ≡ no_jobs (take place old) ++ drop place old → get_or jobs place None ≡ get_or old place None
 at_place jobs old place short is = rw is (same old place short)
   where
-    same : {A : Type 0} (old : List (Option A)) (place : ℕ) → place < length old → get_or (cleared (take place old) ++ drop place old) place None ≡ get_or old place None
+    same : {A : Type 0} (old : List (Option A)) (place : ℕ) → place < length old → get_or (no_jobs (take place old) ++ drop place old) place None ≡ get_or old place None
     same [] place short = absurd (nothing place short)
       where
         nothing : (n : ℕ) → n < 0 → ⊥
@@ -78,7 +78,7 @@ without_more old place holds short = more old place holds short ∙ ap (λ n. wi
     more (j ∷ old) zero holds short = refl
     more (j ∷ old) (suc place) holds short = more old place (without_job j holds) (omega (arith, short))
 
-pub fresh : (volume : Mounted) (jobs : List (Option Job)) → jobs ≡ None ∷ None ∷ None ∷ None ∷ None ∷ None ∷ None ∷ None ∷ [] → volume.tentative ≡ None → volume.holds ≡ [] → IsSettled volume jobs
+pub fresh : (volume : MountState) (jobs : List (Option Job)) → jobs ≡ None ∷ None ∷ None ∷ None ∷ None ∷ None ∷ None ∷ None ∷ [] → volume.tentative ≡ None → volume.holds ≡ [] → IsSettled volume jobs
 fresh volume jobs is none free = subst (λ l. IsSettled volume l) (sym is) (record {
   none = none;
   places = refl;
@@ -87,7 +87,7 @@ fresh volume jobs is none free = subst (λ l. IsSettled volume l) (sym is) (reco
   stand = λ running. (tt, (tt, (tt, (tt, (tt, (tt, (tt, (tt, tt))))))));
 })
 
-pub cleared_at : {A : Type 0} (jobs : List (Option A)) (place : ℕ) (other : Option A) → place < length jobs → get_or (cleared jobs) place other ≡ None
+pub cleared_at : {A : Type 0} (jobs : List (Option A)) (place : ℕ) (other : Option A) → place < length jobs → get_or (no_jobs jobs) place other ≡ None
 cleared_at [] place other short = absurd (omega (arith, short))
 cleared_at (j ∷ jobs) zero other short = refl
 cleared_at (j ∷ jobs) (suc place) other short = cleared_at jobs place other (omega (arith, short))
@@ -96,7 +96,7 @@ cleared_at (j ∷ jobs) (suc place) other short = cleared_at jobs place other (o
 pub none_at : {A : Type 0} (jobs : List (Option A)) (place : ℕ) (it : Option A) → get_or jobs place it ≡ None → it ≡ get_or jobs place it → it ≡ None
 none_at jobs place it none is = is ∙ none
 
-same_all : {A : Type 0} (old : List (Option A)) (place : ℕ) → length old ≤ place → cleared (take place old) ++ drop place old ≡ cleared old
+same_all : {A : Type 0} (old : List (Option A)) (place : ℕ) → length old ≤ place → no_jobs (take place old) ++ drop place old ≡ no_jobs old
 same_all [] zero all = refl
 same_all [] (suc place) all = refl
 same_all (j ∷ old) zero all = absurd (never (length old) all)
@@ -106,5 +106,5 @@ same_all (j ∷ old) zero all = absurd (never (length old) all)
 same_all (j ∷ old) (suc place) all = ap (λ l. None ∷ l) (same_all old place (omega (arith, all)))
 
 -- all have let go
-pub none_left : {A : Type 0} (jobs old : List (Option A)) (last place : ℕ) (other : Option A) → length old ≤ last → jobs ≡ cleared (take last old) ++ drop last old → place < length old → get_or jobs place other ≡ None
+pub none_left : {A : Type 0} (jobs old : List (Option A)) (last place : ℕ) (other : Option A) → length old ≤ last → jobs ≡ no_jobs (take last old) ++ drop last old → place < length old → get_or jobs place other ≡ None
 none_left jobs old last place other all is short = ap (λ l. get_or l place other) (is ∙ same_all old last all) ∙ cleared_at old place other short

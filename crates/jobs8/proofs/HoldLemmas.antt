@@ -6,7 +6,7 @@ use Rattle.std.specs.FinMap.{get}
 use Rattle.os8_dir.specs.Entries.{contains, IsNamed}
 use Rattle.os8_dir.specs.Files.{Files, files_of}
 use Rattle.os8_files.specs.Holds.{times}
-use Rattle.os8_files.specs.Mounted.{Mounted}
+use Rattle.os8_files.specs.Mounted.{MountState}
 use Rattle.os8_dir.specs.declared.file_faults.FileFault.TheVariants as file
 use Rattle.pal_blocks.specs.Blocks.{blocks_in, blocks_among, blocks_of_each, AreFiles, assembling_turns}
 use Rattle.pal_blocks.specs.Progress.{IsAssembling}
@@ -38,7 +38,7 @@ none_first (Some name ∷ places) free = absurd (never (free 0))
     never : Some name ≡ None → ⊥
     never e = cc
 
-pub none_taken : (old : Mounted) (places : List (Option ℕ)) → ((k : ℕ) → get_or places k None ≡ None) → HasHeld old places old
+pub none_taken : (old : MountState) (places : List (Option ℕ)) → ((k : ℕ) → get_or places k None ≡ None) → HasHeld old places old
 none_taken old places free = record { taken = λ name. omega (arith, ap (λ l. times name l) (none_names places free)); others = refl }
 
 no_name : (places : List (Option ℕ)) (k : ℕ) → names_of places ≡ [] → suc k ≡ length (names_of places) → ⊥
@@ -200,14 +200,14 @@ none_held law holds name none = elim (leb_tells 1 (times name holds)) [
 -- ## The beginning
 
 -- names are held as often as before
-pub held_again : ReleasedLaw → (old mid new : Mounted) (places : List (Option ℕ)) → HasHeld old places mid → new ≡ record mid { holds = without_holds places mid.holds } → HoldsAgain old new
+pub held_again : ReleasedLaw → (old mid new : MountState) (places : List (Option ℕ)) → HasHeld old places mid → new ≡ record mid { holds = without_holds places mid.holds } → HoldsAgain old new
 held_again law old mid new places held gone = record {
-  same = λ name. omega (arith, ap (λ (m : Mounted). times name m.holds) gone, times_without law places mid.holds name (λ other. omega (arith, held.taken other)), held.taken name);
-  others = gone ∙ ap (λ (m : Mounted). record m { holds = without_holds places mid.holds }) held.others ∙ ap (λ (m : Mounted). record old { holds = m.holds }) (sym gone);
+  same = λ name. omega (arith, ap (λ (m : MountState). times name m.holds) gone, times_without law places mid.holds name (λ other. omega (arith, held.taken other)), held.taken name);
+  others = gone ∙ ap (λ (m : MountState). record m { holds = without_holds places mid.holds }) held.others ∙ ap (λ (m : MountState). record old { holds = m.holds }) (sym gone);
 }
 
 -- files that can't be held
-pub not_begun : (old new : Mounted) (target : ℕ) (from : List ℕ) (places : List (Option ℕ)) (blocks : List ℕ) (why : JobFault) → HoldsAgain old new → TakesAll (files_of old.blocks) from (Err why) places blocks → BeginsAssembly old target from (Err why) new
+pub not_begun : (old new : MountState) (target : ℕ) (from : List ℕ) (places : List (Option ℕ)) (blocks : List ℕ) (why : JobFault) → HoldsAgain old new → TakesAll (files_of old.blocks) from (Err why) places blocks → BeginsAssembly old target from (Err why) new
 not_begun old new target from places blocks (fault.File file.NotFound) again takes = (takes, again)
 not_begun old new target from places blocks fault.Memory again takes = again
 not_begun old new target from places blocks (fault.File (file.NoRoom n)) again takes = absurd takes
@@ -226,14 +226,14 @@ not_begun old new target from places blocks (fault.Asm why) again takes = absurd
 not_begun old new target from places blocks (fault.Tape why) again takes = absurd takes
 
 -- the target is held, or among the files
-pub is_busy : HeldLaw → (old mid : Mounted) (target : ℕ) (from : List ℕ) (places : List (Option ℕ)) → HasHeld old places mid → names_of places ≡ from → contains mid.holds target ≡ true → (contains old.holds target ≡ true) ⊎ (contains from target ≡ true)
+pub is_busy : HeldLaw → (old mid : MountState) (target : ℕ) (from : List ℕ) (places : List (Option ℕ)) → HasHeld old places mid → names_of places ≡ from → contains mid.holds target ≡ true → (contains old.holds target ≡ true) ⊎ (contains from target ≡ true)
 is_busy law old mid target from places held names busy = elim (leb_tells 1 (times target old.holds)) [
   | inl h ↦ inl (some_held law old.holds target h.1)
   | inr h ↦ inr (some_held law from target (omega (arith, held_some law mid.holds target busy, held.taken target, ap (λ l. times target l) names, h.1)))
 ]
 
 -- the job is begun
-pub begun_assembly : HeldLaw → (old mid : Mounted) (target : ℕ) (from : List ℕ) (places : List (Option ℕ)) (blocks : List ℕ) (total : ℕ) (it : parts.Assembling) → IsNamed target → 0 < length from → HasHeld old places mid → HoldsFirst (files_of old.blocks) from places blocks total → contains mid.holds target ≡ false
+pub begun_assembly : HeldLaw → (old mid : MountState) (target : ℕ) (from : List ℕ) (places : List (Option ℕ)) (blocks : List ℕ) (total : ℕ) (it : parts.Assembling) → IsNamed target → 0 < length from → HasHeld old places mid → HoldsFirst (files_of old.blocks) from places blocks total → contains mid.holds target ≡ false
     → ((sources : List (List ℕ)) → 0 < length sources → AreFiles sources → blocks ≡ blocks_of_each sources → IsAssembling sources it (assembling_turns (blocks_among sources)))
     → HasBegunAssembly old target from (record { to = target; holds = places; assembling = it }) (2 * total + 1) mid
 begun_assembly law old mid target from places blocks total it named some held first free begins = record {

@@ -3,7 +3,7 @@ use Rattle.std.proofs.Common.{◌≡◌, ◌∙◌, ℕ, ◌+◌, ◌≤◌, Boo
 use Rattle.std.specs.FinMap.{get}
 use Rattle.os8_dir.specs.Files.{files_of, above_of}
 use Rattle.os8_files.specs.Holds.{times}
-use Rattle.os8_files.specs.Mounted.{Mounted}
+use Rattle.os8_files.specs.Mounted.{MountState}
 use Rattle.jobs8.specs.Calls.{WorkTellsRoom}
 use Rattle.jobs8.specs.Steps.{TurnsLoading, TurnsJob, left_holds, plain_after, FitsAfter, FitsOn, names_in}
 use Rattle.jobs8.specs.Jobs as plain
@@ -35,7 +35,7 @@ holds_after law hold (Some it) holds name some fits = by_work it.work it.left fi
     by_work (work.Assembling a) left f = absurd f
     by_work (work.Squeezing clean) left f = absurd f
 
-pub loading_job : ReleasedLaw → (old new : Mounted) (core core2 : List ℕ) (it : Loading) (left : ℕ) (answer : Answer) (after : Option Job) → old.tentative ≡ None → ((name : ℕ) → times name (it.hold ∷ []) ≤ times name old.holds)
+pub loading_job : ReleasedLaw → (old new : MountState) (core core2 : List ℕ) (it : Loading) (left : ℕ) (answer : Answer) (after : Option Job) → old.tentative ≡ None → ((name : ℕ) → times name (it.hold ∷ []) ≤ times name old.holds)
     → TurnsLoading old core it left answer after new core2 → TurnsJob old core (record { work = work.Loading it; left = left }) answer after new core2
 loading_job law old new core core2 it left answer after none held t = record {
   step = λ number l there named quiet. subst (λ b. LoadingTurn (state_over old core l) number it.hold left answer (state_over new core2 (plain_after b (plain.with_job number (plain_job after) l)))) (sym t.kind) (t.step number l there quiet);
@@ -44,13 +44,13 @@ loading_job law old new core core2 it left answer after none held t = record {
   same_core = t.same_core;
   stands = t.stands;
   fits = fits_in it.hold after t.fits;
-  holds = λ name. ap (λ (m : Mounted). times name m.holds + times name (it.hold ∷ [])) t.kept.others ∙ holds_after law it.hold after old.holds name (omega (arith, held it.hold, self_once it.hold)) t.fits;
-  running = λ still. sym (ap (λ (m : Mounted). m.stopped) t.kept.others) ∙ still;
-  none = ap (λ (m : Mounted). m.tentative) t.kept.others ∙ none;
-  kept = λ name is_held still. ap (λ (m : Mounted). get (files_of m.blocks) name) t.kept.others;
-  above = λ kind still. omega (arith, ap (λ (m : Mounted). above_of m.blocks) t.kept.others);
+  holds = λ name. ap (λ (m : MountState). times name m.holds + times name (it.hold ∷ [])) t.kept.others ∙ holds_after law it.hold after old.holds name (omega (arith, held it.hold, self_once it.hold)) t.fits;
+  running = λ still. sym (ap (λ (m : MountState). m.stopped) t.kept.others) ∙ still;
+  none = ap (λ (m : MountState). m.tentative) t.kept.others ∙ none;
+  kept = λ name is_held still. ap (λ (m : MountState). get (files_of m.blocks) name) t.kept.others;
+  above = λ kind still. omega (arith, ap (λ (m : MountState). above_of m.blocks) t.kept.others);
   fewer = t.fewer;
-  calls = (ap (λ (m : Mounted). m.blocks) t.kept.others, t.kept.reads);
+  calls = (ap (λ (m : MountState). m.blocks) t.kept.others, t.kept.reads);
   squeezed = λ clean is. absurd (never clean is);
   room = of_each (WorkTellsRoom (plain.Loading it.hold) old) (λ why. tt) answer;
 }

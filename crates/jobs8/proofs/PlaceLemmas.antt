@@ -3,7 +3,7 @@ use Rattle.std.proofs.Common.{◌≡◌, ◌∙◌, ℕ, zero, suc, ◌+◌, ◌
 use Rattle.std.specs.FinMap.{get}
 use Rattle.os8_dir.specs.Files.{Files}
 use Rattle.os8_files.specs.Holds.{times, with_hold, without_hold}
-use Rattle.os8_files.specs.Mounted.{Mounted}
+use Rattle.os8_files.specs.Mounted.{MountState}
 use Rattle.jobs8.specs.Sources.{names_of, AreFirst}
 use Rattle.jobs8.specs.Steps.{without_holds, HasHeld}
 use Rattle.jobs8.specs.State.{words_or, words_in, AreIn}
@@ -112,8 +112,8 @@ times_set (Some other ∷ places) zero hold name inside free = absurd (never fre
 times_set (None ∷ places) (suc place) hold name inside free = times_set places place hold name (omega (arith, inside)) free
 times_set (Some other ∷ places) (suc place) hold name inside free = omega (arith, times_set places place hold name (omega (arith, inside)) free)
 
-pub taken_more : TakenLaw → (first old new : Mounted) (places : List (Option ℕ)) (place name hold : ℕ) → place < length places → get_or places place None ≡ None → hold ≡ name → new ≡ record old { holds = with_hold name old.holds } → HasHeld first places old → HasHeld first (slice_set places place (Some hold)) new
+pub taken_more : TakenLaw → (first old new : MountState) (places : List (Option ℕ)) (place name hold : ℕ) → place < length places → get_or places place None ≡ None → hold ≡ name → new ≡ record old { holds = with_hold name old.holds } → HasHeld first places old → HasHeld first (slice_set places place (Some hold)) new
 taken_more law first old new places place name hold inside free named is held = record {
-  taken = λ other. omega (arith, ap (λ (m : Mounted). times other m.holds) is, law other name old.holds, held.taken other, times_set places place hold other inside free, ap (λ n. times other (n ∷ [])) named);
-  others = is ∙ ap (λ (m : Mounted). record m { holds = with_hold name old.holds }) held.others ∙ ap (λ (m : Mounted). record first { holds = m.holds }) (sym is);
+  taken = λ other. omega (arith, ap (λ (m : MountState). times other m.holds) is, law other name old.holds, held.taken other, times_set places place hold other inside free, ap (λ n. times other (n ∷ [])) named);
+  others = is ∙ ap (λ (m : MountState). record m { holds = with_hold name old.holds }) held.others ∙ ap (λ (m : MountState). record first { holds = m.holds }) (sym is);
 }

@@ -7,7 +7,7 @@ use Rattle.jobs8.specs.Calls.{job_at}
 use Rattle.jobs8.specs.Jobs as plain
 use Rattle.jobs8.specs.Jobs.{job_of, with_job, least_free, lowest_job, number_at, turns_left}
 use Rattle.jobs8.specs.Settled.{plain_job, plain_jobs}
-use Rattle.jobs8.specs.Steps.{left_of, plain_after, jobs_after}
+use Rattle.jobs8.specs.Steps.{turns_of, plain_after, jobs_after}
 use Rattle.jobs8.specs.Settled as settled
 use Rattle.jobs8.specs.declared.kinds.Job.{Job}
 use Rattle.jobs8.specs.declared.kinds.Work.{Work}
@@ -74,12 +74,12 @@ number_at_place jobs number place is = ap (λ n. job_at n jobs) is
 pub number_put : (jobs : List (Option Job)) (number place : ℕ) (a : Option Job) → number ≡ suc place → with_job number (plain_job a) (plain_jobs jobs) ≡ plain_jobs (slice_set jobs place a)
 number_put jobs number place a is = ap (λ n. with_job n (plain_job a) (plain_jobs jobs)) is ∙ plain_set jobs place a
 
-turns_more : (it : Option Job) (jobs : List (Option Job)) → turns_left (plain_jobs (it ∷ jobs)) ≡ left_of it + turns_left (plain_jobs jobs)
+turns_more : (it : Option Job) (jobs : List (Option Job)) → turns_left (plain_jobs (it ∷ jobs)) ≡ turns_of it + turns_left (plain_jobs jobs)
 turns_more None jobs = omega arith
 turns_more (Some it) jobs = refl
 
 pub turns_put : (jobs : List (Option Job)) (place : ℕ) (after : Option Job) → place < length jobs
-    → turns_left (plain_jobs (slice_set jobs place after)) + left_of (get_or jobs place None) ≡ turns_left (plain_jobs jobs) + left_of after
+    → turns_left (plain_jobs (slice_set jobs place after)) + turns_of (get_or jobs place None) ≡ turns_left (plain_jobs jobs) + turns_of after
 turns_put [] place after inside = absurd (omega (arith, inside))
 turns_put (it ∷ jobs) zero after inside = omega (arith, turns_more after jobs, turns_more it jobs)
 turns_put (it ∷ jobs) (suc place) after inside = omega (arith, turns_more it (slice_set jobs place after), turns_more it jobs, turns_put jobs place after (omega (arith, inside)))
@@ -93,9 +93,9 @@ plain_disturbed_job (Some it) = by_work it.work it.left
     by_work (work.Assembling a) left = refl
     by_work (work.Squeezing clean) left = refl
 
-pub plain_disturbed : (jobs : List (Option Job)) → plain_jobs (settled.disturbed jobs) ≡ plain.disturbed (plain_jobs jobs)
+pub plain_disturbed : (jobs : List (Option Job)) → plain_jobs (settled.with_disturbance jobs) ≡ plain.with_disturbance (plain_jobs jobs)
 plain_disturbed [] = refl
-plain_disturbed (it ∷ jobs) = ap (λ j. j ∷ plain_jobs (settled.disturbed jobs)) (plain_disturbed_job it) ∙ ap (λ l. plain.disturbed_job (plain_job it) ∷ l) (plain_disturbed jobs)
+plain_disturbed (it ∷ jobs) = ap (λ j. j ∷ plain_jobs (settled.with_disturbance jobs)) (plain_disturbed_job it) ∙ ap (λ l. plain.disturbed_job (plain_job it) ∷ l) (plain_disturbed jobs)
 
 -- ## Behind a turn
 
@@ -103,7 +103,7 @@ pub plain_is_after : (b : Bool) (jobs : List (Option Job)) → plain_after b (pl
 plain_is_after true jobs = sym (plain_disturbed jobs)
 plain_is_after false jobs = refl
 
-turns_disturbed : (jobs : List (Option Job)) → turns_left (plain_jobs (settled.disturbed jobs)) ≡ turns_left (plain_jobs jobs)
+turns_disturbed : (jobs : List (Option Job)) → turns_left (plain_jobs (settled.with_disturbance jobs)) ≡ turns_left (plain_jobs jobs)
 turns_disturbed [] = refl
 turns_disturbed (None ∷ jobs) = turns_disturbed jobs
 turns_disturbed (Some it ∷ jobs) = ap (λ n. it.left + n) (turns_disturbed jobs)

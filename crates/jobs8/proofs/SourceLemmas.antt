@@ -3,7 +3,7 @@ use Rattle.std.proofs.Common.{◌≡◌, ◌∙◌, ℕ, zero, suc, ◌*◌, ◌
 use Rattle.std.specs.FinMap.{get}
 use Rattle.os8_dir.specs.Files.{Files, FileData, files_of}
 use Rattle.os8_files.specs.Calls.{ReadsBlock, HasRead}
-use Rattle.os8_files.specs.Mounted.{Mounted}
+use Rattle.os8_files.specs.Mounted.{MountState}
 use Rattle.os8_files.specs.Service as service
 use Rattle.os8_dir.specs.declared.file_faults.FileFault.{FileFault}
 use Rattle.os8_dir.specs.declared.file_faults.FileFault.TheVariants as file
@@ -45,7 +45,7 @@ block_inside files names k b size name named there inside low is = omega (arith,
     size_is = some_is _ _ (sym is ∙ ap (λ n. service.blocks_of (get files n)) named ∙ ap service.blocks_of at.1)
 
 -- what was read is the block that is due
-pub source_read : (old new : Mounted) (names : List ℕ) (due : Due) (name : ℕ) (block : List ℕ) → name ≡ get_or names due.source 0 → AreIn (files_of old.blocks) names → due.source < length (words_in (files_of old.blocks) names) → HasRead old name due.block block new
+pub source_read : (old new : MountState) (names : List ℕ) (due : Due) (name : ℕ) (block : List ℕ) → name ≡ get_or names due.source 0 → AreIn (files_of old.blocks) names → due.source < length (words_in (files_of old.blocks) names) → HasRead old name due.block block new
     → block ≡ block_of (words_in (files_of old.blocks) names) due
 source_read old new names due name block named there inside read =
     read.block
@@ -56,12 +56,12 @@ source_read old new names due name block named there inside read =
     at = source_at (files_of old.blocks) names due.source there (omega (arith, inside, words_count (files_of old.blocks) names))
 
 -- a block was read, and was not taken
-pub not_taken : (sources : List (List ℕ)) (old new : Mounted) (left : ℕ) (why : AsmFault) (it : Assembly) → HasReadOne old new → TakesBlock sources left (Err why) it.assembling → ReadsSource sources old left (Err (fault_of_asm why)) new it
+pub not_taken : (sources : List (List ℕ)) (old new : MountState) (left : ℕ) (why : AsmFault) (it : Assembly) → HasReadOne old new → TakesBlock sources left (Err why) it.assembling → ReadsSource sources old left (Err (fault_of_asm why)) new it
 not_taken sources old new left (asm.At code line) it one takes = (one, takes)
 not_taken sources old new left asm.Memory it one takes = (one, takes)
 
 -- a block was not read
-pub not_read : (old new : Mounted) (names : List ℕ) (k number name left : ℕ) (before after : List ℕ) (why : FileFault) (it : Assembly) → old.stopped ≡ false → name ≡ get_or names k 0 → AreIn (files_of old.blocks) names → k < length (words_in (files_of old.blocks) names)
+pub not_read : (old new : MountState) (names : List ℕ) (k number name left : ℕ) (before after : List ℕ) (why : FileFault) (it : Assembly) → old.stopped ≡ false → name ≡ get_or names k 0 → AreIn (files_of old.blocks) names → k < length (words_in (files_of old.blocks) names)
     → ReadsBlock old name number before (Err why) new after → ReadsSource (words_in (files_of old.blocks) names) old left (Err (fault_of_file why)) new it
 not_read old new names k number name left before after file.NotFound it running named there inside read = absurd (never (sym at.1 ∙ ap (get (files_of old.blocks)) (sym named) ∙ read.1))
   where

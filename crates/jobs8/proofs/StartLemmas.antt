@@ -5,11 +5,11 @@ use Rattle.std.specs.List.{position}
 use Rattle.std.specs.Option.{is_none}
 use Rattle.os8_dir.specs.Files.{files_of, above_of}
 use Rattle.os8_files.specs.Holds.{with_hold, times}
-use Rattle.os8_files.specs.Mounted.{Mounted}
+use Rattle.os8_files.specs.Mounted.{MountState}
 use Rattle.os8_files.specs.Service.{count_of}
 use Rattle.os8_dir.specs.declared.file_faults.FileFault.{FileFault}
 use Rattle.os8_dir.specs.declared.file_faults.FileFault.TheVariants as file
-use Rattle.jobs8.specs.Steps.{HasBegunLoading, BeginsLoading, TurnsJob, plain_after, jobs_after, left_of, HoldsAgain, HasBegunAssembly, BeginsAssembly, is_assembled}
+use Rattle.jobs8.specs.Steps.{HasBegunLoading, BeginsLoading, TurnsJob, plain_after, jobs_after, turns_of, HoldsAgain, HasBegunAssembly, BeginsAssembly, is_assembled}
 use Rattle.jobs8.specs.Calls.{StartsOver, StartsAssembling, StartsLoading, StartsSqueezing, TakesTurn, NumberTurnsOver, IfFile, NumberTellsRoom, CallsOf, TellsSqueeze, LeavesJobs}
 use Rattle.jobs8.specs.Faults.{fault_of_file}
 use Rattle.jobs8.specs.Jobs as plain
@@ -17,7 +17,7 @@ use Rattle.pal_blocks.specs.Blocks.{blocks_in}
 use Rattle.jobs8.specs.Schedule.{loading_turns}
 use Rattle.jobs8.specs.Settled.{IsSettled, AllStand, state_over, plain_job, plain_jobs, work_of}
 use Rattle.jobs8.specs.Sources.{names_of}
-use Rattle.jobs8.specs.Starts.{Begun}
+use Rattle.jobs8.specs.Starts.{StartResult}
 use Rattle.jobs8.specs.declared.assembly.Assembly.{Assembly}
 use Rattle.jobs8.specs.State.{words_or}
 use Rattle.jobs8.specs.Turns.{Answer, JobTurn, WorkTurn}
@@ -48,13 +48,13 @@ squeezes None = false
 squeezes (Some it) = work_squeezes it.work
 
 -- a job that squeezes without what it keeps is one that squeezes
-squeezing_is : (w : Work) (left more : ℕ) (clean : Bool) (old new : Mounted) (answer : Answer) → plain_job (Some (record { work = w; left = left })) ≡ Some (plain.squeezing clean more)
+squeezing_is : (w : Work) (left more : ℕ) (clean : Bool) (old new : MountState) (answer : Answer) → plain_job (Some (record { work = w; left = left })) ≡ Some (plain.squeezing clean more)
     → ((kind : Bool) → w ≡ work.Squeezing kind → TellsSqueeze left old answer new) → TellsSqueeze more old answer new
 squeezing_is (work.Loading it) left more clean old new answer is tells = absurd (true≢false (sym (ap squeezes is)))
 squeezing_is (work.Assembling it) left more clean old new answer is tells = absurd (true≢false (sym (ap squeezes is)))
 squeezing_is (work.Squeezing kind) left more clean old new answer is tells = subst (λ n. TellsSqueeze n old answer new) (ap plain_left is) (tells kind refl)
 
-pub takes_turn : HeldLaw → (old new : Mounted) (core core2 : List ℕ) (jobs : List (Option Job)) (number place : ℕ) (it : Job) (answer : Answer) (after : Option Job) → IsSettled old jobs → number ≡ suc place → place < 8 → get_or jobs place None ≡ Some it
+pub takes_turn : HeldLaw → (old new : MountState) (core core2 : List ℕ) (jobs : List (Option Job)) (number place : ℕ) (it : Job) (answer : Answer) (after : Option Job) → IsSettled old jobs → number ≡ suc place → place < 8 → get_or jobs place None ≡ Some it
     → TurnsJob old core it answer after new core2 → TakesTurn old core jobs number answer new core2 (jobs_after (is_assembled answer) (slice_set jobs place after))
 takes_turn law old new core core2 jobs number place it answer after settled next low is turns = record {
   settled = settled_turn law old new core core2 jobs place it answer after settled inside is turns;
@@ -65,7 +65,7 @@ takes_turn law old new core core2 jobs number place it answer after settled next
   volume = subst (λ o. NumberTurnsOver o old answer new) (sym here) turns.volume;
   same_core = turns.same_core;
   left = leaves answer (subst (λ l. LeavesJobs number answer (plain_jobs jobs) l) put (turns.jobs number (plain_jobs jobs) here));
-  fewer = λ it not_memory there. omega (arith, turns_put jobs place after inside, turns.fewer not_memory, ap left_of is, turns_after (is_assembled answer) (slice_set jobs place after));
+  fewer = λ it not_memory there. omega (arith, turns_put jobs place after inside, turns.fewer not_memory, ap turns_of is, turns_after (is_assembled answer) (slice_set jobs place after));
   calls = subst (λ o. CallsOf o old new) (sym (number_at_place jobs number place next ∙ is)) turns.calls;
   squeezed = λ clean left there. squeezing_is it.work it.left left clean old new answer (sym here ∙ there) turns.squeezed;
   room = subst (λ o. IfFile (NumberTellsRoom o old) answer) (sym here) turns.room;
@@ -85,7 +85,7 @@ takes_turn law old new core core2 jobs number place it answer after settled next
     leaves (Err why) left = left
 
 -- there is no job of the number
-pub no_turn : (old : Mounted) (core : List ℕ) (jobs : List (Option Job)) (number place : ℕ) → IsSettled old jobs → number ≡ suc place → get_or jobs place None ≡ None → TakesTurn old core jobs number (Err fault.NoJob) old core jobs
+pub no_turn : (old : MountState) (core : List ℕ) (jobs : List (Option Job)) (number place : ℕ) → IsSettled old jobs → number ≡ suc place → get_or jobs place None ≡ None → TakesTurn old core jobs number (Err fault.NoJob) old core jobs
 no_turn old core jobs number place settled next none = record {
   settled = settled;
   step = λ quiet. subst (λ j. JobTurn (state_over old core (plain_jobs jobs)) number j (Err fault.NoJob) (state_over old core (plain_jobs jobs))) (sym here) refl;
@@ -106,47 +106,47 @@ no_turn old core jobs number place settled next none = record {
 
 -- ## Starts
 
-pub same_start : (old : Mounted) (jobs : List (Option Job)) (answer : Begun) → IsSettled old jobs → old.stopped ≡ false → StartsOver old jobs answer old jobs
+pub same_start : (old : MountState) (jobs : List (Option Job)) (answer : StartResult) → IsSettled old jobs → old.stopped ≡ false → StartsOver old jobs answer old jobs
 same_start old jobs answer settled running = record {
   settled = settled;
   others = refl;
   stopped = λ stopped. absurd (true≢false (sym stopped ∙ running));
 }
 
-pub too_many_loads : (old : Mounted) (jobs : List (Option Job)) (name : ℕ) → IsSettled old jobs → old.stopped ≡ false → position is_none jobs ≡ None → StartsLoading old jobs name (Err fault.TooManyJobs) old jobs
+pub too_many_loads : (old : MountState) (jobs : List (Option Job)) (name : ℕ) → IsSettled old jobs → old.stopped ≡ false → position is_none jobs ≡ None → StartsLoading old jobs name (Err fault.TooManyJobs) old jobs
 too_many_loads old jobs name settled running full = record {
   over = same_start old jobs _ settled running;
   step = λ running core. (free_none jobs full, refl);
 }
 
-pub too_many_squeezes : (old : Mounted) (jobs : List (Option Job)) → IsSettled old jobs → old.stopped ≡ false → position is_none jobs ≡ None → StartsSqueezing old jobs (Err fault.TooManyJobs) old jobs
+pub too_many_squeezes : (old : MountState) (jobs : List (Option Job)) → IsSettled old jobs → old.stopped ≡ false → position is_none jobs ≡ None → StartsSqueezing old jobs (Err fault.TooManyJobs) old jobs
 too_many_squeezes old jobs settled running full = record {
   over = same_start old jobs _ settled running;
   step = λ running core. (free_none jobs full, refl);
 }
 
-settled_same : (old new : Mounted) (jobs : List (Option Job)) → new ≡ old → IsSettled old jobs → IsSettled new jobs
+settled_same : (old new : MountState) (jobs : List (Option Job)) → new ≡ old → IsSettled old jobs → IsSettled new jobs
 settled_same old new jobs is settled = subst (λ m. IsSettled m jobs) (sym is) settled
 
-refused_by : (old new : Mounted) (jobs : List (Option Job)) (answer : Begun) → IsSettled old jobs → old.stopped ≡ false → new ≡ old → StartsOver old jobs answer new jobs
+refused_by : (old new : MountState) (jobs : List (Option Job)) (answer : StartResult) → IsSettled old jobs → old.stopped ≡ false → new ≡ old → StartsOver old jobs answer new jobs
 refused_by old new jobs answer settled running is = record {
   settled = settled_same old new jobs is settled;
-  others = is ∙ ap (λ (m : Mounted). record old { holds = m.holds }) (sym is);
+  others = is ∙ ap (λ (m : MountState). record old { holds = m.holds }) (sym is);
   stopped = λ stopped. absurd (true≢false (sym stopped ∙ running));
 }
 
 -- a file that can't be held
-pub refused_load : (old new : Mounted) (jobs : List (Option Job)) (name place : ℕ) (why : FileFault) (answer : JobFault) → IsSettled old jobs → old.stopped ≡ false → position is_none jobs ≡ Some place → answer ≡ fault_of_file why → BeginsLoading old name (Err why) new → StartsLoading old jobs name (Err answer) new jobs
+pub refused_load : (old new : MountState) (jobs : List (Option Job)) (name place : ℕ) (why : FileFault) (answer : JobFault) → IsSettled old jobs → old.stopped ≡ false → position is_none jobs ≡ Some place → answer ≡ fault_of_file why → BeginsLoading old name (Err why) new → StartsLoading old jobs name (Err answer) new jobs
 refused_load old new jobs name place why answer settled running free is begins = subst (λ a. StartsLoading old jobs name (Err a) new jobs) (sym is) (by_fault why begins)
   where
     by_fault : (w : FileFault) → BeginsLoading old name (Err w) new → StartsLoading old jobs name (Err (fault_of_file w)) new jobs
     by_fault file.NotFound b = record {
       over = refused_by old new jobs _ settled running b.2;
-      step = λ still core. ((place + 1, free_is jobs place free), b.1, ap (λ (m : Mounted). state_over m core (plain_jobs jobs)) b.2);
+      step = λ still core. ((place + 1, free_is jobs place free), b.1, ap (λ (m : MountState). state_over m core (plain_jobs jobs)) b.2);
     }
     by_fault file.Memory b = record {
       over = refused_by old new jobs _ settled running b.2;
-      step = λ still core. ((place + 1, free_is jobs place free), b.1, ap (λ (m : Mounted). state_over m core (plain_jobs jobs)) b.2);
+      step = λ still core. ((place + 1, free_is jobs place free), b.1, ap (λ (m : MountState). state_over m core (plain_jobs jobs)) b.2);
     }
     by_fault file.Stopped b = absurd (true≢false (sym b.0 ∙ running))
     by_fault (file.NoRoom n) b = absurd b
@@ -159,7 +159,7 @@ refused_load old new jobs name place why answer settled running free is begins =
     by_fault file.NothingWritten b = absurd b
 
 -- a job that loads is begun
-pub begun_load : TakenLaw → (old new : Mounted) (jobs : List (Option Job)) (name place : ℕ) (it : Loading) (left : ℕ) → IsSettled old jobs → position is_none jobs ≡ Some place → place < 8 → HasBegunLoading old name it left new
+pub begun_load : TakenLaw → (old new : MountState) (jobs : List (Option Job)) (name place : ℕ) (it : Loading) (left : ℕ) → IsSettled old jobs → position is_none jobs ≡ Some place → place < 8 → HasBegunLoading old name it left new
     → StartsLoading old jobs name (Ok (place + 1)) new (slice_set jobs place (Some (record { work = work.Loading it; left = left })))
 begun_load law old new jobs name place it left settled free low begun = record {
   over = record {
@@ -167,7 +167,7 @@ begun_load law old new jobs name place it left settled free low begun = record {
         settled_begun old new jobs place (Some job) (with_hold name old.holds) settled (omega (arith, low, settled.places)) (free_at jobs place free) begun.others
         (λ other. omega (arith, law other name old.holds, ap (λ n. times other (n ∷ [])) begun.holds)) begun.fits
         (λ running. (begun.words, (begun.has.0, ap (λ n. get (files_of old.blocks) n) begun.holds ∙ begun.has.1), begun.stands));
-    others = begun.others ∙ ap (λ (m : Mounted). record old { holds = m.holds }) (sym begun.others);
+    others = begun.others ∙ ap (λ (m : MountState). record old { holds = m.holds }) (sym begun.others);
     stopped = λ stopped. absurd (true≢false (sym stopped ∙ begun.running));
   };
   step = λ running core. (
@@ -175,7 +175,7 @@ begun_load law old new jobs name place it left settled free low begun = record {
     record {
       least = free_is jobs place free;
       others =
-          ap (λ (m : Mounted). state_over m core (plain_jobs (slice_set jobs place (Some job)))) begun.others
+          ap (λ (m : MountState). state_over m core (plain_jobs (slice_set jobs place (Some job)))) begun.others
           ∙ ap (state_over old core) (sym (number_put jobs (place + 1) place (Some job) (add-one place)))
           ∙ ap (λ (j : plain.Job). record (state_over old core (plain_jobs jobs)) { jobs = plain.with_job (place + 1) (Some j) (plain_jobs jobs) })
           (ap (λ n. plain.loading n left) begun.holds ∙ ap (λ n. plain.loading name n) (begun.turns ∙ ap (λ w. loading_turns (blocks_in w)) (sym (ap words_or begun.has.1))));
@@ -187,7 +187,7 @@ begun_load law old new jobs name place it left settled free low begun = record {
     job = record { work = work.Loading it; left = left }
 
 -- a job that squeezes is begun
-pub begun_squeeze : (old : Mounted) (jobs : List (Option Job)) (place left : ℕ) → IsSettled old jobs → old.stopped ≡ false → position is_none jobs ≡ Some place → place < 8 → left ≡ count_of (files_of old.blocks) + 1 → above_of old.blocks ≤ count_of (files_of old.blocks)
+pub begun_squeeze : (old : MountState) (jobs : List (Option Job)) (place left : ℕ) → IsSettled old jobs → old.stopped ≡ false → position is_none jobs ≡ Some place → place < 8 → left ≡ count_of (files_of old.blocks) + 1 → above_of old.blocks ≤ count_of (files_of old.blocks)
     → StartsSqueezing old jobs (Ok (place + 1)) old (slice_set jobs place (Some (record { work = work.Squeezing true; left = left })))
 begun_squeeze old jobs place left settled running free low count above = record {
   over = record {
@@ -211,31 +211,31 @@ begun_squeeze old jobs place left settled running free low count above = record 
 
 -- ## Assembling
 
-pub too_many_assemblies : (old : Mounted) (jobs : List (Option Job)) (target : ℕ) (from : List ℕ) → IsSettled old jobs → old.stopped ≡ false → position is_none jobs ≡ None → StartsAssembling old jobs target from (Err fault.TooManyJobs) old jobs
+pub too_many_assemblies : (old : MountState) (jobs : List (Option Job)) (target : ℕ) (from : List ℕ) → IsSettled old jobs → old.stopped ≡ false → position is_none jobs ≡ None → StartsAssembling old jobs target from (Err fault.TooManyJobs) old jobs
 too_many_assemblies old jobs target from settled running full = record {
   over = same_start old jobs _ settled running;
   step = λ running core. (free_none jobs full, refl);
 }
 
 -- names are held as often as before
-over_again : (old new : Mounted) (jobs : List (Option Job)) (answer : Begun) → IsSettled old jobs → old.stopped ≡ false → HoldsAgain old new → StartsOver old jobs answer new jobs
+over_again : (old new : MountState) (jobs : List (Option Job)) (answer : StartResult) → IsSettled old jobs → old.stopped ≡ false → HoldsAgain old new → StartsOver old jobs answer new jobs
 over_again old new jobs answer settled running again = record {
   settled = record {
-    none = ap (λ (m : Mounted). m.tentative) again.others ∙ settled.none;
+    none = ap (λ (m : MountState). m.tentative) again.others ∙ settled.none;
     places = settled.places;
     held = λ name. again.same name ∙ settled.held name;
     fit = settled.fit;
-    stand = λ still. subst (λ (m : Mounted). AllStand m.blocks jobs) (sym again.others) (settled.stand running);
+    stand = λ still. subst (λ (m : MountState). AllStand m.blocks jobs) (sym again.others) (settled.stand running);
   };
   others = again.others;
   stopped = λ stopped. absurd (true≢false (sym stopped ∙ running));
 }
 
-again_state : (old new : Mounted) (core : List ℕ) (jobs : List (Option Job)) → HoldsAgain old new → state_over new core (plain_jobs jobs) ≡ state_over old core (plain_jobs jobs)
-again_state old new core jobs again = ap (λ (m : Mounted). state_over m core (plain_jobs jobs)) again.others
+again_state : (old new : MountState) (core : List ℕ) (jobs : List (Option Job)) → HoldsAgain old new → state_over new core (plain_jobs jobs) ≡ state_over old core (plain_jobs jobs)
+again_state old new core jobs again = ap (λ (m : MountState). state_over m core (plain_jobs jobs)) again.others
 
 -- sources or a target that can't be
-pub refused_assembly : HeldLaw → (old new : Mounted) (jobs : List (Option Job)) (target : ℕ) (from : List ℕ) (place : ℕ) (why : JobFault) → IsSettled old jobs → old.stopped ≡ false → position is_none jobs ≡ Some place → BeginsAssembly old target from (Err why) new → StartsAssembling old jobs target from (Err why) new jobs
+pub refused_assembly : HeldLaw → (old new : MountState) (jobs : List (Option Job)) (target : ℕ) (from : List ℕ) (place : ℕ) (why : JobFault) → IsSettled old jobs → old.stopped ≡ false → position is_none jobs ≡ Some place → BeginsAssembly old target from (Err why) new → StartsAssembling old jobs target from (Err why) new jobs
 refused_assembly law old new jobs target from place (fault.File file.NotFound) settled running free b = record {
   over = over_again old new jobs _ settled running b.1;
   step = λ still core. ((place + 1, free_is jobs place free), b.0, again_state old new core jobs b.1);
@@ -272,7 +272,7 @@ refused_assembly law old new jobs target from place (fault.Asm why) settled runn
 refused_assembly law old new jobs target from place (fault.Tape why) settled running free b = absurd b
 
 -- a job that assembles is begun
-pub started_assembly : HeldLaw → (old new : Mounted) (jobs : List (Option Job)) (target : ℕ) (from : List ℕ) (place : ℕ) (it : Assembly) (left : ℕ) → IsSettled old jobs → old.stopped ≡ false → position is_none jobs ≡ Some place → place < 8 → HasBegunAssembly old target from it left new
+pub started_assembly : HeldLaw → (old new : MountState) (jobs : List (Option Job)) (target : ℕ) (from : List ℕ) (place : ℕ) (it : Assembly) (left : ℕ) → IsSettled old jobs → old.stopped ≡ false → position is_none jobs ≡ Some place → place < 8 → HasBegunAssembly old target from it left new
     → StartsAssembling old jobs target from (Ok (place + 1)) new (slice_set jobs place (Some (record { work = work.Assembling it; left = left })))
 started_assembly law old new jobs target from place it left settled running free low begun = record {
   over = record {
@@ -288,7 +288,7 @@ started_assembly law old new jobs target from place it left settled running free
     record {
       least = free_is jobs place free;
       others =
-          ap (λ (m : Mounted). state_over m core (plain_jobs (slice_set jobs place (Some job)))) begun.held.others
+          ap (λ (m : MountState). state_over m core (plain_jobs (slice_set jobs place (Some job)))) begun.held.others
           ∙ ap (state_over old core) (sym (number_put jobs (place + 1) place (Some job) (add-one place)))
           ∙ ap (λ (j : plain.Job). record (state_over old core (plain_jobs jobs)) { jobs = plain.with_job (place + 1) (Some j) (plain_jobs jobs) })
           (ap (λ n. plain.assembling n (names_of it.holds) left) begun.is_target ∙ ap (λ l. plain.assembling target l left) begun.names ∙ ap (plain.assembling target from) begun.turns);

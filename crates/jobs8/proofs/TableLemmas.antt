@@ -1,6 +1,6 @@
 -- The table of jobs.
 use Rattle.std.proofs.Common.{◌≡◌, ◌∙◌, ℕ, zero, suc, ◌+◌, ◌<◌, List, [], ◌∷◌, ◌++◌, take, drop, length, get_or, slice_set, Option, None, refl, ap, sym, arith, add-one}
-use Rattle.jobs8.specs.Settled.{disturbed, disturbed_job}
+use Rattle.jobs8.specs.Settled.{with_disturbance, disturbed_job}
 use Rattle.jobs8.specs.declared.kinds.Job.{Job}
 
 pub set_twice : (jobs : List (Option Job)) (place : ℕ) (a b : Option Job) → slice_set (slice_set jobs place a) place b ≡ slice_set jobs place b
@@ -15,10 +15,10 @@ unchanged {A} zero (j ∷ jobs) none = ap (λ (o : Option A). o ∷ jobs) (sym n
 unchanged (suc place) (j ∷ jobs) none = ap (λ l. j ∷ l) (unchanged place jobs none)
 
 -- one more job is disturbed
-pub disturbed_more : (jobs old : List (Option Job)) (place : ℕ) (none : Option Job) → place < length old → jobs ≡ disturbed (take place old) ++ drop place old → slice_set jobs place (disturbed_job (get_or jobs place none)) ≡ disturbed (take (place + 1) old) ++ drop (place + 1) old
-disturbed_more jobs old place none short is = rw is (set_more old place short ∙ ap (λ n. disturbed (take n old) ++ drop n old) (sym (add-one place)))
+pub disturbed_more : (jobs old : List (Option Job)) (place : ℕ) (none : Option Job) → place < length old → jobs ≡ with_disturbance (take place old) ++ drop place old → slice_set jobs place (disturbed_job (get_or jobs place none)) ≡ with_disturbance (take (place + 1) old) ++ drop (place + 1) old
+disturbed_more jobs old place none short is = rw is (set_more old place short ∙ ap (λ n. with_disturbance (take n old) ++ drop n old) (sym (add-one place)))
   where
-    set_more : (old : List (Option Job)) (place : ℕ) → place < length old → slice_set (disturbed (take place old) ++ drop place old) place (disturbed_job (get_or (disturbed (take place old) ++ drop place old) place none)) ≡ disturbed (take (suc place) old) ++ drop (suc place) old
+    set_more : (old : List (Option Job)) (place : ℕ) → place < length old → slice_set (with_disturbance (take place old) ++ drop place old) place (disturbed_job (get_or (with_disturbance (take place old) ++ drop place old) place none)) ≡ with_disturbance (take (suc place) old) ++ drop (suc place) old
     set_more [] place short = absurd (nothing place short)
       where
         nothing : (n : ℕ) → n < 0 → ⊥

@@ -1,7 +1,7 @@
 -- Turns of jobs over the volume.
 use Rattle.std.proofs.Common.{◌≡◌, ◌∙◌, ℕ, ◌*◌, Some, List, take, drop, Result, Ok, Err, ap, sym}
 use Rattle.os8_dir.specs.Files.{FileData, files_of}
-use Rattle.os8_files.specs.Mounted.{Mounted}
+use Rattle.os8_files.specs.Mounted.{MountState}
 use Rattle.os8_files.specs.Calls.{HasRead}
 use Rattle.pal_blocks.specs.Blocks.{block_at}
 use Rattle.jobs8.specs.Reading.{HasWords, IsLoading}
@@ -14,11 +14,11 @@ same_held : (a b : FileData) → Some a ≡ Some b → a ≡ b
 same_held a b is = cc
 
 -- the words that were read are the next block of the file
-read_is : (words : List ℕ) (old new : Mounted) (name k : ℕ) (block : List ℕ) → HasWords (files_of old.blocks) name words → HasRead old name k block new → block ≡ block_at k words
+read_is : (words : List ℕ) (old new : MountState) (name k : ℕ) (block : List ℕ) → HasWords (files_of old.blocks) name words → HasRead old name k block new → block ≡ block_at k words
 read_is words old new name k block has read =
     read.block ∙ ap (λ (h : FileData). take 256 (drop (256 * k) h.1)) (same_held _ _ (sym read.there ∙ has.1))
 
-pub loads_on : (words : List ℕ) (old new : Mounted) (job job2 : Loading) (left : ℕ) (block : List ℕ) (r : Result (Unit {0}) JobFault) → HasWords (files_of old.blocks) job.hold words → IsLoading words job left
+pub loads_on : (words : List ℕ) (old new : MountState) (job job2 : Loading) (left : ℕ) (block : List ℕ) (r : Result (Unit {0}) JobFault) → HasWords (files_of old.blocks) job.hold words → IsLoading words job left
     → HasRead old job.hold job.done block new → (block ≡ block_at job.done words → ReadsBlock words job left r job2) → LoadsOn words old job left r new job2
 loads_on words old new job job2 left block r has is read reads = by_answer r (reads (read_is words old new job.hold job.done block has read))
   where

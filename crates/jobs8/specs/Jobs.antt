@@ -88,10 +88,10 @@ held_by_work (Loading from) = from ∷ []
 held_by_work (Squeezing clean) = []
 
 -- the names that jobs hold
-abbrev pub held_by : List (Option Job) → List ℕ
-held_by [] = []
-held_by (None ∷ jobs) = held_by jobs
-held_by (Some job ∷ jobs) = held_by_work job.work ++ held_by jobs
+abbrev pub names_of_jobs : List (Option Job) → List ℕ
+names_of_jobs [] = []
+names_of_jobs (None ∷ jobs) = names_of_jobs jobs
+names_of_jobs (Some job ∷ jobs) = held_by_work job.work ++ names_of_jobs jobs
 
 -- ## Changes of the directory
 
@@ -106,5 +106,5 @@ disturbed_job None = None
 disturbed_job (Some job) = Some (record { work = disturbed_work job.work; left = job.left })
 
 -- the jobs where another entry has changed the directory
-abbrev pub disturbed : List (Option Job) → List (Option Job)
-disturbed jobs = map disturbed_job jobs
+abbrev pub with_disturbance : List (Option Job) → List (Option Job)
+with_disturbance jobs = map disturbed_job jobs

@@ -4,9 +4,9 @@ use Rattle.char_pack.specs.declared.packing.TheConstants.{BLOCK_FRAMES}
 use Rattle.os8_dir.specs.Files.{files_of, capacity_of, limit_of, above_of}
 use Rattle.os8_files.specs.Calls.{info_of}
 use Rattle.os8_files.specs.Holds.{times}
-use Rattle.os8_files.specs.Mounted.{Mounted}
+use Rattle.os8_files.specs.Mounted.{MountState}
 use Rattle.jobs8.specs.Jobs as plain
-use Rattle.jobs8.specs.Jobs.{held_by, held_by_work}
+use Rattle.jobs8.specs.Jobs.{names_of_jobs, held_by_work}
 use Rattle.jobs8.specs.Reading.{HasWords, IsLoading}
 use Rattle.jobs8.specs.Sources.{names_of, AssemblyFits, AssemblyStands}
 use Rattle.jobs8.specs.State.{State}
@@ -30,7 +30,7 @@ abbrev pub plain_jobs : List (Option Job) → List (Option plain.Job)
 plain_jobs jobs = map plain_job jobs
 
 -- what jobs work on, over a volume: the files are those of the store's blocks
-abbrev pub state_over : Mounted → List ℕ → List (Option plain.Job) → State
+abbrev pub state_over : MountState → List ℕ → List (Option plain.Job) → State
 state_over m core jobs = record {
   files = files_of m.blocks;
   capacity = capacity_of m.blocks;
@@ -51,8 +51,8 @@ abbrev pub disturbed_job : Option Job → Option Job
 disturbed_job None = None
 disturbed_job (Some it) = Some (record { work = disturbed_work it.work; left = it.left })
 
-abbrev pub disturbed : List (Option Job) → List (Option Job)
-disturbed jobs = map disturbed_job jobs
+abbrev pub with_disturbance : List (Option Job) → List (Option Job)
+with_disturbance jobs = map disturbed_job jobs
 
 -- ## Each job
 
@@ -99,10 +99,10 @@ AllFit (it ∷ jobs) = FitsIn it × AllFit jobs
 
 -- a name is held as often as jobs name it
 abbrev pub AreHeld : List ℕ → List (Option Job) → Type 0
-AreHeld holds jobs = (name : ℕ) → times name holds ≡ times name (held_by (plain_jobs jobs))
+AreHeld holds jobs = (name : ℕ) → times name holds ≡ times name (names_of_jobs (plain_jobs jobs))
 
 -- Between entries no file is being written, the holds are those of the jobs, and each job stands over the blocks.
-pub record IsSettled (volume : Mounted) (jobs : List (Option Job)) : Type 0 where
+pub record IsSettled (volume : MountState) (jobs : List (Option Job)) : Type 0 where
   pub none : volume.tentative ≡ None
   pub places : length jobs ≡ 8
   pub held : AreHeld volume.holds jobs

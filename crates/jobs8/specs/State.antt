@@ -3,11 +3,11 @@ use Rattle.std.specs.Prelude.{◌≡◌, ◌⊎◌, ℕ, ◌+◌, ◌*◌, ◌<�
 use Rattle.std.specs.FinMap.{get, insert}
 use Rattle.os8_dir.specs.Entries.{contains}
 use Rattle.os8_dir.specs.Files.{Files, FileData}
-use Rattle.os8_dir.specs.Names.{padded}
-use Rattle.os8_files.specs.Service.{used_of, count_of}
+use Rattle.os8_dir.specs.Names.{with_end_zeros}
+use Rattle.os8_files.specs.Service.{blocks_in_use, count_of}
 use Rattle.os8_dir.specs.declared.file_faults.FileFault.{FileFault}
 use Rattle.os8_dir.specs.declared.file_faults.FileFault.TheVariants as file
-use Rattle.jobs8.specs.Jobs.{Job, held_by, disturbed}
+use Rattle.jobs8.specs.Jobs.{Job, names_of_jobs, with_disturbance}
 use Rattle.pal_blocks.specs.Blocks.{blocks_in}
 
 pub record State : Type 0 where
@@ -69,9 +69,9 @@ IsOneMissing s names = IsOneOut s.files names
 -- each file and once more, and exactly so many where no file has a free block below it.
 pub record IsCrowded (s : State) (wanted largest : ℕ) : Type 0 where
   pub short : largest < wanted
-  pub least : largest + used_of s.files ≤ s.capacity
-  pub most : s.capacity ≤ used_of s.files + largest * (count_of s.files + 1)
-  pub tight : s.tight ≡ true → largest + used_of s.files ≡ s.capacity
+  pub least : largest + blocks_in_use s.files ≤ s.capacity
+  pub most : s.capacity ≤ blocks_in_use s.files + largest * (count_of s.files + 1)
+  pub tight : s.tight ≡ true → largest + blocks_in_use s.files ≡ s.capacity
 
 -- The directory may have fewer entries than the files after a change with an empty below each and one above all. Where no
 -- file had a free block below it, they are fewer than the files before and two more.
@@ -81,17 +81,17 @@ pub record IsFull (s : State) (after : Files) : Type 0 where
 
 -- words as a file: its information words are 0
 abbrev pub plain_file : State → List ℕ → FileData
-plain_file s words = (padded s.info [], words)
+plain_file s words = (with_end_zeros s.info [], words)
 
 -- the state after a file is put under a name, new or old, where the jobs become others
 pub record HasPut (old : State) (name : ℕ) (words : List ℕ) (jobs : List (Option Job)) (new : State) : Type 0 where
-  pub free : contains (held_by old.jobs) name ≡ false
+  pub free : contains (names_of_jobs old.jobs) name ≡ false
   pub tight : get old.files name ≡ None → old.tight ≡ true → new.tight ≡ true
-  pub others : new ≡ record old { files = insert old.files name (plain_file old words); tight = new.tight; jobs = disturbed jobs }
+  pub others : new ≡ record old { files = insert old.files name (plain_file old words); tight = new.tight; jobs = with_disturbance jobs }
 
 -- a file of these words is refused under a name
 abbrev pub PutRefused : State → ℕ → List ℕ → FileFault → Type 0
-PutRefused s name words (file.Busy other) = (other ≡ name) × (contains (held_by s.jobs) name ≡ true)
-PutRefused s name words (file.NoRoom largest) = (contains (held_by s.jobs) name ≡ false) × IsCrowded s (blocks_in words) largest
-PutRefused s name words file.DirectoryFull = (contains (held_by s.jobs) name ≡ false) × IsFull s (insert s.files name (plain_file s words))
+PutRefused s name words (file.Busy other) = (other ≡ name) × (contains (names_of_jobs s.jobs) name ≡ true)
+PutRefused s name words (file.NoRoom largest) = (contains (names_of_jobs s.jobs) name ≡ false) × IsCrowded s (blocks_in words) largest
+PutRefused s name words file.DirectoryFull = (contains (names_of_jobs s.jobs) name ≡ false) × IsFull s (insert s.files name (plain_file s words))
 PutRefused s name words fault = ⊥

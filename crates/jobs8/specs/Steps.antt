@@ -5,7 +5,7 @@ use Rattle.std.specs.FinMap.{get}
 use Rattle.os8_dir.specs.Files.{files_of, above_of, Files, FileData}
 use Rattle.os8_files.specs.Holds.{with_hold, without_hold, times}
 use Rattle.os8_files.specs.Laws.{KeepsHeld, ReadsOne}
-use Rattle.os8_files.specs.Mounted.{Mounted}
+use Rattle.os8_files.specs.Mounted.{MountState}
 use Rattle.os8_dir.specs.declared.file_faults.FileFault.{FileFault}
 use Rattle.jobs8.specs.declared.faults.JobFault.{JobFault}
 use Rattle.jobs8.specs.declared.turned.Turned.TheVariants.{Working, Squeezed, Assembled, Loaded}
@@ -16,7 +16,7 @@ use Rattle.jobs8.specs.Faults.{fault_of_file}
 use Rattle.jobs8.specs.Reading.{HasWords, IsLoading, HasTaken}
 use Rattle.pal_blocks.specs.Blocks.{blocks_in, blocks_among, blocks_of_each, AreFiles, assembling_turns}
 use Rattle.jobs8.specs.Schedule.{loading_turns, IsMetNone, IsFirstMet}
-use Rattle.jobs8.specs.Settled.{LoadingFits, state_over, work_of, plain_job, StandsIn, FitsIn, disturbed}
+use Rattle.jobs8.specs.Settled.{LoadingFits, state_over, work_of, plain_job, StandsIn, FitsIn, with_disturbance}
 use Rattle.jobs8.specs.Sources.{names_of, AreFirst, AssemblyFits, AssemblyStands}
 use Rattle.jobs8.specs.State.{IsIn, words_in, AreIn, IsOneOut}
 use Rattle.jobs8.specs.Turns.{Answer, LoadingTurn, WorkTurn}
@@ -28,9 +28,9 @@ use Rattle.bin_tape.specs.Tape.{IsTape}
 use Rattle.bin_tape.specs.Fault.{IsFault}
 use Rattle.bin_tape.specs.declared.faults.TapeFault.{TapeFault}
 use Rattle.bin_tape.specs.declared.faults.TapeFault.TheVariants.{BadFrame, NoOrigin, CheckSum, NoTrailer, Memory}
-use Rattle.volume_image.specs.Volume.{counted}
+use Rattle.volume_image.specs.Volume.{next_count}
 use Rattle.os8_dir.specs.Entries.{contains}
-use Rattle.jobs8.specs.Jobs.{held_by, held_by_work}
+use Rattle.jobs8.specs.Jobs.{names_of_jobs, held_by_work}
 use Rattle.pal_blocks.specs.Progress.{IsAssembling}
 use Rattle.pal_blocks.specs.Turns.{TakesBlock}
 use Rattle.jobs8.specs.declared.assembly.Assembly.{Assembly}
@@ -88,15 +88,15 @@ ReadsBlock words old left (Err (fault.Tape why)) new = IsFirstMet words (old.don
 ReadsBlock words old left (Err why) new = ⊥
 
 -- one block was read, and nothing else of the volume is changed
-abbrev pub HasReadOne : Mounted → Mounted → Type 0
-HasReadOne old new = (old.stopped ≡ false) × (new ≡ record old { reads = counted old.reads })
+abbrev pub HasReadOne : MountState → MountState → Type 0
+HasReadOne old new = (old.stopped ≡ false) × (new ≡ record old { reads = next_count old.reads })
 
 -- a read failed
-abbrev pub HasMissedOne : Mounted → Mounted → Type 0
-HasMissedOne old new = (old.stopped ≡ false) × (new ≡ record old { reads = counted old.reads; failed_reads = old.failed_reads + 1 })
+abbrev pub HasMissedOne : MountState → MountState → Type 0
+HasMissedOne old new = (old.stopped ≡ false) × (new ≡ record old { reads = next_count old.reads; failed_reads = old.failed_reads + 1 })
 
 -- A reading turn of a job that loads a file of these words.
-abbrev pub LoadsOn : List ℕ → Mounted → Loading → ℕ → Result (Unit {0}) JobFault → Mounted → Loading → Type 0
+abbrev pub LoadsOn : List ℕ → MountState → Loading → ℕ → Result (Unit {0}) JobFault → MountState → Loading → Type 0
 LoadsOn words old job left (Err (fault.File file.Device)) new job' = HasMissedOne old new
 LoadsOn words old job left (Err (fault.File why)) new job' = ⊥
 LoadsOn words old job left (Err fault.Memory) new job' = HasReadOne old new × ReadsBlock words job left (Err fault.Memory) job'
@@ -113,7 +113,7 @@ without_holds (None ∷ places) holds = without_holds places holds
 without_holds (Some name ∷ places) holds = without_holds places (without_hold name holds)
 
 -- what the places hold was taken of a volume, and nothing else of it is changed
-pub record HasHeld (old : Mounted) (places : List (Option ℕ)) (new : Mounted) : Type 0 where
+pub record HasHeld (old : MountState) (places : List (Option ℕ)) (new : MountState) : Type 0 where
   pub taken : (name : ℕ) → times name new.holds ≡ times name (names_of places) + times name old.holds
   pub others : new ≡ record old { holds = new.holds }
 
@@ -153,7 +153,7 @@ TakesAll files names (Err why) places blocks = ⊥
 -- ## A job that assembles
 
 -- a job that assembles is begun
-pub record HasBegunAssembly (old : Mounted) (target : ℕ) (from : List ℕ) (it : Assembly) (left : ℕ) (new : Mounted) : Type 0 where
+pub record HasBegunAssembly (old : MountState) (target : ℕ) (from : List ℕ) (it : Assembly) (left : ℕ) (new : MountState) : Type 0 where
   pub there : AreIn (files_of old.blocks) from
   pub unheld : contains old.holds target ≡ false
   pub other : contains from target ≡ false
@@ -165,11 +165,11 @@ pub record HasBegunAssembly (old : Mounted) (target : ℕ) (from : List ℕ) (it
   pub turns : left ≡ assembling_turns (blocks_among (words_in (files_of old.blocks) from))
 
 -- nothing is changed but the order in which names are held
-pub record HoldsAgain (old new : Mounted) : Type 0 where
+pub record HoldsAgain (old new : MountState) : Type 0 where
   pub same : (name : ℕ) → times name new.holds ≡ times name old.holds
   pub others : new ≡ record old { holds = new.holds }
 
-abbrev pub BeginsAssembly : Mounted → ℕ → List ℕ → Result (Assembly × ℕ) JobFault → Mounted → Type 0
+abbrev pub BeginsAssembly : MountState → ℕ → List ℕ → Result (Assembly × ℕ) JobFault → MountState → Type 0
 BeginsAssembly old target from (Ok begun) new = HasBegunAssembly old target from begun.0 begun.1 new
 BeginsAssembly old target from (Err (fault.File file.NotFound)) new = IsOneOut (files_of old.blocks) from × HoldsAgain old new
 BeginsAssembly old target from (Err (fault.File (file.Busy other))) new =
@@ -178,7 +178,7 @@ BeginsAssembly old target from (Err fault.Memory) new = HoldsAgain old new
 BeginsAssembly old target from (Err why) new = ⊥
 
 -- The result of a turn that reads a block of the sources, of these words.
-abbrev pub ReadsSource : List (List ℕ) → Mounted → ℕ → Result (Unit {0}) JobFault → Mounted → Assembly → Type 0
+abbrev pub ReadsSource : List (List ℕ) → MountState → ℕ → Result (Unit {0}) JobFault → MountState → Assembly → Type 0
 ReadsSource sources old left (Ok nothing) new it = HasReadOne old new × TakesBlock sources left (Ok tt) it.assembling
 ReadsSource sources old left (Err fault.Memory) new it = HasReadOne old new × IsAssembling sources it.assembling left
 ReadsSource sources old left (Err (fault.Asm (asm.At code line))) new it = HasReadOne old new × TakesBlock sources left (Err (asm.At code line)) it.assembling
@@ -200,9 +200,9 @@ FitsAfter hold None = Unit {0}
 FitsAfter hold (Some it) = FitsOn hold it.work it.left
 
 -- the turns that a job has left, where it isn't at its end
-abbrev pub left_of : Option Job → ℕ
-left_of None = 0
-left_of (Some it) = it.left
+abbrev pub turns_of : Option Job → ℕ
+turns_of None = 0
+turns_of (Some it) = it.left
 
 -- the names that a job holds, where it isn't at its end
 abbrev pub names_in : Option Job → List ℕ
@@ -211,17 +211,17 @@ names_in (Some it) = held_by_work (work_of it.work)
 
 -- the jobs after a turn, where its end may have changed the directory
 abbrev pub jobs_after : Bool → List (Option Job) → List (Option Job)
-jobs_after true jobs = disturbed jobs
+jobs_after true jobs = with_disturbance jobs
 jobs_after false jobs = jobs
 
 -- the same without what they keep
 abbrev pub plain_after : Bool → List (Option plain.Job) → List (Option plain.Job)
-plain_after true jobs = plain.disturbed jobs
+plain_after true jobs = plain.with_disturbance jobs
 plain_after false jobs = jobs
 
 -- a name is held just where a job names it
 abbrev pub AreNamed : List ℕ → List (Option plain.Job) → Type 0
-AreNamed holds jobs = (name : ℕ) → contains holds name ≡ contains (held_by jobs) name
+AreNamed holds jobs = (name : ℕ) → contains holds name ≡ contains (names_of_jobs jobs) name
 
 -- ## Calls
 
@@ -231,13 +231,13 @@ left_holds hold None holds = without_hold hold holds
 left_holds hold (Some it) holds = holds
 
 -- a turn that writes no block reads one at most, and a job that ends is held once less
-pub record LeavesHold (old : Mounted) (hold : ℕ) (after : Option Job) (new : Mounted) : Type 0 where
+pub record LeavesHold (old : MountState) (hold : ℕ) (after : Option Job) (new : MountState) : Type 0 where
   pub reads : ReadsOne old new
   pub others : new ≡ record old { reads = new.reads; failed_reads = new.failed_reads; holds = left_holds hold after old.holds }
 
 -- The result of a turn of a job that loads, with so many turns left: it answers, and hands the job back where it isn't at its
 -- end.
-pub record TurnsLoading (old : Mounted) (core : List ℕ) (job : Loading) (left : ℕ) (answer : Answer) (after : Option Job) (new : Mounted) (core' : List ℕ) : Type 0 where
+pub record TurnsLoading (old : MountState) (core : List ℕ) (job : Loading) (left : ℕ) (answer : Answer) (after : Option Job) (new : MountState) (core' : List ℕ) : Type 0 where
   pub kind : is_assembled answer ≡ false
   pub step : (number : ℕ) (jobs : List (Option plain.Job)) → plain.job_of number jobs ≡ Some (plain.loading job.hold left) → NoCallFailed old new
       → LoadingTurn (state_over old core jobs) number job.hold left answer (state_over new core' (plain.with_job number (plain_job after) jobs))
@@ -247,12 +247,12 @@ pub record TurnsLoading (old : Mounted) (core : List ℕ) (job : Loading) (left 
   pub stands : new.stopped ≡ false → StandsIn new.blocks after
   pub kept : LeavesHold old job.hold after new
   pub fits : FitsAfter job.hold after
-  pub fewer : (answer ≡ Err fault.Memory → ⊥) → left_of after < left
+  pub fewer : (answer ≡ Err fault.Memory → ⊥) → turns_of after < left
 
 -- The result of a turn of any job: it answers, and hands the job back where it isn't at its end. A job that goes on holds what it
 -- held, and one that ends holds nothing. Files that are held keep their words, and no more files have a free block below them,
 -- but where a target was put.
-pub record TurnsJob (old : Mounted) (core : List ℕ) (job : Job) (answer : Answer) (after : Option Job) (new : Mounted) (core' : List ℕ) : Type 0 where
+pub record TurnsJob (old : MountState) (core : List ℕ) (job : Job) (answer : Answer) (after : Option Job) (new : MountState) (core' : List ℕ) : Type 0 where
   pub step : (number : ℕ) (jobs : List (Option plain.Job)) → plain.job_of number jobs ≡ plain_job (Some job) → AreNamed old.holds jobs → NoCallFailed old new
       → WorkTurn (state_over old core jobs) number (work_of job.work) job.left answer (state_over new core' (plain_after (is_assembled answer) (plain.with_job number (plain_job after) jobs)))
   pub jobs : (number : ℕ) (jobs : List (Option plain.Job)) → plain.job_of number jobs ≡ plain_job (Some job) → LeavesJobs number answer jobs (plain.with_job number (plain_job after) jobs)
@@ -265,13 +265,13 @@ pub record TurnsJob (old : Mounted) (core : List ℕ) (job : Job) (answer : Answ
   pub none : new.tentative ≡ None
   pub kept : KeepsHeld old new
   pub above : is_assembled answer ≡ false → new.stopped ≡ false → above_of new.blocks ≤ above_of old.blocks
-  pub fewer : (answer ≡ Err fault.Memory → ⊥) → left_of after < job.left
+  pub fewer : (answer ≡ Err fault.Memory → ⊥) → turns_of after < job.left
   pub calls : WorkCalls job.work job.left old new
   pub squeezed : (clean : Bool) → job.work ≡ work.Squeezing clean → TellsSqueeze job.left old answer new
   pub room : IfFile (WorkTellsRoom (work_of job.work) old) answer
 
 -- The result of beginning a job that loads.
-pub record HasBegunLoading (old : Mounted) (name : ℕ) (it : Loading) (left : ℕ) (new : Mounted) : Type 0 where
+pub record HasBegunLoading (old : MountState) (name : ℕ) (it : Loading) (left : ℕ) (new : MountState) : Type 0 where
   pub running : old.stopped ≡ false
   pub words : List ℕ
   pub has : HasWords (files_of old.blocks) name words
@@ -281,7 +281,7 @@ pub record HasBegunLoading (old : Mounted) (name : ℕ) (it : Loading) (left : �
   pub fits : LoadingFits it left
   pub others : new ≡ record old { holds = with_hold name old.holds }
 
-abbrev pub BeginsLoading : Mounted → ℕ → Result (Loading × ℕ) FileFault → Mounted → Type 0
+abbrev pub BeginsLoading : MountState → ℕ → Result (Loading × ℕ) FileFault → MountState → Type 0
 BeginsLoading old name (Ok begun) new = HasBegunLoading old name begun.0 begun.1 new
 BeginsLoading old name (Err file.NotFound) new = (old.stopped ≡ false) × (get (files_of old.blocks) name ≡ None) × (new ≡ old)
 BeginsLoading old name (Err file.Stopped) new = (old.stopped ≡ true) × (new ≡ old)
@@ -315,6 +315,6 @@ without_jobs [] holds = holds
 without_jobs (it ∷ jobs) holds = without_jobs jobs (without_job it holds)
 
 -- no job at any place
-abbrev pub cleared : {A : Type 0} → List (Option A) → List (Option A)
-cleared [] = []
-cleared (it ∷ jobs) = None ∷ cleared jobs
+abbrev pub no_jobs : {A : Type 0} → List (Option A) → List (Option A)
+no_jobs [] = []
+no_jobs (it ∷ jobs) = None ∷ no_jobs jobs

@@ -12,7 +12,7 @@ use Rattle.jobs8.specs.declared.turned.Turned.TheVariants.{Working, Assembled, L
 use Rattle.jobs8.specs.Jobs.{Job, Work, Assembling, Loading, Squeezing, assembling, loading, squeezing, job_of, with_job}
 use Rattle.pal_blocks.specs.Blocks.{blocks_among, blocks_in, assembling_turns, turn_of}
 use Rattle.pal_blocks.specs.Sources.{newest_first, assembled_words, IsTapeOfSources}
-use Rattle.pal_blocks.specs.Schedule.{known_at, IsFirstKnown}
+use Rattle.pal_blocks.specs.Schedule.{fault_at_turn, IsFirstKnown}
 use Rattle.jobs8.specs.Schedule.{loading_turns, IsMetNone, IsFirstMet}
 use Rattle.jobs8.specs.State.{State, words_of, words_among, HasPut, PutRefused}
 
@@ -60,7 +60,7 @@ pub record HasAssembled (old : State) (number to : ℕ) (sources : List (List �
 -- Turn t of a job that assembles n blocks reads block t up to t = n, and then block t - n again. It ends the job where the
 -- blocks so far show a fault. Turn 2n + 1 puts the target.
 abbrev pub AssemblingAt : State → ℕ → ℕ → List ℕ → ℕ → List (List ℕ) → ℕ → Answer → State → Type 0
-AssemblingAt old number to from left sources turn (Ok Working) new = (known_at turn sources ≡ None) × HasWorked old number (assembling to from left) new
+AssemblingAt old number to from left sources turn (Ok Working) new = (fault_at_turn turn sources ≡ None) × HasWorked old number (assembling to from left) new
 AssemblingAt old number to from left sources turn (Ok (Assembled name blocks)) new =
     (name ≡ to) × (left ≡ 1) × (blocks ≡ blocks_in (assembled_words sources)) × HasAssembled old number to sources new
 AssemblingAt old number to from left sources turn (Err (Asm fault)) new =

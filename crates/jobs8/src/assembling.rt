@@ -30,7 +30,7 @@ pub(crate) fn assembling_turn<S: BlockStore>(
         files.new core }
 {
     counted_holds();
-    if files.stopped() {
+    if files.is_stopped() {
         job.let_go(files);
         return (Err(JobFault::File(FileFault::Stopped)), None);
     }

@@ -3,8 +3,8 @@ ghost use Rattle.std.specs.Prelude.{◌≡◌, ◌≢◌, ◌≤◌, ℕ, nat_lt
 ghost use Rattle.os8_dir.specs.Entries.{contains};
 ghost use Rattle.os8_dir.specs.Files.{above_of};
 ghost use Rattle.os8_files.specs.Laws.{KeepsHolds};
-ghost use Rattle.os8_files.specs.Mounted.{Mounted};
-ghost use Rattle.jobs8.specs.Jobs.{Job, IsLowest, IsOfNone, IsFree, IsTaken, least_free, lowest_job, job_of, with_job, held_by, disturbed};
+ghost use Rattle.os8_files.specs.Mounted.{MountState};
+ghost use Rattle.jobs8.specs.Jobs.{Job, IsLowest, IsOfNone, IsFree, IsTaken, least_free, lowest_job, job_of, with_job, names_of_jobs, with_disturbance};
 ghost use Rattle.jobs8.specs.Settled as settled;
 ghost use Rattle.jobs8.specs.Settled.{work_of, IsSettled, plain_jobs};
 ghost use Rattle.jobs8.specs.Calls.{WorkCalls, ReadsFew, MovesFew};
@@ -37,35 +37,35 @@ pub fn job_put()
 /// What stands between entries stays after calls that keep the holds, and by which no more files have a free block below them.
 /// Where it is noted for the jobs that the directory has changed, it stays after all calls that keep the holds.
 pub fn settled_calls()
-    ensures kept { (old new : Mounted) (jobs : List (Option kept.Job)) → IsSettled old jobs
+    ensures kept { (old new : MountState) (jobs : List (Option kept.Job)) → IsSettled old jobs
         → KeepsHolds old new → new.tentative ≡ None
         → (new.stopped ≡ false → above_of new.blocks ≤ above_of old.blocks) → IsSettled new jobs }
-    ensures disturbed { (old new : Mounted) (jobs : List (Option kept.Job)) → IsSettled old jobs
-        → KeepsHolds old new → new.tentative ≡ None → IsSettled new (settled.disturbed jobs) }
+    ensures disturbed { (old new : MountState) (jobs : List (Option kept.Job)) → IsSettled old jobs
+        → KeepsHolds old new → new.tentative ≡ None → IsSettled new (settled.with_disturbance jobs) }
 {
     counted_holds();
 }
 
 /// Between entries a name is held just where a job holds it.
 pub fn held_names()
-    ensures { (volume : Mounted) (jobs : List (Option kept.Job)) (name : ℕ) → IsSettled volume jobs
-        → contains volume.holds name ≡ contains (held_by (plain_jobs jobs)) name }
+    ensures { (volume : MountState) (jobs : List (Option kept.Job)) (name : ℕ) → IsSettled volume jobs
+        → contains volume.holds name ≡ contains (names_of_jobs (plain_jobs jobs)) name }
 {
     counted_holds();
 }
 
 /// The jobs for which a change is noted are those of the system machine that it has disturbed.
 pub fn disturbed_jobs()
-    ensures { (jobs : List (Option kept.Job)) → plain_jobs (settled.disturbed jobs)
-        ≡ disturbed (plain_jobs jobs) }
+    ensures { (jobs : List (Option kept.Job)) → plain_jobs (settled.with_disturbance jobs)
+        ≡ with_disturbance (plain_jobs jobs) }
 {}
 
 /// A turn of a job that assembles or loads reads one block of the store at most. Only one that squeezes changes the place of a
 /// file that it doesn't put, and of one file at most.
 pub fn job_calls()
-    ensures reads { (old new : Mounted) (it : Work) (left : ℕ) → WorkCalls it left old new
+    ensures reads { (old new : MountState) (it : Work) (left : ℕ) → WorkCalls it left old new
         → ReadsFew (work_of it) old new }
-    ensures places { (old new : Mounted) (it : Work) (left : ℕ) → WorkCalls it left old new
+    ensures places { (old new : MountState) (it : Work) (left : ℕ) → WorkCalls it left old new
         → MovesFew (work_of it) old new }
 {
     block_reads();

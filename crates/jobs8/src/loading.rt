@@ -164,7 +164,7 @@ pub(crate) fn loading_turn<S: BlockStore>(
     requires fits { LoadingFits job left }
     ensures { TurnsLoading files.old core.old job left result.0 result.1 files.new core.new }
 {
-    if files.stopped() {
+    if files.is_stopped() {
         job.let_go(files);
         return (Err(JobFault::File(FileFault::Stopped)), None);
     }

@@ -1,7 +1,7 @@
 //! Files that are held at places, in their order.
 ghost use Rattle.std.specs.Prelude.{◌≡◌, ◌≤◌, ◌<◌, ℕ, Option, Some, None, [], ◌∷◌, length, get_or, slice_set, false};
 ghost use Rattle.os8_dir.specs.Files.{files_of};
-ghost use Rattle.os8_files.specs.Mounted.{Mounted};
+ghost use Rattle.os8_files.specs.Mounted.{MountState};
 ghost use Rattle.jobs8.specs.Sources.{names_of, AreFirst};
 ghost use Rattle.jobs8.specs.Steps.{without_holds, HasHeld, TakesNext, TakesAll};
 
@@ -56,7 +56,7 @@ fn hold_next<S: BlockStore>(
     requires free { get_or places.old place None ≡ None }
     ensures next { TakesNext (files_of files.old.blocks) name places.old place blocks.old.items result
         places.new blocks.new.items }
-    ensures held { (first : Mounted) → HasHeld first places.old files.old
+    ensures held { (first : MountState) → HasHeld first places.old files.old
         → HasHeld first places.new files.new }
     ensures size { length places.new ≡ length places.old }
 {

@@ -3,7 +3,7 @@ ghost use Rattle.std.specs.Prelude.{◌≡◌, ◌<◌, ℕ, Option, None, [], g
 ghost use Rattle.std.specs.List.{position};
 ghost use Rattle.std.specs.Option.{is_some, is_none};
 ghost use Rattle.jobs8.specs.Jobs as plain;
-ghost use Rattle.os8_files.specs.Mounted.{Mounted};
+ghost use Rattle.os8_files.specs.Mounted.{MountState};
 ghost use Rattle.jobs8.specs.Steps.{without_job, without_jobs};
 ghost use Rattle.jobs8.specs.Settled as settled;
 ghost use Rattle.jobs8.specs.declared.kinds.Job as job;
@@ -42,7 +42,7 @@ impl Jobs {
     /// No job.
     pub fn new() -> Jobs
         ensures none { settled.plain_jobs result ≡ plain.no_jobs }
-        ensures settled { (volume : Mounted) → volume.tentative ≡ None → volume.holds ≡ []
+        ensures settled { (volume : MountState) → volume.tentative ≡ None → volume.holds ≡ []
             → IsSettled volume result }
     {
         Jobs {
@@ -96,7 +96,7 @@ impl Jobs {
 
     /// Notes that another entry has changed the directory: no squeezing job is clean from now on.
     pub fn disturb(&mut self)
-        ensures { self.new ≡ settled.disturbed self.old }
+        ensures { self.new ≡ settled.with_disturbance self.old }
     {
         disturb_all(&mut self.places);
     }
@@ -111,7 +111,7 @@ fn take_at(places: &mut [Option<Job>], place: usize) -> Option<Job>
 }
 
 fn disturb_all(places: &mut [Option<Job>])
-    ensures { places.new ≡ settled.disturbed places.old }
+    ensures { places.new ≡ settled.with_disturbance places.old }
 {
     for place in 0..places.len() {
         disturb_at(places, place);

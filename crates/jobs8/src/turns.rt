@@ -47,7 +47,7 @@ impl Jobs {
         ensures { StartsAssembling files.old self.old to from.now result files.new self.new }
     {
         counted_holds();
-        if files.stopped() {
+        if files.is_stopped() {
             return Err(JobFault::File(FileFault::Stopped));
         }
         match self.free_place() {
@@ -74,7 +74,7 @@ impl Jobs {
         ensures { StartsLoading files.old self.old name result files.new self.new }
     {
         counted_holds();
-        if files.stopped() {
+        if files.is_stopped() {
             return Err(JobFault::File(FileFault::Stopped));
         }
         match self.free_place() {
@@ -94,7 +94,7 @@ impl Jobs {
         requires { IsSettled files.now self.old }
         ensures { StartsSqueezing files.now self.old result files.now self.new }
     {
-        if files.stopped() {
+        if files.is_stopped() {
             return Err(JobFault::File(FileFault::Stopped));
         }
         match self.free_place() {

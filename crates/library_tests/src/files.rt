@@ -10,12 +10,12 @@ use volume_image::{BlockStore, MemoryVolume};
 use word12::Word;
 
 /// The name whose first word is a number.
-pub fn numbered(number: u16) -> Name {
+pub fn name_of_number(number: u16) -> Name {
     Name::of([Word::low(number), Word::ZERO, Word::ZERO, Word::ZERO])
 }
 
 /// The files of a sound store.
-pub fn mounted<S: BlockStore + Drop>(alloc: Global, store: S) -> Option<FileService<S>> {
+pub fn mount_store<S: BlockStore + Drop>(alloc: Global, store: S) -> Option<FileService<S>> {
     match FileService::mount(alloc, store) {
         Ok(files) => Some(files),
         Err((_store, _fault)) => None,
@@ -23,7 +23,7 @@ pub fn mounted<S: BlockStore + Drop>(alloc: Global, store: S) -> Option<FileServ
 }
 
 /// The number of a fault; 0 for none, 99 for one that no test meets.
-pub fn told(answer: Result<(), FileFault>) -> usize {
+pub fn number_of_fault(answer: Result<(), FileFault>) -> usize {
     match answer {
         Ok(()) => 0,
         Err(FileFault::NoRoom(blocks)) => blocks.saturating_add(1000),
@@ -53,21 +53,21 @@ fn write_blocks<S: BlockStore>(
 }
 
 /// What the making of a file of so many blocks is refused as, in the largest empty.
-pub fn stored<S: BlockStore>(
+pub fn store_file<S: BlockStore>(
     alloc: Global,
     files: &mut FileService<S>,
     number: u16,
     count: usize,
 ) -> usize {
-    match files.enter(numbered(number), 0) {
-        Err(fault) => told(Err(fault)),
+    match files.enter(name_of_number(number), 0) {
+        Err(fault) => number_of_fault(Err(fault)),
         Ok(token) => {
             let mut tentative = token;
             match write_blocks(files, &mut tentative, count) {
-                Ok(()) => told(files.close(alloc, tentative, &[])),
+                Ok(()) => number_of_fault(files.close(alloc, tentative, &[])),
                 Err(fault) => {
                     files.give_up(tentative);
-                    told(Err(fault))
+                    number_of_fault(Err(fault))
                 }
             }
         }
@@ -75,30 +75,30 @@ pub fn stored<S: BlockStore>(
 }
 
 /// What a file is refused as; 0 where it is begun, and given up.
-fn begun<S: BlockStore>(files: &mut FileService<S>, name: Name) -> usize {
+fn begin_file<S: BlockStore>(files: &mut FileService<S>, name: Name) -> usize {
     match files.enter(name, 1) {
         Ok(tentative) => {
             files.give_up(tentative);
             0
         }
-        Err(fault) => told(Err(fault)),
+        Err(fault) => number_of_fault(Err(fault)),
     }
 }
 
 /// What a second file, a delete and a squeeze are refused as.
 fn three_refused<S: BlockStore>(alloc: Global, files: &mut FileService<S>) -> [usize; 3] {
-    let second = begun(files, numbered(2));
-    let deleted = told(files.delete(alloc, &numbered(1)));
+    let second = begin_file(files, name_of_number(2));
+    let deleted = number_of_fault(files.delete(alloc, &name_of_number(1)));
     let turned = match files.squeeze_turn(alloc) {
         Ok(_) => 0,
-        Err(fault) => told(Err(fault)),
+        Err(fault) => number_of_fault(Err(fault)),
     };
     [second, deleted, turned]
 }
 
 /// The same while the file 1 is written.
 fn while_writing<S: BlockStore>(alloc: Global, files: &mut FileService<S>) -> [usize; 3] {
-    match files.enter(numbered(1), 13) {
+    match files.enter(name_of_number(1), 13) {
         Ok(tentative) => {
             let answers = three_refused(alloc, files);
             files.give_up(tentative);
@@ -110,24 +110,24 @@ fn while_writing<S: BlockStore>(alloc: Global, files: &mut FileService<S>) -> [u
 
 /// The refusals of calls in an empty volume of 20 blocks. They are a file of no name, calls while a file is written, a file
 /// of no blocks, one that is too long, one of all blocks and one more. Last comes the length of the file 1 after them.
-fn refused(alloc: Global) -> Option<[usize; 9]> {
-    let mut files = mounted(alloc, MemoryVolume::create(alloc, 20).ok()?)?;
-    let unnamed = begun(&mut files, Name::of([Word::ZERO; 4]));
+fn refusals(alloc: Global) -> Option<[usize; 9]> {
+    let mut files = mount_store(alloc, MemoryVolume::create(alloc, 20).ok()?)?;
+    let unnamed = begin_file(&mut files, Name::of([Word::ZERO; 4]));
     let [second, deleted, turned] = while_writing(alloc, &mut files);
     Some([
         unnamed,
         second,
         deleted,
         turned,
-        stored(alloc, &mut files, 1, 0),
-        stored(alloc, &mut files, 1, 14),
-        stored(alloc, &mut files, 1, 13),
-        begun(&mut files, numbered(2)),
-        files.lookup(&numbered(1)).unwrap_or(0),
+        store_file(alloc, &mut files, 1, 0),
+        store_file(alloc, &mut files, 1, 14),
+        store_file(alloc, &mut files, 1, 13),
+        begin_file(&mut files, name_of_number(2)),
+        files.lookup(&name_of_number(1)).unwrap_or(0),
     ])
 }
 
 #[test]
 fn refused_calls(rt: HostRuntime) {
-    assert_eq!(rt; refused(rt.alloc()), Some([5, 7, 7, 7, 11, 6, 0, 1000, 13]));
+    assert_eq!(rt; refusals(rt.alloc()), Some([5, 7, 7, 7, 11, 6, 0, 1000, 13]));
 }

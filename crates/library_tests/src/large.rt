@@ -25,7 +25,7 @@ fn put_many(source: &mut Vec<u8>, part: &[u8], count: usize) {
 }
 
 /// How many words there are, and the last one with its cell.
-fn seen(answer: Result<Vec<(Cell, Word)>, AsmFault>) -> (usize, usize, u16) {
+fn count_and_last_word(answer: Result<Vec<(Cell, Word)>, AsmFault>) -> (usize, usize, u16) {
     match answer {
         Ok(pairs) => match pairs.last() {
             Some((cell, word)) => (pairs.len(), cell.index(), word.get()),
@@ -53,6 +53,6 @@ fn many_statements_and_terms(rt: HostRuntime) {
     // the last word is 20,000 modulo 4096, after one in 0300
     let sum = (MANY + 1, 0o301, 0o7040);
     assert_eq!(rt; last_tokens(rt.alloc(), &bytes), 2 * MANY);
-    assert_eq!(rt; seen(assemble(rt.alloc(), &bytes)), sum);
-    assert_eq!(rt; seen(assemble_all(rt.alloc(), &[&bytes])), sum);
+    assert_eq!(rt; count_and_last_word(assemble(rt.alloc(), &bytes)), sum);
+    assert_eq!(rt; count_and_last_word(assemble_all(rt.alloc(), &[&bytes])), sum);
 }

@@ -1,5 +1,5 @@
 //! Which blocks of the directory a change writes, and in which order.
-use crate::files::{mounted, numbered, stored};
+use crate::files::{mount_store, name_of_number, store_file};
 use os8_files::FileService;
 use std::alloc::Global;
 use std::process::Abort;
@@ -10,14 +10,14 @@ use word12::Word;
 fn fill<S: BlockStore>(alloc: Global, files: &mut FileService<S>) -> bool {
     let mut all = true;
     for number in 1u16..101 {
-        all = stored(alloc, files, number, 1) == 0 && all;
+        all = store_file(alloc, files, number, 1) == 0 && all;
     }
     all
 }
 
 /// A volume of 300 blocks with 100 files of one block, whose directory has three segments.
 fn hundred(alloc: Global) -> Option<MemoryVolume> {
-    let mut files = mounted(alloc, MemoryVolume::create(alloc, 300).ok()?)?;
+    let mut files = mount_store(alloc, MemoryVolume::create(alloc, 300).ok()?)?;
     if fill(alloc, &mut files) {
         return Some(files.into_store());
     }
@@ -49,13 +49,13 @@ fn relink(volume: &mut MemoryVolume) {
 
 /// How many blocks of a volume are read and written where it is mounted and its first file deleted, and where it is mounted
 /// again and the file is stored. There is nothing where one of these is refused.
-fn counted(alloc: Global, volume: MemoryVolume) -> Option<[u64; 4]> {
-    let mut files = mounted(alloc, CountVolume::new(volume))?;
-    files.delete(alloc, &numbered(1)).ok()?;
+fn count_blocks(alloc: Global, volume: MemoryVolume) -> Option<[u64; 4]> {
+    let mut files = mount_store(alloc, CountVolume::new(volume))?;
+    files.delete(alloc, &name_of_number(1)).ok()?;
     let first = files.into_store();
     let (reads, writes) = (first.reads(), first.writes());
-    let mut again = mounted(alloc, CountVolume::new(first.into_inner()))?;
-    if stored(alloc, &mut again, 1, 1) > 0 {
+    let mut again = mount_store(alloc, CountVolume::new(first.into_inner()))?;
+    if store_file(alloc, &mut again, 1, 1) > 0 {
         return None;
     }
     let second = again.into_store();
@@ -69,9 +69,9 @@ fn counts(alloc: Global) -> Option<[[u64; 4]; 3]> {
     let mut flagged = hundred(alloc)?;
     set(&mut flagged, 3, 3, 0o7070);
     Some([
-        counted(alloc, hundred(alloc)?)?,
-        counted(alloc, relinked)?,
-        counted(alloc, flagged)?,
+        count_blocks(alloc, hundred(alloc)?)?,
+        count_blocks(alloc, relinked)?,
+        count_blocks(alloc, flagged)?,
     ])
 }
 
@@ -86,8 +86,8 @@ fn segments_that_change(rt: HostRuntime) {
 fn filled_block(alloc: Global, passes: u32) -> Option<usize> {
     let mut relinked = hundred(alloc)?;
     relink(&mut relinked);
-    let mut files = mounted(alloc, FuseVolume::new(relinked, None, Some(passes)))?;
-    let _refused = files.delete(alloc, &numbered(1));
+    let mut files = mount_store(alloc, FuseVolume::new(relinked, None, Some(passes)))?;
+    let _refused = files.delete(alloc, &name_of_number(1));
     let volume = files.into_store().into_inner();
     for number in 1usize..7 {
         if number < volume.blocks() && volume.block(number)[255] == Word::low(0o5252) {

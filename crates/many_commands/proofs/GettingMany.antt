@@ -12,8 +12,8 @@ use Rattle.os8_dir.specs.declared.file_faults.FileFault.{FileFault}
 use Rattle.os8_dir.specs.declared.file_faults.FileFault.TheVariants.{BadName, NotFound}
 use Rattle.script8.specs.Replies.{fault_line}
 use Rattle.script8.specs.declared.faults.SessionFault.TheVariants.{File, Memory}
-use Rattle.many8.specs.Opened.{OpensVolume}
-use Rattle.many8.specs.declared.opened.VolumeFile.{VolumeFile}
+use Rattle.archive_many.specs.Opened.{OpensVolume}
+use Rattle.archive_many.specs.declared.opened.VolumeFile.{VolumeFile}
 use Rattle.report8.specs.Program.{program_line}
 use Rattle.report8.specs.declared.programs.ProgramLine.TheVariants as line
 use Rattle.outcome.specs.declared.endings.Ending.{Ending}
@@ -24,7 +24,7 @@ use Rattle.volume_commands.specs.Reading.{LooksAt}
 use Rattle.volume_commands.specs.Saving.{Prints}
 use Rattle.volume_commands.specs.Work.{Then, Purely}
 use Rattle.many_commands.specs.Checking.{EndsSound, named_lines}
-use Rattle.many_commands.specs.GettingMany.{AreFilesOn, GetsMany, GivesAsked, GivesEach, GivesFile, GivesWish, HasLaid, IsPath, LaysAndTells, LaysFile, MakesFolder, PrintsAnswer, RefusesWord, ReplacesIf, TakesFile, IsHostName, TellsLaid, done_with, path_in}
+use Rattle.many_commands.specs.GettingMany.{AreFilesOn, GetsMany, GivesAsked, GivesEach, GivesFile, GivesWish, HasLaid, IsPath, LaysAndTells, LaysFile, MakesFolder, PrintsAnswer, RefusesWord, ReplacesIf, TakesFile, IsHostName, TellsLaid, count_after, path_in}
 use Rattle.many_commands.specs.Laws.{ChangesIn, ChangesNothing, IsIn, NeverChanges, NeverReplaces}
 use Rattle.many_commands.specs.Progressing.{TellsProgress, WithProgress}
 use Rattle.many_commands.specs.Texts.{TakesLists, get_form}
@@ -138,8 +138,8 @@ gives-wish form blocks is_told all done (wish.Block block) =
 gives-each : (form : GetManyForm) (blocks : List (List ℕ)) (is_told : Bool) (all done : ℕ) (are_there : Bool) (wishes : List Wish) → Keeps form (GivesEach form blocks is_told all done are_there wishes)
 gives-each form blocks is_told all done are_there [] = purely-keeps form (λ (result : Result Bool Ending). result ≡ Ok are_there)
 gives-each form blocks is_told all done are_there (one ∷ wishes) =
-    then-keeps form (GivesWish form blocks is_told all done one) (λ is_there. GivesEach form blocks is_told all (done_with one done) (are_there && is_there) wishes) (gives-wish form blocks is_told all done one)
-    (λ is_there. gives-each form blocks is_told all (done_with one done) (are_there && is_there) wishes)
+    then-keeps form (GivesWish form blocks is_told all done one) (λ is_there. GivesEach form blocks is_told all (count_after one done) (are_there && is_there) wishes) (gives-wish form blocks is_told all done one)
+    (λ is_there. gives-each form blocks is_told all (count_after one done) (are_there && is_there) wishes)
 
 -- ## The command
 

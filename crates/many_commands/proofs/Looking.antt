@@ -7,8 +7,8 @@ use Rattle.disk8.specs.declared.layouts.Layout.{Layout}
 use Rattle.outcome.specs.declared.endings.Ending.{Ending}
 use Rattle.archive8.specs.declared.faults.ArchiveFault.{ArchiveFault}
 use Rattle.archive8.specs.Getting.{Gets}
-use Rattle.many8.specs.declared.faults.BlocksFault.{BlocksFault}
-use Rattle.many8.specs.declared.faults.BlocksFault.TheVariants.{Archive, NoBlocks}
+use Rattle.archive_many.specs.declared.faults.BlocksFault.{BlocksFault}
+use Rattle.archive_many.specs.declared.faults.BlocksFault.TheVariants.{Archive, NoBlocks}
 use Rattle.report8.specs.Program.{program_line}
 use Rattle.report8.specs.declared.programs.ProgramLine.TheVariants as line
 use Rattle.task8.specs.declared.forms.BlocksForm.{BlocksForm}

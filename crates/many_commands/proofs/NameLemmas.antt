@@ -5,8 +5,8 @@ use Rattle.hosts.specs.Event.{Event}
 use Rattle.script8.specs.declared.faults.SessionFault.TheVariants.{Memory}
 use Rattle.outcome.specs.declared.endings.Ending.{Ending}
 use Rattle.outcome.specs.declared.endings.Ending.TheVariants.{Fault}
-use Rattle.many8.specs.HostNames.{NamesVolume}
-use Rattle.many8.specs.declared.putting.NewFile.{NewFile}
+use Rattle.archive_many.specs.HostNames.{NamesVolume}
+use Rattle.archive_many.specs.declared.putting.NewFile.{NewFile}
 use Rattle.task8.specs.declared.forms.ImageForm.{ImageForm}
 use Rattle.task8.specs.declared.forms.TextsForm.{TextsForm}
 use Rattle.volume_commands.specs.Work.{Then, Purely}

@@ -2,9 +2,9 @@
 use Rattle.std.proofs.Common.{◌∙◌, ◌||◌, ◌++◌, ℕ, Bool, true, false, not, Option, None, Some, Ok, Err, List, [], ◌∷◌, inl, inr, length, slice_get}
 use Rattle.hosts.specs.Event.{Event}
 use Rattle.archive8.specs.declared.places.TextPlace.{TextPlace}
-use Rattle.many8.specs.declared.faults.ManyFault.{ManyFault}
-use Rattle.many8.specs.declared.faults.ManyFault.TheVariants as many
-use Rattle.many8.specs.declared.putting.NewFile.{NewFile}
+use Rattle.archive_many.specs.declared.faults.ManyFault.{ManyFault}
+use Rattle.archive_many.specs.declared.faults.ManyFault.TheVariants as many
+use Rattle.archive_many.specs.declared.putting.NewFile.{NewFile}
 use Rattle.outcome.specs.declared.endings.Ending.{Ending}
 use Rattle.task8.specs.declared.forms.ImageForm.{ImageForm}
 use Rattle.task8.specs.declared.forms.PutManyForm.{PutManyForm}

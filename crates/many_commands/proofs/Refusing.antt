@@ -4,7 +4,7 @@ use Rattle.hosts.specs.Event.{Event}
 use Rattle.outcome.specs.declared.endings.Ending.{Ending}
 use Rattle.outcome.specs.declared.endings.Ending.TheVariants as ending
 use Rattle.script8.specs.declared.faults.SessionFault.TheVariants as session
-use Rattle.archive8.specs.Asking.{Wanted, asked_for}
+use Rattle.archive8.specs.Asking.{Target, target_of}
 use Rattle.archive8.specs.declared.faults.ArchiveFault.{ArchiveFault}
 use Rattle.archive8.specs.declared.faults.CopyFault.{CopyFault}
 use Rattle.archive8.specs.declared.faults.CopyFault.TheVariants.{From, To}
@@ -48,7 +48,7 @@ changes-leave answers image_of lines_of form never =
 pub squeezes-leave : (form : ImageForm) → LeavesFiles (Squeezes form)
 squeezes-leave form = changes-leave (λ image. Answers (SqueezesFiles image) (length image)) _ _ form (λ image. answers-never (SqueezesFiles image) (length image))
 
-gives-name-never : (wanted : Wanted) (other image : List ℕ) → NeverChanges (GivesName wanted other image)
+gives-name-never : (wanted : Target) (other image : List ℕ) → NeverChanges (GivesName wanted other image)
 gives-name-never wanted other image old (Ok it) new p = same old new p.1
 gives-name-never wanted other image old (Err ending) new (why, renames, p) = refused why p
   where
@@ -56,14 +56,14 @@ gives-name-never wanted other image old (Err ending) new (why, renames, p) = ref
     refused (rename.Archive fault) r = refuses-never fault (length image) old ending new r
     refused rename.Exists r = same old new r.1
 
-pub renames-leave : (wanted : Wanted) (other : List ℕ) (form : ImageForm) → LeavesFiles (Renames wanted other form)
+pub renames-leave : (wanted : Target) (other : List ℕ) (form : ImageForm) → LeavesFiles (Renames wanted other form)
 renames-leave wanted other form = changes-leave (GivesName wanted other) _ _ form (gives-name-never wanted other)
 
-tells-refused : (wanted : Option Wanted) (old new : List Event) → TellsRefused wanted old new → ChangesNothing old new
+tells-refused : (wanted : Option Target) (old new : List Event) → TellsRefused wanted old new → ChangesNothing old new
 tells-refused None old new p = same old new p
 tells-refused (Some wanted) old new p = told p.0 _ old new p.1
 
-takes-out-never : (wanted : List Wanted) (image : List ℕ) → NeverChanges (TakesOut wanted image)
+takes-out-never : (wanted : List Target) (image : List ℕ) → NeverChanges (TakesOut wanted image)
 takes-out-never wanted image old (Ok it) new p = same old new p.1
 takes-out-never wanted image old (Err ending) new (inl (why, deletes, p)) = refused why p
   where
@@ -73,8 +73,8 @@ takes-out-never wanted image old (Err ending) new (inl (why, deletes, p)) = refu
 takes-out-never wanted image old (Err ending) new (inr p) = same old new p.1
 
 pub deletes-leave : (form : DeleteForm) → LeavesFiles (Deletes form)
-deletes-leave form = then-leaves (Purely (MeansFiles form)) (λ files. DeletesAsked (map asked_for files.items) form.image) (purely-never (MeansFiles form))
-    (λ files. changes-leave (TakesOut (map asked_for files.items)) _ _ form.image (takes-out-never (map asked_for files.items)))
+deletes-leave form = then-leaves (Purely (MeansFiles form)) (λ files. DeletesAsked (map target_of files.items) form.image) (purely-never (MeansFiles form))
+    (λ files. changes-leave (TakesOut (map target_of files.items)) _ _ form.image (takes-out-never (map target_of files.items)))
 
 -- ## A copy
 
@@ -86,24 +86,24 @@ refuses-copy : (form : CopyForm) (fault : CopyFault) (from to : ℕ) (old : List
 refuses-copy form (From fault) from to old ending new p = refuses-if (is_want_of fault) form.image.file.bytes.items fault from old ending new p
 refuses-copy form (To fault) from to old ending new p = refuses-if (is_want_of fault) form.to.file.bytes.items fault to old ending new p
 
-makes-copy-never : (form : CopyForm) (wanted : Wanted) (from to : List ℕ) → NeverChanges (MakesCopy form wanted from to)
+makes-copy-never : (form : CopyForm) (wanted : Target) (from to : List ℕ) → NeverChanges (MakesCopy form wanted from to)
 makes-copy-never form wanted from to old (Ok it) new p = same old new p.1
 makes-copy-never form wanted from to old (Err ending) new (inl (why, copies, p)) = refuses-copy form why (length from) (length to) old ending new p
 makes-copy-never form wanted from to old (Err ending) new (inr p) = same old new p.1
 
-copies-into : (form : CopyForm) (wanted : Wanted) (image : Image) (from : List ℕ) → LeavesFiles (CopiesInto form wanted image from)
+copies-into : (form : CopyForm) (wanted : Target) (image : Image) (from : List ℕ) → LeavesFiles (CopiesInto form wanted image from)
 copies-into form wanted image from =
     then-leaves (MakesCopy form wanted from image.bytes.items) (λ made. Then (Purely (AreLines (stored_line made))) (λ line. Stores image made.bytes.items line.items))
     (makes-copy-never form wanted from image.bytes.items) (λ made. lines-leave image made.bytes.items (stored_line made))
 
-copies-from : (is : Bool) (form : CopyForm) (wanted : Wanted) (image : Image) → LeavesFiles (CopiesFrom is form wanted image)
+copies-from : (is : Bool) (form : CopyForm) (wanted : Target) (image : Image) → LeavesFiles (CopiesFrom is form wanted image)
 copies-from true form wanted image = copies-into form wanted image image.bytes.items
 copies-from false form wanted image = then-leaves (LooksAt form.image) (λ from. CopiesInto form wanted image from.items) (looks-at-never form.image) (λ from. copies-into form wanted image from.items)
 
 pub copies-leave : (form : CopyForm) → LeavesFiles (Copies form)
-copies-leave form = then-leaves (Purely (MeansFile form.file)) (λ file. Then (Opens form.to) (λ image. CopiesFrom (is_one_image form.image form.to) form (asked_for file) image)) (purely-never (MeansFile form.file))
-    (λ file. then-leaves (Opens form.to) (λ image. CopiesFrom (is_one_image form.image form.to) form (asked_for file) image) (opens-never form.to)
-    (λ image. copies-from (is_one_image form.image form.to) form (asked_for file) image))
+copies-leave form = then-leaves (Purely (MeansFile form.file)) (λ file. Then (Opens form.to) (λ image. CopiesFrom (is_one_image form.image form.to) form (target_of file) image)) (purely-never (MeansFile form.file))
+    (λ file. then-leaves (Opens form.to) (λ image. CopiesFrom (is_one_image form.image form.to) form (target_of file) image) (opens-never form.to)
+    (λ image. copies-from (is_one_image form.image form.to) form (target_of file) image))
 
 -- ## One file that is put
 

@@ -3,10 +3,10 @@ use Rattle.std.proofs.Common.{◌≡◌, ◌∙◌, ◌<◌, ◌||◌, ◌++◌,
 use Rattle.std.proofs.lemmas.Bool.Decides.{nat_tests}
 use Rattle.std.proofs.lemmas.Option.{slice_get-get_or, slice_get-map}
 use Rattle.std.specs.BTreeSet.{BTreeSet}
-use Rattle.many8.specs.Patterns.{chosen_of, is_choice}
-use Rattle.many8.specs.declared.opened.VolumeFile.{VolumeFile}
+use Rattle.archive_many.specs.Patterns.{files_like, is_choice}
+use Rattle.archive_many.specs.declared.opened.VolumeFile.{VolumeFile}
 use Rattle.many_commands.specs.NameSteps.{KnowsPlaces, has_key}
-use Rattle.many_commands.specs.Wishing.{asked_by, found_for, has_place, with_wish}
+use Rattle.many_commands.specs.Wishing.{wishes_of_word, wishes_for, has_place, with_wish}
 use Rattle.many_commands.specs.declared.wishes.Wish.{Wish}
 use Rattle.many_commands.specs.declared.wishes.Wish.TheVariants as wish
 use Rattle.many_commands.proofs.NameLemmas.{or-assoc, or-false}
@@ -19,22 +19,22 @@ word-at words place word some is =
     slice_get-map (λ (w : String Global). w.bytes.items) words place ∙ ap (option_map (λ (w : String Global). w.bytes.items)) (slice_get-get_or words place word some)
     ∙ ap (λ (w : String Global). Some w.bytes.items) (sym is)
 
-pub found-some : (place : ℕ) (files : List VolumeFile) → 0 < length files → found_for place files ≡ map wish.File files
+pub found-some : (place : ℕ) (files : List VolumeFile) → 0 < length files → wishes_for place files ≡ map wish.File files
 found-some place [] some = absurd (omega (arith, some))
 found-some place (file ∷ files) some = refl
 
-pub asked-some : (files : List VolumeFile) (place : ℕ) (word : List ℕ) (chosen : List VolumeFile) → is_choice word ≡ true → chosen ≡ chosen_of word files → 0 < length chosen → asked_by files place word ≡ map wish.File chosen
+pub asked-some : (files : List VolumeFile) (place : ℕ) (word : List ℕ) (chosen : List VolumeFile) → is_choice word ≡ true → chosen ≡ files_like word files → 0 < length chosen → wishes_of_word files place word ≡ map wish.File chosen
 asked-some files place word chosen choice are some =
-    ap (λ b. if b then found_for place (chosen_of word files) else wish.BadWord place ∷ []) choice
-    ∙ ap (found_for place) (sym are) ∙ found-some place chosen some
+    ap (λ b. if b then wishes_for place (files_like word files) else wish.BadWord place ∷ []) choice
+    ∙ ap (wishes_for place) (sym are) ∙ found-some place chosen some
 
-pub asked-none : (files : List VolumeFile) (place : ℕ) (word : List ℕ) → is_choice word ≡ true → chosen_of word files ≡ [] → asked_by files place word ≡ wish.NotFound place ∷ []
+pub asked-none : (files : List VolumeFile) (place : ℕ) (word : List ℕ) → is_choice word ≡ true → files_like word files ≡ [] → wishes_of_word files place word ≡ wish.NotFound place ∷ []
 asked-none files place word choice none =
-    ap (λ b. if b then found_for place (chosen_of word files) else wish.BadWord place ∷ []) choice
-    ∙ ap (found_for place) none
+    ap (λ b. if b then wishes_for place (files_like word files) else wish.BadWord place ∷ []) choice
+    ∙ ap (wishes_for place) none
 
-pub asked-bad : (files : List VolumeFile) (place : ℕ) (word : List ℕ) → is_choice word ≡ false → asked_by files place word ≡ wish.BadWord place ∷ []
-asked-bad files place word choice = ap (λ b. if b then found_for place (chosen_of word files) else wish.BadWord place ∷ []) choice
+pub asked-bad : (files : List VolumeFile) (place : ℕ) (word : List ℕ) → is_choice word ≡ false → wishes_of_word files place word ≡ wish.BadWord place ∷ []
+asked-bad files place word choice = ap (λ b. if b then wishes_for place (files_like word files) else wish.BadWord place ∷ []) choice
 
 -- ## Each file once
 

@@ -10,9 +10,9 @@ use Rattle.script8.specs.declared.faults.SessionFault.TheVariants.{Memory}
 use Rattle.archive8.specs.Checking.{Checks}
 use Rattle.archive8.specs.declared.faults.ArchiveFault.{ArchiveFault}
 use Rattle.archive8.specs.declared.faults.ArchiveFault.TheVariants as archive
-use Rattle.survey8.specs.Surveying.{IsSurveyed}
-use Rattle.survey8.specs.declared.answers.Survey.{Survey}
-use Rattle.report8.specs.Prefixes.{prefixed}
+use Rattle.archive_survey.specs.Surveying.{IsSurveyed}
+use Rattle.archive_survey.specs.declared.answers.Survey.{Survey}
+use Rattle.report8.specs.Prefixes.{with_prefixes}
 use Rattle.report8.specs.Program.{program_line}
 use Rattle.report8.specs.declared.programs.ProgramLine.{ProgramLine}
 use Rattle.report8.specs.declared.programs.ProgramLine.TheVariants as line
@@ -110,7 +110,7 @@ LooksAmong is_all form old result new = ((bytes : Vec ℕ) × LooksAt form old (
 
 -- each line has the name of its file before it
 abbrev pub named_lines : List ℕ → List ℕ → List ℕ
-named_lines file text = prefixed (file ++ codes ": ") text
+named_lines file text = with_prefixes (file ++ codes ": ") text
 
 -- the lines of an image among others are printed, and it is answered whether it is sound
 abbrev pub PrintsNamed : List ℕ → Report → List Event → Result Bool Ending → List Event → Type 0

@@ -13,9 +13,9 @@ use Rattle.os8_dir.specs.declared.file_faults.FileFault.TheVariants.{BadName, No
 use Rattle.script8.specs.Replies.{fault_line}
 use Rattle.script8.specs.declared.faults.SessionFault.{SessionFault}
 use Rattle.script8.specs.declared.faults.SessionFault.TheVariants.{File, Memory}
-use Rattle.many8.specs.HostNames.{NamesHost, is_slash}
-use Rattle.many8.specs.Opened.{GetsFile, OpensVolume, files_on}
-use Rattle.many8.specs.declared.opened.VolumeFile.{VolumeFile}
+use Rattle.archive_many.specs.HostNames.{NamesHost, is_slash}
+use Rattle.archive_many.specs.Opened.{GetsFile, OpensVolume, files_on}
+use Rattle.archive_many.specs.declared.opened.VolumeFile.{VolumeFile}
 use Rattle.report8.specs.Program.{program_line}
 use Rattle.report8.specs.declared.programs.ProgramLine.TheVariants as line
 use Rattle.outcome.specs.declared.endings.Ending.{Ending}
@@ -123,16 +123,16 @@ GivesWish form blocks is_told all done (wish.NotFound place) = RefusesWord (slic
 GivesWish form blocks is_told all done (wish.Block block) = PrintsAnswer false (named_lines (codes "--at " ++ decimal block) (fault_line (File NotFound)))
 
 -- how many files are done with this
-abbrev pub done_with : Wish → ℕ → ℕ
-done_with (wish.File file) done = done + 1
-done_with (wish.BadWord place) done = done
-done_with (wish.NotFound place) done = done
-done_with (wish.Block block) done = done
+abbrev pub count_after : Wish → ℕ → ℕ
+count_after (wish.File file) done = done + 1
+count_after (wish.BadWord place) done = done
+count_after (wish.NotFound place) done = done
+count_after (wish.Block block) done = done
 
 -- what is asked for is given in its order, and it is answered whether all is there
 abbrev pub GivesEach : GetManyForm → List (List ℕ) → Bool → ℕ → ℕ → Bool → List Wish → List Event → Result Bool Ending → List Event → Type 0
 GivesEach form blocks is_told all done are_there [] = Purely (λ result. result ≡ Ok are_there)
-GivesEach form blocks is_told all done are_there (one ∷ wishes) = Then (GivesWish form blocks is_told all done one) (λ is_there. GivesEach form blocks is_told all (done_with one done) (are_there && is_there) wishes)
+GivesEach form blocks is_told all done are_there (one ∷ wishes) = Then (GivesWish form blocks is_told all done one) (λ is_there. GivesEach form blocks is_told all (count_after one done) (are_there && is_there) wishes)
 
 -- ## The command
 

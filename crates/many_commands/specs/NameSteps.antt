@@ -3,7 +3,7 @@ use Rattle.std.specs.Prelude.{◌≡◌, ℕ, Bool, List}
 use Rattle.std.specs.Ordering.{nat_cmp}
 use Rattle.std.specs.BTreeSet.{BTreeSet}
 use Rattle.std.specs.BTreeSet as set
-use Rattle.many8.specs.declared.putting.NewFile.{NewFile}
+use Rattle.archive_many.specs.declared.putting.NewFile.{NewFile}
 use Rattle.many_commands.specs.PuttingMany.{has_name}
 use Rattle.many_commands.specs.Wishing.{has_place}
 use Rattle.many_commands.specs.declared.wishes.Wish.{Wish}

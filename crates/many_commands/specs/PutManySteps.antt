@@ -3,8 +3,8 @@ use Rattle.std.specs.Prelude.{◌≡◌, ◌⊎◌, ℕ, List, slice_get}
 use Rattle.hosts.specs.Event.{Event}
 use Rattle.script8.specs.declared.faults.SessionFault.{SessionFault}
 use Rattle.script8.specs.declared.faults.SessionFault.TheVariants.{Memory}
-use Rattle.many8.specs.declared.faults.ManyFault.{ManyFault}
-use Rattle.many8.specs.declared.putting.NewFile.{NewFile}
+use Rattle.archive_many.specs.declared.faults.ManyFault.{ManyFault}
+use Rattle.archive_many.specs.declared.putting.NewFile.{NewFile}
 use Rattle.outcome.specs.declared.endings.Ending.{Ending}
 use Rattle.outcome.specs.declared.endings.Ending.TheVariants.{Fault}
 use Rattle.volume_commands.specs.Putting.{is_bad}

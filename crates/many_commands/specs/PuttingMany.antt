@@ -7,15 +7,15 @@ use Rattle.script8.specs.Replies.{line_of, line_reply_text}
 use Rattle.script8.specs.declared.faults.SessionFault.TheVariants.{File, Memory}
 use Rattle.script8.specs.declared.replies.LineReply.TheVariants.{Stored}
 use Rattle.archive8.specs.declared.faults.ArchiveFault.{ArchiveFault}
-use Rattle.many8.specs.Emptying.{empties}
-use Rattle.many8.specs.HostNames.{NamesVolume}
-use Rattle.many8.specs.Opened.{OpensVolume, files_on}
-use Rattle.many8.specs.Putting.{PutsAll}
-use Rattle.many8.specs.declared.faults.ManyFault.{ManyFault}
-use Rattle.many8.specs.declared.faults.ManyFault.TheVariants as many
-use Rattle.many8.specs.declared.opened.VolumeFile.{VolumeFile}
-use Rattle.many8.specs.declared.putting.ManyImage.{ManyImage}
-use Rattle.many8.specs.declared.putting.NewFile.{NewFile}
+use Rattle.archive_many.specs.Emptying.{empties}
+use Rattle.archive_many.specs.HostNames.{NamesVolume}
+use Rattle.archive_many.specs.Opened.{OpensVolume, files_on}
+use Rattle.archive_many.specs.Putting.{PutsAll}
+use Rattle.archive_many.specs.declared.faults.ManyFault.{ManyFault}
+use Rattle.archive_many.specs.declared.faults.ManyFault.TheVariants as many
+use Rattle.archive_many.specs.declared.opened.VolumeFile.{VolumeFile}
+use Rattle.archive_many.specs.declared.putting.ManyImage.{ManyImage}
+use Rattle.archive_many.specs.declared.putting.NewFile.{NewFile}
 use Rattle.report8.specs.declared.programs.ProgramLine.TheVariants.{SameName}
 use Rattle.outcome.specs.Notes.{name_text, plain_text}
 use Rattle.outcome.specs.declared.notes.NameNote.TheVariants.{NotPut, Empty}

@@ -6,7 +6,7 @@ use Rattle.char_pack.specs.declared.forms.GetForm.TheVariants as get_as
 use Rattle.char_pack.specs.declared.forms.PutForm.{PutForm}
 use Rattle.char_pack.specs.declared.forms.PutForm.TheVariants as put_as
 use Rattle.script8.specs.declared.faults.SessionFault.TheVariants.{Memory}
-use Rattle.many8.specs.Extensions.{is_text, AreLists, IsFirstBad}
+use Rattle.archive_many.specs.Extensions.{is_text, AreLists, IsFirstBad}
 use Rattle.outcome.specs.Notes.{name_text}
 use Rattle.outcome.specs.declared.notes.NameNote.TheVariants.{BadExtensions}
 use Rattle.outcome.specs.declared.endings.Ending.{Ending}

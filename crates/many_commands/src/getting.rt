@@ -1,6 +1,6 @@
 //! The command that writes several files of the volume in an image file to a folder of the host, each whole or not at all.
 ghost use Rattle.std.specs.Prelude.{◌≡◌, ◌⊎◌, ◌<◌, ◌&&◌, ◌++◌, codes, decimal, false, length, map, slice_get, true, IfOk};
-ghost use Rattle.many8.specs.Opened.{OpensVolume};
+ghost use Rattle.archive_many.specs.Opened.{OpensVolume};
 ghost use Rattle.script8.specs.Replies.{fault_line};
 ghost use Rattle.os8_dir.specs.declared.file_faults.FileFault.TheVariants.{NotFound};
 ghost use Rattle.outcome.specs.declared.endings.Ending.TheVariants.{Line, Fault};
@@ -19,7 +19,7 @@ use crate::progress::Progress;
 use crate::texts::take_lists;
 use crate::wishes::{Wish, wishes_of};
 use hosts::{Host, HostFault};
-use many8::{OpenVolume, VolumeFile, open};
+use archive_many::{OpenVolume, VolumeFile, open};
 use os8_dir::FileFault;
 use outcome::Ending;
 use report8::ProgramLine;
@@ -128,7 +128,7 @@ fn give_each<H: Host>(
     while let [wish, others @ ..] = rest {
         let is_there = give_wish(host, alloc, form, volume, wish, progress, done)?;
         are_there = both(are_there, is_there);
-        done = done_with(wish, done);
+        done = count_after(wish, done);
         rest = others;
     }
     Ok(are_there)
@@ -141,9 +141,9 @@ fn both(one: bool, other: bool) -> bool
 }
 
 /// How many files are done with this.
-fn done_with(wish: &Wish, done: usize) -> usize
+fn count_after(wish: &Wish, done: usize) -> usize
     requires { done < 0xffff_ffff_ffff_ffff }
-    ensures { result ≡ spec.done_with wish.now done }
+    ensures { result ≡ spec.count_after wish.now done }
 {
     match wish {
         Wish::File(_) => done + 1,

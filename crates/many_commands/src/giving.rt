@@ -13,7 +13,7 @@ use crate::checks::named_lines;
 use crate::texts::get_form;
 use archive8::GetForm;
 use hosts::{Host, HostFault, lay};
-use many8::{OpenVolume, VolumeFile, host_name};
+use archive_many::{OpenVolume, VolumeFile, host_name};
 use os8_dir::FileFault;
 use outcome::Ending;
 use report8::{ProgramLine, put_program};

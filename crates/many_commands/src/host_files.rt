@@ -2,14 +2,14 @@
 ghost use Rattle.std.specs.Prelude.{◌≡◌, ◌⊎◌, ◌||◌, List, [], ◌∷◌, ◌++◌, not, nat_eq, map, ℕ, IfOk, OnOk};
 ghost use Rattle.script8.specs.declared.faults.SessionFault.TheVariants.{Memory};
 ghost use Rattle.outcome.specs.declared.endings.Ending.TheVariants.{Fault};
-ghost use Rattle.many8.specs.declared.putting.NewFile.{NewFile as AsNew};
+ghost use Rattle.archive_many.specs.declared.putting.NewFile.{NewFile as AsNew};
 ghost use Rattle.many_commands.specs.PuttingMany.{LooksWhole, ReadsEach, ReadsNext, RefusesName, RefusesPath, TakesName, TellsUnread};
 ghost use Rattle.many_commands.specs.NameSteps.{KnowsNames, has_key};
 
 use crate::images::image_of;
 use crate::texts::put_form;
 use hosts::Host;
-use many8::{NewFile, volume_name};
+use archive_many::{NewFile, volume_name};
 use os8_dir::{FileFault, Name};
 use outcome::{Ending, NameNote, Note, PlainNote};
 use report8::ProgramLine;

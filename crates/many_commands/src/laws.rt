@@ -2,7 +2,7 @@
 ghost use Rattle.std.specs.Prelude.{◌≡◌, ℕ, List, Ok, false, map};
 ghost use Rattle.hosts.specs.Event.{Event};
 ghost use Rattle.hosts.specs.Streams.{read};
-ghost use Rattle.archive8.specs.Asking.{Wanted};
+ghost use Rattle.archive8.specs.Asking.{Target};
 ghost use Rattle.archive8.specs.Getting.{Gets};
 ghost use Rattle.archive8.specs.Listing.{ListsFiles};
 ghost use Rattle.char_pack.specs.declared.forms.GetForm.{GetForm as How};
@@ -41,7 +41,7 @@ pub fn refused_changes()
     ensures many { (form : PutMany) → LeavesFiles (PutsMany form) }
     ensures deletes { (form : Delete) → LeavesFiles (Deletes form) }
     ensures copies { (form : Copy) → LeavesFiles (Copies form) }
-    ensures renames { (wanted : Wanted) (other : List ℕ) (form : Image) → LeavesFiles (Renames wanted other form) }
+    ensures renames { (wanted : Target) (other : List ℕ) (form : Image) → LeavesFiles (Renames wanted other form) }
     ensures squeezes { (form : Image) → LeavesFiles (Squeezes form) }
 {}
 

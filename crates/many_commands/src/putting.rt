@@ -14,7 +14,7 @@ use crate::host_files::read_files;
 use crate::texts::take_lists;
 use archive8::bad_text_at;
 use hosts::Host;
-use many8::{ManyFault, ManyImage, NewFile, VolumeFile, empties, open, put_all};
+use archive_many::{ManyFault, ManyImage, NewFile, VolumeFile, empties, open, put_all};
 use os8_dir::FileFault;
 use outcome::{Ending, NameNote, Note};
 use script8::{LineReply, Reply, SessionFault, put_reply};

@@ -11,7 +11,7 @@ use outcome::Ending;
 use report8::{ProgramLine, put_program};
 use script8::SessionFault;
 use std::alloc::Global;
-use survey8::survey;
+use archive_survey::survey;
 use task8::ImageForm;
 use volume_commands::{look_at, refuse_image};
 use volume_image::ImageFault;

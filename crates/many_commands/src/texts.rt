@@ -5,7 +5,7 @@ ghost use Rattle.many_commands.specs.Texts.{TakesLists, TellsBadList};
 
 use archive8::{GetForm, PutForm};
 use hosts::Host;
-use many8::{bad_extensions, is_text};
+use archive_many::{bad_extensions, is_text};
 use os8_dir::Name;
 use outcome::{Ending, NameNote, Note};
 use std::alloc::{AllocError, Global};

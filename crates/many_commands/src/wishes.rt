@@ -3,9 +3,9 @@ ghost use Rattle.std.specs.Prelude.{◌≡◌, ◌++◌, ◌∷◌, ◌||◌, �
 ghost use Rattle.many_commands.specs.NameSteps.{KnowsPlaces, has_key};
 ghost use Rattle.many_commands.specs.declared.wishes.Wish.TheVariants.{File};
 ghost use Rattle.many_commands.specs.Wishing as spec;
-ghost use Rattle.many_commands.specs.Wishing.{AreWishes, asked_all, asked_at, asked_by, asked_by_words, with_wish};
+ghost use Rattle.many_commands.specs.Wishing.{AreWishes, wishes_for_all, wish_of_block, wishes_of_word, asked_by_words, with_wish};
 
-use many8::{ChoiceFault, VolumeFile, at_place, chosen};
+use archive_many::{ChoiceFault, VolumeFile, at_place, choose_files};
 use outcome::Ending;
 use std::alloc::{AllocError, Global};
 use std::collections::BTreeSet;
@@ -35,18 +35,18 @@ pub(crate) fn wishes_of(
 ) -> Result<Vec<Wish>, Ending>
     ensures { AreWishes form.now files.now result }
 {
-    let asked = asked_of(alloc, form, files)?;
+    let asked = all_wishes(alloc, form, files)?;
     let wishes = once_each(alloc, &asked)?;
     Ok(wishes)
 }
 
 /// What the words ask for, one after another.
-fn asked_of(
+fn all_wishes(
     alloc: Global,
     form: &GetManyForm,
     files: &[VolumeFile],
 ) -> Result<Vec<Wish>, AllocError>
-    ensures { IfOk result (λ wishes. wishes.items ≡ spec.asked form.now files.now) }
+    ensures { IfOk result (λ wishes. wishes.items ≡ spec.all_wishes form.now files.now) }
 {
     let mut wishes = Vec::new(alloc);
     add_all(form.is_all, files, &mut wishes)?;
@@ -64,7 +64,7 @@ fn add(wishes: &mut Vec<Wish>, wish: Wish) -> Result<(), AllocError>
 
 /// Adds all files, if these are asked for.
 fn add_all(is_all: bool, files: &[VolumeFile], wishes: &mut Vec<Wish>) -> Result<(), AllocError>
-    ensures { OnOk result (wishes.new.items ≡ wishes.old.items ++ asked_all is_all files.now) }
+    ensures { OnOk result (wishes.new.items ≡ wishes.old.items ++ wishes_for_all is_all files.now) }
 {
     if is_all {
         return add_files(files, wishes);
@@ -73,7 +73,7 @@ fn add_all(is_all: bool, files: &[VolumeFile], wishes: &mut Vec<Wish>) -> Result
 }
 
 fn add_files(files: &[VolumeFile], wishes: &mut Vec<Wish>) -> Result<(), AllocError>
-    ensures { OnOk result (wishes.new.items ≡ wishes.old.items ++ asked_all true files.now) }
+    ensures { OnOk result (wishes.new.items ≡ wishes.old.items ++ wishes_for_all true files.now) }
 {
     let mut rest = files;
     while let [file, others @ ..] = rest {
@@ -110,9 +110,9 @@ fn add_word(
     word: &[u8],
     wishes: &mut Vec<Wish>,
 ) -> Result<(), AllocError>
-    ensures { OnOk result (wishes.new.items ≡ wishes.old.items ++ asked_by files.now place word.now) }
+    ensures { OnOk result (wishes.new.items ≡ wishes.old.items ++ wishes_of_word files.now place word.now) }
 {
-    match chosen(alloc, files, word) {
+    match choose_files(alloc, files, word) {
         Ok(found) => {
             add_files(&found, wishes)?;
             Ok(())
@@ -137,7 +137,7 @@ fn add_blocks(
     blocks: &[usize],
     wishes: &mut Vec<Wish>,
 ) -> Result<(), AllocError>
-    ensures { OnOk result (wishes.new.items ≡ wishes.old.items ++ map (asked_at files.now) blocks.now) }
+    ensures { OnOk result (wishes.new.items ≡ wishes.old.items ++ map (wish_of_block files.now) blocks.now) }
 {
     let mut rest = blocks;
     while let [block, others @ ..] = rest {
@@ -149,7 +149,7 @@ fn add_blocks(
 
 /// The file that begins at a block, if one does.
 fn wish_at(files: &[VolumeFile], block: usize) -> Wish
-    ensures { result ≡ asked_at files.now block }
+    ensures { result ≡ wish_of_block files.now block }
 {
     match at_place(files, block) {
         Some(file) => Wish::File(file),

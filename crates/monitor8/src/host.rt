@@ -24,7 +24,7 @@ use tape_host8::{
 };
 use task8::{IndexForm, LineForm, ScanForm, Task};
 use volume_commands::{
-    Rooms, asked_of, copy_file, create_image, create_tape, delete_files, end, get_bin, get_blocks,
+    Rooms, file_asked, copy_file, create_image, create_tape, delete_files, end, get_bin, get_blocks,
     get_file, list_files, put_file, rename_file, squeeze_files,
 };
 use volume_index::IndexStyle;
@@ -107,7 +107,7 @@ where
             wait_for_image!(rt, form.image.wait, delete_files(host, alloc, &form))
         }
         Task::Rename(image, file, new) => {
-            let file = asked_of(file);
+            let file = file_asked(file);
             wait_for_image!(
                 rt,
                 image.wait,

@@ -4,8 +4,8 @@ use Rattle.std.specs.Prelude.{◌==◌}
 use Rattle.std.proofs.lemmas.Bool.Decides.{nat_tests}
 use Rattle.word12.specs.Octal.{octal_digit}
 use Rattle.os8_dir.specs.Names.{before_dot}
-use Rattle.name_spelling.specs.Spelling.{all_zero, dotted, is_digit_code, is_letter_code, spelled_code, spelled_codes, text_of}
-use Rattle.name_spelling.specs.Reading.{extension_in, joined, last_in, read_name, stem_in, three, with_first, with_second, word_in}
+use Rattle.name_spelling.specs.Spelling.{all_zero, with_dot, is_digit_code, is_letter_code, spelled_code, spelled_codes, text_of}
+use Rattle.name_spelling.specs.Reading.{extension_in, join_codes, last_in, read_name, stem_in, three, with_first, with_second, word_in}
 use Rattle.name_spelling.specs.Laws.{are_safe, is_safe}
 use Rattle.name_spelling.proofs.CodeLemmas.{IsWord, first_word_in, last_word}
 
@@ -57,21 +57,21 @@ codes_no_dot (c ∷ cs) = by (codes_no_dot cs) (all_zero (c ∷ cs))
 
 -- ## A text is cut at its dot
 
-dot_is_cut : (codes : List ℕ) → before_dot (dotted codes) ≡ []
+dot_is_cut : (codes : List ℕ) → before_dot (with_dot codes) ≡ []
 dot_is_cut codes = by (all_zero codes)
   where
     by : (b : Bool) → before_dot (if b then [] else 46 ∷ spelled_codes codes) ≡ []
     by true = refl
     by false = refl
 
-cut : (t : List ℕ) (codes : List ℕ) → has_no_dot t ≡ true → before_dot (t ++ dotted codes) ≡ t
+cut : (t : List ℕ) (codes : List ℕ) → has_no_dot t ≡ true → before_dot (t ++ with_dot codes) ≡ t
 cut [] codes e = dot_is_cut codes
 cut (c ∷ t) codes e = by (λ rest. cut t codes rest) (c == 46) refl e
   where
-    by : (has_no_dot t ≡ true → before_dot (t ++ dotted codes) ≡ t) → (b : Bool) → (c == 46) ≡ b → (if b then false else has_no_dot t) ≡ true
-        → (if c == 46 then [] else c ∷ before_dot (t ++ dotted codes)) ≡ c ∷ t
+    by : (has_no_dot t ≡ true → before_dot (t ++ with_dot codes) ≡ t) → (b : Bool) → (c == 46) ≡ b → (if b then false else has_no_dot t) ≡ true
+        → (if c == 46 then [] else c ∷ before_dot (t ++ with_dot codes)) ≡ c ∷ t
     by more true is rest = absurd (true≢false (sym rest))
-    by more false is rest = ap (λ (d : Bool). if d then [] else c ∷ before_dot (t ++ dotted codes)) is ∙ ap (λ r. c ∷ r) (more rest)
+    by more false is rest = ap (λ (d : Bool). if d then [] else c ∷ before_dot (t ++ with_dot codes)) is ∙ ap (λ r. c ∷ r) (more rest)
 
 front : (t rest : List ℕ) → take (length t) (t ++ rest) ≡ t
 front [] rest = refl
@@ -103,7 +103,7 @@ code_begins c t = by_letter (is_letter_code c)
 both_zero : (c d : ℕ) → all_zero (c ∷ d ∷ []) ≡ true → 64 * c + d ≡ 0
 both_zero c d e = grind (arith, nat_tests)
 
-extension_back : (c d : ℕ) → c < 64 → d < 64 → extension_in (dotted (c ∷ d ∷ [])) ≡ Some (64 * c + d)
+extension_back : (c d : ℕ) → c < 64 → d < 64 → extension_in (with_dot (c ∷ d ∷ [])) ≡ Some (64 * c + d)
 extension_back c d small low = by (all_zero (c ∷ d ∷ [])) refl
   where
     by : (b : Bool) → all_zero (c ∷ d ∷ []) ≡ b → extension_in (if b then [] else 46 ∷ spelled_codes (c ∷ d ∷ [])) ≡ Some (64 * c + d)
@@ -150,17 +150,17 @@ name_back : (name : ℕ) → ((name / 68719476736 * 4096 + name / 16777216 % 409
 name_back name = omega arith
 
 words_back : (a b c d : ℕ) → a < 4096 → b < 4096 → c < 4096 → d < 4096
-    → read_name (spelled_codes (a / 64 ∷ a % 64 ∷ b / 64 ∷ b % 64 ∷ c / 64 ∷ c % 64 ∷ []) ++ dotted (d / 64 ∷ d % 64 ∷ []))
+    → read_name (spelled_codes (a / 64 ∷ a % 64 ∷ b / 64 ∷ b % 64 ∷ c / 64 ∷ c % 64 ∷ []) ++ with_dot (d / 64 ∷ d % 64 ∷ []))
     ≡ Some (((a * 4096 + b) * 4096 + c) * 4096 + d)
 words_back a b c d la lb lc ld =
     let stem = a / 64 ∷ a % 64 ∷ b / 64 ∷ b % 64 ∷ c / 64 ∷ c % 64 ∷ [] in
     let two = d / 64 ∷ d % 64 ∷ [] in
     let t = spelled_codes stem in
-    ap (λ s. joined (stem_in (take (length s) (t ++ dotted two))) (extension_in (drop (length s) (t ++ dotted two)))) (cut t two (codes_no_dot stem))
-    ∙ ap (λ s. joined (stem_in s) (extension_in (drop (length t) (t ++ dotted two)))) (front t (dotted two))
-    ∙ ap (λ r. joined (stem_in t) (extension_in r)) (behind t (dotted two))
-    ∙ ap (λ o. joined o (extension_in (dotted two))) (stem_back a b c la lb lc)
-    ∙ ap (joined (Some (a, b, c))) (extension_back (d / 64) (d % 64) (small_code d ld) (low_code d))
+    ap (λ s. join_codes (stem_in (take (length s) (t ++ with_dot two))) (extension_in (drop (length s) (t ++ with_dot two)))) (cut t two (codes_no_dot stem))
+    ∙ ap (λ s. join_codes (stem_in s) (extension_in (drop (length t) (t ++ with_dot two)))) (front t (with_dot two))
+    ∙ ap (λ r. join_codes (stem_in t) (extension_in r)) (behind t (with_dot two))
+    ∙ ap (λ o. join_codes o (extension_in (with_dot two))) (stem_back a b c la lb lc)
+    ∙ ap (join_codes (Some (a, b, c))) (extension_back (d / 64) (d % 64) (small_code d ld) (low_code d))
     ∙ ap (λ n. Some (((a * 4096 + b) * 4096 + c) * 4096 + n)) (two_back d)
 
 below : (n : ℕ) → n % 4096 < 4096
@@ -215,7 +215,7 @@ codes_safe (c ∷ cs) = by (codes_safe cs) (all_zero (c ∷ cs))
     by more true = refl
     by more false = joined_safe (spelled_code c) (spelled_codes cs) (code_safe c) more
 
-dotted_safe : (codes : List ℕ) → are_safe (dotted codes) ≡ true
+dotted_safe : (codes : List ℕ) → are_safe (with_dot codes) ≡ true
 dotted_safe codes = by (all_zero codes)
   where
     by : (b : Bool) → are_safe (if b then [] else 46 ∷ spelled_codes codes) ≡ true
@@ -226,4 +226,4 @@ pub texts_are_safe : (name : ℕ) → name < 281474976710656 → are_safe (text_
 texts_are_safe name small =
     let stem = name / 68719476736 / 64 ∷ name / 68719476736 % 64 ∷ name / 16777216 % 4096 / 64 ∷ name / 16777216 % 4096 % 64 ∷ name / 4096 % 4096 / 64 ∷ name / 4096 % 4096 % 64 ∷ [] in
     let two = name % 4096 / 64 ∷ name % 4096 % 64 ∷ [] in
-    joined_safe (spelled_codes stem) (dotted two) (codes_safe stem) (dotted_safe two)
+    joined_safe (spelled_codes stem) (with_dot two) (codes_safe stem) (dotted_safe two)

@@ -5,8 +5,8 @@ use Rattle.name_spelling.specs.Spelling.{text_of}
 use Rattle.name_spelling.specs.Reading.{read_name}
 
 -- what is shown, read, is the name
-abbrev pub ShownIsRead : Type 0
-ShownIsRead = (name : ℕ) → name < 0o10000000000000000 → read_name (text_of name) ≡ Some name
+abbrev pub ReadsWhatItSpells : Type 0
+ReadsWhatItSpells = (name : ℕ) → name < 0o10000000000000000 → read_name (text_of name) ≡ Some name
 
 -- a letter, a digit, `_` or a dot
 abbrev pub is_safe : ℕ → Bool

@@ -58,11 +58,11 @@ with_first text (Some first) = with_second (drop first.1 text) first.0 (word_in 
 abbrev pub stem_in : List ℕ → Option (ℕ × ℕ × ℕ)
 stem_in text = with_first text (word_in text)
 
-abbrev pub joined : Option (ℕ × ℕ × ℕ) → Option ℕ → Option ℕ
-joined (Some words) (Some extension) = Some (name_of (words.0 ∷ words.1 ∷ words.2 ∷ extension ∷ []))
-joined (Some words) None = None
-joined None extension = None
+abbrev pub join_codes : Option (ℕ × ℕ × ℕ) → Option ℕ → Option ℕ
+join_codes (Some words) (Some extension) = Some (name_of (words.0 ∷ words.1 ∷ words.2 ∷ extension ∷ []))
+join_codes (Some words) None = None
+join_codes None extension = None
 
 -- the name that a text spells, cut at its first dot
 abbrev pub read_name : List ℕ → Option ℕ
-read_name text = joined (stem_in (take (length (before_dot text)) text)) (extension_in (drop (length (before_dot text)) text))
+read_name text = join_codes (stem_in (take (length (before_dot text)) text)) (extension_in (drop (length (before_dot text)) text))

@@ -26,8 +26,8 @@ spelled_codes [] = []
 spelled_codes (code ∷ codes) = if all_zero (code ∷ codes) then [] else spelled_code code ++ spelled_codes codes
 
 -- an extension with its dot, if there is one
-abbrev pub dotted : List ℕ → List ℕ
-dotted codes = if all_zero codes then [] else 0o56 ∷ spelled_codes codes
+abbrev pub with_dot : List ℕ → List ℕ
+with_dot codes = if all_zero codes then [] else 0o56 ∷ spelled_codes codes
 
 -- the two codes of a word
 abbrev pub two_codes : ℕ → List ℕ
@@ -35,7 +35,7 @@ two_codes word = word / 0o100 ∷ word % 0o100 ∷ []
 
 -- the text of a name's four words
 abbrev pub text_of_words : List ℕ → List ℕ
-text_of_words (a ∷ b ∷ c ∷ extension ∷ []) = spelled_codes (two_codes a ++ two_codes b ++ two_codes c) ++ dotted (two_codes extension)
+text_of_words (a ∷ b ∷ c ∷ extension ∷ []) = spelled_codes (two_codes a ++ two_codes b ++ two_codes c) ++ with_dot (two_codes extension)
 text_of_words words = []
 
 -- the text of a name

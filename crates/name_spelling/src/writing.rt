@@ -1,5 +1,5 @@
 ghost use Rattle.std.specs.Prelude.{◌≡◌, ◌<◌, ◌++◌, true, OnOk, All};
-ghost use Rattle.name_spelling.specs.Spelling.{all_zero, dotted, spelled_code, spelled_codes, text_of, two_codes};
+ghost use Rattle.name_spelling.specs.Spelling.{all_zero, with_dot, spelled_code, spelled_codes, text_of, two_codes};
 
 use os8_dir::Name;
 use std::alloc::AllocError;
@@ -33,7 +33,7 @@ fn two_codes(word: Word) -> [u8; 2]
 
 /// Appends a dot and an extension, if there is one.
 fn put_extension(text: &mut Vec<u8>, codes: &[u8]) -> Result<(), AllocError>
-    ensures { OnOk result (text.new.items ≡ text.old.items ++ dotted codes.now) }
+    ensures { OnOk result (text.new.items ≡ text.old.items ++ with_dot codes.now) }
 {
     if all_zero(codes) {
         return Ok(());

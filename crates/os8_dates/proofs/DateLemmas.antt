@@ -6,7 +6,7 @@ use Rattle.std.proofs.lemmas.Bool.Decides.{nat_tests}
 use Rattle.word12.specs.Sixbit.{is_digit}
 use Rattle.os8_dates.specs.declared.dates.Date.{Date}
 use Rattle.os8_dates.specs.Dates.{date_in, days_in, fields_of, has_30_days, has_31_days, is_day, is_leap, word_of, year_in}
-use Rattle.os8_dates.specs.Spelling.{digit, if_day, made_of, number_of, parsed_date, spelled_date}
+use Rattle.os8_dates.specs.Spelling.{digit, if_day, date_if_numbers, number_of, parsed_date, spelled_date}
 
 both : (a b : Bool) → (a && b) ≡ true → (a ≡ true) × (b ≡ true)
 both true b e = (refl, e)
@@ -144,10 +144,10 @@ spelled_is_parsed date holds small =
     let m = date.month in
     let d = date.day in
     let few : d < 100 = (let h = day.few in omega (arith, h)) in
-    ap (λ o. made_of o (number_of (digit (y / 10)) (digit y)) (number_of (digit (m / 10)) (digit m)) (number_of (digit (d / 10)) (digit d))) (number_back (y / 1000) (y / 100))
-    ∙ ap (λ o. made_of (Some (10 * (y / 1000 % 10) + y / 100 % 10)) o (number_of (digit (m / 10)) (digit m)) (number_of (digit (d / 10)) (digit d))) (number_back (y / 10) y)
-    ∙ ap (λ o. made_of (Some (10 * (y / 1000 % 10) + y / 100 % 10)) (Some (10 * (y / 10 % 10) + y % 10)) o (number_of (digit (d / 10)) (digit d))) (number_back (m / 10) m)
-    ∙ ap (λ o. made_of (Some (10 * (y / 1000 % 10) + y / 100 % 10)) (Some (10 * (y / 10 % 10) + y % 10)) (Some (10 * (m / 10 % 10) + m % 10)) o) (number_back (d / 10) d)
+    ap (λ o. date_if_numbers o (number_of (digit (y / 10)) (digit y)) (number_of (digit (m / 10)) (digit m)) (number_of (digit (d / 10)) (digit d))) (number_back (y / 1000) (y / 100))
+    ∙ ap (λ o. date_if_numbers (Some (10 * (y / 1000 % 10) + y / 100 % 10)) o (number_of (digit (m / 10)) (digit m)) (number_of (digit (d / 10)) (digit d))) (number_back (y / 10) y)
+    ∙ ap (λ o. date_if_numbers (Some (10 * (y / 1000 % 10) + y / 100 % 10)) (Some (10 * (y / 10 % 10) + y % 10)) o (number_of (digit (d / 10)) (digit d))) (number_back (m / 10) m)
+    ∙ ap (λ o. date_if_numbers (Some (10 * (y / 1000 % 10) + y / 100 % 10)) (Some (10 * (y / 10 % 10) + y % 10)) (Some (10 * (m / 10 % 10) + m % 10)) o) (number_back (d / 10) d)
     ∙ ap (λ n. if_day (record { year = n; month = 10 * (m / 10 % 10) + m % 10; day = 10 * (d / 10 % 10) + d % 10 })) (four_back y small)
     ∙ ap (λ n. if_day (record { year = y; month = n; day = 10 * (d / 10 % 10) + d % 10 })) (two_back m day.month)
     ∙ ap (λ n. if_day (record { year = y; month = m; day = n })) (two_back d few)

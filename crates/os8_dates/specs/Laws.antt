@@ -21,5 +21,5 @@ OneYearOfEight =
     (last word year : ℕ) → LEAST_LAST ≤ last → last < year + 8 → year ≤ last → (year - FIRST_YEAR) % 8 ≡ word % 8 → FIRST_YEAR ≤ year → year_in last word ≡ year
 
 -- what is spelled is parsed as the date
-abbrev pub SpelledIsParsed : Type 0
-SpelledIsParsed = (date : Date) → is_day date ≡ true → date.year ≤ LAST_YEAR → parsed_date (spelled_date date) ≡ Some date
+abbrev pub ParsesWhatItSpells : Type 0
+ParsesWhatItSpells = (date : Date) → is_day date ≡ true → date.year ≤ LAST_YEAR → parsed_date (spelled_date date) ≡ Some date

@@ -21,8 +21,8 @@ or_octal None word = octal4 word
 or_octal (Some date) word = spelled_date date
 
 -- what a date word means among the eight years up to a last one: 0 is no date
-abbrev pub spelled : ℕ → ℕ → List ℕ
-spelled last word = if nat_eq word 0 then 0o55 ∷ [] else or_octal (date_in last word) word
+abbrev pub text_of_date : ℕ → ℕ → List ℕ
+text_of_date last word = if nat_eq word 0 then 0o55 ∷ [] else or_octal (date_in last word) word
 
 -- the number that two decimal digits spell
 abbrev pub number_of : ℕ → ℕ → Option ℕ
@@ -33,15 +33,15 @@ abbrev pub if_day : Date → Option Date
 if_day date = if is_day date then Some date else None
 
 -- the date of these numbers, where all are numbers
-abbrev pub made_of : Option ℕ → Option ℕ → Option ℕ → Option ℕ → Option Date
-made_of (Some century) (Some year) (Some month) (Some day) = if_day (record { year = 100 * century + year; month = month; day = day })
-made_of None year month day = None
-made_of (Some century) None month day = None
-made_of (Some century) (Some year) None day = None
-made_of (Some century) (Some year) (Some month) None = None
+abbrev pub date_if_numbers : Option ℕ → Option ℕ → Option ℕ → Option ℕ → Option Date
+date_if_numbers (Some century) (Some year) (Some month) (Some day) = if_day (record { year = 100 * century + year; month = month; day = day })
+date_if_numbers None year month day = None
+date_if_numbers (Some century) None month day = None
+date_if_numbers (Some century) (Some year) None day = None
+date_if_numbers (Some century) (Some year) (Some month) None = None
 
 -- the date that a text spells
 abbrev pub parsed_date : List ℕ → Option Date
 parsed_date (a ∷ b ∷ c ∷ d ∷ first ∷ e ∷ f ∷ second ∷ g ∷ h ∷ []) =
-    if nat_eq first 0o55 && nat_eq second 0o55 then made_of (number_of a b) (number_of c d) (number_of e f) (number_of g h) else None
+    if nat_eq first 0o55 && nat_eq second 0o55 then date_if_numbers (number_of a b) (number_of c d) (number_of e f) (number_of g h) else None
 parsed_date _ = None

@@ -1,6 +1,6 @@
 //! Laws of dates. Each function does nothing: its contract is the law.
 ghost use Rattle.std.specs.Prelude.{◌≡◌};
-ghost use Rattle.os8_dates.specs.Laws.{DatesComeBack, OneYearOfEight, SpelledIsParsed, WordsComeBack};
+ghost use Rattle.os8_dates.specs.Laws.{DatesComeBack, OneYearOfEight, ParsesWhatItSpells, WordsComeBack};
 
 /// A word that is a date is the word of that date, whichever eight years are meant. A date is what its word means among eight years
 /// that have its own.
@@ -16,5 +16,5 @@ pub fn one_year_of_eight()
 
 /// What is spelled is parsed as the date.
 pub fn spelled_dates()
-    ensures { SpelledIsParsed }
+    ensures { ParsesWhatItSpells }
 {}

@@ -1,6 +1,6 @@
 //! Dates as they are spelled: the year, the month and the day in digits, with `-` between.
 ghost use Rattle.std.specs.Prelude.{◌≡◌, ◌≤◌, ◌<◌, ◌++◌, OnOk, IfSome};
-ghost use Rattle.os8_dates.specs.Spelling.{digit, if_day, made_of, parsed_date, number_of, spelled, spelled_date};
+ghost use Rattle.os8_dates.specs.Spelling.{digit, if_day, date_if_numbers, parsed_date, number_of, text_of_date, spelled_date};
 ghost use Rattle.os8_dates.specs.declared.years.TheConstants.{LEAST_LAST, LAST_YEAR};
 
 use crate::dates::{Date, date_of, is_calendar_day};
@@ -12,7 +12,7 @@ use word12::Word;
 pub fn put_date(text: &mut Vec<u8>, word: Word, last: u16) -> Result<(), AllocError>
     requires least { LEAST_LAST ≤ last }
     requires most { last ≤ LAST_YEAR }
-    ensures { OnOk result (text.new.items ≡ text.old.items ++ spelled last word) }
+    ensures { OnOk result (text.new.items ≡ text.old.items ++ text_of_date last word) }
 {
     if word.get() == 0 {
         text.push(b'-')?;
@@ -78,7 +78,7 @@ fn date_of_numbers(
     day: Option<u8>,
 ) -> Option<Date>
     requires { IfSome century (λ number. number < 100) }
-    ensures { result ≡ made_of century year month day }
+    ensures { result ≡ date_if_numbers century year month day }
 {
     let date = Date {
         year: 100 * u16::from(century?) + u16::from(year?),

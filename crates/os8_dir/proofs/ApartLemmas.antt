@@ -2,24 +2,24 @@
 use Rattle.std.proofs.Common.{◌≡◌, ℕ, zero, suc, ◌+◌, ◌<◌, ◌≤◌, ◌≢◌, List, [], ◌∷◌, take, Some, refl, ap, sym, ◌∙◌, arith, inl, inr}
 use Rattle.std.specs.Prelude.{◌⊎◌}
 use Rattle.std.proofs.lemmas.Bool.Decides.{eqb_tells}
-use Rattle.os8_dir.specs.Names.{padded}
-use Rattle.os8_dir.specs.Found.{Placed, find, AreApart}
+use Rattle.os8_dir.specs.Names.{with_end_zeros}
+use Rattle.os8_dir.specs.Found.{FilePlace, find, AreApart}
 
-apart-bound : (from bound : ℕ) (fs : List Placed) → AreApart from bound fs → from ≤ bound
+apart-bound : (from bound : ℕ) (fs : List FilePlace) → AreApart from bound fs → from ≤ bound
 apart-bound from bound [] apart = apart
 apart-bound from bound (f ∷ fs) apart = omega (arith, apart.0, apart-bound (f.place + f.size) bound fs apart.2)
 
-some-same : (g f : Placed) → Some g ≡ Some f → g ≡ f
+some-same : (g f : FilePlace) → Some g ≡ Some f → g ≡ f
 some-same g f e = cc
 
 -- a file as it was found
-record IsInside (from bound name : ℕ) (f : Placed) : Type 0 where
+record IsInside (from bound name : ℕ) (f : FilePlace) : Type 0 where
   pub named : f.name ≡ name
   pub low : from ≤ f.place
   pub some : 0 < f.size
   pub high : f.place + f.size ≤ bound
 
-find-inside : (from bound name : ℕ) (fs : List Placed) (f : Placed) → AreApart from bound fs → find name fs ≡ Some f → IsInside from bound name f
+find-inside : (from bound name : ℕ) (fs : List FilePlace) (f : FilePlace) → AreApart from bound fs → find name fs ≡ Some f → IsInside from bound name f
 find-inside from bound name [] f apart found = cc
 find-inside from bound name (g ∷ fs) f apart found = elim (eqb_tells g.name name) [
   | inl here ↦
@@ -30,10 +30,10 @@ find-inside from bound name (g ∷ fs) f apart found = elim (eqb_tells g.name na
       record { named = behind.named; low = omega (arith, apart.0, behind.low); some = behind.some; high = behind.high }
 ]
 
-pub found-inside : (from bound name : ℕ) (fs : List Placed) (f : Placed) → AreApart from bound fs → find name fs ≡ Some f → (f.name ≡ name) × (from ≤ f.place) × (0 < f.size) × (f.place + f.size ≤ bound)
+pub found-inside : (from bound name : ℕ) (fs : List FilePlace) (f : FilePlace) → AreApart from bound fs → find name fs ≡ Some f → (f.name ≡ name) × (from ≤ f.place) × (0 < f.size) × (f.place + f.size ≤ bound)
 found-inside from bound name fs f apart found = let is = find-inside from bound name fs f apart found in (is.named, is.low, is.some, is.high)
 
-pub found-apart : (from bound name other : ℕ) (fs : List Placed) (f g : Placed) → AreApart from bound fs → name ≢ other → find name fs ≡ Some f → find other fs ≡ Some g → (f.place + f.size ≤ g.place) ⊎ (g.place + g.size ≤ f.place)
+pub found-apart : (from bound name other : ℕ) (fs : List FilePlace) (f g : FilePlace) → AreApart from bound fs → name ≢ other → find name fs ≡ Some f → find other fs ≡ Some g → (f.place + f.size ≤ g.place) ⊎ (g.place + g.size ≤ f.place)
 found-apart from bound name other [] f g apart differ found_f found_g = cc
 found-apart from bound name other (h ∷ fs) f g apart differ found_f found_g = elim (eqb_tells h.name name) [
   | inl first ↦ elim (eqb_tells h.name other) [
@@ -51,12 +51,12 @@ found-apart from bound name other (h ∷ fs) f g apart differ found_f found_g = 
 ]
 
 -- The information words of a new file.
-take-zeros : (i n : ℕ) → i ≤ n → take i (padded n []) ≡ padded i []
+take-zeros : (i n : ℕ) → i ≤ n → take i (with_end_zeros n []) ≡ with_end_zeros i []
 take-zeros zero n few = refl
 take-zeros (suc i) zero few = absurd (omega arith)
 take-zeros (suc i) (suc n) few = ap (λ ws. 0 ∷ ws) (take-zeros i n (omega arith))
 
-pub take-padded : (i n : ℕ) (words : List ℕ) → i ≤ n → take i (padded n (take i words)) ≡ padded i words
+pub take-padded : (i n : ℕ) (words : List ℕ) → i ≤ n → take i (with_end_zeros n (take i words)) ≡ with_end_zeros i words
 take-padded zero n words few = refl
 take-padded (suc i) zero words few = absurd (omega arith)
 take-padded (suc i) (suc n) [] few = ap (λ ws. 0 ∷ ws) (take-zeros i n (omega arith))

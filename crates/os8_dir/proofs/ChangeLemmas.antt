@@ -6,7 +6,7 @@ use Rattle.os8_dir.specs.declared.entries.DirEntry.TheVariants.{File, Empty}
 use Rattle.os8_dir.specs.Entries.{size_of, total, before, tidy, IsTidy}
 use Rattle.std.proofs.Math.Nat.{zero-min}
 use Rattle.os8_dir.specs.Found.{rooms_at}
-use Rattle.os8_dir.specs.Changes.{emptied_entry, emptied, is_within, laid, put, swapped, LieIn}
+use Rattle.os8_dir.specs.Changes.{emptied_entry, entries_without, is_within, parts_of_empty, put, with_file_lower, LieIn}
 use Rattle.os8_dir.proofs.TidyLemmas.{total-tidy, total-append, append-nil, IsTidy-tidy}
 use Rattle.os8_dir.proofs.SegmentLemmas.{drop-item}
 
@@ -68,7 +68,7 @@ pub tidy-more : (kept xs ys zs : List DirEntry) → kept ≡ tidy xs → xs ++ y
 tidy-more kept xs ys zs is same = rw (is, tidy-prefix xs ys, same) refl
 
 -- The file of a name is an empty.
-pub emptied-append : (name : ℕ) (xs ys : List DirEntry) → emptied name (xs ++ ys) ≡ emptied name xs ++ emptied name ys
+pub emptied-append : (name : ℕ) (xs ys : List DirEntry) → entries_without name (xs ++ ys) ≡ entries_without name xs ++ entries_without name ys
 emptied-append name [] ys = refl
 emptied-append name (x ∷ xs) ys = ap (λ es. emptied_entry name x ∷ es) (emptied-append name xs ys)
 
@@ -80,11 +80,11 @@ pub size-emptied : (name : ℕ) (e : DirEntry) → size_of (emptied_entry name e
 size-emptied name (File other info size) = size-if (eqb other name) other size info
 size-emptied name (Empty size) = refl
 
-pub total-emptied : (name : ℕ) (es : List DirEntry) → total (emptied name es) ≡ total es
+pub total-emptied : (name : ℕ) (es : List DirEntry) → total (entries_without name es) ≡ total es
 total-emptied name [] = refl
 total-emptied name (e ∷ es) = omega (arith, size-emptied name e, total-emptied name es)
 
-pub emptied-item : (name k : ℕ) (es : List DirEntry) (e : DirEntry) → k < length es → e ≡ get_or es k e → emptied name (take k es) ++ emptied_entry name e ∷ [] ≡ emptied name (take (k + 1) es)
+pub emptied-item : (name k : ℕ) (es : List DirEntry) (e : DirEntry) → k < length es → e ≡ get_or es k e → entries_without name (take k es) ++ emptied_entry name e ∷ [] ≡ entries_without name (take (k + 1) es)
 emptied-item name k es e inside is = rw (take-item k es e inside is) (sym (emptied-append name (take k es) (e ∷ [])))
 
 -- A file is laid into an empty.
@@ -92,7 +92,7 @@ pub put-append : (place from : ℕ) (file : DirEntry) (xs ys : List DirEntry) �
 put-append place from file [] ys = rw add-zero refl
 put-append place from file (x ∷ xs) ys =
     let e : place + total (x ∷ xs) ≡ (place + size_of x) + total xs = omega arith in
-    rw (e, append_assoc) (ap (λ es. laid place from file x ++ es) (put-append (place + size_of x) from file xs ys))
+    rw (e, append_assoc) (ap (λ es. parts_of_empty place from file x ++ es) (put-append (place + size_of x) from file xs ys))
 
 and-both : (a b : Bool) → (a && b) ≡ true → (a ≡ true) × (b ≡ true)
 and-both true b e = (refl, e)
@@ -107,18 +107,18 @@ total-laid_if : (place size from : ℕ) (file : DirEntry) (b : Bool) → is_with
 total-laid_if place size from file true within = let bounds = within-bounds place size from (size_of file) within in omega (arith, bounds.0, bounds.1)
 total-laid_if place size from file false within = omega arith
 
-pub total-laid : (place from : ℕ) (file e : DirEntry) → total (laid place from file e) ≡ size_of e
+pub total-laid : (place from : ℕ) (file e : DirEntry) → total (parts_of_empty place from file e) ≡ size_of e
 total-laid place from file (File name info size) = omega arith
 total-laid place from file (Empty size) = total-laid_if place size from file (is_within place size from (size_of file)) refl
 
 pub total-put : (place from : ℕ) (file : DirEntry) (es : List DirEntry) → total (put place from file es) ≡ total es
 total-put place from file [] = refl
-total-put place from file (e ∷ es) = omega (arith, total-append (laid place from file e) (put (place + size_of e) from file es), total-laid place from file e, total-put (place + size_of e) from file es)
+total-put place from file (e ∷ es) = omega (arith, total-append (parts_of_empty place from file e) (put (place + size_of e) from file es), total-laid place from file e, total-put (place + size_of e) from file es)
 
-pub put-item : (first from name k : ℕ) (file : DirEntry) (es : List DirEntry) (e : DirEntry) (place : ℕ) → place ≡ first + total (take k es) → k < length es → e ≡ get_or es k e → put first from file (emptied name (take k es)) ++ laid place from file (emptied_entry name e) ≡ put first from file (emptied name (take (k + 1) es))
+pub put-item : (first from name k : ℕ) (file : DirEntry) (es : List DirEntry) (e : DirEntry) (place : ℕ) → place ≡ first + total (take k es) → k < length es → e ≡ get_or es k e → put first from file (entries_without name (take k es)) ++ parts_of_empty place from file (emptied_entry name e) ≡ put first from file (entries_without name (take (k + 1) es))
 put-item first from name k file es e place at inside is =
-    let there : first + total (emptied name (take k es)) ≡ place = omega (arith, total-emptied name (take k es)) in
-    rw (← emptied-item name k es e inside is, put-append first from file (emptied name (take k es)) (emptied_entry name e ∷ []), there, append-nil (laid place from file (emptied_entry name e))) refl
+    let there : first + total (entries_without name (take k es)) ≡ place = omega (arith, total-emptied name (take k es)) in
+    rw (← emptied-item name k es e inside is, put-append first from file (entries_without name (take k es)) (emptied_entry name e ∷ []), there, append-nil (parts_of_empty place from file (emptied_entry name e))) refl
 
 -- The blocks that lie in an empty of a list lie in the list.
 pub lie-inside : (place from count : ℕ) (es : List DirEntry) → LieIn from count (rooms_at place es) → from + count ≤ place + total es
@@ -136,12 +136,12 @@ total-pair : (b : Bool) (name gap size : ℕ) (info : List ℕ) (es rest : List 
 total-pair true name gap size info es rest same = omega arith
 total-pair false name gap size info es rest same = omega arith
 
-pub total-swapped : (name : ℕ) (es : List DirEntry) → total (swapped name es) ≡ total es
+pub total-swapped : (name : ℕ) (es : List DirEntry) → total (with_file_lower name es) ≡ total es
 total-swapped name [] = refl
 total-swapped name (File other info size ∷ es) = omega (arith, total-swapped name es)
 total-swapped name (Empty gap ∷ []) = refl
 total-swapped name (Empty gap ∷ Empty size ∷ es) = omega (arith, total-swapped name (Empty size ∷ es))
-total-swapped name (Empty gap ∷ File other info size ∷ es) = total-pair (eqb other name) other gap size info es (swapped name es) (total-swapped name es)
+total-swapped name (Empty gap ∷ File other info size ∷ es) = total-pair (eqb other name) other gap size info es (with_file_lower name es) (total-swapped name es)
 
 -- the four parts of a list in which two entries change places
 pub parts-sum : (k : ℕ) (es prefix behind gap more file rest : List DirEntry) → prefix ≡ take k es → behind ≡ drop k es → gap ≡ take 1 behind → more ≡ drop 1 behind → file ≡ take 1 more → rest ≡ drop 1 more → total prefix + total file + total gap + total rest ≡ total es

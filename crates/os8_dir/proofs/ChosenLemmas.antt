@@ -5,7 +5,7 @@ use Rattle.std.proofs.lemmas.Bool.Decides.{eqb_tells, leb_tells}
 use Rattle.os8_dir.specs.declared.entries.DirEntry.{DirEntry}
 use Rattle.os8_dir.specs.declared.entries.DirEntry.TheVariants.{File, Empty}
 use Rattle.os8_dir.specs.Entries.{IsTidy}
-use Rattle.os8_dir.specs.Found.{Placed, files_at, largest, larger, above}
+use Rattle.os8_dir.specs.Found.{FilePlace, files_at, largest, larger, above}
 use Rattle.os8_dir.specs.Changes.{fitting, smaller, smallest, lowest_above}
 use Rattle.os8_dir.specs.Chosen.{EachRoom, IsFirstLargest, IsFirstSmallest, IsLowestAbove, IsFreeBlock, EachHas, NoneHas, IsCountAbove}
 use Rattle.os8_dir.proofs.CountLemmas.{length-files}
@@ -125,29 +125,29 @@ free-below block place (File name info zero ∷ es) low = free-below block place
 free-below block place (File name info (suc size) ∷ es) low = (inl low, free-below block (place + suc size) es (omega (arith, low)))
 free-below block place (Empty size ∷ es) low = free-below block (place + size) es (omega (arith, low))
 
-each-has : (first : ℕ) (all : List Placed) (block : ℕ) → first ≤ block → IsFreeBlock block all → (place : ℕ) (es : List DirEntry) → block < place → EachHas first all (files_at place es)
+each-has : (first : ℕ) (all : List FilePlace) (block : ℕ) → first ≤ block → IsFreeBlock block all → (place : ℕ) (es : List DirEntry) → block < place → EachHas first all (files_at place es)
 each-has first all block covered free place [] low = tt
 each-has first all block covered free place (File name info zero ∷ es) low = each-has first all block covered free place es low
 each-has first all block covered free place (File name info (suc size) ∷ es) low = (record { block = block; covered = covered; below = low; free = free }, each-has first all block covered free (place + suc size) es (omega (arith, low)))
 each-has first all block covered free place (Empty size ∷ es) low = each-has first all block covered free (place + size) es (omega (arith, low))
 
 -- the files from a place on, where each block before it is one of a file
-record Splits (first place : ℕ) (all : List Placed) (es : List DirEntry) : Type 0 where
-  low : List Placed
-  high : List Placed
+record Splits (first place : ℕ) (all : List FilePlace) (es : List DirEntry) : Type 0 where
+  low : List FilePlace
+  high : List FilePlace
   files : files_at place es ≡ low ++ high
   none : NoneHas first all low
   each : EachHas first all high
   count : length high ≡ above es
 
-splits : (first place : ℕ) (all : List Placed) (es : List DirEntry) → IsTidy es → first ≤ place
+splits : (first place : ℕ) (all : List FilePlace) (es : List DirEntry) → IsTidy es → first ≤ place
     → ((block : ℕ) → first ≤ block → block < place → IsFreeBlock block all → ⊥)
     → ((block : ℕ) → place ≤ block → IsFreeBlock block (files_at place es) → IsFreeBlock block all)
     → ((block : ℕ) → IsFreeBlock block all → IsFreeBlock block (files_at place es)) → Splits first place all es
 splits first place all [] neat from taken frees holds = record { low = []; high = []; files = refl; none = tt; each = tt; count = refl }
 splits first place all (File name info zero ∷ es) neat from taken frees holds = absurd (omega (arith, neat.0))
 splits first place all (File name info (suc size) ∷ es) neat from taken frees holds =
-    let f : Placed = record { name = name; info = info; place = place; size = suc size } in
+    let f : FilePlace = record { name = name; info = info; place = place; size = suc size } in
     let h = splits first (place + suc size) all es neat.2 (omega (arith, from))
     (λ block covered low free. elim (leb_tells (suc block) place) [
       | inl under ↦ taken block covered (omega (arith, under.1)) free

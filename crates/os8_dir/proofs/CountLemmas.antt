@@ -6,8 +6,8 @@ use Rattle.std.proofs.lemmas.Bool.Decides.{eqb_tells, leb_tells}
 use Rattle.os8_dir.specs.declared.entries.DirEntry.{DirEntry}
 use Rattle.os8_dir.specs.declared.entries.DirEntry.TheVariants.{File, Empty}
 use Rattle.os8_dir.specs.Entries.{is_zero, contains, size_of, total, names_of, before, tidy, IsTidy}
-use Rattle.os8_dir.specs.Found.{Placed, files_at, find, rooms_at, largest, larger, size_or_zero, free_blocks, count_files, count_empties, above, IsTight}
-use Rattle.os8_dir.specs.Changes.{emptied, removed, put, placed, LieIn, IsRoom, gap_below, swapped, moved_down, fitting, smaller, smallest, lowest_above}
+use Rattle.os8_dir.specs.Found.{FilePlace, files_at, find, rooms_at, largest, larger, size_or_zero, free_blocks, count_files, count_empties, above, IsTight}
+use Rattle.os8_dir.specs.Changes.{entries_without, without_file, put, with_new_file, LieIn, IsRoom, gap_below, with_file_lower, moved_down, fitting, smaller, smallest, lowest_above}
 use Rattle.os8_dir.proofs.FoundLemmas.{largest_size, largest-rooms}
 use Rattle.os8_dir.proofs.TidyLemmas.{tidy-same}
 use Rattle.os8_dir.proofs.ChangeLemmas.{before-none, lie-inside}
@@ -76,26 +76,26 @@ length-tidy : (es : List DirEntry) → length (tidy es) ≤ length es
 length-tidy [] = omega arith
 length-tidy (e ∷ es) = omega (arith, length-before e (tidy es), length-tidy es)
 
-length-emptied : (name : ℕ) (es : List DirEntry) → length (emptied name es) ≡ length es
+length-emptied : (name : ℕ) (es : List DirEntry) → length (entries_without name es) ≡ length es
 length-emptied name [] = refl
 length-emptied name (e ∷ es) = ap suc (length-emptied name es)
 
-pub length-removed : (name : ℕ) (es : List DirEntry) → length (removed name es) ≤ length es
-length-removed name es = omega (arith, length-tidy (emptied name es), length-emptied name es)
+pub length-removed : (name : ℕ) (es : List DirEntry) → length (without_file name es) ≤ length es
+length-removed name es = omega (arith, length-tidy (entries_without name es), length-emptied name es)
 
 length-swapped_if : (b : Bool) (e f : DirEntry) (es rest : List DirEntry) → length rest ≡ length es → length (cond b (f ∷ e ∷ es) (e ∷ f ∷ rest)) ≡ suc (suc (length es))
 length-swapped_if true e f es rest same = refl
 length-swapped_if false e f es rest same = ap (λ n. suc (suc n)) same
 
-length-swapped : (name : ℕ) (es : List DirEntry) → length (swapped name es) ≡ length es
+length-swapped : (name : ℕ) (es : List DirEntry) → length (with_file_lower name es) ≡ length es
 length-swapped name [] = refl
 length-swapped name (File own info size ∷ es) = ap suc (length-swapped name es)
 length-swapped name (Empty gap ∷ []) = refl
 length-swapped name (Empty gap ∷ Empty size ∷ es) = ap suc (length-swapped name (Empty size ∷ es))
-length-swapped name (Empty gap ∷ File own info size ∷ es) = length-swapped_if (eqb own name) (Empty gap) (File own info size) es (swapped name es) (length-swapped name es)
+length-swapped name (Empty gap ∷ File own info size ∷ es) = length-swapped_if (eqb own name) (Empty gap) (File own info size) es (with_file_lower name es) (length-swapped name es)
 
 pub length-moved : (name : ℕ) (es : List DirEntry) → length (moved_down name es) ≤ length es
-length-moved name es = omega (arith, length-tidy (swapped name es), length-swapped name es)
+length-moved name es = omega (arith, length-tidy (with_file_lower name es), length-swapped name es)
 
 -- how many entries have blocks
 abbrev count_some : List DirEntry → ℕ
@@ -135,7 +135,7 @@ blocks-lie place size from count (room ∷ rooms) is low high = elim is [
 room-lies : (from size count : ℕ) (rooms : List (ℕ × ℕ)) → count ≤ size → IsRoom from size rooms → LieIn from count rooms
 room-lies from size count rooms less is = blocks-lie from size from count rooms is (omega arith) (omega arith)
 
-pub emptied-room : (name place from size : ℕ) (es : List DirEntry) → IsRoom from size (rooms_at place es) → IsRoom from size (rooms_at place (emptied name es))
+pub emptied-room : (name place from size : ℕ) (es : List DirEntry) → IsRoom from size (rooms_at place es) → IsRoom from size (rooms_at place (entries_without name es))
 emptied-room name place from size [] is = is
 emptied-room name place from size (File own info length ∷ es) is = elim (eqb_tells own name) [
   | inl here ↦ rw here.0 (inr (emptied-room name (place + length) from size es is))
@@ -156,10 +156,10 @@ put-some place from size file (Empty length ∷ es) some fits is = elim is [
       rw (not-within_past place length from (size_of file) some (lie-from (place + length) from (size_of file) es (room-lies from size (size_of file) (rooms_at (place + length) es) fits there))) (omega (arith, some-one length, put-some (place + length) from size file es some fits there))
 ]
 
-pub length-placed : (first size : ℕ) (f : Placed) (es : List DirEntry) → 0 < f.size → f.size ≤ size → IsRoom f.place size (rooms_at first es) → length (placed first f es) ≤ length es + 1
+pub length-placed : (first size : ℕ) (f : FilePlace) (es : List DirEntry) → 0 < f.size → f.size ≤ size → IsRoom f.place size (rooms_at first es) → length (with_new_file first f es) ≤ length es + 1
 length-placed first size f es some fits is =
     let file = File f.name f.info f.size in
-    omega (arith, some-tidy (put first f.place file (emptied f.name es)), put-some first f.place size file (emptied f.name es) some fits (emptied-room f.name first f.place size es is), length-emptied f.name es)
+    omega (arith, some-tidy (put first f.place file (entries_without f.name es)), put-some first f.place size file (entries_without f.name es) some fits (emptied-room f.name first f.place size es is), length-emptied f.name es)
 
 -- A new file in the only empty of a list.
 above-file : (name size : ℕ) (info : List ℕ) (es : List DirEntry) → above (before (File name info size) es) ≡ above es
@@ -186,7 +186,7 @@ put-tight place from size name count info (Empty length ∷ []) neat tight some 
   | inr there ↦ absurd there
 ]
 
-emptied-same : (name : ℕ) (es : List DirEntry) → IsTidy es → contains (names_of es) name ≡ false → emptied name es ≡ es
+emptied-same : (name : ℕ) (es : List DirEntry) → IsTidy es → contains (names_of es) name ≡ false → entries_without name es ≡ es
 emptied-same name [] neat new = refl
 emptied-same name (File own info zero ∷ es) neat new = absurd (omega (arith, neat.0))
 emptied-same name (File own info (suc size) ∷ es) neat new =
@@ -206,7 +206,7 @@ find-none name place (File own info (suc size) ∷ es) neat none = elim (eqb_tel
 ]
 find-none name place (Empty size ∷ es) neat none = find-none name (place + size) es neat.2 none
 
-pub placed-tight : (first size : ℕ) (f : Placed) (es : List DirEntry) → IsTidy es → IsTight es → find f.name (files_at first es) ≡ None → 0 < f.size → f.size ≤ size → IsRoom f.place size (rooms_at first es) → IsTight (placed first f es)
+pub placed-tight : (first size : ℕ) (f : FilePlace) (es : List DirEntry) → IsTidy es → IsTight es → find f.name (files_at first es) ≡ None → 0 < f.size → f.size ≤ size → IsRoom f.place size (rooms_at first es) → IsTight (with_new_file first f es)
 placed-tight first size f es neat tight new some fits is = rw (emptied-same f.name es neat (find-none f.name first es neat new)) (put-tight first f.place size f.name f.size f.info es neat tight some fits is)
 
 -- The lowest file with an empty below it.
@@ -236,7 +236,7 @@ lowest-gap (Empty size ∷ File own info more ∷ es) name gap neat is =
 
 pub lowest-moved : (es : List DirEntry) (name gap : ℕ) → IsTidy es → lowest_above es ≡ Some (name, gap) → above (moved_down name es) + 1 ≡ above es
 lowest-moved [] name gap neat is = cc
-lowest-moved (File own info size ∷ es) name gap neat is = rw (above-file own size info (tidy (swapped name es))) (lowest-moved es name gap neat.2 is)
+lowest-moved (File own info size ∷ es) name gap neat is = rw (above-file own size info (tidy (with_file_lower name es))) (lowest-moved es name gap neat.2 is)
 lowest-moved (Empty size ∷ []) name gap neat is = cc
 lowest-moved (Empty size ∷ Empty more ∷ es) name gap neat is = absurd neat.1
 lowest-moved (Empty size ∷ File own info more ∷ es) name gap neat is =
@@ -308,7 +308,7 @@ pub fitting-short : (wish : ℕ) (rooms : List (ℕ × ℕ)) → 0 < wish → fi
 fitting-short wish rooms some is = largest-none wish rooms (largest rooms) (largest-chosen rooms) some (fitting-none wish rooms is)
 
 -- Rooms and files.
-abbrev AreClear : ℕ → ℕ → List Placed → Type 0
+abbrev AreClear : ℕ → ℕ → List FilePlace → Type 0
 AreClear from count [] = Unit {0}
 AreClear from count (f ∷ fs) = ((f.place + f.size ≤ from) ⊎ (from + count ≤ f.place)) × AreClear from count fs
 
@@ -327,17 +327,17 @@ room-clear from count place (Empty size ∷ es) lies = elim lies [
   | inr there ↦ room-clear from count (place + size) es there
 ]
 
-some-is : (g f : Placed) → Some g ≡ Some f → g ≡ f
+some-is : (g f : FilePlace) → Some g ≡ Some f → g ≡ f
 some-is g f e = cc
 
-find-clear : (from count name : ℕ) (fs : List Placed) (f : Placed) → AreClear from count fs → find name fs ≡ Some f → (f.place + f.size ≤ from) ⊎ (from + count ≤ f.place)
+find-clear : (from count name : ℕ) (fs : List FilePlace) (f : FilePlace) → AreClear from count fs → find name fs ≡ Some f → (f.place + f.size ≤ from) ⊎ (from + count ≤ f.place)
 find-clear from count name [] f clear is = cc
 find-clear from count name (g ∷ fs) f clear is = elim (eqb_tells g.name name) [
   | inl here ↦ rw (← some-is g f (rw here.0 at is)) clear.0
   | inr there ↦ find-clear from count name fs f clear.1 (rw there.0 at is)
 ]
 
-pub room-outside : (from count name place : ℕ) (es : List DirEntry) (f : Placed) → LieIn from count (rooms_at place es) → find name (files_at place es) ≡ Some f → (f.place + f.size ≤ from) ⊎ (from + count ≤ f.place)
+pub room-outside : (from count name place : ℕ) (es : List DirEntry) (f : FilePlace) → LieIn from count (rooms_at place es) → find name (files_at place es) ≡ Some f → (f.place + f.size ≤ from) ⊎ (from + count ≤ f.place)
 room-outside from count name place es f lies is = find-clear from count name (files_at place es) f (room-clear from count place es lies) is
 
 -- The files of a list, as many as are counted.

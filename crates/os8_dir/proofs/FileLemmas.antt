@@ -4,10 +4,10 @@ use Rattle.std.proofs.lemmas.Bool.{true≢false, le-leb}
 use Rattle.std.proofs.lemmas.Bool.Decides.{eqb_tells, leb_tells}
 use Rattle.os8_dir.specs.declared.entries.DirEntry.{DirEntry}
 use Rattle.os8_dir.specs.declared.entries.DirEntry.TheVariants.{File, Empty}
-use Rattle.os8_dir.specs.Names.{padded}
-use Rattle.os8_dir.specs.Entries.{Listed, is_zero, contains, AreDistinct, size_of, total, names_of, before, tidy, IsTidy, IsNamed, IsWritable, AreWritable}
-use Rattle.os8_dir.specs.Found.{Placed, files_at, find, rooms_at, IsDirectory}
-use Rattle.os8_dir.specs.Changes.{emptied_entry, emptied, removed, is_within, laid, put, placed, LieIn, IsRoom, gap_below, swapped, moved_down, relisted, lowered}
+use Rattle.os8_dir.specs.Names.{with_end_zeros}
+use Rattle.os8_dir.specs.Entries.{DirectoryState, is_zero, contains, AreDistinct, size_of, total, names_of, before, tidy, IsTidy, IsNamed, IsWritable, AreWritable}
+use Rattle.os8_dir.specs.Found.{FilePlace, files_at, find, rooms_at, IsDirectory}
+use Rattle.os8_dir.specs.Changes.{emptied_entry, entries_without, without_file, is_within, parts_of_empty, put, with_new_file, LieIn, IsRoom, gap_below, with_file_lower, moved_down, directory_with, file_lower}
 use Rattle.os8_dir.specs.Steps.{is_named}
 use Rattle.os8_dir.proofs.TidyLemmas.{total-tidy, IsTidy-tidy}
 use Rattle.os8_dir.proofs.LawLemmas.{names_of-tidy, AreApart-files_at, writable-tidy, writable-append}
@@ -63,23 +63,23 @@ emptied-named name (File other info size) = elim (eqb_tells other name) [
 ]
 emptied-named name (Empty size) = refl
 
-find-emptied : (name place : ℕ) (es : List DirEntry) → find name (files_at place (emptied name es)) ≡ None
+find-emptied : (name place : ℕ) (es : List DirEntry) → find name (files_at place (entries_without name es)) ≡ None
 find-emptied name place [] = refl
-find-emptied name place (e ∷ es) = find-skip name place (emptied_entry name e) (emptied name es) (emptied-named name e) ∙ find-emptied name (place + size_of (emptied_entry name e)) es
+find-emptied name place (e ∷ es) = find-skip name place (emptied_entry name e) (entries_without name es) (emptied-named name e) ∙ find-emptied name (place + size_of (emptied_entry name e)) es
 
-find-emptied_other : (name q place : ℕ) (es : List DirEntry) → name ≢ q → find q (files_at place (emptied name es)) ≡ find q (files_at place es)
+find-emptied_other : (name q place : ℕ) (es : List DirEntry) → name ≢ q → find q (files_at place (entries_without name es)) ≡ find q (files_at place es)
 find-emptied_other name q place [] other = refl
 find-emptied_other name q place (File own info size ∷ es) other = elim (eqb_tells own name) [
   | inl here ↦ rw here.0 (find-emptied_other name q (place + size) es other ∙ sym (find-skip q place (File own info size) es (other-named q own size info (λ same. other (sym here.1 ∙ same)))))
-  | inr there ↦ rw there.0 (find-more q place (File own info size) (emptied name es) es (find-emptied_other name q (place + size) es other))
+  | inr there ↦ rw there.0 (find-more q place (File own info size) (entries_without name es) es (find-emptied_other name q (place + size) es other))
 ]
 find-emptied_other name q place (Empty size ∷ es) other = find-emptied_other name q (place + size) es other
 
-pub removed-gone : (name place : ℕ) (es : List DirEntry) → find name (files_at place (removed name es)) ≡ None
-removed-gone name place es = rw (files_at-tidy (emptied name es) place) (find-emptied name place es)
+pub removed-gone : (name place : ℕ) (es : List DirEntry) → find name (files_at place (without_file name es)) ≡ None
+removed-gone name place es = rw (files_at-tidy (entries_without name es) place) (find-emptied name place es)
 
-pub removed-others : (name q place : ℕ) (es : List DirEntry) → name ≢ q → find q (files_at place (removed name es)) ≡ find q (files_at place es)
-removed-others name q place es other = rw (files_at-tidy (emptied name es) place) (find-emptied_other name q place es other)
+pub removed-others : (name q place : ℕ) (es : List DirEntry) → name ≢ q → find q (files_at place (without_file name es)) ≡ find q (files_at place es)
+removed-others name q place es other = rw (files_at-tidy (entries_without name es) place) (find-emptied_other name q place es other)
 
 -- A file is laid into an empty.
 not-within : (place size from count : ℕ) → from < place → is_within place size from count ≡ false
@@ -154,7 +154,7 @@ find-put place from name count info (Empty size ∷ es) some new lies = elim lie
   | inr there ↦ rw (not-within_past place size from count some (lie-from (place + size) from count es there)) (find-put (place + size) from name count info es some new there)
 ]
 
-emptied-rooms : (name place from count : ℕ) (es : List DirEntry) → LieIn from count (rooms_at place es) → LieIn from count (rooms_at place (emptied name es))
+emptied-rooms : (name place from count : ℕ) (es : List DirEntry) → LieIn from count (rooms_at place es) → LieIn from count (rooms_at place (entries_without name es))
 emptied-rooms name place from count [] lies = lies
 emptied-rooms name place from count (File own info size ∷ es) lies = elim (eqb_tells own name) [
   | inl here ↦ rw here.0 (inr (emptied-rooms name (place + size) from count es lies))
@@ -162,7 +162,7 @@ emptied-rooms name place from count (File own info size ∷ es) lies = elim (eqb
 ]
 emptied-rooms name place from count (Empty size ∷ es) lies = elim lies [ inl here ↦ inl here | inr there ↦ inr (emptied-rooms name (place + size) from count es there) ]
 
-none-emptied : (name : ℕ) (es : List DirEntry) → contains (names_of (emptied name es)) name ≡ false
+none-emptied : (name : ℕ) (es : List DirEntry) → contains (names_of (entries_without name es)) name ≡ false
 none-emptied name [] = refl
 none-emptied name (File own info zero ∷ es) = elim (eqb_tells own name) [
   | inl here ↦ rw here.0 (none-emptied name es)
@@ -174,14 +174,14 @@ none-emptied name (File own info (suc size) ∷ es) = elim (eqb_tells own name) 
 ]
 none-emptied name (Empty size ∷ es) = none-emptied name es
 
-pub placed-there : (first : ℕ) (f : Placed) (es : List DirEntry) → 0 < f.size → LieIn f.place f.size (rooms_at first es) → find f.name (files_at first (placed first f es)) ≡ Some f
-placed-there first f es some lies = rw (files_at-tidy (put first f.place (File f.name f.info f.size) (emptied f.name es)) first) (find-put first f.place f.name f.size f.info (emptied f.name es) some (none-emptied f.name es) (emptied-rooms f.name first f.place f.size es lies))
+pub placed-there : (first : ℕ) (f : FilePlace) (es : List DirEntry) → 0 < f.size → LieIn f.place f.size (rooms_at first es) → find f.name (files_at first (with_new_file first f es)) ≡ Some f
+placed-there first f es some lies = rw (files_at-tidy (put first f.place (File f.name f.info f.size) (entries_without f.name es)) first) (find-put first f.place f.name f.size f.info (entries_without f.name es) some (none-emptied f.name es) (emptied-rooms f.name first f.place f.size es lies))
 
-pub placed-others : (first q : ℕ) (f : Placed) (es : List DirEntry) → f.name ≢ q → find q (files_at first (placed first f es)) ≡ find q (files_at first es)
-placed-others first q f es other = rw (files_at-tidy (put first f.place (File f.name f.info f.size) (emptied f.name es)) first) (find-put_other q first f.place f.name f.size f.info (emptied f.name es) other ∙ find-emptied_other f.name q first es other)
+pub placed-others : (first q : ℕ) (f : FilePlace) (es : List DirEntry) → f.name ≢ q → find q (files_at first (with_new_file first f es)) ≡ find q (files_at first es)
+placed-others first q f es other = rw (files_at-tidy (put first f.place (File f.name f.info f.size) (entries_without f.name es)) first) (find-put_other q first f.place f.name f.size f.info (entries_without f.name es) other ∙ find-emptied_other f.name q first es other)
 
 -- Names.
-emptied-without : (name q : ℕ) (es : List DirEntry) → contains (names_of es) q ≡ false → contains (names_of (emptied name es)) q ≡ false
+emptied-without : (name q : ℕ) (es : List DirEntry) → contains (names_of es) q ≡ false → contains (names_of (entries_without name es)) q ≡ false
 emptied-without name q [] none = refl
 emptied-without name q (File own info zero ∷ es) none = elim (eqb_tells own name) [
   | inl here ↦ rw here.0 (emptied-without name q es none)
@@ -196,7 +196,7 @@ emptied-without name q (File own info (suc size) ∷ es) none =
     ]
 emptied-without name q (Empty size ∷ es) none = emptied-without name q es none
 
-emptied-distinct : (name : ℕ) (es : List DirEntry) → AreDistinct (names_of es) → AreDistinct (names_of (emptied name es))
+emptied-distinct : (name : ℕ) (es : List DirEntry) → AreDistinct (names_of es) → AreDistinct (names_of (entries_without name es))
 emptied-distinct name [] apart = tt
 emptied-distinct name (File own info zero ∷ es) apart = elim (eqb_tells own name) [
   | inl here ↦ rw here.0 (emptied-distinct name es apart)
@@ -239,7 +239,7 @@ put-distinct place from name (suc count) info (Empty size ∷ es) some new apart
     put-distinct_if (is_within place size from (suc count)) place from name count size info es refl new apart (put-distinct (place + size) from name (suc count) info es some new apart)
 
 -- Entries that can be written.
-emptied-writable : (info name : ℕ) (es : List DirEntry) → AreWritable info es → AreWritable info (emptied name es)
+emptied-writable : (info name : ℕ) (es : List DirEntry) → AreWritable info es → AreWritable info (entries_without name es)
 emptied-writable info name [] all = tt
 emptied-writable info name (File own words size ∷ es) all = elim (eqb_tells own name) [
   | inl here ↦ rw here.0 (tt, emptied-writable info name es all.1)
@@ -247,7 +247,7 @@ emptied-writable info name (File own words size ∷ es) all = elim (eqb_tells ow
 ]
 emptied-writable info name (Empty size ∷ es) all = (tt, emptied-writable info name es all.1)
 
-laid-writable : (info place from : ℕ) (file e : DirEntry) → IsWritable info file → IsWritable info e → AreWritable info (laid place from file e)
+laid-writable : (info place from : ℕ) (file e : DirEntry) → IsWritable info file → IsWritable info e → AreWritable info (parts_of_empty place from file e)
 laid-writable info place from file (File name words size) new old = (old, tt)
 laid-writable info place from file (Empty size) new old = elim (is_within place size from (size_of file)) as (λ b. AreWritable info (cond b (Empty (from - place) ∷ file ∷ Empty ((place + size) - (from + size_of file)) ∷ []) (Empty size ∷ []))) [
   | true ↦ (tt, (new, (tt, tt)))
@@ -256,10 +256,10 @@ laid-writable info place from file (Empty size) new old = elim (is_within place 
 
 put-writable : (info place from : ℕ) (file : DirEntry) (es : List DirEntry) → IsWritable info file → AreWritable info es → AreWritable info (put place from file es)
 put-writable info place from file [] new all = tt
-put-writable info place from file (e ∷ es) new all = writable-append info (laid place from file e) (put (place + size_of e) from file es) (laid-writable info place from file e new all.0) (put-writable info (place + size_of e) from file es new all.1)
+put-writable info place from file (e ∷ es) new all = writable-append info (parts_of_empty place from file e) (put (place + size_of e) from file es) (laid-writable info place from file e new all.0) (put-writable info (place + size_of e) from file es new all.1)
 
 -- The new directories.
-relisted-directory : (volume : ℕ) (d : Listed) (es : List DirEntry) → IsDirectory volume d → total es ≡ total d.entries → AreDistinct (names_of es) → AreWritable d.info es → IsDirectory volume (relisted d (tidy es))
+relisted-directory : (volume : ℕ) (d : DirectoryState) (es : List DirEntry) → IsDirectory volume d → total es ≡ total d.entries → AreDistinct (names_of es) → AreWritable d.info es → IsDirectory volume (directory_with d (tidy es))
 relisted-directory volume d es is same apart all =
     let inside : d.first + total (tidy es) ≤ volume = omega (arith, total-tidy es, is.inside) in
     record {
@@ -272,41 +272,41 @@ relisted-directory volume d es is same apart all =
       writable = writable-tidy d.info es all;
     }
 
-pub removed-directory : (volume name : ℕ) (d : Listed) → IsDirectory volume d → IsDirectory volume (relisted d (removed name d.entries))
-removed-directory volume name d is = relisted-directory volume d (emptied name d.entries) is (total-emptied name d.entries) (emptied-distinct name d.entries is.single) (emptied-writable d.info name d.entries is.writable)
+pub removed-directory : (volume name : ℕ) (d : DirectoryState) → IsDirectory volume d → IsDirectory volume (directory_with d (without_file name d.entries))
+removed-directory volume name d is = relisted-directory volume d (entries_without name d.entries) is (total-emptied name d.entries) (emptied-distinct name d.entries is.single) (emptied-writable d.info name d.entries is.writable)
 
-pub placed-directory : (volume : ℕ) (d : Listed) (f : Placed) → IsDirectory volume d → IsNamed f.name → 0 < f.size → padded 10 (take d.info f.info) ≡ f.info → IsDirectory volume (relisted d (placed d.first f d.entries))
+pub placed-directory : (volume : ℕ) (d : DirectoryState) (f : FilePlace) → IsDirectory volume d → IsNamed f.name → 0 < f.size → with_end_zeros 10 (take d.info f.info) ≡ f.info → IsDirectory volume (directory_with d (with_new_file d.first f d.entries))
 placed-directory volume d f is named some said =
     let file = File f.name f.info f.size in
-    let es = emptied f.name d.entries in
+    let es = entries_without f.name d.entries in
     relisted-directory volume d (put d.first f.place file es) is (total-put d.first f.place file es ∙ total-emptied f.name d.entries) (put-distinct d.first f.place f.name f.size f.info es some (none-emptied f.name d.entries) (emptied-distinct f.name d.entries is.single)) (put-writable d.info d.first f.place file es (named, said) (emptied-writable d.info f.name d.entries is.writable))
 
 -- The file of a name and the empty below it change places.
-swapped-names : (name : ℕ) (es : List DirEntry) → names_of (swapped name es) ≡ names_of es
+swapped-names : (name : ℕ) (es : List DirEntry) → names_of (with_file_lower name es) ≡ names_of es
 swapped-names name [] = refl
 swapped-names name (File own info zero ∷ es) = swapped-names name es
 swapped-names name (File own info (suc size) ∷ es) = ap (λ ns. own ∷ ns) (swapped-names name es)
 swapped-names name (Empty gap ∷ []) = refl
 swapped-names name (Empty gap ∷ Empty size ∷ es) = swapped-names name (Empty size ∷ es)
-swapped-names name (Empty gap ∷ File own info zero ∷ es) = elim (eqb own name) as (λ b. names_of (cond b (File own info 0 ∷ Empty gap ∷ es) (Empty gap ∷ File own info 0 ∷ swapped name es)) ≡ names_of es) [ true ↦ refl | false ↦ swapped-names name es ]
-swapped-names name (Empty gap ∷ File own info (suc size) ∷ es) = elim (eqb own name) as (λ b. names_of (cond b (File own info (suc size) ∷ Empty gap ∷ es) (Empty gap ∷ File own info (suc size) ∷ swapped name es)) ≡ own ∷ names_of es) [ true ↦ refl | false ↦ ap (λ ns. own ∷ ns) (swapped-names name es) ]
+swapped-names name (Empty gap ∷ File own info zero ∷ es) = elim (eqb own name) as (λ b. names_of (cond b (File own info 0 ∷ Empty gap ∷ es) (Empty gap ∷ File own info 0 ∷ with_file_lower name es)) ≡ names_of es) [ true ↦ refl | false ↦ swapped-names name es ]
+swapped-names name (Empty gap ∷ File own info (suc size) ∷ es) = elim (eqb own name) as (λ b. names_of (cond b (File own info (suc size) ∷ Empty gap ∷ es) (Empty gap ∷ File own info (suc size) ∷ with_file_lower name es)) ≡ own ∷ names_of es) [ true ↦ refl | false ↦ ap (λ ns. own ∷ ns) (swapped-names name es) ]
 
-swapped-writable : (info name : ℕ) (es : List DirEntry) → AreWritable info es → AreWritable info (swapped name es)
+swapped-writable : (info name : ℕ) (es : List DirEntry) → AreWritable info es → AreWritable info (with_file_lower name es)
 swapped-writable info name [] all = tt
 swapped-writable info name (File own words size ∷ es) all = (all.0, swapped-writable info name es all.1)
 swapped-writable info name (Empty gap ∷ []) all = (tt, tt)
 swapped-writable info name (Empty gap ∷ Empty size ∷ es) all = (tt, swapped-writable info name (Empty size ∷ es) all.1)
-swapped-writable info name (Empty gap ∷ File own words size ∷ es) all = elim (eqb own name) as (λ b. AreWritable info (cond b (File own words size ∷ Empty gap ∷ es) (Empty gap ∷ File own words size ∷ swapped name es))) [
+swapped-writable info name (Empty gap ∷ File own words size ∷ es) all = elim (eqb own name) as (λ b. AreWritable info (cond b (File own words size ∷ Empty gap ∷ es) (Empty gap ∷ File own words size ∷ with_file_lower name es))) [
   | true ↦ (all.1.0, (tt, all.1.1))
   | false ↦ (tt, (all.1.0, swapped-writable info name es all.1.1))
 ]
 
-pub moved-directory : (volume name : ℕ) (d : Listed) → IsDirectory volume d → IsDirectory volume (relisted d (moved_down name d.entries))
-moved-directory volume name d is = relisted-directory volume d (swapped name d.entries) is (total-swapped name d.entries) (rw (swapped-names name d.entries) is.single) (swapped-writable d.info name d.entries is.writable)
+pub moved-directory : (volume name : ℕ) (d : DirectoryState) → IsDirectory volume d → IsDirectory volume (directory_with d (moved_down name d.entries))
+moved-directory volume name d is = relisted-directory volume d (with_file_lower name d.entries) is (total-swapped name d.entries) (rw (swapped-names name d.entries) is.single) (swapped-writable d.info name d.entries is.writable)
 
-find-swapped_other : (name q place : ℕ) (es : List DirEntry) → name ≢ q → find q (files_at place (swapped name es)) ≡ find q (files_at place es)
+find-swapped_other : (name q place : ℕ) (es : List DirEntry) → name ≢ q → find q (files_at place (with_file_lower name es)) ≡ find q (files_at place es)
 find-swapped_other name q place [] other = refl
-find-swapped_other name q place (File own info size ∷ es) other = find-more q place (File own info size) (swapped name es) es (find-swapped_other name q (place + size) es other)
+find-swapped_other name q place (File own info size ∷ es) other = find-more q place (File own info size) (with_file_lower name es) es (find-swapped_other name q (place + size) es other)
 find-swapped_other name q place (Empty gap ∷ []) other = refl
 find-swapped_other name q place (Empty gap ∷ Empty size ∷ es) other = find-swapped_other name q (place + gap) (Empty size ∷ es) other
 find-swapped_other name q place (Empty gap ∷ File own info size ∷ es) other = elim (eqb_tells own name) [
@@ -314,11 +314,11 @@ find-swapped_other name q place (Empty gap ∷ File own info size ∷ es) other 
       let skipped : is_named q (File own info size) ≡ false = other-named q own size info (λ same. other (sym here.1 ∙ same)) in
       let end : (place + size) + gap ≡ (place + gap) + size = omega arith in
       rw here.0 (find-skip q place (File own info size) (Empty gap ∷ es) skipped ∙ rw end refl ∙ sym (find-skip q (place + gap) (File own info size) es skipped))
-  | inr there ↦ rw there.0 (find-more q (place + gap) (File own info size) (swapped name es) es (find-swapped_other name q ((place + gap) + size) es other))
+  | inr there ↦ rw there.0 (find-more q (place + gap) (File own info size) (with_file_lower name es) es (find-swapped_other name q ((place + gap) + size) es other))
 ]
 
 pub moved-others : (name q place : ℕ) (es : List DirEntry) → name ≢ q → find q (files_at place (moved_down name es)) ≡ find q (files_at place es)
-moved-others name q place es other = rw (files_at-tidy (swapped name es) place) (find-swapped_other name q place es other)
+moved-others name q place es other = rw (files_at-tidy (with_file_lower name es) place) (find-swapped_other name q place es other)
 
 -- a file with an empty below it is one of the list
 gap-named : (name : ℕ) (es : List DirEntry) → IsTidy es → 0 < gap_below name es → contains (names_of es) name ≡ true
@@ -343,11 +343,11 @@ rest-distinct (File own info zero) es apart = apart
 rest-distinct (File own info (suc size)) es apart = apart.1
 rest-distinct (Empty size) es apart = apart
 
-find-swapped : (name place : ℕ) (es : List DirEntry) → IsTidy es → AreDistinct (names_of es) → 0 < gap_below name es → find name (files_at place (swapped name es)) ≡ lowered (gap_below name es) (find name (files_at place es))
+find-swapped : (name place : ℕ) (es : List DirEntry) → IsTidy es → AreDistinct (names_of es) → 0 < gap_below name es → find name (files_at place (with_file_lower name es)) ≡ file_lower (gap_below name es) (find name (files_at place es))
 find-swapped name place [] neat apart some = absurd (omega arith)
 find-swapped name place (File own info size ∷ es) neat apart some =
     let skipped : is_named name (File own info size) ≡ false = other-named name own size info (gap-other name own size info es neat apart some) in
-    find-skip name place (File own info size) (swapped name es) skipped ∙ find-swapped name (place + size) es neat.2 (rest-distinct (File own info size) es apart) some ∙ ap (lowered (gap_below name es)) (sym (find-skip name place (File own info size) es skipped))
+    find-skip name place (File own info size) (with_file_lower name es) skipped ∙ find-swapped name (place + size) es neat.2 (rest-distinct (File own info size) es apart) some ∙ ap (file_lower (gap_below name es)) (sym (find-skip name place (File own info size) es skipped))
 find-swapped name place (Empty gap ∷ []) neat apart some = absurd (omega arith)
 find-swapped name place (Empty gap ∷ Empty size ∷ es) neat apart some = absurd neat.1
 find-swapped name place (Empty gap ∷ File own info size ∷ es) neat apart some = elim (eqb_tells own name) [
@@ -359,18 +359,18 @@ find-swapped name place (Empty gap ∷ File own info size ∷ es) neat apart som
   | inr there ↦
       let skipped : is_named name (File own info size) ≡ false = other-named name own size info there.1 in
       let some' : 0 < gap_below name es = rw there.0 at some in
-      rw there.0 (find-skip name (place + gap) (File own info size) (swapped name es) skipped ∙ find-swapped name ((place + gap) + size) es neat.2.2 (rest-distinct (File own info size) es apart) some' ∙ ap (lowered (gap_below name es)) (sym (find-skip name (place + gap) (File own info size) es skipped)))
+      rw there.0 (find-skip name (place + gap) (File own info size) (with_file_lower name es) skipped ∙ find-swapped name ((place + gap) + size) es neat.2.2 (rest-distinct (File own info size) es apart) some' ∙ ap (file_lower (gap_below name es)) (sym (find-skip name (place + gap) (File own info size) es skipped)))
 ]
 
-pub moved-there : (name place : ℕ) (es : List DirEntry) → IsTidy es → AreDistinct (names_of es) → 0 < gap_below name es → find name (files_at place (moved_down name es)) ≡ lowered (gap_below name es) (find name (files_at place es))
-moved-there name place es neat apart some = rw (files_at-tidy (swapped name es) place) (find-swapped name place es neat apart some)
+pub moved-there : (name place : ℕ) (es : List DirEntry) → IsTidy es → AreDistinct (names_of es) → 0 < gap_below name es → find name (files_at place (moved_down name es)) ≡ file_lower (gap_below name es) (find name (files_at place es))
+moved-there name place es neat apart some = rw (files_at-tidy (with_file_lower name es) place) (find-swapped name place es neat apart some)
 
 -- where a file with an empty below it was
-abbrev pub StandsOn : ℕ → Option Placed → List (ℕ × ℕ) → Type 0
+abbrev pub StandsOn : ℕ → Option FilePlace → List (ℕ × ℕ) → Type 0
 StandsOn gap None rooms = ⊥
 StandsOn gap (Some f) rooms = (gap ≤ f.place) × IsRoom (f.place - gap) gap rooms
 
-stands-more : (gap : ℕ) (found : Option Placed) (room : ℕ × ℕ) (rooms : List (ℕ × ℕ)) → StandsOn gap found rooms → StandsOn gap found (room ∷ rooms)
+stands-more : (gap : ℕ) (found : Option FilePlace) (room : ℕ × ℕ) (rooms : List (ℕ × ℕ)) → StandsOn gap found rooms → StandsOn gap found (room ∷ rooms)
 stands-more gap None room rooms stands = stands
 stands-more gap (Some f) room rooms stands = (stands.0, inr stands.1)
 
@@ -392,18 +392,18 @@ gap-stands name place (Empty gap ∷ File own info size ∷ es) neat apart some 
       rw (there.0, find-skip name (place + gap) (File own info size) es skipped) (stands-more (gap_below name es) (find name (files_at ((place + gap) + size) es)) (place, gap) (rooms_at ((place + gap) + size) es) (gap-stands name ((place + gap) + size) es neat.2.2 (rest-distinct (File own info size) es apart) some'))
 ]
 
-stands-file : (gap : ℕ) (found : Option Placed) (rooms : List (ℕ × ℕ)) → StandsOn gap found rooms → (f : Placed) × ((found ≡ Some f) × (gap ≤ f.place) × IsRoom (f.place - gap) gap rooms)
+stands-file : (gap : ℕ) (found : Option FilePlace) (rooms : List (ℕ × ℕ)) → StandsOn gap found rooms → (f : FilePlace) × ((found ≡ Some f) × (gap ≤ f.place) × IsRoom (f.place - gap) gap rooms)
 stands-file gap None rooms stands = absurd stands
 stands-file gap (Some f) rooms stands = (f, (refl, stands.0, stands.1))
 
-pub gap-file : (name place : ℕ) (es : List DirEntry) → IsTidy es → AreDistinct (names_of es) → 0 < gap_below name es → (f : Placed) × ((find name (files_at place es) ≡ Some f) × (gap_below name es ≤ f.place) × IsRoom (f.place - gap_below name es) (gap_below name es) (rooms_at place es))
+pub gap-file : (name place : ℕ) (es : List DirEntry) → IsTidy es → AreDistinct (names_of es) → 0 < gap_below name es → (f : FilePlace) × ((find name (files_at place es) ≡ Some f) × (gap_below name es ≤ f.place) × IsRoom (f.place - gap_below name es) (gap_below name es) (rooms_at place es))
 gap-file name place es neat apart some = stands-file (gap_below name es) (find name (files_at place es)) (rooms_at place es) (gap-stands name place es neat apart some)
 
-pub total-removed : (name : ℕ) (es : List DirEntry) → total (removed name es) ≡ total es
-total-removed name es = total-tidy (emptied name es) ∙ total-emptied name es
+pub total-removed : (name : ℕ) (es : List DirEntry) → total (without_file name es) ≡ total es
+total-removed name es = total-tidy (entries_without name es) ∙ total-emptied name es
 
-pub total-placed : (first : ℕ) (f : Placed) (es : List DirEntry) → total (placed first f es) ≡ total es
-total-placed first f es = total-tidy (put first f.place (File f.name f.info f.size) (emptied f.name es)) ∙ total-put first f.place (File f.name f.info f.size) (emptied f.name es) ∙ total-emptied f.name es
+pub total-placed : (first : ℕ) (f : FilePlace) (es : List DirEntry) → total (with_new_file first f es) ≡ total es
+total-placed first f es = total-tidy (put first f.place (File f.name f.info f.size) (entries_without f.name es)) ∙ total-put first f.place (File f.name f.info f.size) (entries_without f.name es) ∙ total-emptied f.name es
 
 pub total-moved : (name : ℕ) (es : List DirEntry) → total (moved_down name es) ≡ total es
-total-moved name es = total-tidy (swapped name es) ∙ total-swapped name es
+total-moved name es = total-tidy (with_file_lower name es) ∙ total-swapped name es

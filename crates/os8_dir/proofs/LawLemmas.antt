@@ -6,10 +6,10 @@ use Rattle.os8_dir.specs.declared.entries.DirEntry.{DirEntry}
 use Rattle.os8_dir.specs.declared.entries.DirEntry.TheVariants.{File, Empty}
 use Rattle.os8_dir.specs.declared.faults.DirFault.{DirFault}
 use Rattle.os8_dir.specs.declared.faults.DirFault.TheVariants.{BadLink, BadCount, EntryPastSegment, PastVolume, SameName, WrongFirstBlock, MixedInfo}
-use Rattle.os8_dir.specs.Names.{name_of, padded}
-use Rattle.os8_dir.specs.Entries.{Listed, minus, contains, AreDistinct, size_of, total, end_of, names_of, before, tidy, IsTidy, IsNamed, IsWritable, AreWritable}
+use Rattle.os8_dir.specs.Names.{name_of, with_end_zeros}
+use Rattle.os8_dir.specs.Entries.{DirectoryState, minus, contains, AreDistinct, size_of, total, end_of, names_of, before, tidy, IsTidy, IsNamed, IsWritable, AreWritable}
 use Rattle.os8_dir.specs.Reading.{◌>>=◌, needs, word, block, empty_at, file_at, entry_at, is_new, with_entry, with_entries, with_segment, is_unread, with_links, head_of, is_first, directory_of, IsOfWords, Sound, HasFault}
-use Rattle.os8_dir.specs.Found.{Placed, files_at, AreApart, IsDirectory}
+use Rattle.os8_dir.specs.Found.{FilePlace, files_at, AreApart, IsDirectory}
 use Rattle.os8_dir.proofs.TidyLemmas.{total-tidy, total-append, IsTidy-tidy}
 
 -- Results of steps that follow one another.
@@ -72,7 +72,7 @@ AreDistinct-append (x ∷ xs) y apart out =
     (contains-append xs y x apart.0 (λ same. other.0 (sym same)), AreDistinct-append xs y apart.1 other.1)
 
 -- Files in order.
-AreApart-from : (low from bound : ℕ) (fs : List Placed) → low ≤ from → AreApart from bound fs → AreApart low bound fs
+AreApart-from : (low from bound : ℕ) (fs : List FilePlace) → low ≤ from → AreApart from bound fs → AreApart low bound fs
 AreApart-from low from bound [] less apart = omega arith
 AreApart-from low from bound (f ∷ fs) less apart = (omega (arith, apart.0), apart.1, apart.2)
 
@@ -83,7 +83,7 @@ AreApart-files_at place bound (File name info (suc size) ∷ es) inside = (omega
 AreApart-files_at place bound (Empty size ∷ es) inside = AreApart-from place (place + size) bound (files_at (place + size) es) (omega arith) (AreApart-files_at (place + size) bound es (omega arith))
 
 -- A directory while it is read.
-record IsBegun (volume : ℕ) (d : Listed) : Type 0 where
+record IsBegun (volume : ℕ) (d : DirectoryState) : Type 0 where
   pub starts : 7 ≤ d.first
   pub few : d.info ≤ 10
   pub inside : d.first + total d.entries ≤ volume
@@ -92,12 +92,12 @@ record IsBegun (volume : ℕ) (d : Listed) : Type 0 where
   pub writable : AreWritable d.info d.entries
 
 -- An entry that was read can be written.
-padded-take-none : (n info : ℕ) → padded n (take info (padded n [])) ≡ padded n []
+padded-take-none : (n info : ℕ) → with_end_zeros n (take info (with_end_zeros n [])) ≡ with_end_zeros n []
 padded-take-none n zero = refl
 padded-take-none zero (suc info) = refl
 padded-take-none (suc n) (suc info) = ap (λ ws. 0 ∷ ws) (padded-take-none n info)
 
-pub padded-take : (n info : ℕ) (words : List ℕ) → padded n (take info (padded n (take info words))) ≡ padded n (take info words)
+pub padded-take : (n info : ℕ) (words : List ℕ) → with_end_zeros n (take info (with_end_zeros n (take info words))) ≡ with_end_zeros n (take info words)
 padded-take n zero words = refl
 padded-take zero (suc info) words = refl
 padded-take (suc n) (suc info) [] = ap (λ ws. 0 ∷ ws) (padded-take-none n info)
@@ -147,7 +147,7 @@ AreDistinct-entry es (File name info zero) single new = rw (append-nil (names_of
 AreDistinct-entry es (File name info (suc size)) single new = AreDistinct-append (names_of es) name single (not-true (contains (names_of es) name) new)
 AreDistinct-entry es (Empty size) single new = rw (append-nil (names_of es)) single
 
-begun-more : (volume : ℕ) (d : Listed) (e : DirEntry) → IsBegun volume d → IsWritable d.info e → end_of d + size_of e ≤ volume → is_new (names_of d.entries) e ≡ true → IsBegun volume (record d { entries = tidy (d.entries ++ e ∷ []) })
+begun-more : (volume : ℕ) (d : DirectoryState) (e : DirEntry) → IsBegun volume d → IsWritable d.info e → end_of d + size_of e ≤ volume → is_new (names_of d.entries) e ≡ true → IsBegun volume (record d { entries = tidy (d.entries ++ e ∷ []) })
 begun-more volume d e begun writable inside new = record {
   starts = begun.starts;
   few = begun.few;
@@ -157,14 +157,14 @@ begun-more volume d e begun writable inside new = record {
   writable = writable-tidy d.info (d.entries ++ e ∷ []) (writable-append d.info d.entries (e ∷ []) begun.writable (writable, tt));
 }
 
-begun-entry : (volume : ℕ) (d : Listed) (e : DirEntry) → IsBegun volume d → IsWritable d.info e → IfOk (with_entry volume d e) (IsBegun volume)
+begun-entry : (volume : ℕ) (d : DirectoryState) (e : DirEntry) → IsBegun volume d → IsWritable d.info e → IfOk (with_entry volume d e) (IsBegun volume)
 unfolding with_entry
 begun-entry volume d e begun writable =
     if_ok-needs (not (ltb volume (end_of d + size_of e))) PastVolume _ (IsBegun volume) (λ fits.
     if_ok-needs (is_new (names_of d.entries) e) SameName _ (IsBegun volume) (λ new.
     begun-more volume d e begun writable (ltb-false volume (end_of d + size_of e) (not-true _ fits)) new))
 
-begun-entries : (count volume : ℕ) (d : Listed) (words : List ℕ) → IsBegun volume d → IfOk (with_entries count volume d words) (IsBegun volume)
+begun-entries : (count volume : ℕ) (d : DirectoryState) (words : List ℕ) → IsBegun volume d → IfOk (with_entries count volume d words) (IsBegun volume)
 unfolding with_entries
 begun-entries zero volume d words begun = begun
 begun-entries (suc count) volume d words begun =
@@ -172,7 +172,7 @@ begun-entries (suc count) volume d words begun =
     if_ok-bind (with_entry volume d e.0) _ (IsBegun volume) (IsBegun volume) (begun-entry volume d e.0 begun said) (λ more added.
     begun-entries count volume more e.1 added))
 
-begun-segment : (volume : ℕ) (d : Listed) (number : ℕ) (words : List ℕ) → IsBegun volume d → IfOk (with_segment volume d number words) (IsBegun volume)
+begun-segment : (volume : ℕ) (d : DirectoryState) (number : ℕ) (words : List ℕ) → IsBegun volume d → IfOk (with_segment volume d number words) (IsBegun volume)
 unfolding with_segment
 begun-segment volume d number words begun =
     if_ok-needs (not (ltb 10 (minus (word words 4)))) (BadCount number) _ (IsBegun volume) (λ few.
@@ -180,7 +180,7 @@ begun-segment volume d number words begun =
     if_ok-needs (eqb (word words 1) (end_of d)) WrongFirstBlock _ (IsBegun volume) (λ follows.
     begun-entries (minus (word words 0)) volume d (drop 5 words) begun)))
 
-begun-links : (left : ℕ) (d : Listed) (blocks : List (List ℕ)) (read : List ℕ) (from link : ℕ) → IsBegun (length blocks) d → IfOk (with_links left d blocks read from link) (IsBegun (length blocks))
+begun-links : (left : ℕ) (d : DirectoryState) (blocks : List (List ℕ)) (read : List ℕ) (from link : ℕ) → IsBegun (length blocks) d → IfOk (with_links left d blocks read from link) (IsBegun (length blocks))
 unfolding with_links
 begun-links zero d blocks read from zero begun = begun
 begun-links (suc left) d blocks read from zero begun = begun
@@ -217,7 +217,7 @@ begun-directory blocks =
     if_ok-bind (with_segment volume head 1 (block blocks 1)) _ (IsBegun volume) (IsBegun volume) (begun-segment volume head 1 (block blocks 1) begun) (λ one added.
     begun-links 5 one blocks (1 ∷ []) 1 (word (block blocks 1) 2) added))
 
-whole : (volume : ℕ) (d : Listed) → IsBegun volume d → IsDirectory volume d
+whole : (volume : ℕ) (d : DirectoryState) → IsBegun volume d → IsDirectory volume d
 whole volume d begun = record {
   starts = begun.starts;
   few = begun.few;
@@ -228,9 +228,9 @@ whole volume d begun = record {
   writable = begun.writable;
 }
 
-pub IsDirectory-read : (blocks : List (List ℕ)) (d : Listed) → directory_of blocks ≡ Ok d → IsDirectory (length blocks) d
+pub IsDirectory-read : (blocks : List (List ℕ)) (d : DirectoryState) → directory_of blocks ≡ Ok d → IsDirectory (length blocks) d
 IsDirectory-read blocks d read =
-    let P : Result Listed DirFault → Type 0 = λ r. IfOk r (IsBegun (length blocks)) in
+    let P : Result DirectoryState DirFault → Type 0 = λ r. IfOk r (IsBegun (length blocks)) in
     whole (length blocks) d (subst P read (begun-directory blocks))
 
 -- The faults of a reading.
@@ -265,21 +265,21 @@ judged-at info [] = tt
 judged-at info (zero ∷ rest) = judged-empty rest
 judged-at info (suc w ∷ rest) = judged-file info (suc w ∷ rest)
 
-judged-entry : (volume : ℕ) (d : Listed) (e : DirEntry) → Judged (with_entry volume d e)
+judged-entry : (volume : ℕ) (d : DirectoryState) (e : DirEntry) → Judged (with_entry volume d e)
 unfolding with_entry
 judged-entry volume d e = judged-needs (not (ltb volume (end_of d + size_of e))) PastVolume _ tt (judged-needs (is_new (names_of d.entries) e) SameName _ tt tt)
 
-judged-entries : (count volume : ℕ) (d : Listed) (words : List ℕ) → Judged (with_entries count volume d words)
+judged-entries : (count volume : ℕ) (d : DirectoryState) (words : List ℕ) → Judged (with_entries count volume d words)
 unfolding with_entries
 judged-entries zero volume d words = tt
 judged-entries (suc count) volume d words = judged-bind (entry_at d.info words) _ (judged-at d.info words) (λ e. judged-bind (with_entry volume d e.0) _ (judged-entry volume d e.0) (λ more. judged-entries count volume more e.1))
 
-judged-segment : (volume : ℕ) (d : Listed) (number : ℕ) (words : List ℕ) → Judged (with_segment volume d number words)
+judged-segment : (volume : ℕ) (d : DirectoryState) (number : ℕ) (words : List ℕ) → Judged (with_segment volume d number words)
 unfolding with_segment
 judged-segment volume d number words =
     judged-needs (not (ltb 10 (minus (word words 4)))) (BadCount number) _ tt (judged-needs (eqb (minus (word words 4)) d.info) MixedInfo _ tt (judged-needs (eqb (word words 1) (end_of d)) WrongFirstBlock _ tt (judged-entries (minus (word words 0)) volume d (drop 5 words))))
 
-judged-links : (left : ℕ) (d : Listed) (blocks : List (List ℕ)) (read : List ℕ) (from link : ℕ) → Judged (with_links left d blocks read from link)
+judged-links : (left : ℕ) (d : DirectoryState) (blocks : List (List ℕ)) (read : List ℕ) (from link : ℕ) → Judged (with_links left d blocks read from link)
 unfolding with_links
 judged-links zero d blocks read from zero = tt
 judged-links (suc left) d blocks read from zero = tt
@@ -299,9 +299,9 @@ judged-directory blocks =
     judged-links 5 one blocks (1 ∷ []) 1 (word (block blocks 1) 2)))
 
 pub IsOfWords-read : (blocks : List (List ℕ)) (fault : DirFault) → HasFault blocks fault → IsOfWords fault
-IsOfWords-read blocks fault has = let P : Result Listed DirFault → Type 0 = λ r. Judged r in subst P has (judged-directory blocks)
+IsOfWords-read blocks fault has = let P : Result DirectoryState DirFault → Type 0 = λ r. Judged r in subst P has (judged-directory blocks)
 
-sound-cases : (blocks : List (List ℕ)) (r : Result Listed DirFault) → directory_of blocks ≡ r → Sound blocks ⊎ ((fault : DirFault) × HasFault blocks fault)
+sound-cases : (blocks : List (List ℕ)) (r : Result DirectoryState DirFault) → directory_of blocks ≡ r → Sound blocks ⊎ ((fault : DirFault) × HasFault blocks fault)
 sound-cases blocks (Ok d) read = inl (ap is_ok read)
 sound-cases blocks (Err fault) read = inr (fault, read)
 

@@ -6,9 +6,9 @@ use Rattle.std.proofs.lemmas.List.Elements.{All-get_or}
 use Rattle.volume_image.specs.Volume.{IsBlock}
 use Rattle.volume_image.specs.Image.{IsNewVolume, new_word}
 use Rattle.os8_dir.specs.declared.entries.DirEntry.TheVariants.{Empty}
-use Rattle.os8_dir.specs.Entries.{Listed, minus}
+use Rattle.os8_dir.specs.Entries.{DirectoryState, minus}
 use Rattle.os8_dir.specs.Reading.{word, block, entry_at, empty_at, with_entries, with_segment, with_links, head_of, directory_of, Sound}
-use Rattle.os8_dir.specs.Changes.{relisted}
+use Rattle.os8_dir.specs.Changes.{directory_with}
 use Rattle.os8_dir.specs.Files.{files_of, files_in, capacity_of}
 use Rattle.os8_dir.proofs.MapLemmas.{capacity_of-read}
 use Rattle.os8_dir.proofs.ReadingLemmas.{with_entry-more, with_entries-more, with_entries-none, with_segment-entries, head_of-ok, with_links-end, directory_of-links}
@@ -23,10 +23,10 @@ again : (n : ℕ) → 0 < n → n ≤ 4088 → minus (minus n) ≡ n
 again n some few = omega (arith, some, few)
 
 -- the directory of an empty volume of so many blocks
-abbrev pub new_listed : ℕ → Listed
+abbrev pub new_listed : ℕ → DirectoryState
 new_listed count = record { first = 7; info = 1; entries = Empty (count - 7) ∷ [] }
 
-abbrev headed : ℕ → ℕ → Listed
+abbrev headed : ℕ → ℕ → DirectoryState
 headed first info = record { first = first; info = info; entries = [] }
 
 segment-read : (volume : ℕ) (words : List ℕ) (count : ℕ) → 7 ≤ length words → word words 0 ≡ 4095 → word words 1 ≡ 7 → word words 4 ≡ 4095 → word words 5 ≡ 0 → word words 6 ≡ minus (count - 7) → 8 ≤ count → count ≤ 4095 → volume ≡ count
@@ -39,7 +39,7 @@ segment-read volume words count long zeroth first fourth fifth sixth least most 
       head_of-ok volume words (omega (arith, one)) (omega (arith, first)) (omega (arith, first, least, same)) ∙ ap (λ n. Ok (headed n (minus (word words 4)))) first ∙ ap (λ n. Ok (headed 7 n)) one,
       with_segment-entries volume (headed 7 1) 1 words (omega (arith, one)) one first
           ∙ ap (λ n. with_entries (minus n) volume (headed 7 1) (drop 5 words)) zeroth
-          ∙ with_entries-more 1 volume (headed 7 1) (new_listed count) (drop 5 words) (Empty (count - 7), drop 7 words) (omega arith) read (with_entry-more volume (headed 7 1) (Empty (count - 7)) (omega (arith, least, same)) refl ∙ ap (λ es. Ok (relisted (headed 7 1) es)) (tidy-empty_first (count - 7) (omega (arith, least))))
+          ∙ with_entries-more 1 volume (headed 7 1) (new_listed count) (drop 5 words) (Empty (count - 7), drop 7 words) (omega arith) read (with_entry-more volume (headed 7 1) (Empty (count - 7)) (omega (arith, least, same)) refl ∙ ap (λ es. Ok (directory_with (headed 7 1) es)) (tidy-empty_first (count - 7) (omega (arith, least))))
           ∙ with_entries-none volume (new_listed count) (drop 7 words),
     )
 

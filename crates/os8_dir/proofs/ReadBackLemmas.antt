@@ -4,8 +4,8 @@ use Rattle.std.proofs.lemmas.Bool.{true≢false, lt-ltb, le-ltb}
 use Rattle.std.proofs.Math.Nat.{div-le_self, lt-div-mul-add, div-lt_iff_lt-mul}
 use Rattle.os8_dir.specs.declared.entries.DirEntry.{DirEntry}
 use Rattle.os8_dir.specs.declared.entries.DirEntry.TheVariants.{File, Empty}
-use Rattle.os8_dir.specs.Names.{name_of, words_of_name, padded}
-use Rattle.os8_dir.specs.Entries.{Listed, minus, is_zero, contains, AreDistinct, size_of, total, names_of, IsTidy, IsNamed, IsWritable, AreWritable}
+use Rattle.os8_dir.specs.Names.{name_of, words_of_name, with_end_zeros}
+use Rattle.os8_dir.specs.Entries.{DirectoryState, minus, is_zero, contains, AreDistinct, size_of, total, names_of, IsTidy, IsNamed, IsWritable, AreWritable}
 use Rattle.os8_dir.specs.Reading.{word, block, empty_at, file_at, entry_at, is_new, with_entry, with_entries, with_segment, is_unread, with_links, head_of, directory_of}
 use Rattle.os8_dir.specs.Found.{per_segment, limit, IsDirectory}
 use Rattle.os8_dir.specs.Segments.{words_of_entry, words_of_entries, words_of_segment, segment_count, before_segment, entries_of, link_of, segment_of, HoldsSegments}
@@ -42,12 +42,12 @@ length-back : (xs rest : List ℕ) (w : ℕ) → length xs < length ((xs ++ w �
 length-back [] rest w = omega arith
 length-back (x ∷ xs) rest w = omega (arith, length-back xs rest w)
 
-length-info : (info : ℕ) (words : List ℕ) → info ≤ 10 → padded 10 (take info words) ≡ words → length (take info words) ≡ info
+length-info : (info : ℕ) (words : List ℕ) → info ≤ 10 → with_end_zeros 10 (take info words) ≡ words → length (take info words) ≡ info
 length-info info words few same =
     let ten : length words ≡ 10 = sym (ap length same) ∙ length-padded 10 (take info words) in
     length-take-words words info (omega arith)
 
-file-back : (info name size : ℕ) (words kept rest : List ℕ) → length kept ≡ info → padded 10 kept ≡ words → IsNamed name → size < 4096 → entry_at info ((words_of_name name ++ (kept ++ minus size ∷ [])) ++ rest) ≡ Ok (File name words size, rest)
+file-back : (info name size : ℕ) (words kept rest : List ℕ) → length kept ≡ info → with_end_zeros 10 kept ≡ words → IsNamed name → size < 4096 → entry_at info ((words_of_name name ++ (kept ++ minus size ∷ [])) ++ rest) ≡ Ok (File name words size, rest)
 unfolding entry_at file_at
 file-back info name size words kept rest long same some small =
     let fits : info < length ((kept ++ minus size ∷ []) ++ rest) = omega (arith, length-back kept rest (minus size)) in
@@ -89,7 +89,7 @@ is_new-distinct xs es (File name info (suc size)) apart = rw (distinct-new (name
 is_new-distinct xs es (Empty size) apart = refl
 
 -- All entries of a segment.
-abbrev listed : ℕ → ℕ → List DirEntry → Listed
+abbrev listed : ℕ → ℕ → List DirEntry → DirectoryState
 listed first info es = record { first = first; info = info; entries = es }
 
 with_entries-back : (es : List DirEntry) (volume first info : ℕ) (xs : List DirEntry) (rest : List ℕ) → info ≤ 10 → IsTidy (xs ++ es) → AreDistinct (names_of (xs ++ es)) → first + total (xs ++ es) ≤ volume → volume ≤ 4095 → AreWritable info es → with_entries (length es) volume (listed first info xs) (words_of_entries info es ++ rest) ≡ Ok (listed first info (xs ++ es))
@@ -108,7 +108,7 @@ with_entries-back (e ∷ es) volume first info xs rest few neat single inside mo
     rw words (step ∙ with_entries-back es volume first info (xs ++ e ∷ []) rest few (rw regroup neat) (rw regroup single) (rw regroup inside) most writable.1 ∙ rw regroup refl)
 
 -- A segment.
-words_of_segment-is : (first info link : ℕ) (es : List DirEntry) → length (words_of_entries info es) ≤ 251 → words_of_segment first info link es ≡ minus (length es) ∷ first ∷ link ∷ 0 ∷ minus info ∷ (words_of_entries info es ++ padded (251 - length (words_of_entries info es)) [])
+words_of_segment-is : (first info link : ℕ) (es : List DirEntry) → length (words_of_entries info es) ≤ 251 → words_of_segment first info link es ≡ minus (length es) ∷ first ∷ link ∷ 0 ∷ minus info ∷ (words_of_entries info es ++ with_end_zeros (251 - length (words_of_entries info es)) [])
 unfolding words_of_segment
 words_of_segment-is first info link es fits = ap (λ ws. minus (length es) ∷ first ∷ link ∷ 0 ∷ minus info ∷ ws) (padded-append 251 (words_of_entries info es) fits)
 
@@ -120,11 +120,11 @@ word-link first info link es few = rw (words_of_segment-is first info link es (s
 
 with_segment-back : (volume first info link number start : ℕ) (xs es : List DirEntry) → length es ≤ per_segment info → length es < 4096 → start ≡ first + total xs → info ≤ 10 → IsTidy (xs ++ es) → AreDistinct (names_of (xs ++ es)) → first + total (xs ++ es) ≤ volume → volume ≤ 4095 → AreWritable info es → with_segment volume (listed first info xs) number (words_of_segment start info link es) ≡ Ok (listed first info (xs ++ es))
 with_segment-back volume first info link number start xs es fits small follows few neat single inside most writable =
-    let words = minus (length es) ∷ start ∷ link ∷ 0 ∷ minus info ∷ (words_of_entries info es ++ padded (251 - length (words_of_entries info es)) []) in
+    let words = minus (length es) ∷ start ∷ link ∷ 0 ∷ minus info ∷ (words_of_entries info es ++ with_end_zeros (251 - length (words_of_entries info es)) []) in
     let same : minus (minus info) ≡ info = minus-again info (omega arith) in
     let count : minus (minus (length es)) ≡ length es = minus-again (length es) small in
-    let read : with_segment volume (listed first info xs) number words ≡ with_entries (minus (minus (length es))) volume (listed first info xs) (words_of_entries info es ++ padded (251 - length (words_of_entries info es)) []) = with_segment-entries volume (listed first info xs) number words (omega arith) same follows in
-    rw (words_of_segment-is start info link es (segment-fits info es fits)) (read ∙ rw count (with_entries-back es volume first info xs (padded (251 - length (words_of_entries info es)) []) few neat single inside most writable))
+    let read : with_segment volume (listed first info xs) number words ≡ with_entries (minus (minus (length es))) volume (listed first info xs) (words_of_entries info es ++ with_end_zeros (251 - length (words_of_entries info es)) []) = with_segment-entries volume (listed first info xs) number words (omega arith) same follows in
+    rw (words_of_segment-is start info link es (segment-fits info es fits)) (read ∙ rw count (with_entries-back es volume first info xs (with_end_zeros (251 - length (words_of_entries info es)) []) few neat single inside most writable))
 
 -- The segments of a list.
 take-none : (m : ℕ) → take {A = DirEntry} m [] ≡ []
@@ -157,18 +157,18 @@ writable-drop info zero es writable = writable
 writable-drop info (suc m) [] writable = tt
 writable-drop info (suc m) (e ∷ es) writable = writable-drop info m es writable.1
 
-before-more : (d : Listed) (k : ℕ) → before_segment d k ++ entries_of d k ≡ before_segment d (k + 1)
+before-more : (d : DirectoryState) (k : ℕ) → before_segment d k ++ entries_of d k ≡ before_segment d (k + 1)
 before-more d k =
     let e : (k + 1) * per_segment d.info ≡ k * per_segment d.info + per_segment d.info = omega arith in
     rw e (sym (take-add (k * per_segment d.info) (per_segment d.info) d.entries))
 
 -- what a directory keeps of a prefix of its list
-record IsPrefix (volume : ℕ) (d : Listed) (es : List DirEntry) : Type 0 where
+record IsPrefix (volume : ℕ) (d : DirectoryState) (es : List DirEntry) : Type 0 where
   pub neat : IsTidy es
   pub single : AreDistinct (names_of es)
   pub inside : d.first + total es ≤ volume
 
-prefix-of : (volume : ℕ) (d : Listed) (m : ℕ) → IsDirectory volume d → IsPrefix volume d (take m d.entries)
+prefix-of : (volume : ℕ) (d : DirectoryState) (m : ℕ) → IsDirectory volume d → IsPrefix volume d (take m d.entries)
 prefix-of volume d m is =
     let split = split-at m d.entries in
     record {
@@ -178,7 +178,7 @@ prefix-of volume d m is =
     }
 
 -- one more segment
-segment-back : (volume : ℕ) (d : Listed) (k number : ℕ) → IsDirectory volume d → volume ≤ 4095 → with_segment volume (listed d.first d.info (before_segment d k)) number (segment_of d k) ≡ Ok (listed d.first d.info (before_segment d (k + 1)))
+segment-back : (volume : ℕ) (d : DirectoryState) (k number : ℕ) → IsDirectory volume d → volume ≤ 4095 → with_segment volume (listed d.first d.info (before_segment d k)) number (segment_of d k) ≡ Ok (listed d.first d.info (before_segment d (k + 1)))
 segment-back volume d k number is most =
     let E = per_segment d.info in
     let prefix : IsPrefix volume d (before_segment d k ++ entries_of d k) = rw (before-more d k) (prefix-of volume d ((k + 1) * E) is) in
@@ -205,19 +205,19 @@ size-some (suc (suc (suc (suc (suc (suc (suc (suc (suc (suc (suc n))))))))))) fe
 quotient-covers : (n m : ℕ) → 1 ≤ m → n ≤ ((n - 1) / m + 1) * m
 quotient-covers n m some = omega (arith, lt-div-mul-add {a = n - 1} {b = m} some)
 
-count-covers : (d : Listed) → d.info ≤ 10 → before_segment d (segment_count d) ≡ d.entries
+count-covers : (d : DirectoryState) → d.info ≤ 10 → before_segment d (segment_count d) ≡ d.entries
 count-covers d few = take-whole (segment_count d * per_segment d.info) d.entries (quotient-covers (length d.entries) (per_segment d.info) (size-some d.info few))
 
 quotient-six : (n m : ℕ) → 1 ≤ m → n ≤ 6 * m → (n - 1) / m + 1 ≤ 6
 quotient-six n m some few = omega (arith, (div-lt_iff_lt-mul {k = m} {x = n - 1} {y = 6} some).1 (omega arith))
 
-count-six : (d : Listed) → d.info ≤ 10 → length d.entries ≤ limit d → segment_count d ≤ 6
+count-six : (d : DirectoryState) → d.info ≤ 10 → length d.entries ≤ limit d → segment_count d ≤ 6
 count-six d few short = quotient-six (length d.entries) (per_segment d.info) (size-some d.info few) short
 
 unread-more : (read : List ℕ) (k : ℕ) → ((q : ℕ) → k < q → contains read q ≡ false) → (q : ℕ) → k + 1 < q → contains ((k + 1) ∷ read) q ≡ false
 unread-more read k new q past = rw (ne_eqb (k + 1) q (λ same. absurd (omega arith))) (new q (omega arith))
 
-links-back : (m k left : ℕ) (blocks : List (List ℕ)) (d : Listed) (read : List ℕ) → IsDirectory (length blocks) d → length blocks ≤ 4095 → HoldsSegments blocks d → k + 1 + m ≡ segment_count d → k + 1 + left ≡ 6 → segment_count d ≤ 6 → ((q : ℕ) → k + 1 < q → contains read q ≡ false) → with_links left (listed d.first d.info (before_segment d (k + 1))) blocks read (k + 1) (link_of (segment_count d) k) ≡ Ok d
+links-back : (m k left : ℕ) (blocks : List (List ℕ)) (d : DirectoryState) (read : List ℕ) → IsDirectory (length blocks) d → length blocks ≤ 4095 → HoldsSegments blocks d → k + 1 + m ≡ segment_count d → k + 1 + left ≡ 6 → segment_count d ≤ 6 → ((q : ℕ) → k + 1 < q → contains read q ≡ false) → with_links left (listed d.first d.info (before_segment d (k + 1))) blocks read (k + 1) (link_of (segment_count d) k) ≡ Ok d
 links-back zero k left blocks d read is most holds at room six new =
     let last : k + 1 ≡ segment_count d = omega arith in
     let all : before_segment d (k + 1) ≡ d.entries = rw last (count-covers d is.few) in
@@ -238,16 +238,16 @@ links-back (suc m) k left blocks d read is most holds at room six new =
 first-unread : (q : ℕ) → 1 < q → contains (1 ∷ []) q ≡ false
 first-unread q past = rw (ne_eqb 1 q (λ same. absurd (omega arith))) refl
 
-none-before : (d : Listed) → before_segment d 0 ≡ []
+none-before : (d : DirectoryState) → before_segment d 0 ≡ []
 none-before d = let e : 0 * per_segment d.info ≡ 0 = omega arith in rw e refl
 
 head-back : (volume first info link start : ℕ) (es : List DirEntry) → start ≡ first → 7 ≤ first → first ≤ volume → info ≤ 10 → length es ≤ per_segment info → head_of volume (words_of_segment start info link es) ≡ Ok (listed first info [])
 head-back volume first info link start es same low high few fits =
     let again : minus (minus info) ≡ info = minus-again info (omega arith) in
-    let words = minus (length es) ∷ start ∷ link ∷ 0 ∷ minus info ∷ (words_of_entries info es ++ padded (251 - length (words_of_entries info es)) []) in
+    let words = minus (length es) ∷ start ∷ link ∷ 0 ∷ minus info ∷ (words_of_entries info es ++ with_end_zeros (251 - length (words_of_entries info es)) []) in
     rw (words_of_segment-is start info link es (segment-fits info es fits)) (head_of-ok volume words (omega arith) (omega arith) (omega arith) ∙ rw (again, same) refl)
 
-pub directory-back : (blocks : List (List ℕ)) (d : Listed) → IsDirectory (length blocks) d → length blocks ≤ 4095 → length d.entries ≤ limit d → HoldsSegments blocks d → directory_of blocks ≡ Ok d
+pub directory-back : (blocks : List (List ℕ)) (d : DirectoryState) → IsDirectory (length blocks) d → length blocks ≤ 4095 → length d.entries ≤ limit d → HoldsSegments blocks d → directory_of blocks ≡ Ok d
 directory-back blocks d is most short holds =
     let none = none-before d in
     let some : 0 < segment_count d = omega arith in

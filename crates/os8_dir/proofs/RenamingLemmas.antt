@@ -4,10 +4,10 @@ use Rattle.std.proofs.lemmas.Bool.{true≢false}
 use Rattle.std.proofs.lemmas.Bool.Decides.{eqb_tells}
 use Rattle.os8_dir.specs.declared.entries.DirEntry.{DirEntry}
 use Rattle.os8_dir.specs.declared.entries.DirEntry.TheVariants.{File, Empty}
-use Rattle.os8_dir.specs.Entries.{Listed, contains, AreDistinct, size_of, total, names_of, Apart, IsTidy, IsNamed, AreWritable}
-use Rattle.os8_dir.specs.Found.{Placed, files_at, find, rooms_at, IsDirectory, count_files, above}
-use Rattle.os8_dir.specs.Changes.{relisted}
-use Rattle.os8_dir.specs.Renaming.{renamed_name, renamed_entry, renamed, with_name}
+use Rattle.os8_dir.specs.Entries.{DirectoryState, contains, AreDistinct, size_of, total, names_of, Apart, IsTidy, IsNamed, AreWritable}
+use Rattle.os8_dir.specs.Found.{FilePlace, files_at, find, rooms_at, IsDirectory, count_files, above}
+use Rattle.os8_dir.specs.Changes.{directory_with}
+use Rattle.os8_dir.specs.Renaming.{renamed_name, renamed_entry, with_new_name, with_name}
 use Rattle.os8_dir.specs.Steps.{is_named}
 use Rattle.os8_dir.proofs.LawLemmas.{AreApart-files_at}
 use Rattle.os8_dir.proofs.ChangeLemmas.{take-item}
@@ -27,50 +27,50 @@ size-renamed : (name new : ℕ) (e : DirEntry) → size_of (renamed_entry name n
 size-renamed name new (File own info size) = refl
 size-renamed name new (Empty size) = refl
 
-pub total-renamed : (name new : ℕ) (es : List DirEntry) → total (renamed name new es) ≡ total es
+pub total-renamed : (name new : ℕ) (es : List DirEntry) → total (with_new_name name new es) ≡ total es
 total-renamed name new [] = refl
 total-renamed name new (e ∷ es) = omega (arith, size-renamed name new e, total-renamed name new es)
 
-pub length-renamed : (name new : ℕ) (es : List DirEntry) → length (renamed name new es) ≡ length es
+pub length-renamed : (name new : ℕ) (es : List DirEntry) → length (with_new_name name new es) ≡ length es
 length-renamed name new [] = refl
 length-renamed name new (e ∷ es) = ap (λ n. suc n) (length-renamed name new es)
 
-renamed-append : (name new : ℕ) (xs ys : List DirEntry) → renamed name new (xs ++ ys) ≡ renamed name new xs ++ renamed name new ys
+renamed-append : (name new : ℕ) (xs ys : List DirEntry) → with_new_name name new (xs ++ ys) ≡ with_new_name name new xs ++ with_new_name name new ys
 renamed-append name new [] ys = refl
 renamed-append name new (x ∷ xs) ys = ap (λ es. renamed_entry name new x ∷ es) (renamed-append name new xs ys)
 
-pub renamed-item : (name new k : ℕ) (es : List DirEntry) (e : DirEntry) → k < length es → e ≡ get_or es k e → renamed name new (take k es) ++ renamed_entry name new e ∷ [] ≡ renamed name new (take (k + 1) es)
+pub renamed-item : (name new k : ℕ) (es : List DirEntry) (e : DirEntry) → k < length es → e ≡ get_or es k e → with_new_name name new (take k es) ++ renamed_entry name new e ∷ [] ≡ with_new_name name new (take (k + 1) es)
 renamed-item name new k es e inside is = rw (take-item k es e inside is) (sym (renamed-append name new (take k es) (e ∷ [])))
 
-apart-renamed : (name new : ℕ) (e : DirEntry) (es : List DirEntry) → Apart e es → Apart (renamed_entry name new e) (renamed name new es)
+apart-renamed : (name new : ℕ) (e : DirEntry) (es : List DirEntry) → Apart e es → Apart (renamed_entry name new e) (with_new_name name new es)
 apart-renamed name new e [] apart = tt
 apart-renamed name new (File own info size) (other ∷ es) apart = tt
 apart-renamed name new (Empty size) (File own info more ∷ es) apart = tt
 apart-renamed name new (Empty size) (Empty more ∷ es) apart = apart
 
-pub tidy-renamed : (name new : ℕ) (es : List DirEntry) → IsTidy es → IsTidy (renamed name new es)
+pub tidy-renamed : (name new : ℕ) (es : List DirEntry) → IsTidy es → IsTidy (with_new_name name new es)
 tidy-renamed name new [] neat = tt
 tidy-renamed name new (e ∷ es) neat = (omega (arith, neat.0, size-renamed name new e), apart-renamed name new e es neat.1, tidy-renamed name new es neat.2)
 
 -- the empties, and how many files have one below them, are as before
-pub rooms-renamed : (name new place : ℕ) (es : List DirEntry) → rooms_at place (renamed name new es) ≡ rooms_at place es
+pub rooms-renamed : (name new place : ℕ) (es : List DirEntry) → rooms_at place (with_new_name name new es) ≡ rooms_at place es
 rooms-renamed name new place [] = refl
 rooms-renamed name new place (File own info size ∷ es) = rooms-renamed name new (place + size) es
 rooms-renamed name new place (Empty size ∷ es) = ap (λ rooms. (place, size) ∷ rooms) (rooms-renamed name new (place + size) es)
 
-count-renamed : (name new : ℕ) (es : List DirEntry) → count_files (renamed name new es) ≡ count_files es
+count-renamed : (name new : ℕ) (es : List DirEntry) → count_files (with_new_name name new es) ≡ count_files es
 count-renamed name new [] = refl
 count-renamed name new (File own info size ∷ es) = ap (λ n. suc n) (count-renamed name new es)
 count-renamed name new (Empty size ∷ es) = count-renamed name new es
 
-pub above-renamed : (name new : ℕ) (es : List DirEntry) → above (renamed name new es) ≡ above es
+pub above-renamed : (name new : ℕ) (es : List DirEntry) → above (with_new_name name new es) ≡ above es
 above-renamed name new [] = refl
 above-renamed name new (File own info size ∷ es) = above-renamed name new es
 above-renamed name new (Empty size ∷ es) = count-renamed name new es
 
 -- ## The files
 
-some_none : (f : Placed) → Some f ≡ None → ⊥
+some_none : (f : FilePlace) → Some f ≡ None → ⊥
 some_none f same = cc
 
 -- a name that no file has
@@ -101,27 +101,27 @@ entry-gone name new (File own info size) differ = elim (eqb_tells own name) [
 ]
 entry-gone name new (Empty size) differ = refl
 
-pub renamed-gone : (name new place : ℕ) (es : List DirEntry) → name ≢ new → find name (files_at place (renamed name new es)) ≡ None
+pub renamed-gone : (name new place : ℕ) (es : List DirEntry) → name ≢ new → find name (files_at place (with_new_name name new es)) ≡ None
 renamed-gone name new place [] differ = refl
 renamed-gone name new place (e ∷ es) differ =
-    find-skip name place (renamed_entry name new e) (renamed name new es) (entry-gone name new e differ) ∙ renamed-gone name new (place + size_of (renamed_entry name new e)) es differ
+    find-skip name place (renamed_entry name new e) (with_new_name name new es) (entry-gone name new e differ) ∙ renamed-gone name new (place + size_of (renamed_entry name new e)) es differ
 
 -- other files are found as before
-pub renamed-others : (name new q place : ℕ) (es : List DirEntry) → name ≢ q → new ≢ q → find q (files_at place (renamed name new es)) ≡ find q (files_at place es)
+pub renamed-others : (name new q place : ℕ) (es : List DirEntry) → name ≢ q → new ≢ q → find q (files_at place (with_new_name name new es)) ≡ find q (files_at place es)
 renamed-others name new q place [] old fresh = refl
 renamed-others name new q place (File own info size ∷ es) old fresh = elim (eqb_tells own name) [
   | inl here ↦ rw here.0
-      (find-skip q place (File new info size) (renamed name new es) (other-named q new size info fresh) ∙ renamed-others name new q (place + size) es old fresh
+      (find-skip q place (File new info size) (with_new_name name new es) (other-named q new size info fresh) ∙ renamed-others name new q (place + size) es old fresh
       ∙ sym (find-skip q place (File own info size) es (other-named q own size info (λ same. old (sym here.1 ∙ same)))))
-  | inr there ↦ rw there.0 (find-more q place (File own info size) (renamed name new es) es (renamed-others name new q (place + size) es old fresh))
+  | inr there ↦ rw there.0 (find-more q place (File own info size) (with_new_name name new es) es (renamed-others name new q (place + size) es old fresh))
 ]
 renamed-others name new q place (Empty size ∷ es) old fresh = renamed-others name new q (place + size) es old fresh
 
 -- the file is found under the new name
-pub renamed-there : (name new place : ℕ) (es : List DirEntry) → find new (files_at place es) ≡ None → find new (files_at place (renamed name new es)) ≡ with_name new (find name (files_at place es))
+pub renamed-there : (name new place : ℕ) (es : List DirEntry) → find new (files_at place es) ≡ None → find new (files_at place (with_new_name name new es)) ≡ with_name new (find name (files_at place es))
 renamed-there name new place [] none = refl
 renamed-there name new place (File own info zero ∷ es) none =
-    find-skip new place (File (renamed_name name new own) info 0) (renamed name new es) refl ∙ renamed-there name new (place + 0) es (none-rest new place (File own info zero) es none)
+    find-skip new place (File (renamed_name name new own) info 0) (with_new_name name new es) refl ∙ renamed-there name new (place + 0) es (none-rest new place (File own info zero) es none)
     ∙ ap (with_name new) (sym (find-skip name place (File own info zero) es refl))
 renamed-there name new place (File own info (suc size) ∷ es) none = elim (eqb_tells own name) [
   | inl here ↦ rw (here.0, eq-eqb new new refl) refl
@@ -133,7 +133,7 @@ renamed-there name new place (Empty size ∷ es) none = renamed-there name new (
 
 -- ## Names of the list
 
-names-none : (name new : ℕ) (es : List DirEntry) → contains (names_of es) name ≡ false → names_of (renamed name new es) ≡ names_of es
+names-none : (name new : ℕ) (es : List DirEntry) → contains (names_of es) name ≡ false → names_of (with_new_name name new es) ≡ names_of es
 names-none name new [] none = refl
 names-none name new (File own info zero ∷ es) none = names-none name new es none
 names-none name new (File own info (suc size) ∷ es) none =
@@ -143,7 +143,7 @@ names-none name new (Empty size ∷ es) none = names-none name new es none
 contains-if : (own q : ℕ) (one two : Bool) → one ≡ two → cond (eqb own q) true one ≡ cond (eqb own q) true two
 contains-if own q one two same = ap (cond (eqb own q) true) same
 
-names-others : (name new q : ℕ) (es : List DirEntry) → name ≢ q → new ≢ q → contains (names_of (renamed name new es)) q ≡ contains (names_of es) q
+names-others : (name new q : ℕ) (es : List DirEntry) → name ≢ q → new ≢ q → contains (names_of (with_new_name name new es)) q ≡ contains (names_of es) q
 names-others name new q [] old fresh = refl
 names-others name new q (File own info zero ∷ es) old fresh = names-others name new q es old fresh
 names-others name new q (File own info (suc size) ∷ es) old fresh = elim (eqb_tells own name) [
@@ -152,14 +152,14 @@ names-others name new q (File own info (suc size) ∷ es) old fresh = elim (eqb_
 ]
 names-others name new q (Empty size ∷ es) old fresh = names-others name new q es old fresh
 
-distinct-renamed : (name new : ℕ) (es : List DirEntry) → AreDistinct (names_of es) → contains (names_of es) new ≡ false → AreDistinct (names_of (renamed name new es))
+distinct-renamed : (name new : ℕ) (es : List DirEntry) → AreDistinct (names_of es) → contains (names_of es) new ≡ false → AreDistinct (names_of (with_new_name name new es))
 distinct-renamed name new [] apart none = tt
 distinct-renamed name new (File own info zero ∷ es) apart none = distinct-renamed name new es apart none
 distinct-renamed name new (File own info (suc size) ∷ es) apart none =
     let rest = rest-none (File own info (suc size)) es new none in
     elim (eqb_tells own name) [
       | inl here ↦
-          let same : names_of (renamed name new es) ≡ names_of es = names-none name new es (rw here.1 at apart.0) in
+          let same : names_of (with_new_name name new es) ≡ names_of es = names-none name new es (rw here.1 at apart.0) in
           rw (here.0, same) (rest, apart.1)
       | inr there ↦
           let fresh : new ≢ own = λ same. true≢false (sym (eq-eqb own new (sym same)) ∙ head-named new own (suc size) info es none) in
@@ -167,7 +167,7 @@ distinct-renamed name new (File own info (suc size) ∷ es) apart none =
     ]
 distinct-renamed name new (Empty size ∷ es) apart none = distinct-renamed name new es apart none
 
-writable-renamed : (info name new : ℕ) (es : List DirEntry) → IsNamed new → AreWritable info es → AreWritable info (renamed name new es)
+writable-renamed : (info name new : ℕ) (es : List DirEntry) → IsNamed new → AreWritable info es → AreWritable info (with_new_name name new es)
 writable-renamed info name new [] named all = tt
 writable-renamed info name new (File own words size ∷ es) named all = elim (eqb_tells own name) [
   | inl here ↦ rw here.0 ((named, all.0.1), writable-renamed info name new es named all.1)
@@ -175,23 +175,23 @@ writable-renamed info name new (File own words size ∷ es) named all = elim (eq
 ]
 writable-renamed info name new (Empty size ∷ es) named all = (tt, writable-renamed info name new es named all.1)
 
-pub renamed-directory : (volume name new : ℕ) (d : Listed) → IsDirectory volume d → IsNamed new → find new (files_at d.first d.entries) ≡ None
-    → IsDirectory volume (relisted d (renamed name new d.entries))
+pub renamed-directory : (volume name new : ℕ) (d : DirectoryState) → IsDirectory volume d → IsNamed new → find new (files_at d.first d.entries) ≡ None
+    → IsDirectory volume (directory_with d (with_new_name name new d.entries))
 renamed-directory volume name new d is named none =
-    let inside : d.first + total (renamed name new d.entries) ≡ d.first + total d.entries = omega (arith, total-renamed name new d.entries) in
+    let inside : d.first + total (with_new_name name new d.entries) ≡ d.first + total d.entries = omega (arith, total-renamed name new d.entries) in
     record {
       starts = is.starts;
       few = is.few;
       inside = omega (arith, inside, is.inside);
       neat = tidy-renamed name new d.entries is.neat;
       single = distinct-renamed name new d.entries is.single (none-contains new d.first d.entries none);
-      apart = AreApart-files_at d.first volume (renamed name new d.entries) (omega (arith, inside, is.inside));
+      apart = AreApart-files_at d.first volume (with_new_name name new d.entries) (omega (arith, inside, is.inside));
       writable = writable-renamed d.info name new d.entries named is.writable;
     }
 
 -- ## Back
 
-pub renamed-back : (name new place : ℕ) (es : List DirEntry) → IsTidy es → find new (files_at place es) ≡ None → renamed new name (renamed name new es) ≡ es
+pub renamed-back : (name new place : ℕ) (es : List DirEntry) → IsTidy es → find new (files_at place es) ≡ None → with_new_name new name (with_new_name name new es) ≡ es
 renamed-back name new place [] neat none = refl
 renamed-back name new place (File own info size ∷ es) neat none =
     let rest = renamed-back name new (place + size) es neat.2 (none-rest new place (File own info size) es none) in
@@ -205,6 +205,6 @@ renamed-back name new place (Empty size ∷ es) neat none = ap (λ l. Empty size
 -- ## The loop
 
 pub pushed : (name new k : ℕ) (es : List DirEntry) (e made : DirEntry) (kept more : List DirEntry) → more ≡ kept ++ made ∷ [] → made ≡ renamed_entry name new e
-    → kept ≡ renamed name new (take k es) → k < length es → e ≡ get_or es k e → more ≡ renamed name new (take (k + 1) es)
+    → kept ≡ with_new_name name new (take k es) → k < length es → e ≡ get_or es k e → more ≡ with_new_name name new (take (k + 1) es)
 pushed name new k es e made kept more is same so_far inside at =
-    is ∙ ap (λ l. l ++ made ∷ []) so_far ∙ ap (λ m. renamed name new (take k es) ++ m ∷ []) same ∙ renamed-item name new k es e inside at
+    is ∙ ap (λ l. l ++ made ∷ []) so_far ∙ ap (λ m. with_new_name name new (take k es) ++ m ∷ []) same ∙ renamed-item name new k es e inside at

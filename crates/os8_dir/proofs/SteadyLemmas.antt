@@ -1,7 +1,7 @@
 -- A directory is read of blocks 1 to 6 alone.
 use Rattle.std.proofs.Common.{◌≡◌, ℕ, zero, suc, ◌<◌, Bool, true, false, ◌&&◌, nat_lt, List, [], ◌∷◌, length, Result, Ok, Err, refl, ap, ◌∙◌, arith}
 use Rattle.std.proofs.lemmas.Bool.Decides.{nat_tests}
-use Rattle.os8_dir.specs.Entries.{Listed}
+use Rattle.os8_dir.specs.Entries.{DirectoryState}
 use Rattle.os8_dir.specs.declared.faults.DirFault.{DirFault}
 use Rattle.os8_dir.specs.declared.faults.DirFault.TheVariants.{BadLink}
 use Rattle.os8_dir.specs.Reading.{◌>>=◌, needs, word, block, is_unread, with_segment, with_links, head_of, directory_of}
@@ -13,7 +13,7 @@ bound : {A B : Type 0} (r : Result A DirFault) (f g : A → Result B DirFault) �
 bound (Ok x) f g same = same x
 bound (Err fault) f g same = refl
 
-same-links : (left : ℕ) (d : Listed) (old new : List (List ℕ)) (read : List ℕ) (from n : ℕ) → length new ≡ length old → ((k : ℕ) → k < 7 → block new k ≡ block old k) → with_links left d new read from n ≡ with_links left d old read from n
+same-links : (left : ℕ) (d : DirectoryState) (old new : List (List ℕ)) (read : List ℕ) (from n : ℕ) → length new ≡ length old → ((k : ℕ) → k < 7 → block new k ≡ block old k) → with_links left d new read from n ≡ with_links left d old read from n
 unfolding with_links
 same-links left d old new read from zero size same = refl
 same-links zero d old new read from (suc n) size same = refl

@@ -3,12 +3,12 @@ use Rattle.std.proofs.Common.{◌≡◌, ℕ, List, [], ◌∷◌, replicate, So
 use Rattle.os8_dir.specs.declared.entries.DirEntry.{DirEntry}
 use Rattle.os8_dir.specs.declared.entries.DirEntry.TheVariants.{File, Empty}
 use Rattle.os8_dir.specs.declared.faults.DirFault.TheVariants.{BadLink, SameName, MixedInfo}
-use Rattle.os8_dir.specs.Names.{name_of, padded, parsed_name}
+use Rattle.os8_dir.specs.Names.{name_of, with_end_zeros, parsed_name}
 use Rattle.os8_dir.specs.Reading.{directory_of, head_of, with_segment, with_entries, with_entry, with_links, entry_at, file_at, empty_at}
 use Rattle.os8_dir.specs.Found.{files_at, find, extent_of, rooms_at, largest, above, limit}
-use Rattle.os8_dir.specs.Files.{held_of}
+use Rattle.os8_dir.specs.Files.{data_if_there}
 use Rattle.os8_dir.specs.Segments.{words_of_segment, segment_count, segment_of}
-use Rattle.os8_dir.specs.Changes.{removed, placed, moved_down, fitting, lowest_above}
+use Rattle.os8_dir.specs.Changes.{without_file, with_new_file, moved_down, fitting, lowest_above}
 
 -- 20 blocks, of which block 1 has these words and zeros behind
 volume : List ℕ → List (List ℕ)
@@ -58,7 +58,7 @@ counted = refl
 counted_behind : above (File 9 (5 ∷ []) 3 ∷ Empty 4 ∷ File 8 (6 ∷ []) 1 ∷ []) ≡ 1
 counted_behind = refl
 
-blocks_kept : held_of ([] ∷ (1 ∷ 2 ∷ []) ∷ (3 ∷ []) ∷ (4 ∷ []) ∷ []) 1 (find 9 (files_at 1 (File 9 (5 ∷ 0 ∷ []) 2 ∷ []))) ≡ Some (5 ∷ [], 1 ∷ 2 ∷ 3 ∷ [])
+blocks_kept : data_if_there ([] ∷ (1 ∷ 2 ∷ []) ∷ (3 ∷ []) ∷ (4 ∷ []) ∷ []) 1 (find 9 (files_at 1 (File 9 (5 ∷ 0 ∷ []) 2 ∷ []))) ≡ Some (5 ∷ [], 1 ∷ 2 ∷ 3 ∷ [])
 blocks_kept = refl
 
 limit-one : limit (record { first = 7; info = 1; entries = [] }) ≡ 246
@@ -71,12 +71,12 @@ two name = File name (0 ∷ 0 ∷ 0 ∷ 0 ∷ 0 ∷ 0 ∷ 0 ∷ 0 ∷ 0 ∷ 0 �
 holes : List DirEntry
 holes = two 1 ∷ Empty 2 ∷ two 3 ∷ Empty 2 ∷ two 5 ∷ two 6 ∷ Empty 1 ∷ []
 
-removed-two : removed 4 (removed 2 (two 1 ∷ two 2 ∷ two 3 ∷ two 4 ∷ two 5 ∷ two 6 ∷ Empty 1 ∷ [])) ≡ holes
+removed-two : without_file 4 (without_file 2 (two 1 ∷ two 2 ∷ two 3 ∷ two 4 ∷ two 5 ∷ two 6 ∷ Empty 1 ∷ [])) ≡ holes
 unfolding two holes
 removed-two = refl
 
 -- empties that touch are one
-removed-all : removed 1 (Empty 2 ∷ two 1 ∷ Empty 3 ∷ []) ≡ Empty 7 ∷ []
+removed-all : without_file 1 (Empty 2 ∷ two 1 ∷ Empty 3 ∷ []) ≡ Empty 7 ∷ []
 unfolding two
 removed-all = refl
 
@@ -109,11 +109,11 @@ unfolding two holes
 fitting-three = refl
 
 -- an older file of the name goes, and its blocks are no room
-placed-again : placed 7 (record { name = 1; info = 5 ∷ []; place = 10; size = 2 }) (File 1 (6 ∷ []) 1 ∷ Empty 12 ∷ []) ≡ Empty 3 ∷ File 1 (5 ∷ []) 2 ∷ Empty 8 ∷ []
+placed-again : with_new_file 7 (record { name = 1; info = 5 ∷ []; place = 10; size = 2 }) (File 1 (6 ∷ []) 1 ∷ Empty 12 ∷ []) ≡ Empty 3 ∷ File 1 (5 ∷ []) 2 ∷ Empty 8 ∷ []
 placed-again = refl
 
 -- the first segment of an empty volume
-segment-empty : segment_of (record { first = 7; info = 1; entries = Empty 13 ∷ [] }) 0 ≡ padded 256 (empty_words 0)
+segment-empty : segment_of (record { first = 7; info = 1; entries = Empty 13 ∷ [] }) 0 ≡ with_end_zeros 256 (empty_words 0)
 unfolding empty_words words_of_segment
 segment-empty = refl
 

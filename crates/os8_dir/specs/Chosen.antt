@@ -2,7 +2,7 @@
 use Rattle.std.specs.Prelude.{◌≡◌, ◌⊎◌, ℕ, ◌+◌, ◌<◌, ◌≤◌, List, [], ◌∷◌, ◌++◌, length}
 use Rattle.os8_dir.specs.declared.entries.DirEntry.{DirEntry}
 use Rattle.os8_dir.specs.declared.entries.DirEntry.TheVariants.{File, Empty}
-use Rattle.os8_dir.specs.Found.{Placed, files_at}
+use Rattle.os8_dir.specs.Found.{FilePlace, files_at}
 
 -- the number of blocks of each of these rooms is so
 abbrev pub EachRoom : (ℕ → Type 0) → List (ℕ × ℕ) → Type 0
@@ -43,29 +43,29 @@ pub record IsLowestAbove (es : List DirEntry) (name gap : ℕ) : Type 0 where
   pub files : AreFiles prefix
 
 -- a block lies in none of these files
-abbrev pub IsFreeBlock : ℕ → List Placed → Type 0
+abbrev pub IsFreeBlock : ℕ → List FilePlace → Type 0
 IsFreeBlock block [] = Unit {0}
 IsFreeBlock block (f ∷ fs) = ((block < f.place) ⊎ (f.place + f.size ≤ block)) × IsFreeBlock block fs
 
 -- below a file, from a block on, lies a block of none of these files
-pub record HasFreeBelow (first : ℕ) (files : List Placed) (f : Placed) : Type 0 where
+pub record HasFreeBelow (first : ℕ) (files : List FilePlace) (f : FilePlace) : Type 0 where
   pub block : ℕ
   pub covered : first ≤ block
   pub below : block < f.place
   pub free : IsFreeBlock block files
 
-abbrev pub EachHas : ℕ → List Placed → List Placed → Type 0
+abbrev pub EachHas : ℕ → List FilePlace → List FilePlace → Type 0
 EachHas first files [] = Unit {0}
 EachHas first files (f ∷ fs) = HasFreeBelow first files f × EachHas first files fs
 
-abbrev pub NoneHas : ℕ → List Placed → List Placed → Type 0
+abbrev pub NoneHas : ℕ → List FilePlace → List FilePlace → Type 0
 NoneHas first files [] = Unit {0}
 NoneHas first files (f ∷ fs) = (HasFreeBelow first files f → ⊥) × NoneHas first files fs
 
 -- the files with a covered block of no file below them are the highest, and there are so many
 pub record IsCountAbove (first : ℕ) (es : List DirEntry) (number : ℕ) : Type 0 where
-  pub low : List Placed
-  pub high : List Placed
+  pub low : List FilePlace
+  pub high : List FilePlace
   pub files : files_at first es ≡ low ++ high
   pub none : NoneHas first (files_at first es) low
   pub each : EachHas first (files_at first es) high

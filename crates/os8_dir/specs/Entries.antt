@@ -2,11 +2,11 @@
 use Rattle.std.specs.Prelude.{◌≡◌, ℕ, zero, suc, ◌+◌, ◌/◌, ◌<◌, ◌==◌, Bool, true, false, if◌then◌else◌, List, [], ◌∷◌, take, Option, Some, None}
 use Rattle.os8_dir.specs.declared.entries.DirEntry.{DirEntry}
 use Rattle.os8_dir.specs.declared.entries.DirEntry.TheVariants.{File, Empty}
-use Rattle.os8_dir.specs.Names.{padded}
+use Rattle.os8_dir.specs.Names.{with_end_zeros}
 pub use Rattle.volume_image.specs.Image.{minus}
 
 -- a directory: its first block, how many information words an entry has, its entries
-pub record Listed : Type 0 where
+pub record DirectoryState : Type 0 where
   pub first : ℕ
   pub info : ℕ
   pub entries : List DirEntry
@@ -40,11 +40,11 @@ total [] = 0
 total (e ∷ es) = size_of e + total es
 
 -- the block after the last entry
-abbrev pub end_of : Listed → ℕ
+abbrev pub end_of : DirectoryState → ℕ
 end_of d = d.first + total d.entries
 
 -- how many blocks the directory covers
-abbrev pub capacity : Listed → ℕ
+abbrev pub capacity : DirectoryState → ℕ
 capacity d = total d.entries
 
 -- the names of the files; an entry of length 0 is none
@@ -83,7 +83,7 @@ IsNamed name = 0 < name / 68719476736
 
 -- an entry that its words can say: its name is no name of an empty, and after so many information words are zeros
 abbrev pub IsWritable : ℕ → DirEntry → Type 0
-IsWritable info (File name words size) = IsNamed name × (padded 10 (take info words) ≡ words)
+IsWritable info (File name words size) = IsNamed name × (with_end_zeros 10 (take info words) ≡ words)
 IsWritable info (Empty size) = Unit {0}
 
 abbrev pub AreWritable : ℕ → List DirEntry → Type 0

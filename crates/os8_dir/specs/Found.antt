@@ -3,33 +3,33 @@ use Rattle.std.specs.Prelude.{◌≡◌, ℕ, suc, ◌+◌, ◌*◌, ◌/◌, �
 use Rattle.word12.specs.declared.sizes.TheConstants.{FIRST_FILE_BLOCK}
 use Rattle.os8_dir.specs.declared.entries.DirEntry.{DirEntry}
 use Rattle.os8_dir.specs.declared.entries.DirEntry.TheVariants.{File, Empty}
-use Rattle.os8_dir.specs.Entries.{Listed, is_zero, total, names_of, AreDistinct, IsTidy, AreWritable}
+use Rattle.os8_dir.specs.Entries.{DirectoryState, is_zero, total, names_of, AreDistinct, IsTidy, AreWritable}
 
 -- a file and where it lies
-pub record Placed : Type 0 where
+pub record FilePlace : Type 0 where
   pub name : ℕ
   pub info : List ℕ
   pub place : ℕ
   pub size : ℕ
 
 -- the files, where the first entry begins at a place: a file's place is that plus the lengths before it
-abbrev pub files_at : ℕ → List DirEntry → List Placed
+abbrev pub files_at : ℕ → List DirEntry → List FilePlace
 files_at place [] = []
 files_at place (File name info size ∷ es) = if is_zero size then files_at place es else record { name = name; info = info; place = place; size = size } ∷ files_at (place + size) es
 files_at place (Empty size ∷ es) = files_at (place + size) es
 
 -- the first file of a name
-abbrev pub find : ℕ → List Placed → Option Placed
+abbrev pub find : ℕ → List FilePlace → Option FilePlace
 find name [] = None
 find name (f ∷ fs) = if f.name == name then Some f else find name fs
 
 -- a file's first block and its length
-abbrev pub extent_of : Option Placed → Option (ℕ × ℕ)
+abbrev pub extent_of : Option FilePlace → Option (ℕ × ℕ)
 extent_of None = None
 extent_of (Some f) = Some (f.place, f.size)
 
 -- a file's information words
-abbrev pub information_of : Option Placed → Option (List ℕ)
+abbrev pub information_of : Option FilePlace → Option (List ℕ)
 information_of None = None
 information_of (Some f) = Some f.info
 
@@ -65,7 +65,7 @@ free_blocks [] = 0
 free_blocks (e ∷ es) = room_of e + free_blocks es
 
 -- the blocks of all files
-abbrev pub used_blocks : List Placed → ℕ
+abbrev pub used_blocks : List FilePlace → ℕ
 used_blocks [] = 0
 used_blocks (f ∷ fs) = f.size + used_blocks fs
 
@@ -96,16 +96,16 @@ abbrev pub per_segment : ℕ → ℕ
 per_segment info = 251 / (5 + info)
 
 -- how many entries the six segments of a directory take
-abbrev pub limit : Listed → ℕ
+abbrev pub limit : DirectoryState → ℕ
 limit d = 6 * per_segment d.info
 
 -- files in order of their blocks, from a block on up to a bound, none of which overlap
-abbrev pub AreApart : ℕ → ℕ → List Placed → Type 0
+abbrev pub AreApart : ℕ → ℕ → List FilePlace → Type 0
 AreApart from bound [] = from ≤ bound
 AreApart from bound (f ∷ fs) = (from ≤ f.place) × (0 < f.size) × AreApart (f.place + f.size) bound fs
 
 -- a directory of a volume of so many blocks
-pub record IsDirectory (volume : ℕ) (d : Listed) : Type 0 where
+pub record IsDirectory (volume : ℕ) (d : DirectoryState) : Type 0 where
   pub starts : FIRST_FILE_BLOCK ≤ d.first
   pub few : d.info ≤ 10
   pub inside : d.first + total d.entries ≤ volume

@@ -48,22 +48,22 @@ abbrev pub codes_within : ℕ → List ℕ → Option (List ℕ)
 codes_within most text = if nat_le 1 (length text) && nat_le (length text) most then codes_of text else None
 
 -- so many codes: these, and zeros after them
-abbrev pub padded : ℕ → List ℕ → List ℕ
-padded zero codes = []
-padded (suc size) [] = 0 ∷ padded size []
-padded (suc size) (code ∷ codes) = code ∷ padded size codes
+abbrev pub with_end_zeros : ℕ → List ℕ → List ℕ
+with_end_zeros zero codes = []
+with_end_zeros (suc size) [] = 0 ∷ with_end_zeros size []
+with_end_zeros (suc size) (code ∷ codes) = code ∷ with_end_zeros size codes
 
 -- words of two codes each, the first code in the high six bits
-abbrev pub paired : List ℕ → List ℕ
-paired (high ∷ low ∷ codes) = (0o100 * high + low) ∷ paired codes
-paired (high ∷ []) = []
-paired [] = []
+abbrev pub words_of_codes : List ℕ → List ℕ
+words_of_codes (high ∷ low ∷ codes) = (0o100 * high + low) ∷ words_of_codes codes
+words_of_codes (high ∷ []) = []
+words_of_codes [] = []
 
 -- the name that the codes of six characters and two of extension spell, fewer of them padded with 0
-abbrev pub spelled : Option (List ℕ) → Option (List ℕ) → Option ℕ
-spelled (Some stem) (Some extension) = Some (name_of (paired (padded 6 stem ++ padded 2 extension)))
-spelled (Some stem) None = None
-spelled None extension = None
+abbrev pub name_of_codes : Option (List ℕ) → Option (List ℕ) → Option ℕ
+name_of_codes (Some stem) (Some extension) = Some (name_of (words_of_codes (with_end_zeros 6 stem ++ with_end_zeros 2 extension)))
+name_of_codes (Some stem) None = None
+name_of_codes None extension = None
 
 -- the codes of an extension; where no dot stands, there is none to spell
 abbrev pub extension_codes : Option (List ℕ) → Option (List ℕ)
@@ -72,4 +72,4 @@ extension_codes (Some text) = codes_within 2 text
 
 -- the name that a text spells: 1 to 6 capital letters or digits, then nothing, or a dot and 1 or 2 more
 abbrev pub parsed_name : List ℕ → Option ℕ
-parsed_name text = spelled (codes_within 6 (before_dot text)) (extension_codes (after_dot text))
+parsed_name text = name_of_codes (codes_within 6 (before_dot text)) (extension_codes (after_dot text))

@@ -1,7 +1,7 @@
 -- Sixbit codes as one number, as the parsing of a name makes it. No contract of a public function cites this.
 use Rattle.std.specs.Prelude.{ℕ, zero, suc, ◌+◌, ◌*◌, ◌^◌, List, [], ◌∷◌, length, Option, Some, None}
 use Rattle.word12.specs.Sixbit.{sixbit_code}
-use Rattle.os8_dir.specs.Names.{padded, extension_codes}
+use Rattle.os8_dir.specs.Names.{with_end_zeros, extension_codes}
 
 -- codes as digits to the base 64
 abbrev pub digits : List ℕ → ℕ
@@ -9,9 +9,9 @@ digits [] = 0
 digits (code ∷ codes) = code * 0o100 ^ length codes + digits codes
 
 -- codes with zeros after them up to a size, as one number
-abbrev pub packed : ℕ → Option (List ℕ) → Option ℕ
-packed size None = None
-packed size (Some codes) = Some (digits (padded size codes))
+abbrev pub number_of_codes : ℕ → Option (List ℕ) → Option ℕ
+number_of_codes size None = None
+number_of_codes size (Some codes) = Some (digits (with_end_zeros size codes))
 
 -- the extension of what stands from the first dot on
 abbrev pub extension_from : List ℕ → Option (List ℕ)

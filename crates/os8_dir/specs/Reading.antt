@@ -6,8 +6,8 @@ use Rattle.os8_dir.specs.declared.entries.DirEntry.{DirEntry}
 use Rattle.os8_dir.specs.declared.entries.DirEntry.TheVariants.{File, Empty}
 use Rattle.os8_dir.specs.declared.faults.DirFault.{DirFault}
 use Rattle.os8_dir.specs.declared.faults.DirFault.TheVariants.{BadLink, BadCount, EntryPastSegment, PastVolume, SameName, WrongFirstBlock, MixedInfo, Device, Memory}
-use Rattle.os8_dir.specs.Names.{name_of, padded}
-use Rattle.os8_dir.specs.Entries.{Listed, minus, is_zero, contains, size_of, end_of, names_of, tidy}
+use Rattle.os8_dir.specs.Names.{name_of, with_end_zeros}
+use Rattle.os8_dir.specs.Entries.{DirectoryState, minus, is_zero, contains, size_of, end_of, names_of, tidy}
 
 infixl 10 ◌>>=◌
 abbrev pub ◌>>=◌ : {A B : Type 0} → Result A DirFault → (A → Result B DirFault) → Result B DirFault
@@ -36,7 +36,7 @@ empty_at (size ∷ rest) = Ok (Empty (minus size), rest)
 unfoldable pub file_at : ℕ → List ℕ → Result (DirEntry × List ℕ) DirFault
 file_at info (a ∷ b ∷ c ∷ d ∷ rest) = do
   fits ← needs (nat_lt info (length rest)) EntryPastSegment
-  Ok (File (name_of (a ∷ b ∷ c ∷ d ∷ [])) (padded 10 (take info rest)) (minus (word rest info)), drop (suc info) rest)
+  Ok (File (name_of (a ∷ b ∷ c ∷ d ∷ [])) (with_end_zeros 10 (take info rest)) (minus (word rest info)), drop (suc info) rest)
 file_at info (a ∷ b ∷ c ∷ []) = Err EntryPastSegment
 file_at info (a ∷ b ∷ []) = Err EntryPastSegment
 file_at info (a ∷ []) = Err EntryPastSegment
@@ -53,14 +53,14 @@ is_new names (File name info size) = is_zero size || not (contains names name)
 is_new names (Empty size) = true
 
 -- one more entry
-unfoldable pub with_entry : ℕ → Listed → DirEntry → Result Listed DirFault
+unfoldable pub with_entry : ℕ → DirectoryState → DirEntry → Result DirectoryState DirFault
 with_entry volume d e = do
   inside ← needs (not (nat_lt volume (end_of d + size_of e))) PastVolume
   single ← needs (is_new (names_of d.entries) e) SameName
   Ok (record d { entries = tidy (d.entries ++ e ∷ []) })
 
 -- so many entries more
-unfoldable pub with_entries : ℕ → ℕ → Listed → List ℕ → Result Listed DirFault
+unfoldable pub with_entries : ℕ → ℕ → DirectoryState → List ℕ → Result DirectoryState DirFault
 with_entries zero volume d words = Ok d
 with_entries (suc count) volume d words = do
   e ← entry_at d.info words
@@ -68,7 +68,7 @@ with_entries (suc count) volume d words = do
   with_entries count volume more e.1
 
 -- one more segment, where the directory's first block and its number of information words are known
-unfoldable pub with_segment : ℕ → Listed → ℕ → List ℕ → Result Listed DirFault
+unfoldable pub with_segment : ℕ → DirectoryState → ℕ → List ℕ → Result DirectoryState DirFault
 with_segment volume d number words = do
   few ← needs (not (nat_lt 10 (minus (word words 4)))) (BadCount number)
   same ← needs (minus (word words 4) == d.info) MixedInfo
@@ -80,7 +80,7 @@ abbrev pub is_unread : List ℕ → ℕ → Bool
 is_unread read number = nat_lt number FIRST_FILE_BLOCK && not (contains read number)
 
 -- the segments from a link on, of which `left` may still come; the link stands in block `from`
-unfoldable pub with_links : ℕ → Listed → List (List ℕ) → List ℕ → ℕ → ℕ → Result Listed DirFault
+unfoldable pub with_links : ℕ → DirectoryState → List (List ℕ) → List ℕ → ℕ → ℕ → Result DirectoryState DirFault
 with_links left d blocks read from zero = Ok d
 with_links zero d blocks read from (suc n) = Err (BadLink from)
 with_links (suc left) d blocks read from (suc n) = do
@@ -93,14 +93,14 @@ abbrev pub is_first : ℕ → ℕ → Bool
 is_first volume first = not (nat_lt first FIRST_FILE_BLOCK) && not (nat_lt volume first)
 
 -- what the first segment says of the whole directory
-unfoldable pub head_of : ℕ → List ℕ → Result Listed DirFault
+unfoldable pub head_of : ℕ → List ℕ → Result DirectoryState DirFault
 head_of volume words = do
   few ← needs (not (nat_lt 10 (minus (word words 4)))) (BadCount 1)
   starts ← needs (is_first volume (word words 1)) WrongFirstBlock
   Ok (record { first = word words 1; info = minus (word words 4); entries = [] })
 
 -- the directory that the blocks of a volume hold, or the first fault; the first segment stands in block 1, and five more may come
-unfoldable pub directory_of : List (List ℕ) → Result Listed DirFault
+unfoldable pub directory_of : List (List ℕ) → Result DirectoryState DirFault
 directory_of blocks = do
   head ← head_of (length blocks) (block blocks 1)
   one ← with_segment (length blocks) head 1 (block blocks 1)

@@ -5,7 +5,7 @@ use Rattle.std.specs.BTreeSet.{BTreeSet, contains}
 use Rattle.std.specs.Borrow.{Bor}
 use Rattle.os8_dir.specs.declared.entries.DirEntry.{DirEntry}
 use Rattle.os8_dir.specs.declared.entries.DirEntry.TheVariants.{File, Empty}
-use Rattle.os8_dir.specs.Names.{padded}
+use Rattle.os8_dir.specs.Names.{with_end_zeros}
 use Rattle.os8_dir.specs.Entries.{is_zero, names_of, contains as listed}
 use Rattle.os8_dir.specs.Found.{room_of}
 use Rattle.os8_dir.specs.declared.faults.DirFault.{DirFault}
@@ -22,7 +22,7 @@ is_named name (Empty size) = false
 -- the information words of an entry; those of an empty are 0
 abbrev pub words_in : DirEntry → List ℕ
 words_in (File name info size) = info
-words_in (Empty size) = padded 10 []
+words_in (Empty size) = with_end_zeros 10 []
 
 -- the information words of the file of a name
 abbrev pub information_in : ℕ → List DirEntry → Option (List ℕ)
@@ -76,9 +76,9 @@ LeavesRead (Ok x) new read = read ≡ Ok new
 LeavesRead (Err fault) new read = MeetsFault fault read
 
 -- words are written over others from a place on
-abbrev pub written : List ℕ → ℕ → List ℕ → List ℕ
-written segment at [] = segment
-written segment at (w ∷ words) = written (slice_set segment at w) (at + 1) words
+abbrev pub with_words_from : List ℕ → ℕ → List ℕ → List ℕ
+with_words_from segment at [] = segment
+with_words_from segment at (w ∷ words) = with_words_from (slice_set segment at w) (at + 1) words
 
 -- an empty, and the file of a name above it
 abbrev pub is_gap : ℕ → DirEntry → DirEntry → Bool

@@ -2,7 +2,7 @@ ghost use Rattle.std.specs.Prelude.{◌≡◌, ◌+◌, ◌<◌, ◌≤◌, ◌+
 ghost use Rattle.word12.specs.declared.sizes.TheConstants.{MOST_BLOCKS};
 ghost use Rattle.os8_dir.specs.Entries.{size_of, total, tidy, IsTidy, IsNamed};
 ghost use Rattle.os8_dir.specs.Found.{files_at, rooms_at, find as found, extent_of};
-ghost use Rattle.os8_dir.specs.Changes.{emptied_entry, removed as removed_of, laid, put, emptied as emptied_of, placed as placed_of, swapped, moved_down as moved_down_of, gap_below, LieIn, relisted, new_file};
+ghost use Rattle.os8_dir.specs.Changes.{emptied_entry, without_file as removed_of, parts_of_empty, put, entries_without as emptied_of, with_new_file as placed_of, with_file_lower, moved_down as moved_down_of, gap_below, LieIn, directory_with, new_file};
 ghost use Rattle.os8_dir.specs.declared.faults.DirFault.TheVariants.{Memory};
 
 use crate::appending::{append, append_all};
@@ -13,7 +13,7 @@ use std::alloc::{AllocError, Global};
 use word12::Word;
 
 /// An entry, or its blocks where it is the file of a name.
-fn emptied(entry: &DirEntry, name: Name) -> DirEntry
+fn entry_without(entry: &DirEntry, name: Name) -> DirEntry
     ensures { result ≡ emptied_entry name entry.now }
 {
     match entry {
@@ -39,7 +39,7 @@ fn without(alloc: Global, entries: &[DirEntry], name: Name) -> Result<Vec<DirEnt
 {
     let mut kept = Vec::new(alloc);
     for entry in entries {
-        append(&mut kept, emptied(entry, name))?;
+        append(&mut kept, entry_without(entry, name))?;
     }
     Ok(kept)
 }
@@ -56,7 +56,7 @@ fn append_laid(
     requires fits { total kept.old.items + size_of entry ≤ MOST_BLOCKS }
     requires inside { place + size_of entry ≤ MOST_BLOCKS }
     requires near { from + size_of file.now ≤ MOST_BLOCKS }
-    ensures { OnOk result (kept.new.items ≡ tidy (kept.old.items ++ laid place from file.now entry)) }
+    ensures { OnOk result (kept.new.items ≡ tidy (kept.old.items ++ parts_of_empty place from file.now entry)) }
 {
     match entry {
         DirEntry::File { .. } => append(kept, entry),
@@ -95,14 +95,14 @@ fn with_file(
     let mut kept = Vec::new(alloc);
     let mut place = first;
     for entry in entries {
-        append_laid(&mut kept, place, from, file, emptied(entry, name))?;
+        append_laid(&mut kept, place, from, file, entry_without(entry, name))?;
         place += entry.length();
     }
     Ok(kept)
 }
 
 /// The entries, where the file of a name stands below the empty that was directly below it.
-fn lowered(alloc: Global, entries: &[DirEntry], name: Name) -> Result<Vec<DirEntry>, AllocError>
+fn entries_with_file_lower(alloc: Global, entries: &[DirEntry], name: Name) -> Result<Vec<DirEntry>, AllocError>
     requires gap { 0 < gap_below name entries.now }
     requires fits { total entries.now ≤ MOST_BLOCKS }
     ensures { IfOk result (λ kept. kept.items ≡ moved_down_of name entries.now) }
@@ -123,7 +123,7 @@ impl Directory {
     pub(crate) fn with_list(&self, entries: Vec<DirEntry>) -> Directory
         requires neat { IsTidy entries.items }
         requires same { total entries.items ≡ total self.now.entries }
-        ensures { result ≡ relisted self.now entries.items }
+        ensures { result ≡ directory_with self.now entries.items }
     {
         let first = self.first_block();
         let end = first + self.capacity();
@@ -132,9 +132,9 @@ impl Directory {
 
     /// The directory without the file of a name, whose blocks are an empty (this project's profile). The only fault is
     /// that there is no memory.
-    pub fn removed(&self, alloc: Global, name: &Name) -> Result<Directory, DirFault>
+    pub fn without_file(&self, alloc: Global, name: &Name) -> Result<Directory, DirFault>
         requires there { IsSome (extent_of (found name.now (files_at self.now.first self.now.entries))) }
-        ensures list { IfOk result (λ d. d ≡ relisted self.now (removed_of name.now self.now.entries)) }
+        ensures list { IfOk result (λ d. d ≡ directory_with self.now (removed_of name.now self.now.entries)) }
         ensures err { IfErr result (λ fault. fault ≡ Memory) }
     {
         let entries = without(alloc, self.entries(), *name)?;
@@ -144,7 +144,7 @@ impl Directory {
     /// The directory with one more file, of `length` blocks from `first_block` on, which lie in one empty; an older file
     /// of its name goes. Of the words given the first are its information words, and missing ones are 0 (this project's
     /// profile). The only fault is that there is no memory.
-    pub fn placed(
+    pub fn with_new_file(
         &self,
         alloc: Global,
         name: &Name,
@@ -156,7 +156,7 @@ impl Directory {
         requires some { 0 < length }
         requires room { LieIn first_block length (rooms_at self.now.first self.now.entries) }
         ensures list { IfOk result (λ d. d
-            ≡ relisted self.now (placed_of self.now.first
+            ≡ directory_with self.now (placed_of self.now.first
             (new_file self.now name.now info.now first_block length) self.now.entries)) }
         ensures err { IfErr result (λ fault. fault ≡ Memory) }
     {
@@ -175,10 +175,10 @@ impl Directory {
     /// profile). The only fault is that there is no memory.
     pub fn moved_down(&self, alloc: Global, name: &Name) -> Result<Directory, DirFault>
         requires gap { 0 < gap_below name.now self.now.entries }
-        ensures list { IfOk result (λ d. d ≡ relisted self.now (moved_down_of name.now self.now.entries)) }
+        ensures list { IfOk result (λ d. d ≡ directory_with self.now (moved_down_of name.now self.now.entries)) }
         ensures err { IfErr result (λ fault. fault ≡ Memory) }
     {
-        let entries = lowered(alloc, self.entries(), *name)?;
+        let entries = entries_with_file_lower(alloc, self.entries(), *name)?;
         Ok(self.with_list(entries))
     }
 }

@@ -1,6 +1,6 @@
 ghost use Rattle.std.specs.Prelude.{◌≡◌, ℕ, ◌+◌, ◌<◌, ◌≤◌, length, IfOk, IfSome};
 ghost use Rattle.word12.specs.declared.sizes.TheConstants.{FIRST_FILE_BLOCK, MOST_BLOCKS};
-ghost use Rattle.os8_dir.specs.Entries.{Listed, minus as minus_of, size_of, total, IsTidy, capacity as capacity_of};
+ghost use Rattle.os8_dir.specs.Entries.{DirectoryState, minus as minus_of, size_of, total, IsTidy, capacity as capacity_of};
 ghost use Rattle.os8_dir.specs.Kept.{IsKept};
 ghost use Rattle.os8_dir.specs.Found.{files_at, rooms_at, find as found, extent_of, information_of as information_of_found, largest as largest_of, size_or_zero, free_blocks, used_blocks, count_files as count_of, limit as limit_of};
 ghost use Rattle.os8_dir.specs.Changes.{fitting as fitting_of, lowest_above as lowest_above_of};
@@ -22,10 +22,10 @@ pub struct Directory {
 }
 
 impl Model for Directory {
-    ghost use Rattle.os8_dir.specs.Entries.{Listed};
+    ghost use Rattle.os8_dir.specs.Entries.{DirectoryState};
     ghost use Rattle.os8_dir.specs.Kept.{IsKept};
 
-    ghost Value = { Listed };
+    ghost Value = { DirectoryState };
 
     ghost view = { λ d. record { first = d.first; info = d.info; entries = d.entries.items } };
 

@@ -26,10 +26,10 @@ pub struct Draft {
 }
 
 impl Model for Draft {
-    ghost use Rattle.os8_dir.specs.Entries.{Listed};
+    ghost use Rattle.os8_dir.specs.Entries.{DirectoryState};
     ghost use Rattle.os8_dir.specs.Steps.{IsDraft};
 
-    ghost Value = { Listed };
+    ghost Value = { DirectoryState };
 
     ghost view = { λ d. record { first = d.first; info = d.info; entries = d.entries.items } };
 

@@ -1,7 +1,7 @@
 ghost use Rattle.std.specs.Prelude.{◌≡◌, ℕ, ◌+◌, ◌<◌, ◌≤◌, ◌++◌, length, take, drop};
 ghost use Rattle.word12.specs.declared.sizes.TheConstants.{MOST_BLOCKS};
 ghost use Rattle.os8_dir.specs.Entries.{total, IsTidy};
-ghost use Rattle.os8_dir.specs.Changes.{gap_below, swapped, lowest_above as lowest_above_of, fitting as fitting_of};
+ghost use Rattle.os8_dir.specs.Changes.{gap_below, with_file_lower, lowest_above as lowest_above_of, fitting as fitting_of};
 ghost use Rattle.os8_dir.specs.Found.{files_at, rooms_at, find as found, extent_of, largest, size_or_zero, room_of, free_blocks as free_of, count_files as count_of};
 ghost use Rattle.os8_dir.specs.Steps.{is_named as is_named_in, last_room as last_room_of, is_gap as is_gap_in, beats as beats_in, with_room as with_room_of, words_in as words_in_entry, information_in};
 
@@ -139,7 +139,7 @@ fn is_gap(low: &DirEntry, high: &DirEntry, name: Name) -> bool
 pub fn gap_place(entries: &[DirEntry], name: Name) -> usize
     requires { 0 < gap_below name entries.now }
     ensures range { result + 2 ≤ length entries.now }
-    ensures list { swapped name entries.now ≡ take result entries.now
+    ensures list { with_file_lower name entries.now ≡ take result entries.now
         ++ (take 1 (drop 1 (drop result entries.now))
         ++ (take 1 (drop result entries.now) ++ drop 1 (drop 1 (drop result entries.now)))) }
 {

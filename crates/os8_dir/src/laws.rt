@@ -3,15 +3,15 @@ ghost use Rattle.std.specs.Prelude.{◌≡◌, ◌≢◌, ◌+◌, ◌-◌, ◌*
 ghost use Rattle.word12.specs.declared.sizes.TheConstants.{FIRST_FILE_BLOCK, MOST_BLOCKS};
 ghost use Rattle.std.specs.FinMap.{get, from_entries};
 ghost use Rattle.volume_image.specs.Image.{IsNewVolume};
-ghost use Rattle.os8_dir.specs.Names.{name_of, padded, IsFourWords, IsBefore};
-ghost use Rattle.os8_dir.specs.Entries.{Listed, capacity, total, IsTidy, IsNamed};
+ghost use Rattle.os8_dir.specs.Names.{name_of, with_end_zeros, IsFourWords, IsBefore};
+ghost use Rattle.os8_dir.specs.Entries.{DirectoryState, capacity, total, IsTidy, IsNamed};
 ghost use Rattle.os8_dir.specs.Reading.{Sound, HasFault, IsOfWords, block, directory_of};
-ghost use Rattle.os8_dir.specs.Found.{Placed, IsDirectory, files_at, find, rooms_at, largest, size_or_zero, free_blocks, count_files, count_empties, limit, above, IsTight};
-ghost use Rattle.os8_dir.specs.Files.{files_of, held_of, capacity_of, limit_of, above_of, held_by};
+ghost use Rattle.os8_dir.specs.Found.{FilePlace, IsDirectory, files_at, find, rooms_at, largest, size_or_zero, free_blocks, count_files, count_empties, limit, above, IsTight};
+ghost use Rattle.os8_dir.specs.Files.{files_of, data_if_there, capacity_of, limit_of, above_of, data_of_files};
 ghost use Rattle.os8_dir.specs.Chosen.{IsFirstLargest, IsFirstSmallest, IsLowestAbove, IsCountAbove};
 ghost use Rattle.os8_dir.specs.Segments.{HoldsSegments};
-ghost use Rattle.os8_dir.specs.Changes.{removed, placed, moved_down, relisted, new_file, lowered, fitting, lowest_above, gap_below, LieIn, IsRoom};
-ghost use Rattle.os8_dir.specs.Renaming.{renamed, with_name};
+ghost use Rattle.os8_dir.specs.Changes.{without_file, with_new_file, moved_down, directory_with, new_file, file_lower, fitting, lowest_above, gap_below, LieIn, IsRoom};
+ghost use Rattle.os8_dir.specs.Renaming.{with_new_name, with_name};
 ghost use Rattle.os8_dir.specs.declared.faults.DirFault.{DirFault};
 ghost use Rattle.os8_dir.specs.declared.entries.DirEntry.{DirEntry};
 
@@ -30,14 +30,14 @@ pub fn faults_of_words()
 /// What a sound volume is read as is a directory: no two files have one name, each file lies inside the volume, and
 /// files do not overlap. No entry has length 0, no empties touch, and its entries can be written.
 pub fn sound_directory()
-    ensures { (blocks : List (List ℕ)) (d : Listed) → directory_of blocks ≡ Ok d
+    ensures { (blocks : List (List ℕ)) (d : DirectoryState) → directory_of blocks ≡ Ok d
         → IsDirectory (length blocks) d }
 {}
 
 /// A volume whose blocks 1, 2 and so on hold the segments of a directory is read as that directory, where six segments
 /// take its entries.
 pub fn read_back()
-    ensures { (blocks : List (List ℕ)) (d : Listed) → IsDirectory (length blocks) d
+    ensures { (blocks : List (List ℕ)) (d : DirectoryState) → IsDirectory (length blocks) d
         → length blocks ≤ MOST_BLOCKS → length d.entries ≤ limit d → HoldsSegments blocks d
         → directory_of blocks ≡ Ok d }
 {}
@@ -50,14 +50,14 @@ pub fn directory_blocks()
 
 /// The map of a sound volume's files has, for each name, what the blocks hold of the file that is found under it.
 pub fn files_found()
-    ensures { (blocks : List (List ℕ)) (d : Listed) (name : ℕ) → directory_of blocks ≡ Ok d
-        → get (files_of blocks) name ≡ held_of blocks d.info (find name (files_at d.first d.entries)) }
+    ensures { (blocks : List (List ℕ)) (d : DirectoryState) (name : ℕ) → directory_of blocks ≡ Ok d
+        → get (files_of blocks) name ≡ data_if_there blocks d.info (find name (files_at d.first d.entries)) }
 {}
 
 /// The map of a sound volume's files is made of the files of its directory with what the blocks hold of each.
 pub fn files_made()
-    ensures { (blocks : List (List ℕ)) (d : Listed) → directory_of blocks ≡ Ok d
-        → files_of blocks ≡ from_entries (held_by blocks d.info (files_at d.first d.entries)) }
+    ensures { (blocks : List (List ℕ)) (d : DirectoryState) → directory_of blocks ≡ Ok d
+        → files_of blocks ≡ from_entries (data_of_files blocks d.info (files_at d.first d.entries)) }
 {}
 
 /// Of two names, the one whose first differing word is less comes first.
@@ -69,11 +69,11 @@ pub fn name_order()
 /// A sound volume's directory covers as many blocks, may have as many entries, and has as many files with an empty
 /// below them as what the volume is read as.
 pub fn directory_numbers()
-    ensures capacity { (blocks : List (List ℕ)) (d : Listed) → directory_of blocks ≡ Ok d
+    ensures capacity { (blocks : List (List ℕ)) (d : DirectoryState) → directory_of blocks ≡ Ok d
         → capacity_of blocks ≡ capacity d }
-    ensures limit { (blocks : List (List ℕ)) (d : Listed) → directory_of blocks ≡ Ok d
+    ensures limit { (blocks : List (List ℕ)) (d : DirectoryState) → directory_of blocks ≡ Ok d
         → limit_of blocks ≡ limit d }
-    ensures above { (blocks : List (List ℕ)) (d : Listed) → directory_of blocks ≡ Ok d
+    ensures above { (blocks : List (List ℕ)) (d : DirectoryState) → directory_of blocks ≡ Ok d
         → above_of blocks ≡ above d.entries }
 {}
 
@@ -96,10 +96,10 @@ pub fn unsound_volumes()
 
 /// A file that is found has its name and some blocks, and lies inside its directory's volume; two files do not overlap.
 pub fn files_inside()
-    ensures inside { (volume name : ℕ) (d : Listed) (f : Placed) → IsDirectory volume d
+    ensures inside { (volume name : ℕ) (d : DirectoryState) (f : FilePlace) → IsDirectory volume d
         → find name (files_at d.first d.entries) ≡ Some f
         → (f.name ≡ name) × (d.first ≤ f.place) × (0 < f.size) × (f.place + f.size ≤ volume) }
-    ensures apart { (volume name other : ℕ) (d : Listed) (f g : Placed) → IsDirectory volume d → name ≢ other
+    ensures apart { (volume name other : ℕ) (d : DirectoryState) (f g : FilePlace) → IsDirectory volume d → name ≢ other
         → find name (files_at d.first d.entries) ≡ Some f → find other (files_at d.first d.entries) ≡ Some g
         → (f.place + f.size ≤ g.place) ⊎ (g.place + g.size ≤ f.place) }
 {}
@@ -107,14 +107,14 @@ pub fn files_inside()
 /// Without a file a directory is one of the same volume that covers as many blocks and has no more entries. The file is
 /// gone, and the others are found as before.
 pub fn file_removed()
-    ensures directory { (volume name : ℕ) (d : Listed) → IsDirectory volume d
-        → IsDirectory volume (relisted d (removed name d.entries)) }
+    ensures directory { (volume name : ℕ) (d : DirectoryState) → IsDirectory volume d
+        → IsDirectory volume (directory_with d (without_file name d.entries)) }
     ensures gone { (name first : ℕ) (es : List DirEntry)
-        → find name (files_at first (removed name es)) ≡ None }
+        → find name (files_at first (without_file name es)) ≡ None }
     ensures others { (name other first : ℕ) (es : List DirEntry) → name ≢ other
-        → find other (files_at first (removed name es)) ≡ find other (files_at first es) }
-    ensures covered { (name : ℕ) (es : List DirEntry) → total (removed name es) ≡ total es }
-    ensures entries { (name : ℕ) (es : List DirEntry) → length (removed name es) ≤ length es }
+        → find other (files_at first (without_file name es)) ≡ find other (files_at first es) }
+    ensures covered { (name : ℕ) (es : List DirEntry) → total (without_file name es) ≡ total es }
+    ensures entries { (name : ℕ) (es : List DirEntry) → length (without_file name es) ≤ length es }
 {}
 
 /// With one more file a directory is one of the same volume that covers as many blocks. The file is found where it was
@@ -122,37 +122,37 @@ pub fn file_removed()
 /// the beginning of an empty, there is at most one entry more. Where its name is new too, and no file had an empty below
 /// it, no file has one then.
 pub fn file_placed()
-    ensures directory { (volume name place size : ℕ) (words : List ℕ) (d : Listed) → IsDirectory volume d
+    ensures directory { (volume name place size : ℕ) (words : List ℕ) (d : DirectoryState) → IsDirectory volume d
         → IsNamed name → 0 < size
-        → IsDirectory volume (relisted d (placed d.first (new_file d name words place size) d.entries)) }
-    ensures there { (first : ℕ) (f : Placed) (es : List DirEntry) → 0 < f.size
-        → LieIn f.place f.size (rooms_at first es) → find f.name (files_at first (placed first f es))
+        → IsDirectory volume (directory_with d (with_new_file d.first (new_file d name words place size) d.entries)) }
+    ensures there { (first : ℕ) (f : FilePlace) (es : List DirEntry) → 0 < f.size
+        → LieIn f.place f.size (rooms_at first es) → find f.name (files_at first (with_new_file first f es))
         ≡ Some f }
-    ensures info { (name place size : ℕ) (words : List ℕ) (d : Listed) → d.info ≤ 10
-        → take d.info (new_file d name words place size).info ≡ padded d.info words }
-    ensures others { (other first : ℕ) (f : Placed) (es : List DirEntry) → f.name ≢ other
-        → find other (files_at first (placed first f es)) ≡ find other (files_at first es) }
-    ensures covered { (first : ℕ) (f : Placed) (es : List DirEntry) → total (placed first f es) ≡ total es }
-    ensures entries { (first size : ℕ) (f : Placed) (es : List DirEntry) → 0 < f.size → f.size ≤ size
-        → IsRoom f.place size (rooms_at first es) → length (placed first f es) ≤ length es + 1 }
-    ensures tight { (first size : ℕ) (f : Placed) (es : List DirEntry) → IsTidy es → IsTight es
+    ensures info { (name place size : ℕ) (words : List ℕ) (d : DirectoryState) → d.info ≤ 10
+        → take d.info (new_file d name words place size).info ≡ with_end_zeros d.info words }
+    ensures others { (other first : ℕ) (f : FilePlace) (es : List DirEntry) → f.name ≢ other
+        → find other (files_at first (with_new_file first f es)) ≡ find other (files_at first es) }
+    ensures covered { (first : ℕ) (f : FilePlace) (es : List DirEntry) → total (with_new_file first f es) ≡ total es }
+    ensures entries { (first size : ℕ) (f : FilePlace) (es : List DirEntry) → 0 < f.size → f.size ≤ size
+        → IsRoom f.place size (rooms_at first es) → length (with_new_file first f es) ≤ length es + 1 }
+    ensures tight { (first size : ℕ) (f : FilePlace) (es : List DirEntry) → IsTidy es → IsTight es
         → find f.name (files_at first es) ≡ None → 0 < f.size → f.size ≤ size
-        → IsRoom f.place size (rooms_at first es) → IsTight (placed first f es) }
+        → IsRoom f.place size (rooms_at first es) → IsTight (with_new_file first f es) }
 {}
 
 /// With a file moved down a directory is one of the same volume that covers as many blocks and has no more entries. The
 /// file was found directly above an empty, and is found so much lower, and the others are found as before.
 pub fn file_moved_down()
-    ensures directory { (volume name : ℕ) (d : Listed) → IsDirectory volume d
-        → IsDirectory volume (relisted d (moved_down name d.entries)) }
-    ensures found { (volume name : ℕ) (d : Listed) → IsDirectory volume d → 0 < gap_below name d.entries
-        → (f : Placed) × ((find name (files_at d.first d.entries) ≡ Some f)
+    ensures directory { (volume name : ℕ) (d : DirectoryState) → IsDirectory volume d
+        → IsDirectory volume (directory_with d (moved_down name d.entries)) }
+    ensures found { (volume name : ℕ) (d : DirectoryState) → IsDirectory volume d → 0 < gap_below name d.entries
+        → (f : FilePlace) × ((find name (files_at d.first d.entries) ≡ Some f)
         × (gap_below name d.entries ≤ f.place)
         × IsRoom (f.place - gap_below name d.entries) (gap_below name d.entries)
         (rooms_at d.first d.entries)) }
-    ensures there { (volume name : ℕ) (d : Listed) → IsDirectory volume d → 0 < gap_below name d.entries
+    ensures there { (volume name : ℕ) (d : DirectoryState) → IsDirectory volume d → 0 < gap_below name d.entries
         → find name (files_at d.first (moved_down name d.entries))
-        ≡ lowered (gap_below name d.entries) (find name (files_at d.first d.entries)) }
+        ≡ file_lower (gap_below name d.entries) (find name (files_at d.first d.entries)) }
     ensures others { (name other first : ℕ) (es : List DirEntry) → name ≢ other
         → find other (files_at first (moved_down name es)) ≡ find other (files_at first es) }
     ensures covered { (name : ℕ) (es : List DirEntry) → total (moved_down name es) ≡ total es }
@@ -190,7 +190,7 @@ pub fn rooms()
         → size_or_zero (largest rooms) < wish }
     ensures lie { (place size from count : ℕ) (rooms : List (ℕ × ℕ)) → IsRoom place size rooms → place ≤ from
         → from + count ≤ place + size → LieIn from count rooms }
-    ensures outside { (from count name first : ℕ) (es : List DirEntry) (f : Placed)
+    ensures outside { (from count name first : ℕ) (es : List DirEntry) (f : FilePlace)
         → LieIn from count (rooms_at first es) → find name (files_at first es) ≡ Some f
         → (f.place + f.size ≤ from) ⊎ (from + count ≤ f.place) }
 {}
@@ -215,26 +215,26 @@ pub fn entry_counts()
 /// the same empties. The file is found under the new name where it was, with its information words, and no more under the old
 /// one; the others are found as before. With the old name again it is the list that it was.
 pub fn file_renamed()
-    ensures directory { (volume name new : ℕ) (d : Listed) → IsDirectory volume d → IsNamed new
+    ensures directory { (volume name new : ℕ) (d : DirectoryState) → IsDirectory volume d → IsNamed new
         → find new (files_at d.first d.entries) ≡ None
-        → IsDirectory volume (relisted d (renamed name new d.entries)) }
+        → IsDirectory volume (directory_with d (with_new_name name new d.entries)) }
     ensures gone { (name new first : ℕ) (es : List DirEntry) → name ≢ new
-        → find name (files_at first (renamed name new es)) ≡ None }
+        → find name (files_at first (with_new_name name new es)) ≡ None }
     ensures there { (name new first : ℕ) (es : List DirEntry) → find new (files_at first es) ≡ None
-        → find new (files_at first (renamed name new es)) ≡ with_name new (find name (files_at first es)) }
+        → find new (files_at first (with_new_name name new es)) ≡ with_name new (find name (files_at first es)) }
     ensures others { (name new other first : ℕ) (es : List DirEntry) → name ≢ other → new ≢ other
-        → find other (files_at first (renamed name new es)) ≡ find other (files_at first es) }
-    ensures covered { (name new : ℕ) (es : List DirEntry) → total (renamed name new es) ≡ total es }
-    ensures entries { (name new : ℕ) (es : List DirEntry) → length (renamed name new es) ≡ length es }
+        → find other (files_at first (with_new_name name new es)) ≡ find other (files_at first es) }
+    ensures covered { (name new : ℕ) (es : List DirEntry) → total (with_new_name name new es) ≡ total es }
+    ensures entries { (name new : ℕ) (es : List DirEntry) → length (with_new_name name new es) ≡ length es }
     ensures rooms { (name new first : ℕ) (es : List DirEntry)
-        → rooms_at first (renamed name new es) ≡ rooms_at first es }
-    ensures above { (name new : ℕ) (es : List DirEntry) → above (renamed name new es) ≡ above es }
+        → rooms_at first (with_new_name name new es) ≡ rooms_at first es }
+    ensures above { (name new : ℕ) (es : List DirEntry) → above (with_new_name name new es) ≡ above es }
     ensures back { (name new first : ℕ) (es : List DirEntry) → IsTidy es
-        → find new (files_at first es) ≡ None → renamed new name (renamed name new es) ≡ es }
+        → find new (files_at first es) ≡ None → with_new_name new name (with_new_name name new es) ≡ es }
 {}
 
 /// The information words of a file that is found are those that its directory has for each entry, and zeros after them.
 pub fn file_information()
-    ensures { (volume name : ℕ) (d : Listed) (f : Placed) → IsDirectory volume d
-        → find name (files_at d.first d.entries) ≡ Some f → padded 10 (take d.info f.info) ≡ f.info }
+    ensures { (volume name : ℕ) (d : DirectoryState) (f : FilePlace) → IsDirectory volume d
+        → find name (files_at d.first d.entries) ≡ Some f → with_end_zeros 10 (take d.info f.info) ≡ f.info }
 {}

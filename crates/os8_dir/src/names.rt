@@ -1,7 +1,7 @@
 ghost use Rattle.std.specs.Prelude.{◌≡◌, ℕ, ◌+◌, ◌*◌, ◌/◌, ◌%◌, ◌<◌, ◌≤◌, ◌^◌, length, IfSome};
 ghost use Rattle.os8_dir.specs.Entries.{IsNamed};
 ghost use Rattle.os8_dir.specs.Names.{name_of, words_of_name, before_dot, codes_within, parsed_name};
-ghost use Rattle.os8_dir.specs.PackSteps.{packed as packed_of, packed_codes, extension_from};
+ghost use Rattle.os8_dir.specs.PackSteps.{number_of_codes as packed_of, packed_codes, extension_from};
 
 use std::marker::Model;
 use word12::{Word, sixbit};
@@ -41,7 +41,7 @@ fn dot_in(text: &[u8]) -> usize
 }
 
 /// The sixbit codes of up to `size` characters, with zeros after them, as one number to the base 64.
-fn packed(text: &[u8], size: u8) -> Option<u64>
+fn number_of_codes(text: &[u8], size: u8) -> Option<u64>
     requires { size ≤ 6 }
     ensures number { result ≡ packed_codes size text.now }
     ensures range { IfSome result (λ number. number < 0o100 ^ size) }
@@ -53,7 +53,7 @@ fn packed(text: &[u8], size: u8) -> Option<u64>
                 return None;
             }
             let code = sixbit(*first)?;
-            let behind = packed(rest, size - 1)?;
+            let behind = number_of_codes(rest, size - 1)?;
             Some(u64::from(code) * 64u64.pow(u32::from(size) - 1) + behind)
         }
     }
@@ -68,7 +68,7 @@ fn packed_within(text: &[u8], size: u8) -> Option<u64>
     if text.is_empty() {
         return None;
     }
-    packed(text, size)
+    number_of_codes(text, size)
 }
 
 /// The extension that stands from the first dot on, as one number to the base 64.

@@ -1,5 +1,5 @@
 ghost use Rattle.std.specs.Prelude.{◌≡◌, ℕ, ◌+◌, ◌-◌, ◌<◌, ◌≤◌, ◌∷◌, [], length, take, IfOk};
-ghost use Rattle.os8_dir.specs.Names.{padded};
+ghost use Rattle.os8_dir.specs.Names.{with_end_zeros};
 ghost use Rattle.os8_dir.specs.Entries.{minus as minus_of, size_of};
 ghost use Rattle.os8_dir.specs.Reading.{file_at as file_of, empty_at as empty_of, entry_at as entry_of};
 ghost use Rattle.os8_dir.specs.Steps.{seen_entry, Shows};
@@ -20,7 +20,7 @@ pub fn minus(word: Word) -> usize
 pub fn information(words: &[Word], info: usize) -> [Word; 10]
     requires few { info ≤ 10 }
     requires there { info ≤ length words.now }
-    ensures { result ≡ padded 10 (take info words.now) }
+    ensures { result ≡ with_end_zeros 10 (take info words.now) }
 {
     let mut kept = [Word::ZERO; 10];
     for k in 0..info {

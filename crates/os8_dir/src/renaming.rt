@@ -1,8 +1,8 @@
 ghost use Rattle.std.specs.Prelude.{◌≡◌, None, IfOk, IfErr, IsSome};
 ghost use Rattle.os8_dir.specs.Entries.{IsNamed};
 ghost use Rattle.os8_dir.specs.Found.{files_at, find as found, extent_of};
-ghost use Rattle.os8_dir.specs.Changes.{relisted};
-ghost use Rattle.os8_dir.specs.Renaming.{renamed_name as renamed_name_of, renamed_entry as renamed_entry_of, renamed as renamed_of};
+ghost use Rattle.os8_dir.specs.Changes.{directory_with};
+ghost use Rattle.os8_dir.specs.Renaming.{renamed_name as renamed_name_of, renamed_entry as renamed_entry_of, with_new_name as renamed_of};
 ghost use Rattle.os8_dir.specs.declared.faults.DirFault.TheVariants.{Memory};
 
 use crate::{DirEntry, DirFault, Directory, Name};
@@ -52,12 +52,12 @@ fn with_name(
 impl Directory {
     /// The directory in which the file of a name has a new one, that no file has. Its entry keeps its place, its length and its
     /// information words (this project's profile). The only fault is that there is no memory.
-    pub fn renamed(&self, alloc: Global, name: &Name, new_name: Name) -> Result<Directory, DirFault>
+    pub fn with_new_name(&self, alloc: Global, name: &Name, new_name: Name) -> Result<Directory, DirFault>
         requires there { IsSome (extent_of (found name.now (files_at self.now.first self.now.entries))) }
         requires named { IsNamed new_name }
         requires fresh { found new_name (files_at self.now.first self.now.entries) ≡ None }
         ensures list { IfOk result (λ d. d
-            ≡ relisted self.now (renamed_of name.now new_name self.now.entries)) }
+            ≡ directory_with self.now (renamed_of name.now new_name self.now.entries)) }
         ensures err { IfErr result (λ fault. fault ≡ Memory) }
     {
         let entries = with_name(alloc, self.entries(), *name, new_name)?;

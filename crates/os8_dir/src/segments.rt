@@ -3,7 +3,7 @@ ghost use Rattle.word12.specs.declared.sizes.TheConstants.{BLOCK, MOST_BLOCKS};
 ghost use Rattle.os8_dir.specs.Entries.{minus as minus_of, size_of, total};
 ghost use Rattle.os8_dir.specs.Found.{per_segment as per_segment_of, limit as limit_of};
 ghost use Rattle.os8_dir.specs.Segments.{words_of_entry, words_of_entries, words_of_segment, segment_count as segment_count_of, link_of, segment_of};
-ghost use Rattle.os8_dir.specs.Steps.{written};
+ghost use Rattle.os8_dir.specs.Steps.{with_words_from};
 
 use crate::{DirEntry, Directory};
 use volume_image::Block;
@@ -41,7 +41,7 @@ fn blocks_of(entries: &[DirEntry]) -> usize
 /// Writes words into a segment from a place on.
 fn put_words(segment: &mut Block, at: usize, words: &[Word])
     requires { at + length words.now ≤ BLOCK }
-    ensures { segment.new ≡ written segment.old at words.now }
+    ensures { segment.new ≡ with_words_from segment.old at words.now }
 {
     for k in 0..words.len() {
         segment[at + k] = words[k];
@@ -53,7 +53,7 @@ fn put_entry(segment: &mut Block, at: usize, entry: &DirEntry, info: usize) -> u
     requires few { info ≤ 10 }
     requires fits { at + 5 + info ≤ BLOCK }
     requires small { size_of entry.now < 0o10000 }
-    ensures words { segment.new ≡ written segment.old at (words_of_entry info entry.now) }
+    ensures words { segment.new ≡ with_words_from segment.old at (words_of_entry info entry.now) }
     ensures place { result ≡ at + length (words_of_entry info entry.now) }
     ensures range { result ≤ at + 5 + info }
 {
@@ -83,7 +83,7 @@ fn put_entries(segment: &mut Block, entries: &[DirEntry], info: usize)
     requires few { info ≤ 10 }
     requires fits { length entries.now * (5 + info) ≤ 251 }
     requires small { total entries.now ≤ MOST_BLOCKS }
-    ensures { segment.new ≡ written segment.old 5 (words_of_entries info entries.now) }
+    ensures { segment.new ≡ with_words_from segment.old 5 (words_of_entries info entries.now) }
 {
     let mut at = 5;
     for entry in entries {
@@ -109,7 +109,7 @@ fn put_segment(segment: &mut Block, entries: &[DirEntry], first: usize, info: us
 }
 
 /// The block of the segment after one that is counted from 0; 0 where that is the last.
-fn link_behind(count: usize, number: usize) -> u16
+fn link_after(count: usize, number: usize) -> u16
     requires most { count ≤ MOST_BLOCKS }
     requires inside { number < count }
     ensures value { result ≡ link_of count number }
@@ -144,7 +144,7 @@ impl Directory {
         let size = per_segment(info);
         let (before, rest) = self.entries().split_at(number * size);
         let (entries, _) = rest.split_at(size.min(rest.len()));
-        let link = link_behind(self.segment_count(), number);
+        let link = link_after(self.segment_count(), number);
         put_segment(
             words,
             entries,

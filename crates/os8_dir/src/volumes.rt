@@ -1,8 +1,8 @@
 ghost use Rattle.std.specs.Prelude.{◌≡◌, ℕ, ◌+◌, ◌<◌, ◌≤◌, [], ◌∷◌, length, is_ok, if◌then◌else◌, OnOk, IfOk, IfErr};
 ghost use Rattle.word12.specs.declared.sizes.TheConstants.{MOST_BLOCKS};
-ghost use Rattle.volume_image.specs.Volume.{counted};
+ghost use Rattle.volume_image.specs.Volume.{next_count};
 ghost use Rattle.os8_dir.specs.Reading.{GivesReading, word, block, directory_of, with_links, with_segment, is_device};
-ghost use Rattle.os8_dir.specs.Reads.{judged_from, segments_judged, ReadsSegments};
+ghost use Rattle.os8_dir.specs.Reads.{segments_to_fault, segments_judged, ReadsSegments};
 ghost use Rattle.os8_dir.specs.Found.{IsDirectory};
 ghost use Rattle.os8_dir.specs.Steps.{LeavesRead};
 ghost use Rattle.os8_dir.specs.declared.faults.DirFault.TheVariants.{Device};
@@ -24,7 +24,7 @@ fn read_block<S: BlockStore>(
     ensures err { IfErr result (λ fault. fault ≡ Device) }
     ensures same { S.contents store.new ≡ S.contents store.old }
     ensures reads { S.reads store.new ≤ S.reads store.old + 1 }
-    ensures count { S.reads store.new ≡ counted (S.reads store.old) }
+    ensures count { S.reads store.new ≡ next_count (S.reads store.old) }
     ensures failed_reads { S.failed_reads store.new
         ≡ (if is_ok result then S.failed_reads store.old else S.failed_reads store.old + 1) }
     ensures failed_writes { S.failed_writes store.new ≡ S.failed_writes store.old }
@@ -76,7 +76,7 @@ impl Draft {
         ensures link { IfOk result (λ link. link ≡ word (block (S.contents store.old) number) 2) }
         ensures same { S.contents store.new ≡ S.contents store.old }
         ensures reads { S.reads store.new ≤ S.reads store.old + 1 }
-        ensures count { S.reads store.new ≡ counted (S.reads store.old) }
+        ensures count { S.reads store.new ≡ next_count (S.reads store.old) }
         ensures failed_reads { S.failed_reads store.new
             ≡ (if is_device result then S.failed_reads store.old + 1 else S.failed_reads store.old) }
         ensures failed_writes { S.failed_writes store.new ≡ S.failed_writes store.old }
@@ -104,7 +104,7 @@ impl Draft {
         ensures same { S.contents store.new ≡ S.contents store.old }
         ensures reads { S.reads store.new ≤ S.reads store.old + 5 }
         ensures segments { ReadsSegments
-            (judged_from 5 self.old (S.contents store.old) (1 ∷ []) first_link) result (S.reads store.old)
+            (segments_to_fault 5 self.old (S.contents store.old) (1 ∷ []) first_link) result (S.reads store.old)
             (S.reads store.new) }
         ensures failed_reads { S.failed_reads store.new
             ≡ (if is_device result then S.failed_reads store.old + 1 else S.failed_reads store.old) }

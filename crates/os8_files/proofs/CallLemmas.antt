@@ -6,13 +6,13 @@ use Rattle.std.proofs.lemmas.List.{get_or-take, get_or-drop, length-take-le, len
 use Rattle.std.proofs.lemmas.List.Elements.{All-take, All-drop}
 use Rattle.std.proofs.lemmas.Option.{get_or_from_slice_get}
 use Rattle.std.specs.FinMap.{get}
-use Rattle.volume_image.specs.Volume.{IsVolume, IsBlock, counted}
-use Rattle.os8_dir.specs.Entries.{Listed}
+use Rattle.volume_image.specs.Volume.{IsVolume, IsBlock, next_count}
+use Rattle.os8_dir.specs.Entries.{DirectoryState}
 use Rattle.os8_dir.specs.Reading.{block, directory_of}
-use Rattle.os8_dir.specs.Found.{Placed, IsDirectory, AreApart, files_at, find, extent_of}
-use Rattle.os8_dir.specs.Files.{files_of, held, held_of}
+use Rattle.os8_dir.specs.Found.{FilePlace, IsDirectory, AreApart, files_at, find, extent_of}
+use Rattle.os8_dir.specs.Files.{files_of, data_of_file, data_if_there}
 use Rattle.os8_dir.specs.Segments.{HoldsSegments, segment_count, segment_of}
-use Rattle.os8_files.specs.Mounted.{Mounted}
+use Rattle.os8_files.specs.Mounted.{MountState}
 use Rattle.os8_files.specs.Service.{blocks_of}
 use Rattle.os8_files.specs.Calls.{HasFailed, HasBlock, HasRead, StopsInPart}
 use Rattle.os8_files.specs.WriteSteps.{with_segments, HasDirectory, KeepsHigh, RewritesDirectory}
@@ -23,7 +23,7 @@ use Rattle.os8_files.proofs.WrittenLemmas.{block-segments, run-high, held-kept, 
 
 -- The files of a directory, where it is what the blocks are read as.
 abbrev pub FindsFiles : Type 0
-FindsFiles = (blocks : List (List ℕ)) (d : Listed) (name : ℕ) → directory_of blocks ≡ Ok d → get (files_of blocks) name ≡ held_of blocks d.info (find name (files_at d.first d.entries))
+FindsFiles = (blocks : List (List ℕ)) (d : DirectoryState) (name : ℕ) → directory_of blocks ≡ Ok d → get (files_of blocks) name ≡ data_if_there blocks d.info (find name (files_at d.first d.entries))
 
 -- What a directory is read of.
 abbrev pub ReadsLow : Type 0
@@ -38,7 +38,7 @@ pub none-of : {A : Type 0} (o : Option A) → is_some o ≡ false → o ≡ None
 none-of None out = refl
 none-of (Some x) out = cc
 
-pub held-none : (blocks : List (List ℕ)) (info : ℕ) (f : Option Placed) → extent_of f ≡ None → held_of blocks info f ≡ None
+pub held-none : (blocks : List (List ℕ)) (info : ℕ) (f : Option FilePlace) → extent_of f ≡ None → data_if_there blocks info f ≡ None
 held-none blocks info None none = refl
 held-none blocks info (Some f) none = cc
 
@@ -50,23 +50,23 @@ abbrev second_or : Option (ℕ × ℕ) → ℕ
 second_or None = 0
 second_or (Some p) = p.1
 
-pub found-some : (o : Option Placed) (place size : ℕ) → extent_of o ≡ Some (place, size) → (f : Placed) × (o ≡ Some f) × (f.place ≡ place) × (f.size ≡ size)
+pub found-some : (o : Option FilePlace) (place size : ℕ) → extent_of o ≡ Some (place, size) → (f : FilePlace) × (o ≡ Some f) × (f.place ≡ place) × (f.size ≡ size)
 found-some None place size is = cc
 found-some (Some f) place size is = (f, refl, ap first_or is, ap second_or is)
 
-pub extent-at : (f : Placed) (place size : ℕ) → extent_of (Some f) ≡ Some (place, size) → (f.place ≡ place) × (f.size ≡ size)
+pub extent-at : (f : FilePlace) (place size : ℕ) → extent_of (Some f) ≡ Some (place, size) → (f.place ≡ place) × (f.size ≡ size)
 extent-at f place size is = (ap first_or is, ap second_or is)
 
-pub find-from : (name from bound : ℕ) (files : List Placed) (f : Placed) → AreApart from bound files → find name files ≡ Some f → from ≤ f.place
+pub find-from : (name from bound : ℕ) (files : List FilePlace) (f : FilePlace) → AreApart from bound files → find name files ≡ Some f → from ≤ f.place
 find-from name from bound [] f apart found = cc
 find-from name from bound (g ∷ gs) f apart found =
     (elim (g.name == name) as (λ b. (if b then Some g else find name gs) ≡ Some f → from ≤ f.place) [
-      | true ↦ λ here. let same : g ≡ f = cc in omega (arith, apart.0, ap (λ (p : Placed). p.place) same)
+      | true ↦ λ here. let same : g ≡ f = cc in omega (arith, apart.0, ap (λ (p : FilePlace). p.place) same)
       | false ↦ λ behind. let low = find-from name (g.place + g.size) bound gs f apart.2 behind in omega (arith, apart.0, low)
     ]) found
 
 -- A block that is read.
-pub read-inside : (finds : FindsFiles) (m : Mounted) (d : Listed) (name k place size : ℕ) → IsVolume m.blocks → directory_of m.blocks ≡ Ok d → IsDirectory (length m.blocks) d
+pub read-inside : (finds : FindsFiles) (m : MountState) (d : DirectoryState) (name k place size : ℕ) → IsVolume m.blocks → directory_of m.blocks ≡ Ok d → IsDirectory (length m.blocks) d
     → extent_of (find name (files_at d.first d.entries)) ≡ Some (place, size) → HasBlock m name k → (k < size) × (place + size ≤ length m.blocks)
 read-inside finds m d name k place size volume kept is found longer =
     let f = found-some (find name (files_at d.first d.entries)) place size found in
@@ -75,9 +75,9 @@ read-inside finds m d name k place size volume kept is found longer =
     ap blocks_of (finds m.blocks d name kept) ∙ sym (blocks_found m.blocks d.info name d.first (files_at d.first d.entries) volume.each is.apart (find name (files_at d.first d.entries)) refl) ∙ ap told found in
     (longer size told', omega (arith, within, f.2, f.3))
 
-pub read-done : (finds : FindsFiles) (m new : Mounted) (d : Listed) (name k place size : ℕ) (words : List ℕ) → IsVolume m.blocks → m.stopped ≡ false → directory_of m.blocks ≡ Ok d → IsDirectory (length m.blocks) d
+pub read-done : (finds : FindsFiles) (m new : MountState) (d : DirectoryState) (name k place size : ℕ) (words : List ℕ) → IsVolume m.blocks → m.stopped ≡ false → directory_of m.blocks ≡ Ok d → IsDirectory (length m.blocks) d
     → extent_of (find name (files_at d.first d.entries)) ≡ Some (place, size) → HasBlock m name k → slice_get m.blocks (place + k) ≡ Some words
-    → new ≡ record m { reads = counted m.reads } → HasRead m name k words new
+    → new ≡ record m { reads = next_count m.reads } → HasRead m name k words new
 read-done finds m new d name k place size words volume running kept is found longer read others =
     let f = found-some (find name (files_at d.first d.entries)) place size found in
     let inside = read-inside finds m d name k place size volume kept is found longer in
@@ -86,8 +86,8 @@ read-done finds m new d name k place size words volume running kept is found lon
     let at : f.0.place + k ≡ place + k = ap (λ p. p + k) f.2 in
     record {
       running = running;
-      file = held m.blocks d.info f.0;
-      there = finds m.blocks d name kept ∙ ap (held_of m.blocks d.info) f.1;
+      file = data_of_file m.blocks d.info f.0;
+      there = finds m.blocks d name kept ∙ ap (data_if_there m.blocks d.info) f.1;
       whole = whole-run m.blocks f.0 volume.each (omega (arith, inside.1, f.2, f.3));
       inside = omega (arith, inside.0, f.3, blocks-run m.blocks f.0 volume.each (omega (arith, inside.1, f.2, f.3)));
       most = omega (arith, blocks-run m.blocks f.0 volume.each (omega (arith, inside.1, f.2, f.3)), inside.1, f.3, volume.most);
@@ -100,10 +100,10 @@ read-done finds m new d name k place size words volume running kept is found lon
     }
 
 -- A directory that is written.
-pub holds-segments : (old new : List (List ℕ)) (d : Listed) → new ≡ with_segments (segment_count d) d old → segment_count d < length old → HoldsSegments new d
+pub holds-segments : (old new : List (List ℕ)) (d : DirectoryState) → new ≡ with_segments (segment_count d) d old → segment_count d < length old → HoldsSegments new d
 holds-segments old new d is inside = λ k less. subst (λ (bs : List (List ℕ)). get_or bs (k + 1) [] ≡ segment_of d k) (sym is) (block-segments (segment_count d) d old k inside less)
 
-pub by-rewrite : (old new : Mounted) (d : Listed) (r : Result (Unit {0}) FileFault) (P : Result (Unit {0}) FileFault → Type 0) → RewritesDirectory old d r new → ((done : Unit {0}) → HasDirectory old d new → P (Ok done)) → (HasFailed old new → KeepsHigh old.blocks new.blocks → StopsInPart old.blocks new.blocks d old.writes new.writes → P (Err Device)) → P r
+pub by-rewrite : (old new : MountState) (d : DirectoryState) (r : Result (Unit {0}) FileFault) (P : Result (Unit {0}) FileFault → Type 0) → RewritesDirectory old d r new → ((done : Unit {0}) → HasDirectory old d new → P (Ok done)) → (HasFailed old new → KeepsHigh old.blocks new.blocks → StopsInPart old.blocks new.blocks d old.writes new.writes → P (Err Device)) → P r
 by-rewrite old new d (Ok done) P is ok failed = ok done is
 by-rewrite old new d (Err NotFound) P is ok failed = absurd is
 by-rewrite old new d (Err (NoRoom n)) P is ok failed = absurd is
@@ -118,7 +118,7 @@ by-rewrite old new d (Err Memory) P is ok failed = absurd is
 by-rewrite old new d (Err NothingWritten) P is ok failed = absurd is
 
 -- A file that the directory has, and whose blocks lie above the segments.
-pub file-kept : (old new : List (List ℕ)) (d : Listed) (name : ℕ) → IsDirectory (length old) d → drop 7 new ≡ drop 7 old → held_of new d.info (find name (files_at d.first d.entries)) ≡ held_of old d.info (find name (files_at d.first d.entries))
+pub file-kept : (old new : List (List ℕ)) (d : DirectoryState) (name : ℕ) → IsDirectory (length old) d → drop 7 new ≡ drop 7 old → data_if_there new d.info (find name (files_at d.first d.entries)) ≡ data_if_there old d.info (find name (files_at d.first d.entries))
 file-kept old new d name is same =
     held-kept old new d.info (find name (files_at d.first d.entries)) (λ g found.
     let low = find-from name d.first (length old) (files_at d.first d.entries) g is.apart found in

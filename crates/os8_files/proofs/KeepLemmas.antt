@@ -3,10 +3,10 @@ use Rattle.std.proofs.Common.{◌≡◌, ℕ, suc, ◌+◌, ◌-◌, ◌<◌, �
 use Rattle.std.proofs.Math.ListN.{length-set}
 use Rattle.std.proofs.lemmas.List.{get_or-drop, drop-set-add, length-drop}
 use Rattle.std.proofs.lemmas.Grind.{take-set_at}
-use Rattle.os8_dir.specs.Entries.{Listed}
+use Rattle.os8_dir.specs.Entries.{DirectoryState}
 use Rattle.os8_dir.specs.Reading.{directory_of, block}
-use Rattle.os8_dir.specs.Files.{joined, run, of_directory}
-use Rattle.os8_files.specs.Mounted.{Mounted}
+use Rattle.os8_dir.specs.Files.{join_blocks, run, of_directory}
+use Rattle.os8_files.specs.Mounted.{MountState}
 use Rattle.os8_files.specs.Calls.{KeepsBlocks, info_of}
 use Rattle.os8_files.specs.WriteSteps.{HasDirectory, KeepsHigh, with_run}
 use Rattle.os8_files.proofs.RunLemmas.{length-with_run, block-with_run}
@@ -37,7 +37,7 @@ written-keeps old new place words high is = record {
   ];
 }
 
-pub directory-keeps : (old new : Mounted) (d : Listed) → HasDirectory old d new → KeepsBlocks old.blocks new.blocks 0 0
+pub directory-keeps : (old new : MountState) (d : DirectoryState) → HasDirectory old d new → KeepsBlocks old.blocks new.blocks 0 0
 directory-keeps old new d done = record {
   count = done.size;
   first = done.first;
@@ -67,7 +67,7 @@ moved-high-keeps old mid new to size ws copied long high keeps =
       behind = λ k above beside. block-high mid new k keeps.high above ∙ run.behind k above beside;
     }
 
-pub moved-keeps : (old mid new : Mounted) (d : Listed) (to size : ℕ) (ws : List (List ℕ)) → mid.blocks ≡ with_run old.blocks to ws → length ws ≡ size → 7 ≤ to → HasDirectory mid d new → KeepsBlocks old.blocks new.blocks to size
+pub moved-keeps : (old mid new : MountState) (d : DirectoryState) (to size : ℕ) (ws : List (List ℕ)) → mid.blocks ≡ with_run old.blocks to ws → length ws ≡ size → 7 ≤ to → HasDirectory mid d new → KeepsBlocks old.blocks new.blocks to size
 moved-keeps old mid new d to size ws copied long high done = record {
   count = done.size ∙ ap (λ (bs : List (List ℕ)). length bs) copied ∙ length-with_run old.blocks to ws;
   first = done.first ∙ ap (λ bs. block bs 0) copied ∙ block-with_run old.blocks to ws 0 (omega (arith, high));
@@ -77,20 +77,20 @@ moved-keeps old mid new d to size ws copied long high done = record {
   ];
 }
 
-pub info-of : (blocks : List (List ℕ)) (d : Listed) → directory_of blocks ≡ Ok d → info_of blocks ≡ d.info
-info-of blocks d read = ap (of_directory (λ (x : Listed). x.info)) read
+pub info-of : (blocks : List (List ℕ)) (d : DirectoryState) → directory_of blocks ≡ Ok d → info_of blocks ≡ d.info
+info-of blocks d read = ap (of_directory (λ (x : DirectoryState). x.info)) read
 
 -- One block more of the words of a run.
-joined-more : (bs : List (List ℕ)) (w : List ℕ) → joined (bs ++ w ∷ []) ≡ joined bs ++ w
+joined-more : (bs : List (List ℕ)) (w : List ℕ) → join_blocks (bs ++ w ∷ []) ≡ join_blocks bs ++ w
 joined-more [] w = append-none w
   where
     append-none : (ws : List ℕ) → ws ++ [] ≡ ws
     append-none [] = refl
     append-none (x ∷ ws) = ap (λ r. x ∷ r) (append-none ws)
-joined-more (b ∷ bs) w = ap (λ r. b ++ r) (joined-more bs w) ∙ sym (append_assoc b (joined bs) w)
+joined-more (b ∷ bs) w = ap (λ r. b ++ r) (joined-more bs w) ∙ sym (append_assoc b (join_blocks bs) w)
 
 pub text-more : (blocks : List (List ℕ)) (place written : ℕ) (w : List ℕ) → place + written < length blocks → run (slice_set blocks (place + written) w) place (written + 1) ≡ run blocks place written ++ w
 text-more blocks place written w inside =
-    ap (λ bs. joined (take (written + 1) bs)) (drop-set-add place blocks written w)
-    ∙ ap joined (take-set_at (drop place blocks) written (written + 1) w refl (omega (arith, length-drop place blocks, inside)))
+    ap (λ bs. join_blocks (take (written + 1) bs)) (drop-set-add place blocks written w)
+    ∙ ap join_blocks (take-set_at (drop place blocks) written (written + 1) w refl (omega (arith, length-drop place blocks, inside)))
     ∙ joined-more (take written (drop place blocks)) w

@@ -3,12 +3,12 @@ use Rattle.std.proofs.Common.{◌≡◌, ℕ, ◌+◌, ◌*◌, ◌≤◌, All, 
 use Rattle.std.proofs.lemmas.List.{length-take-le}
 use Rattle.std.proofs.lemmas.List.Elements.{All-take, All-drop, All-head, All-tail}
 use Rattle.volume_image.specs.Volume.{IsBlock}
-use Rattle.os8_dir.specs.Files.{joined, run}
+use Rattle.os8_dir.specs.Files.{join_blocks, run}
 
-length-joined : (bs : List (List ℕ)) → All IsBlock bs → length (joined bs) ≡ 256 * length bs
+length-joined : (bs : List (List ℕ)) → All IsBlock bs → length (join_blocks bs) ≡ 256 * length bs
 length-joined [] each = refl
 length-joined (b ∷ bs) each =
-    length-append b (joined bs)
+    length-append b (join_blocks bs)
     ∙ omega (arith, All-head IsBlock b bs each, length-joined bs (All-tail IsBlock b bs each))
 
 pub length-run : (blocks : List (List ℕ)) (place size : ℕ) → All IsBlock blocks → place + size ≤ length blocks → length (run blocks place size) ≡ 256 * size

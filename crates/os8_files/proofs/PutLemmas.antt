@@ -2,16 +2,16 @@
 use lib.Pointwise.{pointwise}
 use Rattle.std.proofs.Common.{◌≡◌, ◌⊎◌, ℕ, zero, suc, ◌+◌, ◌/◌, ◌<◌, ◌≤◌, Bool, false, true, true≢false, nat_eq, if◌then◌else◌, List, [], ◌++◌, length, Option, Some, None, Result, Ok, Err, refl, ap, sym, subst, ◌∙◌, arith, add-one, inl, inr}
 use Rattle.std.specs.FinMap.{get, insert}
-use Rattle.volume_image.specs.Volume.{counted}
+use Rattle.volume_image.specs.Volume.{next_count}
 use Rattle.os8_dir.specs.Files.{files_of, capacity_of, limit_of, above_of, of_directory, run}
 use Rattle.os8_dir.specs.Entries.{IsNamed, contains}
-use Rattle.os8_dir.specs.Names.{padded}
+use Rattle.os8_dir.specs.Names.{with_end_zeros}
 use Rattle.os8_dir.specs.Reading.{directory_of, block}
-use Rattle.os8_dir.specs.Changes.{fitting, placed, new_file}
-use Rattle.os8_files.specs.Mounted.{Mounted, Begun}
-use Rattle.os8_files.specs.Failed.{KeepsDirectory, FoundAgain, StandInFull, IsWrittenInPart, extent_or, listed_or, with_list}
+use Rattle.os8_dir.specs.Changes.{fitting, with_new_file, new_file}
+use Rattle.os8_files.specs.Mounted.{MountState, NewFile}
+use Rattle.os8_files.specs.Failed.{KeepsDirectory, FoundAgain, StandInFull, IsWrittenInPart, extent_or, directory_or, with_list}
 use Rattle.os8_files.specs.Service.{count_of}
-use Rattle.os8_files.specs.Calls.{IsOf, IsOver, KeepsBlocks, HasWritten, HasEntered, HasFailed, WritesBlock, Enters, ClosesFile, HasClosed, PlaceFailed, RisesBy, info_of, new_held, entries_with, list_with, files_with, rooms_of, Spent, counted_more, differing}
+use Rattle.os8_files.specs.Calls.{IsOf, IsOver, KeepsBlocks, HasWritten, HasEntered, HasFailed, WritesBlock, Enters, ClosesFile, HasClosed, PlaceFailed, RisesBy, info_of, new_held, entries_with, list_with, files_with, rooms_of, WithoutNewFile, counted_more, differing}
 use Rattle.os8_files.specs.Puts.{HasPutWith, HasKept, PutFailedWith, PutsFileWith, file_with, blocks_filled, all_written, entries_put_with, list_put_with}
 use Rattle.os8_files.specs.Steps.{IsBeginning, HasFilled, FillsFile}
 use Rattle.os8_dir.specs.declared.file_faults.FileFault.{FileFault}
@@ -26,12 +26,12 @@ more-counted zero two n = ap (λ k. counted_more k n) none
   where
     none : two ≡ zero + two
     none = omega arith
-more-counted (suc one) two n = ap counted (more-counted one two n) ∙ ap (λ k. counted_more k n) next
+more-counted (suc one) two n = ap next_count (more-counted one two n) ∙ ap (λ k. counted_more k n) next
   where
     next : suc (one + two) ≡ suc one + two
     next = omega arith
 
-once-more : (k n : ℕ) → counted (counted_more k n) ≡ counted_more (k + 1) n
+once-more : (k n : ℕ) → next_count (counted_more k n) ≡ counted_more (k + 1) n
 once-more k n = ap (λ j. counted_more j n) (sym (add-one k))
 
 few-differ : (m : ℕ) (old new : List (List ℕ)) → differing m old new ≤ m
@@ -89,7 +89,7 @@ kept-wider old new place less size few kept = record { count = kept.count; first
 -- ## Blocks are written
 
 -- a file that was begun has no block
-pub filled_none : (m : Mounted) (token blocks : ℕ) (b : IsBeginning m token blocks) → HasFilled m b.begun [] 0 m
+pub filled_none : (m : MountState) (token blocks : ℕ) (b : IsBeginning m token blocks) → HasFilled m b.begun [] 0 m
 filled_none m token blocks b = record {
   was = b.was;
   text = refl;
@@ -101,43 +101,43 @@ filled_none m token blocks b = record {
   info = refl;
   above = refl;
   writes = refl;
-  others = ap (λ (t : Option Begun). record m { tentative = t }) (b.was ∙ ap (λ n. Some (record { name = b.begun.name; place = b.begun.place; room = b.begun.room; written = n })) b.none);
+  others = ap (λ (t : Option NewFile). record m { tentative = t }) (b.was ∙ ap (λ n. Some (record { name = b.begun.name; place = b.begun.place; room = b.begun.room; written = n })) b.none);
 }
 
 -- the file that is being written, after some blocks
-pub begun_now : (old : Mounted) (begun : Begun) (prefix : List ℕ) (written : ℕ) (mid : Mounted) → HasFilled old begun prefix written mid → mid.tentative ≡ Some (record { name = begun.name; place = begun.place; room = begun.room; written = written })
-begun_now old begun prefix written mid done = ap (λ (m : Mounted). m.tentative) done.others
+pub begun_now : (old : MountState) (begun : NewFile) (prefix : List ℕ) (written : ℕ) (mid : MountState) → HasFilled old begun prefix written mid → mid.tentative ≡ Some (record { name = begun.name; place = begun.place; room = begun.room; written = written })
+begun_now old begun prefix written mid done = ap (λ (m : MountState). m.tentative) done.others
 
 -- one more block
-pub filled_more : (old : Mounted) (begun : Begun) (prefix words : List ℕ) (written : ℕ) (mid new : Mounted) → HasFilled old begun prefix written mid → HasWritten mid words new → HasFilled old begun (prefix ++ words) (written + 1) new
+pub filled_more : (old : MountState) (begun : NewFile) (prefix words : List ℕ) (written : ℕ) (mid new : MountState) → HasFilled old begun prefix written mid → HasWritten mid words new → HasFilled old begun (prefix ++ words) (written + 1) new
 filled_more old begun prefix words written mid new done more = record {
   was = done.was;
-  text = ap (λ (b : Begun). run new.blocks b.place (b.written + 1)) (sym same) ∙ more.text ∙ ap (λ (b : Begun). run mid.blocks b.place b.written ++ words) same ∙ ap (λ l. l ++ words) done.text;
+  text = ap (λ (b : NewFile). run new.blocks b.place (b.written + 1)) (sym same) ∙ more.text ∙ ap (λ (b : NewFile). run mid.blocks b.place b.written ++ words) same ∙ ap (λ l. l ++ words) done.text;
   kept = keeps-trans old.blocks mid.blocks new.blocks done.kept more.kept;
-  others_kept = kept-more old.blocks mid.blocks new.blocks begun.place written _ done.others_kept more.others_kept (ap (λ (b : Begun). b.place + b.written) same);
+  others_kept = kept-more old.blocks mid.blocks new.blocks begun.place written _ done.others_kept more.others_kept (ap (λ (b : NewFile). b.place + b.written) same);
   files = more.files ∙ done.files;
   capacity = more.capacity ∙ done.capacity;
   limit = more.limit ∙ done.limit;
   info = more.info ∙ done.info;
   above = more.above ∙ done.above;
-  writes = ap (λ (m : Mounted). m.writes) more.others ∙ ap counted done.writes ∙ once-more written old.writes;
-  others = more.others ∙ ap (λ (b : Begun). record mid { blocks = new.blocks; writes = counted mid.writes; tentative = Some (record { name = b.name; place = b.place; room = b.room; written = b.written + 1 }) }) same ∙ ap (λ (m : Mounted). record m { blocks = new.blocks; writes = counted mid.writes; tentative = Some (record { name = begun.name; place = begun.place; room = begun.room; written = written + 1 }) }) done.others
-      ∙ ap (λ n. record old { blocks = new.blocks; writes = n; tentative = Some (record { name = begun.name; place = begun.place; room = begun.room; written = written + 1 }) }) (sym (ap (λ (m : Mounted). m.writes) more.others));
+  writes = ap (λ (m : MountState). m.writes) more.others ∙ ap next_count done.writes ∙ once-more written old.writes;
+  others = more.others ∙ ap (λ (b : NewFile). record mid { blocks = new.blocks; writes = next_count mid.writes; tentative = Some (record { name = b.name; place = b.place; room = b.room; written = b.written + 1 }) }) same ∙ ap (λ (m : MountState). record m { blocks = new.blocks; writes = next_count mid.writes; tentative = Some (record { name = begun.name; place = begun.place; room = begun.room; written = written + 1 }) }) done.others
+      ∙ ap (λ n. record old { blocks = new.blocks; writes = n; tentative = Some (record { name = begun.name; place = begun.place; room = begun.room; written = written + 1 }) }) (sym (ap (λ (m : MountState). m.writes) more.others));
 }
   where
     same : more.begun ≡ record { name = begun.name; place = begun.place; room = begun.room; written = written }
     same = some-same _ _ (sym more.was ∙ begun_now old begun prefix written mid done)
 
 -- a write failed over blocks that have the directory of the first ones
-failed-from : (old mid new : Mounted) → KeepsDirectory old.blocks mid.blocks → mid ≡ record old { blocks = mid.blocks; writes = mid.writes } → HasFailed mid new → HasFailed old new
+failed-from : (old mid new : MountState) → KeepsDirectory old.blocks mid.blocks → mid ≡ record old { blocks = mid.blocks; writes = mid.writes } → HasFailed mid new → HasFailed old new
 failed-from old mid new kept is failed =
     failed
-    ∙ ap (λ (m : Mounted). record m { blocks = new.blocks; writes = new.writes; failed_writes = m.failed_writes + 1; stopped = true; last = listed_or (directory_of mid.blocks) }) is
-    ∙ ap (λ r. record old { blocks = new.blocks; writes = new.writes; failed_writes = old.failed_writes + 1; stopped = true; last = listed_or r }) kept.directory
+    ∙ ap (λ (m : MountState). record m { blocks = new.blocks; writes = new.writes; failed_writes = m.failed_writes + 1; stopped = true; last = directory_or (directory_of mid.blocks) }) is
+    ∙ ap (λ r. record old { blocks = new.blocks; writes = new.writes; failed_writes = old.failed_writes + 1; stopped = true; last = directory_or r }) kept.directory
 
 -- a block that was not written
-pub filled_not : (old : Mounted) (begun : Begun) (prefix words all : List ℕ) (written blocks : ℕ) (mid new : Mounted) (why : FileFault) → old.stopped ≡ false → HasFilled old begun prefix written mid → blocks ≤ begun.room → written < blocks → WritesBlock mid words (Err why) new → FillsFile old all blocks (Err why) new
-filled_not old begun prefix words all written blocks mid new TooLong running done fits short failed = absurd (past (ap (λ (b : Begun). b.room) same) (ap (λ (b : Begun). b.written) same) failed.3)
+pub filled_not : (old : MountState) (begun : NewFile) (prefix words all : List ℕ) (written blocks : ℕ) (mid new : MountState) (why : FileFault) → old.stopped ≡ false → HasFilled old begun prefix written mid → blocks ≤ begun.room → written < blocks → WritesBlock mid words (Err why) new → FillsFile old all blocks (Err why) new
+filled_not old begun prefix words all written blocks mid new TooLong running done fits short failed = absurd (past (ap (λ (b : NewFile). b.room) same) (ap (λ (b : NewFile). b.written) same) failed.3)
   where
     same : failed.1 ≡ record { name = begun.name; place = begun.place; room = begun.room; written = written }
     same = some-same _ _ (sym failed.2 ∙ begun_now old begun prefix written mid done)
@@ -149,14 +149,14 @@ filled_not old begun prefix words all written blocks mid new Device running done
   was = done.was;
   files = record { kept = keeps-trans old.blocks mid.blocks new.blocks done.kept failed.files.kept; files = failed.files.files ∙ done.files };
   others_kept = kept-wider old.blocks new.blocks begun.place (written + 1) blocks (omega (arith, short))
-      (kept-more old.blocks mid.blocks new.blocks begun.place written _ done.others_kept failed.blocks (ap (λ (b : Begun). b.place + b.written) same));
-  writes = record { number = written + 1; some = omega arith; few = omega (arith, short); rise = failed.writes ∙ ap counted done.writes ∙ once-more written old.writes };
-  others = failed-from (Spent old) (Spent mid) (Spent new) done.kept (ap Spent done.others) (ap Spent failed.others);
+      (kept-more old.blocks mid.blocks new.blocks begun.place written _ done.others_kept failed.blocks (ap (λ (b : NewFile). b.place + b.written) same));
+  writes = record { number = written + 1; some = omega arith; few = omega (arith, short); rise = failed.writes ∙ ap next_count done.writes ∙ once-more written old.writes };
+  others = failed-from (WithoutNewFile old) (WithoutNewFile mid) (WithoutNewFile new) done.kept (ap WithoutNewFile done.others) (ap WithoutNewFile failed.others);
 }
   where
     same : failed.begun ≡ record { name = begun.name; place = begun.place; room = begun.room; written = written }
     same = some-same _ _ (sym failed.was ∙ begun_now old begun prefix written mid done)
-filled_not old begun prefix words all written blocks mid new Stopped running done fits short failed = absurd (true≢false (sym failed.0 ∙ ap (λ (m : Mounted). m.stopped) done.others ∙ running))
+filled_not old begun prefix words all written blocks mid new Stopped running done fits short failed = absurd (true≢false (sym failed.0 ∙ ap (λ (m : MountState). m.stopped) done.others ∙ running))
 filled_not old begun prefix words all written blocks mid new NotFound running done fits short failed = absurd failed
 filled_not old begun prefix words all written blocks mid new (NoRoom n) running done fits short failed = absurd failed
 filled_not old begun prefix words all written blocks mid new DirectoryFull running done fits short failed = absurd failed
@@ -169,14 +169,14 @@ filled_not old begun prefix words all written blocks mid new NothingWritten runn
 -- ## The file is begun
 
 -- a file that could not be begun
-pub entered_not : (given : List ℕ) (old new : Mounted) (name blocks : ℕ) (words : List ℕ) (why : FileFault) → IsNamed name → 0 < blocks → blocks ≡ blocks_filled words → old.tentative ≡ None → Enters old name blocks (Err why) new → PutsFileWith old name given words (Err why) new
+pub entered_not : (given : List ℕ) (old new : MountState) (name blocks : ℕ) (words : List ℕ) (why : FileFault) → IsNamed name → 0 < blocks → blocks ≡ blocks_filled words → old.tentative ≡ None → Enters old name blocks (Err why) new → PutsFileWith old name given words (Err why) new
 entered_not given old new name blocks words BadName named some count none failed = absurd (unnamed (name / 68719476736) named failed.1)
   where
     unnamed : (n : ℕ) → 0 < n → n ≡ 0 → ⊥
     unnamed n more is = omega (arith, more, is)
 entered_not given old new name blocks words TentativeOpen named some count none failed = absurd (open_none failed.2 (sym none ∙ failed.3))
   where
-    open_none : (b : Begun) → None ≡ Some b → ⊥
+    open_none : (b : NewFile) → None ≡ Some b → ⊥
     open_none b is = cc
 entered_not given old new name blocks words (Busy other) named some count none failed = (failed.0, failed.2, failed.3, failed.4)
 entered_not given old new name blocks words (NoRoom n) named some count none failed = (failed.0, failed.2, subst (λ most. n < most) count (failed.5 some), failed.6, failed.7, subst (λ wish. fitting wish (rooms_of old.blocks) ≡ None) count failed.3)
@@ -189,30 +189,30 @@ entered_not given old new name blocks words Memory named some count none failed 
 entered_not given old new name blocks words NothingWritten named some count none failed = absurd failed
 
 -- a file that was begun
-pub entered_beginning : (old new : Mounted) (name blocks token : ℕ) (e : HasEntered old name blocks token new) → blocks ≤ e.room → IsBeginning new token blocks
+pub entered_beginning : (old new : MountState) (name blocks token : ℕ) (e : HasEntered old name blocks token new) → blocks ≤ e.room → IsBeginning new token blocks
 entered_beginning old new name blocks token e fits = record {
-  running = ap (λ (m : Mounted). m.stopped) e.others ∙ e.ready.running;
+  running = ap (λ (m : MountState). m.stopped) e.others ∙ e.ready.running;
   begun = record { name = name; place = e.place; room = e.room; written = 0 };
-  was = ap (λ (m : Mounted). m.tentative) e.others;
+  was = ap (λ (m : MountState). m.tentative) e.others;
   name = sym e.token;
   none = refl;
   fits = fits;
 }
 
 -- its name
-pub filled_of : (old m1 m2 : Mounted) (name blocks token token' : ℕ) (words : List ℕ) (begun : Begun) → HasEntered old name blocks token m1 → HasFilled m1 begun words blocks m2 → token' ≡ token → IsOf m2 token'
+pub filled_of : (old m1 m2 : MountState) (name blocks token token' : ℕ) (words : List ℕ) (begun : NewFile) → HasEntered old name blocks token m1 → HasFilled m1 begun words blocks m2 → token' ≡ token → IsOf m2 token'
 filled_of old m1 m2 name blocks token token' words begun e done same = (
   _,
   begun_now m1 begun words blocks m2 done,
-  ap (λ (b : Begun). b.name) (some-same _ _ (sym done.was ∙ ap (λ (m : Mounted). m.tentative) e.others)) ∙ sym e.token ∙ sym same,
+  ap (λ (b : NewFile). b.name) (some-same _ _ (sym done.was ∙ ap (λ (m : MountState). m.tentative) e.others)) ∙ sym e.token ∙ sym same,
 )
 
 -- without the file that was begun all is as before
-spent-entered : (old m1 : Mounted) (name blocks token : ℕ) → HasEntered old name blocks token m1 → Spent m1 ≡ old
-spent-entered old m1 name blocks token e = ap Spent e.others ∙ ap (λ (t : Option Begun). record old { tentative = t }) (sym e.ready.none)
+spent-entered : (old m1 : MountState) (name blocks token : ℕ) → HasEntered old name blocks token m1 → WithoutNewFile m1 ≡ old
+spent-entered old m1 name blocks token e = ap WithoutNewFile e.others ∙ ap (λ (t : Option NewFile). record old { tentative = t }) (sym e.ready.none)
 
 -- a file whose blocks were not all written is given up
-pub filled_failed : (given : List ℕ) (old m1 m2 new : Mounted) (name blocks token : ℕ) (words : List ℕ) (why : FileFault) → blocks ≡ blocks_filled words → HasEntered old name blocks token m1 → FillsFile m1 words blocks (Err why) m2 → new ≡ Spent m2 → PutsFileWith old name given words (Err why) new
+pub filled_failed : (given : List ℕ) (old m1 m2 new : MountState) (name blocks token : ℕ) (words : List ℕ) (why : FileFault) → blocks ≡ blocks_filled words → HasEntered old name blocks token m1 → FillsFile m1 words blocks (Err why) m2 → new ≡ WithoutNewFile m2 → PutsFileWith old name given words (Err why) new
 filled_failed given old m1 m2 new name blocks token words Device count e failed is = record {
   ready = e.ready;
   free = e.free;
@@ -221,20 +221,20 @@ filled_failed given old m1 m2 new name blocks token words Device count e failed 
   fits = subst (λ n. fitting n (rooms_of old.blocks) ≡ Some (e.place, e.room)) count e.fits;
   blocks = subst (λ n. KeepsBlocks old.blocks new.blocks e.place n) count
       (subst (λ p. KeepsBlocks old.blocks new.blocks p blocks) lies
-      (subst (λ (m : Mounted). KeepsBlocks old.blocks m.blocks failed.begun.place blocks) (sym is) (subst (λ (m : Mounted). KeepsBlocks m.blocks m2.blocks failed.begun.place blocks) e.others failed.others_kept)));
+      (subst (λ (m : MountState). KeepsBlocks old.blocks m.blocks failed.begun.place blocks) (sym is) (subst (λ (m : MountState). KeepsBlocks m.blocks m2.blocks failed.begun.place blocks) e.others failed.others_kept)));
   failed = inl (record {
-    files = subst (λ (m : Mounted). FoundAgain old.blocks m.blocks) (sym is) (subst (λ (m : Mounted). FoundAgain m.blocks m2.blocks) e.others failed.files);
+    files = subst (λ (m : MountState). FoundAgain old.blocks m.blocks) (sym is) (subst (λ (m : MountState). FoundAgain m.blocks m2.blocks) e.others failed.files);
     writes = subst (λ n. RisesBy n old.writes new.writes) count (record { number = failed.writes.number; some = failed.writes.some; few = failed.writes.few; rise = risen });
   });
   writes = record { number = failed.writes.number; some = failed.writes.some; few = omega (arith, failed.writes.few, count); rise = risen };
-  others = subst (λ (m : Mounted). HasFailed old m) (sym is) (subst (λ (m : Mounted). HasFailed m (Spent m2)) (spent-entered old m1 name blocks token e) failed.others);
+  others = subst (λ (m : MountState). HasFailed old m) (sym is) (subst (λ (m : MountState). HasFailed m (WithoutNewFile m2)) (spent-entered old m1 name blocks token e) failed.others);
 }
   where
     risen : new.writes ≡ counted_more failed.writes.number old.writes
-    risen = ap (λ (m : Mounted). m.writes) is ∙ failed.writes.rise ∙ ap (λ (m : Mounted). counted_more failed.writes.number m.writes) e.others
+    risen = ap (λ (m : MountState). m.writes) is ∙ failed.writes.rise ∙ ap (λ (m : MountState). counted_more failed.writes.number m.writes) e.others
 
     lies : failed.begun.place ≡ e.place
-    lies = ap (λ (b : Begun). b.place) (some-same _ _ (sym failed.was ∙ ap (λ (m : Mounted). m.tentative) e.others))
+    lies = ap (λ (b : NewFile). b.place) (some-same _ _ (sym failed.was ∙ ap (λ (m : MountState). m.tentative) e.others))
 filled_failed given old m1 m2 new name blocks token words Stopped count e failed is = absurd failed
 filled_failed given old m1 m2 new name blocks token words NotFound count e failed is = absurd failed
 filled_failed given old m1 m2 new name blocks token words (NoRoom n) count e failed is = absurd failed
@@ -249,48 +249,48 @@ filled_failed given old m1 m2 new name blocks token words NothingWritten count e
 -- ## The file is closed
 
 -- it lies where it was begun
-place_is : (old m1 m2 : Mounted) (name blocks token : ℕ) (words : List ℕ) (begun : Begun) (e : HasEntered old name blocks token m1) → HasFilled m1 begun words blocks m2 → begun.place ≡ e.place
-place_is old m1 m2 name blocks token words begun e done = ap (λ (b : Begun). b.place) (some-same _ _ (sym done.was ∙ ap (λ (m : Mounted). m.tentative) e.others))
+place_is : (old m1 m2 : MountState) (name blocks token : ℕ) (words : List ℕ) (begun : NewFile) (e : HasEntered old name blocks token m1) → HasFilled m1 begun words blocks m2 → begun.place ≡ e.place
+place_is old m1 m2 name blocks token words begun e done = ap (λ (b : NewFile). b.place) (some-same _ _ (sym done.was ∙ ap (λ (m : MountState). m.tentative) e.others))
 
 -- a file that was filled and is gone leaves the files as they were
-spent_kept : (old m1 m2 new : Mounted) (name blocks token : ℕ) (words : List ℕ) (begun : Begun) → HasEntered old name blocks token m1 → HasFilled m1 begun words blocks m2 → new ≡ Spent m2 → HasKept old blocks new
+spent_kept : (old m1 m2 new : MountState) (name blocks token : ℕ) (words : List ℕ) (begun : NewFile) → HasEntered old name blocks token m1 → HasFilled m1 begun words blocks m2 → new ≡ WithoutNewFile m2 → HasKept old blocks new
 spent_kept old m1 m2 new name blocks token words begun e done is = record {
   place = e.place;
   room = e.room;
   fits = e.fits;
   blocks = subst (λ p. KeepsBlocks old.blocks new.blocks p blocks) (place_is old m1 m2 name blocks token words begun e done)
-      (subst (λ (m : Mounted). KeepsBlocks old.blocks m.blocks begun.place blocks) (sym is) (subst (λ (m : Mounted). KeepsBlocks m.blocks m2.blocks begun.place blocks) e.others done.others_kept));
+      (subst (λ (m : MountState). KeepsBlocks old.blocks m.blocks begun.place blocks) (sym is) (subst (λ (m : MountState). KeepsBlocks m.blocks m2.blocks begun.place blocks) e.others done.others_kept));
   kept = record {
-    count = ap (λ (m : Mounted). length m.blocks) is ∙ done.kept.count ∙ ap (λ (m : Mounted). length m.blocks) e.others;
-    segments = λ k low high. ap (λ (m : Mounted). block m.blocks k) is ∙ done.kept.segments k low high ∙ ap (λ (m : Mounted). block m.blocks k) e.others;
-    directory = ap (λ (m : Mounted). directory_of m.blocks) is ∙ done.kept.directory ∙ ap (λ (m : Mounted). directory_of m.blocks) e.others;
+    count = ap (λ (m : MountState). length m.blocks) is ∙ done.kept.count ∙ ap (λ (m : MountState). length m.blocks) e.others;
+    segments = λ k low high. ap (λ (m : MountState). block m.blocks k) is ∙ done.kept.segments k low high ∙ ap (λ (m : MountState). block m.blocks k) e.others;
+    directory = ap (λ (m : MountState). directory_of m.blocks) is ∙ done.kept.directory ∙ ap (λ (m : MountState). directory_of m.blocks) e.others;
   };
-  files = ap (λ (m : Mounted). files_of m.blocks) is ∙ done.files ∙ ap (λ (m : Mounted). files_of m.blocks) e.others;
-  capacity = ap (λ (m : Mounted). capacity_of m.blocks) is ∙ done.capacity ∙ ap (λ (m : Mounted). capacity_of m.blocks) e.others;
-  limit = ap (λ (m : Mounted). limit_of m.blocks) is ∙ done.limit ∙ ap (λ (m : Mounted). limit_of m.blocks) e.others;
-  info = ap (λ (m : Mounted). info_of m.blocks) is ∙ done.info ∙ ap (λ (m : Mounted). info_of m.blocks) e.others;
-  above = ap (λ (m : Mounted). above_of m.blocks) is ∙ done.above ∙ ap (λ (m : Mounted). above_of m.blocks) e.others;
-  writes = ap (λ (m : Mounted). m.writes) is ∙ done.writes ∙ ap (λ (m : Mounted). counted_more blocks m.writes) e.others;
-  others = is ∙ ap Spent done.others ∙ ap (λ (m : Mounted). record (Spent m) { blocks = m2.blocks; writes = m2.writes }) e.others ∙ ap (λ (t : Option Begun). record old { blocks = m2.blocks; writes = m2.writes; tentative = t }) (sym e.ready.none) ∙ ap (λ (m : Mounted). record old { blocks = m.blocks; writes = m.writes }) (sym is);
+  files = ap (λ (m : MountState). files_of m.blocks) is ∙ done.files ∙ ap (λ (m : MountState). files_of m.blocks) e.others;
+  capacity = ap (λ (m : MountState). capacity_of m.blocks) is ∙ done.capacity ∙ ap (λ (m : MountState). capacity_of m.blocks) e.others;
+  limit = ap (λ (m : MountState). limit_of m.blocks) is ∙ done.limit ∙ ap (λ (m : MountState). limit_of m.blocks) e.others;
+  info = ap (λ (m : MountState). info_of m.blocks) is ∙ done.info ∙ ap (λ (m : MountState). info_of m.blocks) e.others;
+  above = ap (λ (m : MountState). above_of m.blocks) is ∙ done.above ∙ ap (λ (m : MountState). above_of m.blocks) e.others;
+  writes = ap (λ (m : MountState). m.writes) is ∙ done.writes ∙ ap (λ (m : MountState). counted_more blocks m.writes) e.others;
+  others = is ∙ ap WithoutNewFile done.others ∙ ap (λ (m : MountState). record (WithoutNewFile m) { blocks = m2.blocks; writes = m2.writes }) e.others ∙ ap (λ (t : Option NewFile). record old { blocks = m2.blocks; writes = m2.writes; tentative = t }) (sym e.ready.none) ∙ ap (λ (m : MountState). record old { blocks = m.blocks; writes = m.writes }) (sym is);
 }
 
 -- what was written is the file
-new_is : (given : List ℕ) (old m1 m2 : Mounted) (name blocks token : ℕ) (words : List ℕ) (begun b : Begun) → HasEntered old name blocks token m1 → HasFilled m1 begun words blocks m2 → m2.tentative ≡ Some b → new_held m2 b given ≡ file_with old given words
+new_is : (given : List ℕ) (old m1 m2 : MountState) (name blocks token : ℕ) (words : List ℕ) (begun b : NewFile) → HasEntered old name blocks token m1 → HasFilled m1 begun words blocks m2 → m2.tentative ≡ Some b → new_held m2 b given ≡ file_with old given words
 new_is given old m1 m2 name blocks token words begun b e done was =
-    ap (λ (x : Begun). (padded (info_of m2.blocks) given, run m2.blocks x.place x.written)) (some-same _ _ (sym was ∙ begun_now m1 begun words blocks m2 done))
-    ∙ ap (λ (l : List ℕ). (padded (info_of m2.blocks) given, l)) done.text
-    ∙ ap (λ (n : ℕ). (padded n given, words)) (done.info ∙ ap (λ (m : Mounted). info_of m.blocks) e.others)
+    ap (λ (x : NewFile). (with_end_zeros (info_of m2.blocks) given, run m2.blocks x.place x.written)) (some-same _ _ (sym was ∙ begun_now m1 begun words blocks m2 done))
+    ∙ ap (λ (l : List ℕ). (with_end_zeros (info_of m2.blocks) given, l)) done.text
+    ∙ ap (λ (n : ℕ). (with_end_zeros n given, words)) (done.info ∙ ap (λ (m : MountState). info_of m.blocks) e.others)
 
 -- and it is all written
-all_is : (old m1 m2 : Mounted) (name blocks token : ℕ) (words : List ℕ) (begun b : Begun) (e : HasEntered old name blocks token m1) → HasFilled m1 begun words blocks m2 → m2.tentative ≡ Some b → blocks ≡ blocks_filled words
+all_is : (old m1 m2 : MountState) (name blocks token : ℕ) (words : List ℕ) (begun b : NewFile) (e : HasEntered old name blocks token m1) → HasFilled m1 begun words blocks m2 → m2.tentative ≡ Some b → blocks ≡ blocks_filled words
     → b ≡ all_written name e.place e.room words
 all_is old m1 m2 name blocks token words begun b e done was count =
     some-same _ _ (sym was ∙ begun_now m1 begun words blocks m2 done)
-    ∙ ap (λ (x : Begun). record { name = x.name; place = x.place; room = x.room; written = blocks }) (some-same _ _ (sym done.was ∙ ap (λ (m : Mounted). m.tentative) e.others))
+    ∙ ap (λ (x : NewFile). record { name = x.name; place = x.place; room = x.room; written = blocks }) (some-same _ _ (sym done.was ∙ ap (λ (m : MountState). m.tentative) e.others))
     ∙ ap (λ (n : ℕ). record { name = name; place = e.place; room = e.room; written = n }) count
 
 -- the same number of blocks
-sized : (old new : Mounted) (blocks size : ℕ) → blocks ≡ size → HasKept old blocks new → HasKept old size new
+sized : (old new : MountState) (blocks size : ℕ) → blocks ≡ size → HasKept old blocks new → HasKept old size new
 sized old new blocks size is k = record {
   place = k.place;
   room = k.room;
@@ -307,18 +307,18 @@ sized old new blocks size is k = record {
 }
 
 -- the same directory comes to the same list with a file
-entries_are : (given : List ℕ) (one two : Begun) (old new : List (List ℕ)) → one ≡ two → directory_of new ≡ directory_of old → entries_with one given new ≡ entries_with two given old
+entries_are : (given : List ℕ) (one two : NewFile) (old new : List (List ℕ)) → one ≡ two → directory_of new ≡ directory_of old → entries_with one given new ≡ entries_with two given old
 entries_are given one two old new is same =
-    ap (of_directory (λ d. length (placed d.first (new_file d one.name given one.place one.written) d.entries))) same ∙ ap (λ (b : Begun). entries_with b given old) is
+    ap (of_directory (λ d. length (with_new_file d.first (new_file d one.name given one.place one.written) d.entries))) same ∙ ap (λ (b : NewFile). entries_with b given old) is
 
-list_is : (given : List ℕ) (one two : Begun) (old new : Mounted) → one ≡ two → directory_of new.blocks ≡ directory_of old.blocks → list_with new one given ≡ list_with old two given
+list_is : (given : List ℕ) (one two : NewFile) (old new : MountState) → one ≡ two → directory_of new.blocks ≡ directory_of old.blocks → list_with new one given ≡ list_with old two given
 list_is given one two old new is same =
-    ap (with_list (λ d. placed d.first (new_file d one.name given one.place one.written) d.entries)) same ∙ ap (λ (b : Begun). list_with old b given) is
+    ap (with_list (λ d. with_new_file d.first (new_file d one.name given one.place one.written) d.entries)) same ∙ ap (λ (b : NewFile). list_with old b given) is
 
 -- ## The file is closed or not
 
 -- the file that was filled is placed
-closed_done : (given : List ℕ) (old m1 m2 new : Mounted) (name blocks token : ℕ) (words : List ℕ) (begun : Begun) → blocks ≡ blocks_filled words → HasEntered old name blocks token m1 → HasFilled m1 begun words blocks m2 → HasClosed m2 name given new → HasPutWith old name given words new
+closed_done : (given : List ℕ) (old m1 m2 new : MountState) (name blocks token : ℕ) (words : List ℕ) (begun : NewFile) → blocks ≡ blocks_filled words → HasEntered old name blocks token m1 → HasFilled m1 begun words blocks m2 → HasClosed m2 name given new → HasPutWith old name given words new
 unfolding spent_kept
 closed_done given old m1 m2 new name blocks token words begun count e filled has = record {
   ready = e.ready;
@@ -329,7 +329,7 @@ closed_done given old m1 m2 new name blocks token words begun count e filled has
   fits = subst (λ n. fitting n (rooms_of old.blocks) ≡ Some (e.place, e.room)) count e.fits;
   few = omega (arith, has.fits, kept.limit, entries_are given has.begun _ old.blocks m2.blocks is kept.kept.directory);
   list = has.list ∙ ap (λ n. list_with m2 (record { name = n; place = has.begun.place; room = has.begun.room; written = has.begun.written }) given) (sym has.names) ∙ list_is given has.begun _ old m2 is kept.kept.directory;
-  extent = has.place ∙ ap (λ (b : Begun). Some (b.place, b.written)) is;
+  extent = has.place ∙ ap (λ (b : NewFile). Some (b.place, b.written)) is;
   blocks = subst (λ n. KeepsBlocks old.blocks new.blocks e.place n) count (kept-none old.blocks m2.blocks new.blocks e.place blocks kept.blocks has.blocks);
   written = record { directory = has.written.directory; read = has.written.read; segments = has.written.segments; unused = λ k more low. has.written.unused k more low ∙ kept.kept.segments k (omega (arith, more)) low };
   places = λ other differ runs. has.places other differ ∙ ap (extent_or other) kept.kept.directory;
@@ -338,18 +338,18 @@ closed_done given old m1 m2 new name blocks token words begun count e filled has
   info = has.info ∙ kept.info;
   tight = λ fresh low. has.tight (subst (λ fs. get fs name ≡ None) (sym kept.files) fresh) (kept.above ∙ low);
   writes = has.writes ∙ ap (λ n. counted_more n m2.writes) (differ-same 6 old.blocks m2.blocks new.blocks kept.kept.segments) ∙ ap (λ n. counted_more (differing 6 old.blocks new.blocks) n) (kept.writes ∙ ap (λ n. counted_more n old.writes) count);
-  others = has.others ∙ ap (λ (m : Mounted). record m { blocks = new.blocks; writes = new.writes }) kept.others;
+  others = has.others ∙ ap (λ (m : MountState). record m { blocks = new.blocks; writes = new.writes }) kept.others;
 }
   where
-    kept : HasKept old blocks (Spent m2)
-    kept = spent_kept old m1 m2 (Spent m2) name blocks token words begun e filled refl
+    kept : HasKept old blocks (WithoutNewFile m2)
+    kept = spent_kept old m1 m2 (WithoutNewFile m2) name blocks token words begun e filled refl
 
     is : has.begun ≡ all_written name e.place e.room words
     is = all_is old m1 m2 name blocks token words begun has.begun e filled has.was count
 
 -- the directory with it was not written
-closed_not : (given : List ℕ) (old m1 m2 new : Mounted) (name blocks token : ℕ) (words : List ℕ) (begun b : Begun) → blocks ≡ blocks_filled words → HasEntered old name blocks token m1 → HasFilled m1 begun words blocks m2 → m2.tentative ≡ Some b
-    → PlaceFailed (Spent m2) b given new → PutFailedWith old name given words new
+closed_not : (given : List ℕ) (old m1 m2 new : MountState) (name blocks token : ℕ) (words : List ℕ) (begun b : NewFile) → blocks ≡ blocks_filled words → HasEntered old name blocks token m1 → HasFilled m1 begun words blocks m2 → m2.tentative ≡ Some b
+    → PlaceFailed (WithoutNewFile m2) b given new → PutFailedWith old name given words new
 unfolding spent_kept
 closed_not given old m1 m2 new name blocks token words begun b count e filled was has = record {
   ready = e.ready;
@@ -372,20 +372,20 @@ closed_not given old m1 m2 new name blocks token words begun b count e filled wa
         below = part.below;
         above = λ k high few. part.above k high few ∙ kept.kept.segments k (omega (arith, high)) few;
       };
-      writes = has.written.2.writes ∙ ap counted (ap (λ n. counted_more n m2.writes) (differ-same part.number old.blocks m2.blocks new.blocks low) ∙ ap (counted_more (differing part.number old.blocks new.blocks)) (kept.writes ∙ ap (λ n. counted_more n old.writes) count));
+      writes = has.written.2.writes ∙ ap next_count (ap (λ n. counted_more n m2.writes) (differ-same part.number old.blocks m2.blocks new.blocks low) ∙ ap (counted_more (differing part.number old.blocks new.blocks)) (kept.writes ∙ ap (λ n. counted_more n old.writes) count));
     };
   });
   writes = record {
     number = suc (differing part.number m2.blocks new.blocks + blocks);
     some = omega arith;
     few = omega (arith, part.low, few-differ part.number m2.blocks new.blocks, count);
-    rise = has.written.2.writes ∙ ap counted (ap (λ n. counted_more (differing part.number m2.blocks new.blocks) n) kept.writes ∙ more-counted (differing part.number m2.blocks new.blocks) blocks old.writes);
+    rise = has.written.2.writes ∙ ap next_count (ap (λ n. counted_more (differing part.number m2.blocks new.blocks) n) kept.writes ∙ more-counted (differing part.number m2.blocks new.blocks) blocks old.writes);
   };
-  others = failed-from old (Spent m2) new kept.kept kept.others has.others;
+  others = failed-from old (WithoutNewFile m2) new kept.kept kept.others has.others;
 }
   where
-    kept : HasKept old blocks (Spent m2)
-    kept = spent_kept old m1 m2 (Spent m2) name blocks token words begun e filled refl
+    kept : HasKept old blocks (WithoutNewFile m2)
+    kept = spent_kept old m1 m2 (WithoutNewFile m2) name blocks token words begun e filled refl
 
     is : b ≡ all_written name e.place e.room words
     is = all_is old m1 m2 name blocks token words begun b e filled was count
@@ -395,7 +395,7 @@ closed_not given old m1 m2 new name blocks token words begun b count e filled wa
 
     files : files_with m2 b given ≡ insert (files_of old.blocks) name (file_with old given words)
     files =
-        ap (λ (x : Begun). insert (files_of m2.blocks) x.name (new_held m2 b given)) is
+        ap (λ (x : NewFile). insert (files_of m2.blocks) x.name (new_held m2 b given)) is
         ∙ ap (λ h. insert (files_of m2.blocks) name h) (new_is given old m1 m2 name blocks token words begun b e filled was)
         ∙ ap (λ fs. insert fs name (file_with old given words)) kept.files
 
@@ -406,16 +406,16 @@ closed_not given old m1 m2 new name blocks token words begun b count e filled wa
     low k one few = kept.kept.segments k one (omega (arith, few, part.low))
 
 -- the file that was filled is closed
-pub closed : (given : List ℕ) (old m1 m2 new : Mounted) (name blocks token : ℕ) (words : List ℕ) (begun : Begun) (r : Result (Unit {0}) FileFault) → 0 < blocks → blocks ≡ blocks_filled words → HasEntered old name blocks token m1 → HasFilled m1 begun words blocks m2 → ClosesFile m2 name given r new → PutsFileWith old name given words r new
+pub closed : (given : List ℕ) (old m1 m2 new : MountState) (name blocks token : ℕ) (words : List ℕ) (begun : NewFile) (r : Result (Unit {0}) FileFault) → 0 < blocks → blocks ≡ blocks_filled words → HasEntered old name blocks token m1 → HasFilled m1 begun words blocks m2 → ClosesFile m2 name given r new → PutsFileWith old name given words r new
 closed given old m1 m2 new name blocks token words begun (Ok done) some count e filled has = closed_done given old m1 m2 new name blocks token words begun count e filled has
-closed given old m1 m2 new name blocks token words begun (Err NothingWritten) some count e filled has = absurd (written (ap (λ (b : Begun). b.written) (some-same _ _ (sym has.1.was ∙ begun_now m1 begun words blocks m2 filled))) has.2)
+closed given old m1 m2 new name blocks token words begun (Err NothingWritten) some count e filled has = absurd (written (ap (λ (b : NewFile). b.written) (some-same _ _ (sym has.1.was ∙ begun_now m1 begun words blocks m2 filled))) has.2)
   where
     written : {n : ℕ} → n ≡ blocks → n ≡ 0 → ⊥
     written one two = omega (arith, one, two, some)
 closed given old m1 m2 new name blocks token words begun (Err (Busy other)) some count e filled has = absurd (true≢false (sym held ∙ e.free))
   where
     held : contains old.holds name ≡ true
-    held = subst (λ (l : List ℕ). contains l name ≡ true) (ap (λ (m : Mounted). m.holds) filled.others ∙ ap (λ (m : Mounted). m.holds) e.others) has.4
+    held = subst (λ (l : List ℕ). contains l name ≡ true) (ap (λ (m : MountState). m.holds) filled.others ∙ ap (λ (m : MountState). m.holds) e.others) has.4
 closed given old m1 m2 new name blocks token words begun (Err DirectoryFull) some count e filled has = (
   e.ready,
   e.free,
@@ -424,8 +424,8 @@ closed given old m1 m2 new name blocks token words begun (Err DirectoryFull) som
   record { place = e.place; room = e.room; fits = subst (λ n. fitting n (rooms_of old.blocks) ≡ Some (e.place, e.room)) count e.fits; over = over_limit },
 )
   where
-    kept : HasKept old blocks (Spent m2)
-    kept = spent_kept old m1 m2 (Spent m2) name blocks token words begun e filled refl
+    kept : HasKept old blocks (WithoutNewFile m2)
+    kept = spent_kept old m1 m2 (WithoutNewFile m2) name blocks token words begun e filled refl
 
     over_limit : limit_of old.blocks < entries_put_with name e.place e.room given words old.blocks
     over_limit = omega (arith, has.4, kept.limit, entries_are given has.0 _ old.blocks m2.blocks (all_is old m1 m2 name blocks token words begun has.0 e filled has.1.was count) kept.kept.directory)
@@ -439,7 +439,7 @@ closed given old m1 m2 new name blocks token words begun (Err DirectoryFull) som
       tight = λ low. omega (arith, has.5.tight (kept.above ∙ low), kept.limit, ap count_of kept.files);
     }
 closed given old m1 m2 new name blocks token words begun (Err Device) some count e filled has = closed_not given old m1 m2 new name blocks token words begun has.0 count e filled has.1.was has.3
-closed given old m1 m2 new name blocks token words begun (Err Stopped) some count e filled has = absurd (true≢false (sym has.0 ∙ ap (λ (m : Mounted). m.stopped) filled.others ∙ ap (λ (m : Mounted). m.stopped) e.others ∙ e.ready.running))
+closed given old m1 m2 new name blocks token words begun (Err Stopped) some count e filled has = absurd (true≢false (sym has.0 ∙ ap (λ (m : MountState). m.stopped) filled.others ∙ ap (λ (m : MountState). m.stopped) e.others ∙ e.ready.running))
 closed given old m1 m2 new name blocks token words begun (Err Memory) some count e filled has = (e.ready, e.free, sized old new blocks (blocks_filled words) count (spent_kept old m1 m2 new name blocks token words begun e filled has.4))
 closed given old m1 m2 new name blocks token words begun (Err NotFound) some count e filled has = absurd has
 closed given old m1 m2 new name blocks token words begun (Err (NoRoom n)) some count e filled has = absurd has

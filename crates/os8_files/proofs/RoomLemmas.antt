@@ -4,10 +4,10 @@ use Rattle.std.specs.Prelude.{◌⊎◌}
 use Rattle.std.proofs.lemmas.List.{drop-set-lt, drop-set-add, take-set-le}
 use Rattle.os8_dir.specs.declared.entries.DirEntry.{DirEntry}
 use Rattle.os8_dir.specs.declared.entries.DirEntry.TheVariants.{File, Empty}
-use Rattle.os8_dir.specs.Names.{padded}
+use Rattle.os8_dir.specs.Names.{with_end_zeros}
 use Rattle.os8_dir.specs.Entries.{total}
 use Rattle.os8_dir.specs.Found.{rooms_at}
-use Rattle.os8_dir.specs.Files.{joined, run}
+use Rattle.os8_dir.specs.Files.{join_blocks, run}
 use Rattle.os8_dir.specs.Changes.{IsRoom}
 
 pub room-inside : (from size first : ℕ) (es : List DirEntry) → IsRoom from size (rooms_at first es) → (first ≤ from) × (from + size ≤ first + total es)
@@ -25,19 +25,19 @@ run-other blocks k place size words apart =
     elim apart [
       | inl below ↦
           let e : k ≡ place + (k - place) = omega (arith, below) in
-          ap (λ j. joined (take size (drop place (slice_set blocks j words)))) e
-          ∙ ap (λ bs. joined (take size bs)) (drop-set-add place blocks (k - place) words)
-          ∙ ap joined (take-set-le size (drop place blocks) (k - place) words (omega (arith, below)))
-      | inr above ↦ ap (λ bs. joined (take size bs)) (drop-set-lt place blocks k words above)
+          ap (λ j. join_blocks (take size (drop place (slice_set blocks j words)))) e
+          ∙ ap (λ bs. join_blocks (take size bs)) (drop-set-add place blocks (k - place) words)
+          ∙ ap join_blocks (take-set-le size (drop place blocks) (k - place) words (omega (arith, below)))
+      | inr above ↦ ap (λ bs. join_blocks (take size bs)) (drop-set-lt place blocks k words above)
     ]
 
 -- Information words.
-zeros : (n m : ℕ) → n ≤ m → take n (padded m []) ≡ padded n []
+zeros : (n m : ℕ) → n ≤ m → take n (with_end_zeros m []) ≡ with_end_zeros n []
 zeros zero m few = refl
 zeros (suc n) zero few = absurd (omega (arith, few))
 zeros (suc n) (suc m) few = ap (λ ws. 0 ∷ ws) (zeros n m (omega (arith, few)))
 
-pub info-again : (n m : ℕ) (words : List ℕ) → n ≤ m → take n (padded m (take n words)) ≡ padded n words
+pub info-again : (n m : ℕ) (words : List ℕ) → n ≤ m → take n (with_end_zeros m (take n words)) ≡ with_end_zeros n words
 info-again zero m words few = refl
 info-again (suc n) zero words few = absurd (omega (arith, few))
 info-again (suc n) (suc m) [] few = ap (λ ws. 0 ∷ ws) (zeros n m (omega (arith, few)))

@@ -8,10 +8,10 @@ use Rattle.std.proofs.lemmas.List.{length-take-le, take_more}
 use Rattle.std.proofs.lemmas.Bool.{true≢false}
 use Rattle.std.proofs.lemmas.Bool.Decides.{eqb_tells}
 use Rattle.std.proofs.lemmas.Grind.{take-set_at}
-use Rattle.volume_image.specs.Volume.{counted}
+use Rattle.volume_image.specs.Volume.{next_count}
 use Rattle.os8_dir.specs.Reading.{block}
-use Rattle.os8_dir.specs.Found.{Placed, AreApart, find}
-use Rattle.os8_dir.specs.Files.{joined, run}
+use Rattle.os8_dir.specs.Found.{FilePlace, AreApart, find}
+use Rattle.os8_dir.specs.Files.{join_blocks, run}
 use Rattle.os8_files.specs.Calls.{counted_more}
 use Rattle.os8_files.specs.WriteSteps.{with_run, HasBrokenOff}
 use Rattle.os8_files.proofs.RoomLemmas.{run-other}
@@ -50,29 +50,29 @@ seam n prefix ws rest long =
     ∙ ap (take (length ws)) (drop-append_seam prefix (ws ++ rest))
     ∙ take-append_seam ws rest
 
-pub run-written : (blocks : List (List ℕ)) (place : ℕ) (ws : List (List ℕ)) → place + length ws ≤ length blocks → run (with_run blocks place ws) place (length ws) ≡ joined ws
+pub run-written : (blocks : List (List ℕ)) (place : ℕ) (ws : List (List ℕ)) → place + length ws ≤ length blocks → run (with_run blocks place ws) place (length ws) ≡ join_blocks ws
 run-written blocks place ws inside =
-    ap (λ bs. joined (take (length ws) (drop place bs))) (with_run-sets blocks place ws ∙ sets-eq ws blocks place inside)
-    ∙ ap joined (seam place (take place blocks) ws (drop (place + length ws) blocks) (length-take-le place blocks (omega (arith, inside))))
+    ap (λ bs. join_blocks (take (length ws) (drop place bs))) (with_run-sets blocks place ws ∙ sets-eq ws blocks place inside)
+    ∙ ap join_blocks (seam place (take place blocks) ws (drop (place + length ws) blocks) (length-take-le place blocks (omega (arith, inside))))
 
 -- Files that lie apart.
-pub find-some : (name from bound : ℕ) (files : List Placed) (f : Placed) → AreApart from bound files → find name files ≡ Some f → 0 < f.size
+pub find-some : (name from bound : ℕ) (files : List FilePlace) (f : FilePlace) → AreApart from bound files → find name files ≡ Some f → 0 < f.size
 find-some name from bound [] f apart found = cc
 find-some name from bound (g ∷ gs) f apart found =
     (elim (g.name == name) as (λ b. (if b then Some g else find name gs) ≡ Some f → 0 < f.size) [
-      | true ↦ λ here. let same : g ≡ f = cc in omega (arith, apart.1, ap (λ (p : Placed). p.size) same)
+      | true ↦ λ here. let same : g ≡ f = cc in omega (arith, apart.1, ap (λ (p : FilePlace). p.size) same)
       | false ↦ λ behind. find-some name (g.place + g.size) bound gs f apart.2 behind
     ]) found
 
-head-found : (b : Bool) (h : Placed) (rest : Option Placed) (f : Placed) → b ≡ true → (if b then Some h else rest) ≡ Some f → h ≡ f
+head-found : (b : Bool) (h : FilePlace) (rest : Option FilePlace) (f : FilePlace) → b ≡ true → (if b then Some h else rest) ≡ Some f → h ≡ f
 head-found true h rest f e found = cc
 head-found false h rest f e found = absurd (true≢false (sym e))
 
-tail-found : (b : Bool) (h : Placed) (rest : Option Placed) (f : Placed) → b ≡ false → (if b then Some h else rest) ≡ Some f → rest ≡ Some f
+tail-found : (b : Bool) (h : FilePlace) (rest : Option FilePlace) (f : FilePlace) → b ≡ false → (if b then Some h else rest) ≡ Some f → rest ≡ Some f
 tail-found true h rest f e found = absurd (true≢false e)
 tail-found false h rest f e found = found
 
-pub two-apart : (one two from bound : ℕ) (files : List Placed) (f g : Placed) → one ≢ two → AreApart from bound files → find one files ≡ Some f → find two files ≡ Some g → (g.place + g.size ≤ f.place) ⊎ (f.place + f.size ≤ g.place)
+pub two-apart : (one two from bound : ℕ) (files : List FilePlace) (f g : FilePlace) → one ≢ two → AreApart from bound files → find one files ≡ Some f → find two files ≡ Some g → (g.place + g.size ≤ f.place) ⊎ (f.place + f.size ≤ g.place)
 two-apart one two from bound [] f g differ apart first second = cc
 two-apart one two from bound (h ∷ hs) f g differ apart first second =
     (elim (eqb_tells h.name one) [
@@ -81,13 +81,13 @@ two-apart one two from bound (h ∷ hs) f g differ apart first second =
         | inr apart' ↦
             let f-is : h ≡ f = head-found (eqb h.name one) h (find one hs) f here.0 first in
             let behind = find-from two (h.place + h.size) bound hs g apart.2 (tail-found (eqb h.name two) h (find two hs) g apart'.0 second) in
-            inr (omega (arith, behind, ap (λ (p : Placed). p.place + p.size) f-is))
+            inr (omega (arith, behind, ap (λ (p : FilePlace). p.place + p.size) f-is))
       ]
       | inr other ↦ elim (eqb_tells h.name two) [
         | inl here ↦
             let g-is : h ≡ g = head-found (eqb h.name two) h (find two hs) g here.0 second in
             let behind = find-from one (h.place + h.size) bound hs f apart.2 (tail-found (eqb h.name one) h (find one hs) f other.0 first) in
-            inl (omega (arith, behind, ap (λ (p : Placed). p.place + p.size) g-is))
+            inl (omega (arith, behind, ap (λ (p : FilePlace). p.place + p.size) g-is))
         | inr apart' ↦ two-apart one two (h.place + h.size) bound hs f g differ apart.2 (tail-found (eqb h.name one) h (find one hs) f other.0 first) (tail-found (eqb h.name two) h (find two hs) g apart'.0 second)
       ]
     ])
@@ -107,7 +107,7 @@ write-more blocks place k ws inside =
     ∙ ap (λ n. slice_set (with_run blocks place (take k ws)) (place + n) (get_or ws k [])) (length-take-le k ws (omega (arith, inside)))
 
 -- Some blocks of a run are written, and one that comes next has any words.
-pub broken-off : (old mid new : List (List ℕ)) (place k before after : ℕ) (ws : List (List ℕ)) (w : List ℕ) → k < length ws → mid ≡ with_run old place (take k ws) → new ≡ slice_set mid (place + k) w → after ≡ counted (counted_more k before) → HasBrokenOff old place (length ws) new before after
+pub broken-off : (old mid new : List (List ℕ)) (place k before after : ℕ) (ws : List (List ℕ)) (w : List ℕ) → k < length ws → mid ≡ with_run old place (take k ws) → new ≡ slice_set mid (place + k) w → after ≡ next_count (counted_more k before) → HasBrokenOff old place (length ws) new before after
 broken-off old mid new place k before after ws w inside at is risen =
     let long : length (take k ws) ≡ k = length-take-le k ws (omega (arith, inside)) in
     let longer : length (take k ws ++ w ∷ []) ≡ suc k = omega (arith, long, length-more (take k ws) w) in

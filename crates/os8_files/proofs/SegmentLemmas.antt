@@ -1,6 +1,6 @@
 -- The words that are kept of blocks 1 to 6.
 use Rattle.std.proofs.Common.{ℕ, zero, suc, ◌+◌, ◌≤◌, Bool, true, false, List, [], nat_lt, if◌then◌else◌, slice_set, sym, ◌∙◌, arith, get_or-set_other}
-use Rattle.volume_image.specs.Volume.{counted}
+use Rattle.volume_image.specs.Volume.{next_count}
 use Rattle.os8_files.specs.Mounted.{AreSegments}
 use Rattle.os8_files.specs.Calls.{counted_more}
 use Rattle.os8_files.specs.WriteSteps.{with_run}
@@ -19,7 +19,7 @@ segments-run blocks kept place ws are high = record {
 }
 
 -- A count after so many more has risen by at most so many.
-pub counted-few : (n : ℕ) → counted n ≤ n + 1
+pub counted-few : (n : ℕ) → next_count n ≤ n + 1
 counted-few n = by (nat_lt n 18446744073709551615)
   where
     by : (b : Bool) → (if b then n + 1 else n) ≤ n + 1

@@ -5,12 +5,12 @@ use Rattle.std.specs.FinMap.{get}
 use Rattle.std.proofs.lemmas.List.{length-take-le, length-drop}
 use Rattle.std.proofs.lemmas.Bool.Decides.{eqb_tells}
 use Rattle.os8_dir.specs.declared.entries.DirEntry.{DirEntry}
-use Rattle.os8_dir.specs.Entries.{Listed, total, IsTidy}
+use Rattle.os8_dir.specs.Entries.{DirectoryState, total, IsTidy}
 use Rattle.os8_dir.specs.Reading.{directory_of, block}
-use Rattle.os8_dir.specs.Found.{Placed, IsDirectory, files_at, rooms_at, find, extent_of, above}
-use Rattle.os8_dir.specs.Files.{files_of, held_of, run, above_of}
-use Rattle.os8_dir.specs.Changes.{moved_down, relisted, lowest_above, gap_below, lowered, IsRoom}
-use Rattle.os8_files.specs.Mounted.{Mounted}
+use Rattle.os8_dir.specs.Found.{FilePlace, IsDirectory, files_at, rooms_at, find, extent_of, above}
+use Rattle.os8_dir.specs.Files.{files_of, data_if_there, run, above_of}
+use Rattle.os8_dir.specs.Changes.{moved_down, directory_with, lowest_above, gap_below, file_lower, IsRoom}
+use Rattle.os8_files.specs.Mounted.{MountState}
 use Rattle.os8_files.specs.Calls.{IsReady, HasFailed, HasMoved, MoveMissed, MoveFailed, RisesBy, StopsInPart, Squeezes, counted_more, differing}
 use Rattle.os8_files.specs.Failed.{with_list, lowest_or, extent_or}
 use Rattle.os8_files.proofs.CountLemmas.{differing-same}
@@ -31,18 +31,18 @@ pub run-directory : (reads : ReadsLow) (blocks : List (List ℕ)) (place : ℕ) 
 run-directory reads blocks place ws high = reads blocks (with_run blocks place ws) (length-with_run blocks place ws) (λ k low. block-with_run blocks place ws k (omega (arith, low, high)))
 
 -- the file that is moved, with the empty below it
-abbrev pub LiesAbove : Listed → ℕ → ℕ → Type 0
-LiesAbove d name gap = (f : Placed) × ((find name (files_at d.first d.entries) ≡ Some f) × (gap ≤ f.place) × IsRoom (f.place - gap) gap (rooms_at d.first d.entries))
+abbrev pub LiesAbove : DirectoryState → ℕ → ℕ → Type 0
+LiesAbove d name gap = (f : FilePlace) × ((find name (files_at d.first d.entries) ≡ Some f) × (gap ≤ f.place) × IsRoom (f.place - gap) gap (rooms_at d.first d.entries))
 
 pub lies-above : (gaps : (es : List DirEntry) (name gap : ℕ) → IsTidy es → lowest_above es ≡ Some (name, gap) → (0 < gap) × (gap_below name es ≡ gap))
-    → (found : (volume name : ℕ) (d : Listed) → IsDirectory volume d → 0 < gap_below name d.entries → (f : Placed) × ((find name (files_at d.first d.entries) ≡ Some f) × (gap_below name d.entries ≤ f.place) × IsRoom (f.place - gap_below name d.entries) (gap_below name d.entries) (rooms_at d.first d.entries)))
-    → (volume name gap : ℕ) (d : Listed) → IsDirectory volume d → lowest_above d.entries ≡ Some (name, gap) → LiesAbove d name gap
+    → (found : (volume name : ℕ) (d : DirectoryState) → IsDirectory volume d → 0 < gap_below name d.entries → (f : FilePlace) × ((find name (files_at d.first d.entries) ≡ Some f) × (gap_below name d.entries ≤ f.place) × IsRoom (f.place - gap_below name d.entries) (gap_below name d.entries) (rooms_at d.first d.entries)))
+    → (volume name gap : ℕ) (d : DirectoryState) → IsDirectory volume d → lowest_above d.entries ≡ Some (name, gap) → LiesAbove d name gap
 lies-above gaps found volume name gap d is low =
     let g = gaps d.entries name gap is.neat low in
     subst (λ n. LiesAbove d name n) g.1 (found volume name d is (omega (arith, g.0, g.1)))
 
 pub some-above : AboveIs → (none : (es : List DirEntry) → IsTidy es → (lowest_above es ≡ None) ↔ (above es ≡ 0))
-    → (blocks : List (List ℕ)) (d : Listed) (name gap : ℕ) → directory_of blocks ≡ Ok d → IsDirectory (length blocks) d → lowest_above d.entries ≡ Some (name, gap) → 0 < above_of blocks
+    → (blocks : List (List ℕ)) (d : DirectoryState) (name gap : ℕ) → directory_of blocks ≡ Ok d → IsDirectory (length blocks) d → lowest_above d.entries ≡ Some (name, gap) → 0 < above_of blocks
 some-above aboves none blocks d name gap kept is low =
     let same = aboves blocks d kept in
     elim (eqb_tells (above d.entries) 0) [
@@ -51,7 +51,7 @@ some-above aboves none blocks d name gap kept is low =
     ]
 
 -- A file's blocks were not copied.
-pub copy-refused : (old new : Mounted) (place size gap : ℕ) (fault : FileFault) → IsReady old → 0 < above_of old.blocks
+pub copy-refused : (old new : MountState) (place size gap : ℕ) (fault : FileFault) → IsReady old → 0 < above_of old.blocks
     → (RisesBy size old.reads new.reads → MoveMissed old new)
     → (HasFailed (record old { reads = new.reads }) new → new.reads ≡ counted_more size old.reads → HasBrokenOff old.blocks (place - gap) size new.blocks old.writes new.writes → MoveFailed old new)
     → CopiesBlocks old place size gap (Err fault) new → Squeezes old (Err fault) new
@@ -71,7 +71,7 @@ copy-refused old new place size gap Memory ready some missed failed copies = (re
 copy-refused old new place size gap NothingWritten ready some missed failed copies = absurd copies
 
 -- The directory was not written.
-pub rewrite-refused : (old mid new : Mounted) (d : Listed) (fault : FileFault) → (HasFailed mid new → KeepsHigh mid.blocks new.blocks → StopsInPart mid.blocks new.blocks d mid.writes new.writes → MoveFailed old new) → RewritesDirectory mid d (Err fault) new → Squeezes old (Err fault) new
+pub rewrite-refused : (old mid new : MountState) (d : DirectoryState) (fault : FileFault) → (HasFailed mid new → KeepsHigh mid.blocks new.blocks → StopsInPart mid.blocks new.blocks d mid.writes new.writes → MoveFailed old new) → RewritesDirectory mid d (Err fault) new → Squeezes old (Err fault) new
 rewrite-refused old mid new d NotFound failed is = absurd is
 rewrite-refused old mid new d (NoRoom n) failed is = absurd is
 rewrite-refused old mid new d DirectoryFull failed is = absurd is
@@ -87,16 +87,16 @@ rewrite-refused old mid new d NothingWritten failed is = absurd is
 pub moved-file : FindsFiles → LieInside → LieOutside → LimitIs → CapacityIs → AboveIs
     → (gaps : (es : List DirEntry) (name gap : ℕ) → IsTidy es → lowest_above es ≡ Some (name, gap) → (0 < gap) × (gap_below name es ≡ gap))
     → (fewer : (es : List DirEntry) (name gap : ℕ) → IsTidy es → lowest_above es ≡ Some (name, gap) → above (moved_down name es) + 1 ≡ above es)
-    → (there : (volume name : ℕ) (d : Listed) → IsDirectory volume d → 0 < gap_below name d.entries → find name (files_at d.first (moved_down name d.entries)) ≡ lowered (gap_below name d.entries) (find name (files_at d.first d.entries)))
+    → (there : (volume name : ℕ) (d : DirectoryState) → IsDirectory volume d → 0 < gap_below name d.entries → find name (files_at d.first (moved_down name d.entries)) ≡ file_lower (gap_below name d.entries) (find name (files_at d.first d.entries)))
     → (others : (name other first : ℕ) (es : List DirEntry) → name ≢ other → find other (files_at first (moved_down name es)) ≡ find other (files_at first es))
     → (covered : (name : ℕ) (es : List DirEntry) → total (moved_down name es) ≡ total es)
-    → (old mid new : Mounted) (d : Listed) (name gap : ℕ) → IsReady old → directory_of old.blocks ≡ Ok d → IsDirectory (length old.blocks) d → lowest_above d.entries ≡ Some (name, gap)
+    → (old mid new : MountState) (d : DirectoryState) (name gap : ℕ) → IsReady old → directory_of old.blocks ≡ Ok d → IsDirectory (length old.blocks) d → lowest_above d.entries ≡ Some (name, gap)
     → (r : LiesAbove d name gap) → mid.blocks ≡ with_run old.blocks (r.0.place - gap) (take r.0.size (drop r.0.place old.blocks)) → mid ≡ record old { blocks = mid.blocks; reads = mid.reads; writes = mid.writes } → mid.reads ≡ counted_more r.0.size old.reads → mid.writes ≡ counted_more r.0.size old.writes
-    → HasDirectory mid (relisted d (moved_down name d.entries)) new → HasMoved old name new
+    → HasDirectory mid (directory_with d (moved_down name d.entries)) new → HasMoved old name new
 moved-file finds lie outside limits covers aboves gaps fewer there others covered old mid new d name gap ready kept is low r copied same counts writes done =
     let f = r.0 in
     let fs = files_at d.first d.entries in
-    let d' = relisted d (moved_down name d.entries) in
+    let d' = directory_with d (moved_down name d.entries) in
     let ws = take f.size (drop f.place old.blocks) in
     let to = f.place - gap in
     let g = gaps d.entries name gap is.neat low in
@@ -106,7 +106,7 @@ moved-file finds lie outside limits covers aboves gaps fewer there others covere
     let high : 7 ≤ to = omega (arith, inside.0, is.starts) in
     let long : length ws ≡ f.size = length-take-le f.size (drop f.place old.blocks) (omega (arith, length-drop f.place old.blocks, within)) in
     let lain = lie to gap to gap (rooms_at d.first d.entries) r.1.2 (omega arith) (omega arith) in
-    let lies : find name (files_at d.first (moved_down name d.entries)) ≡ lowered gap (find name fs) = subst (λ n. find name (files_at d.first (moved_down name d.entries)) ≡ lowered n (find name fs)) g.1 (there (length old.blocks) name d is (omega (arith, g.0, g.1))) in
+    let lies : find name (files_at d.first (moved_down name d.entries)) ≡ file_lower gap (find name fs) = subst (λ n. find name (files_at d.first (moved_down name d.entries)) ≡ file_lower n (find name fs)) g.1 (there (length old.blocks) name d is (omega (arith, g.0, g.1))) in
     let moved : run new.blocks to f.size ≡ run old.blocks f.place f.size =
     run-high mid.blocks new.blocks to f.size done.high high
     ∙ ap (λ bs. run bs to f.size) copied
@@ -118,17 +118,17 @@ moved-file finds lie outside limits covers aboves gaps fewer there others covere
       lowest = ap lowest_or kept ∙ low;
       place = f.place;
       size = f.size;
-      list = done.read ∙ ap (with_list (λ (x : Listed). moved_down name x.entries)) (sym kept);
+      list = done.read ∙ ap (with_list (λ (x : DirectoryState). moved_down name x.entries)) (sym kept);
       was = ap (extent_or name) kept ∙ ap extent_of r.1.0;
-      moved = ap (extent_or name) done.read ∙ ap extent_of (lies ∙ ap (lowered gap) r.1.0);
+      moved = ap (extent_or name) done.read ∙ ap extent_of (lies ∙ ap (file_lower gap) r.1.0);
       places = λ other differ. ap (extent_or other) done.read ∙ ap extent_of (others name other d.first d.entries differ) ∙ sym (ap (extent_or other) kept);
       files = files-same (files_of old.blocks) (files_of new.blocks) (λ q. elim (eqb_tells name q) [
         | inl p ↦ ap (get (files_of new.blocks)) (sym p.1)
-            ∙ finds new.blocks d' name done.read ∙ ap (held_of new.blocks d.info) (lies ∙ ap (lowered gap) r.1.0)
+            ∙ finds new.blocks d' name done.read ∙ ap (data_if_there new.blocks d.info) (lies ∙ ap (file_lower gap) r.1.0)
             ∙ ap (λ words. Some (take d.info f.info, words)) moved
-            ∙ sym (finds old.blocks d name kept ∙ ap (held_of old.blocks d.info) r.1.0)
+            ∙ sym (finds old.blocks d name kept ∙ ap (data_if_there old.blocks d.info) r.1.0)
             ∙ ap (get (files_of old.blocks)) p.1
-        | inr p ↦ finds new.blocks d' q done.read ∙ ap (held_of new.blocks d.info) (others name q d.first d.entries p.1)
+        | inr p ↦ finds new.blocks d' q done.read ∙ ap (data_if_there new.blocks d.info) (others name q d.first d.entries p.1)
             ∙ held-kept old.blocks new.blocks d.info (find q fs) (λ h found.
             let from = find-from q d.first (length old.blocks) fs h is.apart found in
             let some = find-some q d.first (length old.blocks) fs h is.apart found in
@@ -146,7 +146,7 @@ moved-file finds lie outside limits covers aboves gaps fewer there others covere
       info = info-of new.blocks d' done.read ∙ sym (info-of old.blocks d kept);
       written = record { directory = d'; read = done.read; segments = done.segments; unused = λ k more few. done.unused k more ∙ ap (λ bs. block bs k) copied ∙ block-with_run old.blocks to ws k (omega (arith, few, high)) };
       blocks = moved-keeps old mid new d' to f.size ws copied long high done;
-      reads = ap (λ (m : Mounted). m.reads) done.others ∙ counts;
+      reads = ap (λ (m : MountState). m.reads) done.others ∙ counts;
       writes = done.writes ∙ ap (λ n. counted_more n mid.writes) (differing-same 6 old.blocks mid.blocks new.blocks (λ k few. ap (λ bs. block bs k) copied ∙ block-with_run old.blocks to ws k (omega (arith, few, high)))) ∙ ap (counted_more (differing 6 old.blocks new.blocks)) writes;
-      others = done.others ∙ ap (λ (m : Mounted). record m { blocks = new.blocks; writes = new.writes }) same ∙ ap (λ n. record old { blocks = new.blocks; reads = n; writes = new.writes }) (sym (ap (λ (m : Mounted). m.reads) done.others));
+      others = done.others ∙ ap (λ (m : MountState). record m { blocks = new.blocks; writes = new.writes }) same ∙ ap (λ n. record old { blocks = new.blocks; reads = n; writes = new.writes }) (sym (ap (λ (m : MountState). m.reads) done.others));
     }

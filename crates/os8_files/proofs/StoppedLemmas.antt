@@ -1,7 +1,7 @@
 -- A call answers Stopped just where a write has failed before.
 use Rattle.std.proofs.Common.{◌≡◌, ℕ, true, false, true≢false, List, Result, Ok, Err, refl, sym, ◌∙◌, inl, inr}
 use Rattle.std.specs.Global.{Vec}
-use Rattle.os8_files.specs.Mounted.{Mounted}
+use Rattle.os8_files.specs.Mounted.{MountState}
 use Rattle.os8_files.specs.Laws.{IsStopped}
 use Rattle.os8_files.specs.Calls.{ReadsBlock, ListsFiles, HoldsFile, Enters, WritesBlock, ClosesFile, DeletesFile, Squeezes}
 use Rattle.os8_dir.specs.declared.file_faults.FileFault.{FileFault}
@@ -9,13 +9,13 @@ use Rattle.os8_dir.specs.declared.file_faults.FileFault.TheVariants.{NotFound, N
 use Rattle.os8_files.specs.declared.tokens.Squeezed.{Squeezed}
 use Rattle.os8_files.specs.declared.tokens.Squeezed.TheVariants.{Moved, Nothing}
 
-pub running : {A : Type 0} (old : Mounted) (result : Result A FileFault) → (result ≡ Err Stopped → ⊥) → old.stopped ≡ false → IsStopped old result
+pub running : {A : Type 0} (old : MountState) (result : Result A FileFault) → (result ≡ Err Stopped → ⊥) → old.stopped ≡ false → IsStopped old result
 running old result other runs = ((λ is. absurd (other is)), (λ is. absurd (true≢false (sym is ∙ runs))))
 
-pub stopped : {A : Type 0} (old : Mounted) → old.stopped ≡ true → IsStopped {A = A} old (Err Stopped)
+pub stopped : {A : Type 0} (old : MountState) → old.stopped ≡ true → IsStopped {A = A} old (Err Stopped)
 stopped old is = ((λ answer. is), (λ was. refl))
 
-pub reads-stopped : (old new : Mounted) (name k : ℕ) (before after : List ℕ) (result : Result (Unit {0}) FileFault) → ReadsBlock old name k before result new after → IsStopped old result
+pub reads-stopped : (old new : MountState) (name k : ℕ) (before after : List ℕ) (result : Result (Unit {0}) FileFault) → ReadsBlock old name k before result new after → IsStopped old result
 reads-stopped old new name k before after (Ok done) is = running old _ (λ e. cc) is.running
 reads-stopped old new name k before after (Err NotFound) is = running old _ (λ e. cc) is.0
 reads-stopped old new name k before after (Err (NoRoom n)) is = absurd is
@@ -29,7 +29,7 @@ reads-stopped old new name k before after (Err Stopped) is = stopped old is.0
 reads-stopped old new name k before after (Err Memory) is = absurd is
 reads-stopped old new name k before after (Err NothingWritten) is = absurd is
 
-pub lists-stopped : (old : Mounted) (result : Result (Vec (ℕ × ℕ)) FileFault) → ListsFiles old result → IsStopped old result
+pub lists-stopped : (old : MountState) (result : Result (Vec (ℕ × ℕ)) FileFault) → ListsFiles old result → IsStopped old result
 lists-stopped old (Ok list) is = running old _ (λ e. cc) is.0
 lists-stopped old (Err NotFound) is = absurd is
 lists-stopped old (Err (NoRoom n)) is = absurd is
@@ -43,7 +43,7 @@ lists-stopped old (Err Stopped) is = stopped old is
 lists-stopped old (Err Memory) is = running old _ (λ e. cc) is
 lists-stopped old (Err NothingWritten) is = absurd is
 
-pub holds-stopped : (old new : Mounted) (name : ℕ) (result : Result ℕ FileFault) → HoldsFile old name result new → IsStopped old result
+pub holds-stopped : (old new : MountState) (name : ℕ) (result : Result ℕ FileFault) → HoldsFile old name result new → IsStopped old result
 holds-stopped old new name (Ok hold) is = running old _ (λ e. cc) is.running
 holds-stopped old new name (Err NotFound) is = running old _ (λ e. cc) is.0
 holds-stopped old new name (Err (NoRoom n)) is = absurd is
@@ -57,7 +57,7 @@ holds-stopped old new name (Err Stopped) is = stopped old is.0
 holds-stopped old new name (Err Memory) is = running old _ (λ e. cc) is.0
 holds-stopped old new name (Err NothingWritten) is = absurd is
 
-pub enters-stopped : (old new : Mounted) (name wish : ℕ) (result : Result ℕ FileFault) → Enters old name wish result new → IsStopped old result
+pub enters-stopped : (old new : MountState) (name wish : ℕ) (result : Result ℕ FileFault) → Enters old name wish result new → IsStopped old result
 enters-stopped old new name wish (Ok token) is = running old _ (λ e. cc) is.ready.running
 enters-stopped old new name wish (Err NotFound) is = absurd is
 enters-stopped old new name wish (Err (NoRoom n)) is = running old _ (λ e. cc) is.0.running
@@ -71,7 +71,7 @@ enters-stopped old new name wish (Err Stopped) is = stopped old is.0
 enters-stopped old new name wish (Err Memory) is = absurd is
 enters-stopped old new name wish (Err NothingWritten) is = absurd is
 
-pub writes-stopped : (old new : Mounted) (words : List ℕ) (result : Result (Unit {0}) FileFault) → WritesBlock old words result new → IsStopped old result
+pub writes-stopped : (old new : MountState) (words : List ℕ) (result : Result (Unit {0}) FileFault) → WritesBlock old words result new → IsStopped old result
 writes-stopped old new words (Ok done) is = running old _ (λ e. cc) is.running
 writes-stopped old new words (Err NotFound) is = absurd is
 writes-stopped old new words (Err (NoRoom n)) is = absurd is
@@ -85,7 +85,7 @@ writes-stopped old new words (Err Stopped) is = stopped old is.0
 writes-stopped old new words (Err Memory) is = absurd is
 writes-stopped old new words (Err NothingWritten) is = absurd is
 
-pub closes-stopped : (old new : Mounted) (name : ℕ) (info : List ℕ) (result : Result (Unit {0}) FileFault) → ClosesFile old name info result new → IsStopped old result
+pub closes-stopped : (old new : MountState) (name : ℕ) (info : List ℕ) (result : Result (Unit {0}) FileFault) → ClosesFile old name info result new → IsStopped old result
 closes-stopped old new name info (Ok done) is = running old _ (λ e. cc) is.running
 closes-stopped old new name info (Err NotFound) is = absurd is
 closes-stopped old new name info (Err (NoRoom n)) is = absurd is
@@ -99,7 +99,7 @@ closes-stopped old new name info (Err Stopped) is = stopped old is.0
 closes-stopped old new name info (Err Memory) is = running old _ (λ e. cc) is.1.running
 closes-stopped old new name info (Err NothingWritten) is = running old _ (λ e. cc) is.1.running
 
-pub deletes-stopped : (old new : Mounted) (name : ℕ) (result : Result (Unit {0}) FileFault) → DeletesFile old name result new → IsStopped old result
+pub deletes-stopped : (old new : MountState) (name : ℕ) (result : Result (Unit {0}) FileFault) → DeletesFile old name result new → IsStopped old result
 deletes-stopped old new name (Ok done) is = running old _ (λ e. cc) is.ready.running
 deletes-stopped old new name (Err NotFound) is = running old _ (λ e. cc) is.0.running
 deletes-stopped old new name (Err (NoRoom n)) is = absurd is
@@ -113,7 +113,7 @@ deletes-stopped old new name (Err Stopped) is = stopped old is.0
 deletes-stopped old new name (Err Memory) is = running old _ (λ e. cc) is.0.running
 deletes-stopped old new name (Err NothingWritten) is = absurd is
 
-pub squeezes-stopped : (old new : Mounted) (result : Result Squeezed FileFault) → Squeezes old result new → IsStopped old result
+pub squeezes-stopped : (old new : MountState) (result : Result Squeezed FileFault) → Squeezes old result new → IsStopped old result
 squeezes-stopped old new (Ok (Moved name)) is = running old _ (λ e. cc) is.ready.running
 squeezes-stopped old new (Ok Nothing) is = running old _ (λ e. cc) is.0.running
 squeezes-stopped old new (Err NotFound) is = absurd is

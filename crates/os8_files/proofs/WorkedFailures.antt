@@ -1,9 +1,9 @@
 -- A small volume, worked out: A has two blocks from 7 on, block 9 is empty, B has three from 10 on, blocks 13 and 14 are empty.
 use Rattle.std.proofs.Common.{◌≡◌, ℕ, List, [], ◌∷◌, Some, None, Result, Ok, refl}
 use Rattle.std.specs.Prelude.{slice_set}
-use Rattle.os8_dir.specs.Entries.{Listed}
+use Rattle.os8_dir.specs.Entries.{DirectoryState}
 use Rattle.os8_dir.specs.Files.{run}
-use Rattle.os8_dir.specs.Changes.{moved_down, removed}
+use Rattle.os8_dir.specs.Changes.{moved_down, without_file}
 use Rattle.os8_dir.specs.declared.entries.DirEntry.TheVariants.{File, Empty}
 use Rattle.os8_dir.specs.declared.faults.DirFault.{DirFault}
 use Rattle.os8_files.specs.Failed.{extent_or, with_list, lowest_or}
@@ -16,7 +16,7 @@ a = 100000000000
 abbrev b : ℕ
 b = 200000000000
 
-abbrev small : Result Listed DirFault
+abbrev small : Result DirectoryState DirFault
 small = Ok (record { first = 7; info = 1; entries = File a (0 ∷ []) 2 ∷ Empty 1 ∷ File b (0 ∷ []) 3 ∷ Empty 2 ∷ [] })
 
 -- blocks of one word each
@@ -57,7 +57,7 @@ b-lost-too : run broken 10 3 ≡ 5252 ∷ 102 ∷ 103 ∷ []
 b-lost-too = refl
 
 -- without A its blocks are empty with the one behind them, but A stands in full in its old blocks
-a-gone : extent_or a (with_list (λ d. removed a d.entries) small) ≡ None
+a-gone : extent_or a (with_list (λ d. without_file a d.entries) small) ≡ None
 a-gone = refl
 
 a-stands : run (slice_set words 1 (5252 ∷ [])) 7 2 ≡ 71 ∷ 72 ∷ []

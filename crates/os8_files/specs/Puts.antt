@@ -3,13 +3,13 @@
 use Rattle.std.specs.Prelude.{◌≡◌, ◌⊎◌, ℕ, ◌+◌, ◌/◌, ◌<◌, ◌≤◌, Some, None, List, [], length, Result, Ok, Err}
 use Rattle.word12.specs.declared.sizes.TheConstants.{BLOCK}
 use Rattle.std.specs.FinMap.{get, insert}
-use Rattle.os8_dir.specs.Names.{padded}
-use Rattle.os8_dir.specs.Entries.{Listed}
+use Rattle.os8_dir.specs.Names.{with_end_zeros}
+use Rattle.os8_dir.specs.Entries.{DirectoryState}
 use Rattle.os8_dir.specs.Reading.{directory_of}
 use Rattle.os8_dir.specs.Files.{FileData, files_of, limit_of, above_of, capacity_of}
 use Rattle.os8_dir.specs.Changes.{fitting}
 use Rattle.os8_dir.specs.declared.faults.DirFault.{DirFault}
-use Rattle.os8_files.specs.Mounted.{Mounted, Begun}
+use Rattle.os8_files.specs.Mounted.{MountState, NewFile}
 use Rattle.os8_files.specs.Failed.{KeepsDirectory, FoundAgain, StandInFull, extent_or}
 use Rattle.os8_files.specs.Calls.{IsReady, IsFree, IsHeld, IsLargest, IsOver, KeepsBlocks, IsWritten, rooms_of, HasFailed, HasStopped, RisesBy, StopsInPart, counted_more, differing, info_of, entries_with, list_with}
 use Rattle.os8_files.specs.Laws.{KeepsOtherPlaces}
@@ -21,15 +21,15 @@ abbrev pub blocks_filled : List ℕ → ℕ
 blocks_filled words = length words / BLOCK
 
 -- what a file of these words is: the first of the words given are its information words, and missing ones are 0
-abbrev pub file_with : Mounted → List ℕ → List ℕ → FileData
-file_with m given words = (padded (info_of m.blocks) given, words)
+abbrev pub file_with : MountState → List ℕ → List ℕ → FileData
+file_with m given words = (with_end_zeros (info_of m.blocks) given, words)
 
 -- the same with no word given
-abbrev pub plain_file : Mounted → List ℕ → FileData
+abbrev pub plain_file : MountState → List ℕ → FileData
 plain_file m words = file_with m [] words
 
 -- the file that is being written when these words are: it lies at the beginning of an empty with so many blocks
-abbrev pub all_written : ℕ → ℕ → ℕ → List ℕ → Begun
+abbrev pub all_written : ℕ → ℕ → ℕ → List ℕ → NewFile
 all_written name place room words = record { name = name; place = place; room = room; written = blocks_filled words }
 
 -- how many entries the directory has with the file of these words in that empty
@@ -37,14 +37,14 @@ abbrev pub entries_put_with : ℕ → ℕ → ℕ → List ℕ → List ℕ → 
 entries_put_with name place room given words blocks = entries_with (all_written name place room words) given blocks
 
 -- what the directory is read as with it
-abbrev pub list_put_with : Mounted → ℕ → ℕ → ℕ → List ℕ → List ℕ → Result Listed DirFault
+abbrev pub list_put_with : MountState → ℕ → ℕ → ℕ → List ℕ → List ℕ → Result DirectoryState DirFault
 list_put_with m name place room given words = list_with m (all_written name place room words) given
 
 -- A file has these words, and an older one of its name is gone; the others stay in their places. It lies at the beginning of the
 -- smallest empty that has enough blocks, of equals the first. Of block 0 and the blocks after the directory's, only those of the
 -- file may differ, and the directory stands as it is written. Each of its blocks was written once, and each of blocks 1 to 6 that has
 -- other words.
-pub record HasPutWith (old : Mounted) (name : ℕ) (given words : List ℕ) (new : Mounted) : Type 0 where
+pub record HasPutWith (old : MountState) (name : ℕ) (given words : List ℕ) (new : MountState) : Type 0 where
   pub ready : IsReady old
   pub free : IsFree old name
   pub files : files_of new.blocks ≡ insert (files_of old.blocks) name (file_with old given words)
@@ -65,12 +65,12 @@ pub record HasPutWith (old : Mounted) (name : ℕ) (given words : List ℕ) (new
   pub others : new ≡ record old { blocks = new.blocks; writes = new.writes }
 
 -- the same with no information word given: they are 0
-abbrev pub HasPut : Mounted → ℕ → List ℕ → Mounted → Type 0
+abbrev pub HasPut : MountState → ℕ → List ℕ → MountState → Type 0
 HasPut old name words new = HasPutWith old name [] words new
 
 -- So many blocks were written from the beginning of the smallest empty that has them, of equals the first. They belong to no file,
 -- no other block differs, and no file is changed.
-pub record HasKept (old : Mounted) (size : ℕ) (new : Mounted) : Type 0 where
+pub record HasKept (old : MountState) (size : ℕ) (new : MountState) : Type 0 where
   pub place : ℕ
   pub room : ℕ
   pub fits : fitting size (rooms_of old.blocks) ≡ Some (place, room)
@@ -95,23 +95,23 @@ abbrev pub HasNoEntry : List (List ℕ) → ℕ → List ℕ → Type 0
 HasNoEntry blocks name words = HasNoEntryWith blocks name [] words
 
 -- a write failed of one of so many blocks, and mounting finds all files with their words
-pub record FileFailed (old : Mounted) (size : ℕ) (new : Mounted) : Type 0 where
+pub record FileFailed (old : MountState) (size : ℕ) (new : MountState) : Type 0 where
   pub files : FoundAgain old.blocks new.blocks
   pub writes : RisesBy size old.writes new.writes
 
 -- A write of the directory failed, when the words of a file were written in an empty. Each older file, a replaced one too, stands
 -- in full in its blocks, and so does the new one.
-pub record EntryFailed (old : Mounted) (name place room : ℕ) (given words : List ℕ) (new : Mounted) : Type 0 where
+pub record EntryFailed (old : MountState) (name place room : ℕ) (given words : List ℕ) (new : MountState) : Type 0 where
   pub few : entries_put_with name place room given words old.blocks ≤ limit_of old.blocks
   pub older : StandInFull new.blocks (directory_of old.blocks) (files_of old.blocks)
   pub newer : StandInFull new.blocks (list_put_with old name place room given words) (insert (files_of old.blocks) name (file_with old given words))
-  pub directory : Listed
+  pub directory : DirectoryState
   pub list : list_put_with old name place room given words ≡ Ok directory
   pub written : StopsInPart old.blocks new.blocks directory (counted_more (blocks_filled words) old.writes) new.writes
 
 -- A write failed, of the blocks of the file or, after these, of the directory. Of block 0 and the blocks after the directory's,
 -- only those of the file may differ.
-pub record PutFailedWith (old : Mounted) (name : ℕ) (given words : List ℕ) (new : Mounted) : Type 0 where
+pub record PutFailedWith (old : MountState) (name : ℕ) (given words : List ℕ) (new : MountState) : Type 0 where
   pub ready : IsReady old
   pub free : IsFree old name
   pub place : ℕ
@@ -122,7 +122,7 @@ pub record PutFailedWith (old : Mounted) (name : ℕ) (given words : List ℕ) (
   pub writes : RisesBy (blocks_filled words + 6) old.writes new.writes
   pub others : HasFailed old new
 
-abbrev pub PutsFileWith : Mounted → ℕ → List ℕ → List ℕ → Result (Unit {0}) FileFault → Mounted → Type 0
+abbrev pub PutsFileWith : MountState → ℕ → List ℕ → List ℕ → Result (Unit {0}) FileFault → MountState → Type 0
 PutsFileWith old name given words (Ok nothing) new = HasPutWith old name given words new
 PutsFileWith old name given words (Err (Busy other)) new = IsReady old × (other ≡ name) × IsHeld old name × (new ≡ old)
 PutsFileWith old name given words (Err (NoRoom largest)) new =
@@ -137,10 +137,10 @@ PutsFileWith old name given words (Err Memory) new = IsReady old × IsFree old n
 PutsFileWith old name given words (Err fault) new = ⊥
 
 -- the same with no information word given
-abbrev pub PutFailed : Mounted → ℕ → List ℕ → Mounted → Type 0
+abbrev pub PutFailed : MountState → ℕ → List ℕ → MountState → Type 0
 PutFailed old name words new = PutFailedWith old name [] words new
 
-abbrev pub PutsFile : Mounted → ℕ → List ℕ → Result (Unit {0}) FileFault → Mounted → Type 0
+abbrev pub PutsFile : MountState → ℕ → List ℕ → Result (Unit {0}) FileFault → MountState → Type 0
 PutsFile old name words (Ok nothing) new = HasPut old name words new
 PutsFile old name words (Err DirectoryFull) new =
     IsReady old × IsFree old name × IsOver old.blocks (insert (files_of old.blocks) name (plain_file old words))

@@ -1,13 +1,13 @@
 -- What small steps of the code answer. No contract of a public function cites these.
 use Rattle.std.specs.Prelude.{◌≡◌, ◌≤◌, ℕ, suc, ◌==◌, nat_lt, if◌then◌else◌, false, Some, List, [], ◌∷◌, Result, Ok, Err, ◌<◌}
 use Rattle.os8_dir.specs.Files.{files_of, limit_of, above_of, capacity_of, run}
-use Rattle.os8_files.specs.Mounted.{Mounted, Begun, IsBegun}
+use Rattle.os8_files.specs.Mounted.{MountState, NewFile, IsBegun}
 use Rattle.os8_files.specs.Failed.{KeepsDirectory, FoundAgain}
-use Rattle.os8_files.specs.Calls.{HasFailed, KeepsBlocks, RisesBy, Spent, counted_more, info_of, IsFree, IsHeld, IsReady, IsOver, entries_with, new_held, HasClosed, PlaceFailed}
+use Rattle.os8_files.specs.Calls.{HasFailed, KeepsBlocks, RisesBy, WithoutNewFile, counted_more, info_of, IsFree, IsHeld, IsReady, IsOver, entries_with, new_held, HasClosed, PlaceFailed}
 use Rattle.os8_dir.specs.declared.file_faults.FileFault.{FileFault}
 use Rattle.os8_dir.specs.declared.file_faults.FileFault.TheVariants.{Device, DirectoryFull, Busy, Memory, NothingWritten}
 use Rattle.std.specs.FinMap.{insert}
-use Rattle.os8_dir.specs.Entries.{Listed}
+use Rattle.os8_dir.specs.Entries.{DirectoryState}
 use Rattle.os8_dir.specs.Reading.{directory_of}
 
 -- how many holds stand before the place of a name
@@ -21,16 +21,16 @@ first_of name [] = 0
 first_of name (held ∷ holds) = if held == name then 0 else suc (first_of name holds)
 
 -- a file was begun, of which nothing is written, and it may grow to so many blocks
-pub record IsBeginning (m : Mounted) (token blocks : ℕ) : Type 0 where
+pub record IsBeginning (m : MountState) (token blocks : ℕ) : Type 0 where
   pub running : m.stopped ≡ false
-  pub begun : Begun
+  pub begun : NewFile
   pub was : m.tentative ≡ Some begun
   pub name : begun.name ≡ token
   pub none : begun.written ≡ 0
   pub fits : blocks ≤ begun.room
 
 -- so many blocks of a file that was begun have these words; no file is changed
-pub record HasFilled (old : Mounted) (begun : Begun) (words : List ℕ) (blocks : ℕ) (new : Mounted) : Type 0 where
+pub record HasFilled (old : MountState) (begun : NewFile) (words : List ℕ) (blocks : ℕ) (new : MountState) : Type 0 where
   pub was : old.tentative ≡ Some begun
   pub text : run new.blocks begun.place blocks ≡ words
   pub kept : KeepsDirectory old.blocks new.blocks
@@ -44,30 +44,30 @@ pub record HasFilled (old : Mounted) (begun : Begun) (words : List ℕ) (blocks 
   pub others : new ≡ record old { blocks = new.blocks; writes = new.writes; tentative = Some (record { name = begun.name; place = begun.place; room = begun.room; written = blocks }) }
 
 -- a write of one of so many blocks of a file that was begun failed
-pub record FillFailed (old : Mounted) (blocks : ℕ) (new : Mounted) : Type 0 where
-  pub begun : Begun
+pub record FillFailed (old : MountState) (blocks : ℕ) (new : MountState) : Type 0 where
+  pub begun : NewFile
   pub was : old.tentative ≡ Some begun
   pub files : FoundAgain old.blocks new.blocks
   pub others_kept : KeepsBlocks old.blocks new.blocks begun.place blocks
   pub writes : RisesBy blocks old.writes new.writes
-  pub others : HasFailed (Spent old) (Spent new)
+  pub others : HasFailed (WithoutNewFile old) (WithoutNewFile new)
 
-abbrev pub FillsFile : Mounted → List ℕ → ℕ → Result (Unit {0}) FileFault → Mounted → Type 0
-FillsFile old words blocks (Ok nothing) new = (begun : Begun) × HasFilled old begun words blocks new
+abbrev pub FillsFile : MountState → List ℕ → ℕ → Result (Unit {0}) FileFault → MountState → Type 0
+FillsFile old words blocks (Ok nothing) new = (begun : NewFile) × HasFilled old begun words blocks new
 FillsFile old words blocks (Err Device) new = FillFailed old blocks new
 FillsFile old words blocks (Err fault) new = ⊥
 
 -- ## Calls
 
 -- no write has failed, no file is being written, and this one lies at the beginning of an empty
-pub record IsPlaced (m : Mounted) (begun : Begun) : Type 0 where
+pub record IsPlaced (m : MountState) (begun : NewFile) : Type 0 where
   pub ready : IsReady m
-  pub directory : Listed
+  pub directory : DirectoryState
   pub read : directory_of m.blocks ≡ Ok directory
   pub lies : IsBegun directory begun
 
 -- what placing that file in the directory answers: where it is done, the file that was being written is closed
-abbrev pub PlacesFile : Mounted → ℕ → Begun → List ℕ → Result (Unit {0}) FileFault → Mounted → Type 0
+abbrev pub PlacesFile : MountState → ℕ → NewFile → List ℕ → Result (Unit {0}) FileFault → MountState → Type 0
 PlacesFile old name begun info (Ok nothing) new = HasClosed (record old { tentative = Some begun }) name info new
 PlacesFile old name begun info (Err NothingWritten) new = (begun.written ≡ 0) × (new ≡ old)
 PlacesFile old name begun info (Err (Busy other)) new = (0 < begun.written) × (other ≡ name) × IsHeld old name × (new ≡ old)

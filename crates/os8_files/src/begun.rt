@@ -13,7 +13,7 @@ pub(crate) struct Begun {
 impl Model for Begun {
     ghost use Rattle.os8_files.specs.Mounted as mounted;
 
-    ghost Value = { mounted.Begun };
+    ghost Value = { mounted.NewFile };
 
     ghost view = { λ b. record { name = b.name; place = b.place; room = b.room; written = b.written } };
 

@@ -7,8 +7,8 @@ ghost use Rattle.volume_image.specs.Volume.{IsVolume};
 ghost use Rattle.os8_dir.specs.Entries.{contains};
 ghost use Rattle.os8_dir.specs.Files.{FileData, files_of, above_of};
 ghost use Rattle.os8_files.specs.Service.{blocks_in, count_of};
-ghost use Rattle.os8_files.specs.Mounted.{Mounted};
-ghost use Rattle.os8_files.specs.Calls.{ReadsBlock, ListsFiles, HoldsFile, DeletesFile, Enters, WritesBlock, ClosesFile, Squeezes, Spent, HasMissed};
+ghost use Rattle.os8_files.specs.Mounted.{MountState};
+ghost use Rattle.os8_files.specs.Calls.{ReadsBlock, ListsFiles, HoldsFile, DeletesFile, Enters, WritesBlock, ClosesFile, Squeezes, WithoutNewFile, HasMissed};
 ghost use Rattle.os8_files.specs.Puts.{PutsFile, PutsFileWith};
 ghost use Rattle.os8_files.specs.Renames.{RenamesFile};
 ghost use Rattle.os8_files.specs.Holds.{with_hold, without_hold, times};
@@ -24,32 +24,32 @@ use os8_dir::laws::{
 
 /// A file that is held keeps its words through every call, whatever is answered, until a write fails.
 pub fn held_files()
-    ensures read_block { (old new : Mounted) (name k : ℕ) (before after : List ℕ)
+    ensures read_block { (old new : MountState) (name k : ℕ) (before after : List ℕ)
         (result : Result (Unit {0}) FileFault) → ReadsBlock old name k before result new after
         → KeepsHeld old new }
-    ensures hold { (old new : Mounted) (name : ℕ) (result : Result ℕ FileFault)
+    ensures hold { (old new : MountState) (name : ℕ) (result : Result ℕ FileFault)
         → HoldsFile old name result new
         → KeepsHeld old new }
-    ensures enter { (old new : Mounted) (name wish : ℕ) (result : Result ℕ FileFault)
+    ensures enter { (old new : MountState) (name wish : ℕ) (result : Result ℕ FileFault)
         → Enters old name wish result new → KeepsHeld old new }
-    ensures write { (old new : Mounted) (words : List ℕ) (result : Result (Unit {0}) FileFault)
+    ensures write { (old new : MountState) (words : List ℕ) (result : Result (Unit {0}) FileFault)
         → WritesBlock old words result new → KeepsHeld old new }
-    ensures close { (old new : Mounted) (name : ℕ) (info : List ℕ) (result : Result (Unit {0}) FileFault)
+    ensures close { (old new : MountState) (name : ℕ) (info : List ℕ) (result : Result (Unit {0}) FileFault)
         → ClosesFile old name info result new → KeepsHeld old new }
-    ensures put { (old new : Mounted) (name : ℕ) (words : List ℕ) (result : Result (Unit {0}) FileFault)
+    ensures put { (old new : MountState) (name : ℕ) (words : List ℕ) (result : Result (Unit {0}) FileFault)
         → PutsFile old name words result new → KeepsHeld old new }
-    ensures delete { (old new : Mounted) (name : ℕ) (result : Result (Unit {0}) FileFault)
+    ensures delete { (old new : MountState) (name : ℕ) (result : Result (Unit {0}) FileFault)
         → DeletesFile old name result new → KeepsHeld old new }
-    ensures squeeze_turn { (old new : Mounted) (result : Result Squeezed FileFault) → Squeezes old result new
+    ensures squeeze_turn { (old new : MountState) (result : Result Squeezed FileFault) → Squeezes old result new
         → KeepsHeld old new }
-    ensures release { (old : Mounted) (hold : ℕ)
+    ensures release { (old : MountState) (hold : ℕ)
         → KeepsHeld old (record old { holds = without_hold hold old.holds }) }
-    ensures give_up { (old : Mounted) → KeepsHeld old (Spent old) }
+    ensures give_up { (old : MountState) → KeepsHeld old (WithoutNewFile old) }
 {}
 
 /// Block k of a file that stays held is block k of the same words at each later call, wherever the file lies by then.
 pub fn held_blocks()
-    ensures { (name k : ℕ) (first last new : Mounted) (others : List Mounted) (before after : List ℕ)
+    ensures { (name k : ℕ) (first last new : MountState) (others : List MountState) (before after : List ℕ)
         (file : FileData) → IsHeldThrough name first others last
         → get (files_of first.blocks) name ≡ Some file → ReadsBlock last name k before (Ok tt) new after
         → after ≡ take BLOCK (drop (BLOCK * k) file.1) }
@@ -58,26 +58,26 @@ pub fn held_blocks()
 /// Calls that aren't about holds take and release none, and after them files that are held have their words. It is the
 /// same after two such calls. None of them, and no hold that is taken, lets a service go on that has stopped.
 pub fn kept_holds()
-    ensures read_block { (old new : Mounted) (name k : ℕ) (before after : List ℕ)
+    ensures read_block { (old new : MountState) (name k : ℕ) (before after : List ℕ)
         (result : Result (Unit {0}) FileFault) → ReadsBlock old name k before result new after
         → KeepsHolds old new }
-    ensures hold { (old new : Mounted) (name : ℕ) (result : Result ℕ FileFault)
+    ensures hold { (old new : MountState) (name : ℕ) (result : Result ℕ FileFault)
         → HoldsFile old name result new
         → new.stopped ≡ old.stopped }
-    ensures enter { (old new : Mounted) (name wish : ℕ) (result : Result ℕ FileFault)
+    ensures enter { (old new : MountState) (name wish : ℕ) (result : Result ℕ FileFault)
         → Enters old name wish result new → KeepsHolds old new }
-    ensures write { (old new : Mounted) (words : List ℕ) (result : Result (Unit {0}) FileFault)
+    ensures write { (old new : MountState) (words : List ℕ) (result : Result (Unit {0}) FileFault)
         → WritesBlock old words result new → KeepsHolds old new }
-    ensures close { (old new : Mounted) (name : ℕ) (info : List ℕ) (result : Result (Unit {0}) FileFault)
+    ensures close { (old new : MountState) (name : ℕ) (info : List ℕ) (result : Result (Unit {0}) FileFault)
         → ClosesFile old name info result new → KeepsHolds old new }
-    ensures put { (old new : Mounted) (name : ℕ) (words : List ℕ) (result : Result (Unit {0}) FileFault)
+    ensures put { (old new : MountState) (name : ℕ) (words : List ℕ) (result : Result (Unit {0}) FileFault)
         → PutsFile old name words result new → KeepsHolds old new }
-    ensures give_up { (old : Mounted) → KeepsHolds old (Spent old) }
-    ensures delete { (old new : Mounted) (name : ℕ) (result : Result (Unit {0}) FileFault)
+    ensures give_up { (old : MountState) → KeepsHolds old (WithoutNewFile old) }
+    ensures delete { (old new : MountState) (name : ℕ) (result : Result (Unit {0}) FileFault)
         → DeletesFile old name result new → KeepsHolds old new }
-    ensures squeeze_turn { (old new : Mounted) (result : Result Squeezed FileFault) → Squeezes old result new
+    ensures squeeze_turn { (old new : MountState) (result : Result Squeezed FileFault) → Squeezes old result new
         → KeepsHolds old new }
-    ensures both { (old mid new : Mounted) → KeepsHolds old mid → KeepsHolds mid new → KeepsHolds old new }
+    ensures both { (old mid new : MountState) → KeepsHolds old mid → KeepsHolds mid new → KeepsHolds old new }
 {}
 
 /// A hold that is taken and released leaves the holds as they were.
@@ -100,49 +100,49 @@ pub fn counted_holds()
 /// Of all calls only a turn of squeezing changes the place of a file that it neither writes nor deletes. It does so of one
 /// file at most, the one that it answers.
 pub fn file_places()
-    ensures read_block { (old new : Mounted) (name k : ℕ) (before after : List ℕ)
+    ensures read_block { (old new : MountState) (name k : ℕ) (before after : List ℕ)
         (result : Result (Unit {0}) FileFault) → ReadsBlock old name k before result new after
         → KeepsPlaces old new }
-    ensures hold { (old new : Mounted) (name : ℕ) (result : Result ℕ FileFault)
+    ensures hold { (old new : MountState) (name : ℕ) (result : Result ℕ FileFault)
         → HoldsFile old name result new
         → KeepsPlaces old new }
-    ensures release { (old : Mounted) (hold : ℕ)
+    ensures release { (old : MountState) (hold : ℕ)
         → KeepsPlaces old (record old { holds = without_hold hold old.holds }) }
-    ensures enter { (old new : Mounted) (name wish : ℕ) (result : Result ℕ FileFault)
+    ensures enter { (old new : MountState) (name wish : ℕ) (result : Result ℕ FileFault)
         → Enters old name wish result new → KeepsPlaces old new }
-    ensures write { (old new : Mounted) (words : List ℕ) (result : Result (Unit {0}) FileFault)
+    ensures write { (old new : MountState) (words : List ℕ) (result : Result (Unit {0}) FileFault)
         → WritesBlock old words result new → KeepsPlaces old new }
-    ensures close { (old new : Mounted) (name : ℕ) (info : List ℕ) (result : Result (Unit {0}) FileFault)
+    ensures close { (old new : MountState) (name : ℕ) (info : List ℕ) (result : Result (Unit {0}) FileFault)
         → ClosesFile old name info result new → KeepsOtherPlaces name old new }
-    ensures put { (old new : Mounted) (name : ℕ) (words : List ℕ) (result : Result (Unit {0}) FileFault)
+    ensures put { (old new : MountState) (name : ℕ) (words : List ℕ) (result : Result (Unit {0}) FileFault)
         → PutsFile old name words result new → KeepsOtherPlaces name old new }
-    ensures give_up { (old : Mounted) → KeepsPlaces old (Spent old) }
-    ensures delete { (old new : Mounted) (name : ℕ) (result : Result (Unit {0}) FileFault)
+    ensures give_up { (old : MountState) → KeepsPlaces old (WithoutNewFile old) }
+    ensures delete { (old new : MountState) (name : ℕ) (result : Result (Unit {0}) FileFault)
         → DeletesFile old name result new → KeepsOtherPlaces name old new }
-    ensures squeeze_turn { (old new : Mounted) (result : Result Squeezed FileFault) → Squeezes old result new
+    ensures squeeze_turn { (old new : MountState) (result : Result Squeezed FileFault) → Squeezes old result new
         → MovesOne old result new }
 {}
 
 /// Which calls of a mounted volume read: `read_block` one block at most, and `squeeze_turn` each block of the file that it is to
 /// move at most once. The others read none.
 pub fn block_reads()
-    ensures read_block { (old new : Mounted) (name k : ℕ) (before after : List ℕ)
+    ensures read_block { (old new : MountState) (name k : ℕ) (before after : List ℕ)
         (result : Result (Unit {0}) FileFault) → ReadsBlock old name k before result new after
         → ReadsOne old new }
-    ensures hold { (old new : Mounted) (name : ℕ) (result : Result ℕ FileFault)
+    ensures hold { (old new : MountState) (name : ℕ) (result : Result ℕ FileFault)
         → HoldsFile old name result new
         → new.reads ≡ old.reads }
-    ensures enter { (old new : Mounted) (name wish : ℕ) (result : Result ℕ FileFault)
+    ensures enter { (old new : MountState) (name wish : ℕ) (result : Result ℕ FileFault)
         → Enters old name wish result new → new.reads ≡ old.reads }
-    ensures write { (old new : Mounted) (words : List ℕ) (result : Result (Unit {0}) FileFault)
+    ensures write { (old new : MountState) (words : List ℕ) (result : Result (Unit {0}) FileFault)
         → WritesBlock old words result new → new.reads ≡ old.reads }
-    ensures close { (old new : Mounted) (name : ℕ) (info : List ℕ) (result : Result (Unit {0}) FileFault)
+    ensures close { (old new : MountState) (name : ℕ) (info : List ℕ) (result : Result (Unit {0}) FileFault)
         → ClosesFile old name info result new → new.reads ≡ old.reads }
-    ensures put { (old new : Mounted) (name : ℕ) (words : List ℕ) (result : Result (Unit {0}) FileFault)
+    ensures put { (old new : MountState) (name : ℕ) (words : List ℕ) (result : Result (Unit {0}) FileFault)
         → PutsFile old name words result new → new.reads ≡ old.reads }
-    ensures delete { (old new : Mounted) (name : ℕ) (result : Result (Unit {0}) FileFault)
+    ensures delete { (old new : MountState) (name : ℕ) (result : Result (Unit {0}) FileFault)
         → DeletesFile old name result new → new.reads ≡ old.reads }
-    ensures squeeze_turn { (old new : Mounted) (result : Result Squeezed FileFault) → Squeezes old result new
+    ensures squeeze_turn { (old new : MountState) (result : Result Squeezed FileFault) → Squeezes old result new
         → (new.reads ≡ old.reads) ⊎ ReadsLowest old new }
 {}
 
@@ -174,10 +174,10 @@ pub fn files_above()
 
 /// What a read that fails leaves: nothing is changed but the two counts of reads.
 pub fn failed_reads()
-    ensures read_block { (old new : Mounted) (name k : ℕ) (before after : List ℕ)
+    ensures read_block { (old new : MountState) (name k : ℕ) (before after : List ℕ)
         (result : Result (Unit {0}) FileFault) → ReadsBlock old name k before result new after
         → old.failed_reads < new.failed_reads → HasMissed old new × (after ≡ before) }
-    ensures squeeze_turn { (old new : Mounted) (result : Result Squeezed FileFault) → Squeezes old result new
+    ensures squeeze_turn { (old new : MountState) (result : Result Squeezed FileFault) → Squeezes old result new
         → old.failed_reads < new.failed_reads → HasMissed old new }
 {}
 
@@ -186,19 +186,19 @@ pub fn failed_reads()
 /// file's words stand in full in its old blocks, and those of a moved file in its new ones. The same is left of the volume as it
 /// was before earlier writes that kept blocks 1 to 6 and all files.
 pub fn failed_writes()
-    ensures write { (old new : Mounted) (words : List ℕ) (result : Result (Unit {0}) FileFault)
+    ensures write { (old new : MountState) (words : List ℕ) (result : Result (Unit {0}) FileFault)
         → WritesBlock old words result new → old.failed_writes < new.failed_writes
         → Survives old.blocks new.blocks }
-    ensures close { (old new : Mounted) (name : ℕ) (info : List ℕ) (result : Result (Unit {0}) FileFault)
+    ensures close { (old new : MountState) (name : ℕ) (info : List ℕ) (result : Result (Unit {0}) FileFault)
         → ClosesFile old name info result new → old.failed_writes < new.failed_writes
         → Survives old.blocks new.blocks }
-    ensures put { (old new : Mounted) (name : ℕ) (words : List ℕ) (result : Result (Unit {0}) FileFault)
+    ensures put { (old new : MountState) (name : ℕ) (words : List ℕ) (result : Result (Unit {0}) FileFault)
         → PutsFile old name words result new → old.failed_writes < new.failed_writes
         → Survives old.blocks new.blocks }
-    ensures delete { (old new : Mounted) (name : ℕ) (result : Result (Unit {0}) FileFault)
+    ensures delete { (old new : MountState) (name : ℕ) (result : Result (Unit {0}) FileFault)
         → DeletesFile old name result new → old.failed_writes < new.failed_writes
         → Survives old.blocks new.blocks }
-    ensures squeeze_turn { (old new : Mounted) (result : Result Squeezed FileFault) → Squeezes old result new
+    ensures squeeze_turn { (old new : MountState) (result : Result Squeezed FileFault) → Squeezes old result new
         → old.failed_writes < new.failed_writes → Survives old.blocks new.blocks }
     ensures later { (old mid new : List (List ℕ)) → KeepsDirectory old mid → files_of mid ≡ files_of old
         → Survives mid new → Survives old new }
@@ -206,25 +206,25 @@ pub fn failed_writes()
 
 /// Each call that can answer a `FileFault` answers `Stopped` just where a write has failed before.
 pub fn stopped_calls()
-    ensures read_block { (old new : Mounted) (name k : ℕ) (before after : List ℕ)
+    ensures read_block { (old new : MountState) (name k : ℕ) (before after : List ℕ)
         (result : Result (Unit {0}) FileFault) → ReadsBlock old name k before result new after
         → IsStopped old result }
-    ensures listing { (old : Mounted) (result : Result (Vec (ℕ × ℕ)) FileFault) → ListsFiles old result
+    ensures listing { (old : MountState) (result : Result (Vec (ℕ × ℕ)) FileFault) → ListsFiles old result
         → IsStopped old result }
-    ensures hold { (old new : Mounted) (name : ℕ) (result : Result ℕ FileFault)
+    ensures hold { (old new : MountState) (name : ℕ) (result : Result ℕ FileFault)
         → HoldsFile old name result new
         → IsStopped old result }
-    ensures enter { (old new : Mounted) (name wish : ℕ) (result : Result ℕ FileFault)
+    ensures enter { (old new : MountState) (name wish : ℕ) (result : Result ℕ FileFault)
         → Enters old name wish result new → IsStopped old result }
-    ensures write { (old new : Mounted) (words : List ℕ) (result : Result (Unit {0}) FileFault)
+    ensures write { (old new : MountState) (words : List ℕ) (result : Result (Unit {0}) FileFault)
         → WritesBlock old words result new → IsStopped old result }
-    ensures close { (old new : Mounted) (name : ℕ) (info : List ℕ) (result : Result (Unit {0}) FileFault)
+    ensures close { (old new : MountState) (name : ℕ) (info : List ℕ) (result : Result (Unit {0}) FileFault)
         → ClosesFile old name info result new → IsStopped old result }
-    ensures put { (old new : Mounted) (name : ℕ) (words : List ℕ) (result : Result (Unit {0}) FileFault)
+    ensures put { (old new : MountState) (name : ℕ) (words : List ℕ) (result : Result (Unit {0}) FileFault)
         → PutsFile old name words result new → IsStopped old result }
-    ensures delete { (old new : Mounted) (name : ℕ) (result : Result (Unit {0}) FileFault)
+    ensures delete { (old new : MountState) (name : ℕ) (result : Result (Unit {0}) FileFault)
         → DeletesFile old name result new → IsStopped old result }
-    ensures squeeze_turn { (old new : Mounted) (result : Result Squeezed FileFault) → Squeezes old result new
+    ensures squeeze_turn { (old new : MountState) (result : Result Squeezed FileFault) → Squeezes old result new
         → IsStopped old result }
 {}
 
@@ -232,35 +232,35 @@ pub fn stopped_calls()
 /// are held, the places of the other files and the count of reads. After a write that fails it is said of the files. It answers
 /// `Stopped` just where a write has failed before.
 pub fn renamed_files()
-    ensures holds { (old new : Mounted) (name other : ℕ) (result : Result (Unit {0}) FileFault)
+    ensures holds { (old new : MountState) (name other : ℕ) (result : Result (Unit {0}) FileFault)
         → RenamesFile old name other result new → KeepsHolds old new }
-    ensures places { (old new : Mounted) (name other third : ℕ) (result : Result (Unit {0}) FileFault)
+    ensures places { (old new : MountState) (name other third : ℕ) (result : Result (Unit {0}) FileFault)
         → RenamesFile old name other result new → name ≢ third → other ≢ third → new.stopped ≡ false
         → extent_on new third ≡ extent_on old third }
-    ensures reads { (old new : Mounted) (name other : ℕ) (result : Result (Unit {0}) FileFault)
+    ensures reads { (old new : MountState) (name other : ℕ) (result : Result (Unit {0}) FileFault)
         → RenamesFile old name other result new → new.reads ≡ old.reads }
-    ensures failed_writes { (old new : Mounted) (name other : ℕ) (result : Result (Unit {0}) FileFault)
+    ensures failed_writes { (old new : MountState) (name other : ℕ) (result : Result (Unit {0}) FileFault)
         → RenamesFile old name other result new → old.failed_writes < new.failed_writes
         → Survives old.blocks new.blocks }
-    ensures stopped { (old new : Mounted) (name other : ℕ) (result : Result (Unit {0}) FileFault)
+    ensures stopped { (old new : MountState) (name other : ℕ) (result : Result (Unit {0}) FileFault)
         → RenamesFile old name other result new → IsStopped old result }
 {}
 
 /// What putting a file with information words leaves, as the laws above say of putting one without.
 pub fn informed_files()
-    ensures holds { (old new : Mounted) (name : ℕ) (given words : List ℕ)
+    ensures holds { (old new : MountState) (name : ℕ) (given words : List ℕ)
         (result : Result (Unit {0}) FileFault) → PutsFileWith old name given words result new
         → KeepsHolds old new }
-    ensures places { (old new : Mounted) (name : ℕ) (given words : List ℕ)
+    ensures places { (old new : MountState) (name : ℕ) (given words : List ℕ)
         (result : Result (Unit {0}) FileFault) → PutsFileWith old name given words result new
         → KeepsOtherPlaces name old new }
-    ensures reads { (old new : Mounted) (name : ℕ) (given words : List ℕ)
+    ensures reads { (old new : MountState) (name : ℕ) (given words : List ℕ)
         (result : Result (Unit {0}) FileFault) → PutsFileWith old name given words result new
         → new.reads ≡ old.reads }
-    ensures failed_writes { (old new : Mounted) (name : ℕ) (given words : List ℕ)
+    ensures failed_writes { (old new : MountState) (name : ℕ) (given words : List ℕ)
         (result : Result (Unit {0}) FileFault) → PutsFileWith old name given words result new
         → old.failed_writes < new.failed_writes → Survives old.blocks new.blocks }
-    ensures stopped { (old new : Mounted) (name : ℕ) (given words : List ℕ)
+    ensures stopped { (old new : MountState) (name : ℕ) (given words : List ℕ)
         (result : Result (Unit {0}) FileFault) → PutsFileWith old name given words result new
         → IsStopped old result }
 {}

@@ -1,13 +1,13 @@
 //! The writing of a directory's segments.
 ghost use Rattle.std.specs.Prelude.{◌≡◌, ◌+◌, ◌≤◌, ◌<◌, slice_set, nat_eq, length, is_ok, if◌then◌else◌, OnOk, OnErr};
 ghost use lib.Pointwise.{pointwise};
-ghost use Rattle.volume_image.specs.Volume.{IsVolume, IsDamaged, counted};
+ghost use Rattle.volume_image.specs.Volume.{IsVolume, IsDamaged, next_count};
 ghost use Rattle.os8_dir.specs.Reading.{block};
 ghost use Rattle.os8_files.specs.Calls.{counted_more, StopsInPart};
 ghost use Rattle.os8_dir.specs.Found.{limit};
 ghost use Rattle.os8_dir.specs.Segments.{segment_count};
 ghost use Rattle.os8_files.specs.Mounted.{AreSegments};
-ghost use Rattle.os8_files.specs.WriteSteps.{changed, with_segments, KeepsHigh};
+ghost use Rattle.os8_files.specs.WriteSteps.{count_of_changed, with_segments, KeepsHigh};
 
 use os8_dir::Directory;
 use volume_image::{Block, BlockStore, DeviceFault};
@@ -29,8 +29,8 @@ fn write_segment<S: BlockStore>(
     ensures volume { IsVolume (S.contents store.new) }
     ensures writes { OnOk result (S.writes store.new
         ≡ (if pointwise nat_eq (block (S.contents store.old) (number + 1)) words.now
-        then S.writes store.old else counted (S.writes store.old))) }
-    ensures tried { OnErr result (S.writes store.new ≡ counted (S.writes store.old)) }
+        then S.writes store.old else next_count (S.writes store.old))) }
+    ensures tried { OnErr result (S.writes store.new ≡ next_count (S.writes store.old)) }
     ensures reads { S.reads store.new ≡ S.reads store.old }
     ensures failed_reads { S.failed_reads store.new ≡ S.failed_reads store.old }
     ensures failed_writes { S.failed_writes store.new
@@ -66,7 +66,7 @@ pub(crate) fn write_segments<S: BlockStore>(
     ensures few { segment_count directory.now ≤ 6 }
     ensures volume { IsVolume (S.contents store.new) }
     ensures writes { OnOk result (S.writes store.new
-        ≡ counted_more (changed (segment_count directory.now) directory.now (S.contents store.old))
+        ≡ counted_more (count_of_changed (segment_count directory.now) directory.now (S.contents store.old))
         (S.writes store.old)) }
     ensures reads { S.reads store.new ≡ S.reads store.old }
     ensures failed_reads { S.failed_reads store.new ≡ S.failed_reads store.old }

@@ -7,11 +7,11 @@ ghost use Rattle.os8_dir.specs.Files.{files_of, capacity_of, above_of};
 ghost use Rattle.os8_dir.specs.declared.faults.DirFault.TheVariants.{Device};
 ghost use Rattle.volume_image.specs.Volume.{IsVolume};
 ghost use Rattle.os8_files.specs.Mounted.{AreSegments};
-ghost use Rattle.os8_files.specs.Service.{blocks_of, information_of, used_of, count_of};
+ghost use Rattle.os8_files.specs.Service.{blocks_of, information_of, blocks_in_use, count_of};
 ghost use Rattle.os8_files.specs.Failed.{information_in, size_in};
 ghost use Rattle.os8_files.specs.Holds.{without_hold};
 ghost use Rattle.os8_files.specs.Calls.{ReadsBlock, ListsFiles, HoldsFile, IsLonger};
-ghost use Rattle.os8_dir.specs.Entries.{Listed, contains};
+ghost use Rattle.os8_dir.specs.Entries.{DirectoryState, contains};
 
 use crate::begun::Begun;
 use crate::copying::{blank_run, read_run};
@@ -46,9 +46,9 @@ pub struct FileService<S: BlockStore> {
 
 impl<S: BlockStore> Model for FileService<S> {
     ghost use Rattle.std.specs.Prelude.{if◌then◌else◌, Some, None};
-    ghost use Rattle.os8_files.specs.Mounted.{Mounted, IsMounted};
+    ghost use Rattle.os8_files.specs.Mounted.{MountState, IsMounted};
 
-    ghost Value = { Mounted };
+    ghost Value = { MountState };
 
     ghost view = { λ s. record {
       blocks = S.contents s.store;
@@ -155,7 +155,7 @@ impl<S: BlockStore> FileService<S> {
     pub fn lookup(&self, name: &Name) -> Option<usize>
         ensures running { self.now.stopped ≡ false → result
             ≡ blocks_of (get (files_of self.now.blocks) name.now) }
-        ensures stopped { (d : Listed) → self.now.last ≡ Some d → result ≡ size_in d name.now }
+        ensures stopped { (d : DirectoryState) → self.now.last ≡ Some d → result ≡ size_in d name.now }
     {
         files_found();
         sound_directory();
@@ -170,7 +170,7 @@ impl<S: BlockStore> FileService<S> {
     pub fn information(&self, name: &Name) -> Option<[Word; 10]>
         ensures running { self.now.stopped ≡ false → result
             ≡ information_of (get (files_of self.now.blocks) name.now) }
-        ensures stopped { (d : Listed) → self.now.last ≡ Some d → result ≡ information_in d name.now }
+        ensures stopped { (d : DirectoryState) → self.now.last ≡ Some d → result ≡ information_in d name.now }
     {
         files_found();
         sound_directory();
@@ -181,9 +181,9 @@ impl<S: BlockStore> FileService<S> {
     /// The covered blocks that belong to no file. Where a write has failed they are those of the directory that was held
     /// then.
     pub fn free(&self) -> usize
-        ensures running { self.now.stopped ≡ false → result + used_of (files_of self.now.blocks)
+        ensures running { self.now.stopped ≡ false → result + blocks_in_use (files_of self.now.blocks)
             ≡ capacity_of self.now.blocks }
-        ensures stopped { (d : Listed) → self.now.last ≡ Some d → result ≡ free_blocks d.entries }
+        ensures stopped { (d : DirectoryState) → self.now.last ≡ Some d → result ≡ free_blocks d.entries }
     {
         sound_directory();
         files_made();
@@ -196,7 +196,7 @@ impl<S: BlockStore> FileService<S> {
     pub fn count(&self) -> usize
         ensures running { self.now.stopped ≡ false → result ≡ count_of (files_of self.now.blocks) }
         ensures above { self.now.stopped ≡ false → above_of self.now.blocks ≤ result }
-        ensures stopped { (d : Listed) → self.now.last ≡ Some d → result ≡ count_files d.entries }
+        ensures stopped { (d : DirectoryState) → self.now.last ≡ Some d → result ≡ count_files d.entries }
         ensures range { result < 18446744073709551615 }
     {
         sound_directory();
@@ -220,7 +220,7 @@ impl<S: BlockStore> FileService<S> {
 
     /// Whether a write has failed. From then on each call that can answer a `FileFault` answers `Stopped`, and the other
     /// calls answer by the directory that was held then.
-    pub fn stopped(&self) -> bool
+    pub fn is_stopped(&self) -> bool
         ensures value { result ≡ self.now.stopped }
         ensures last { result ≡ is_some self.now.last }
     {

@@ -16,27 +16,27 @@ use Rattle.outcome.specs.declared.endings.Ending.{Ending}
 use Rattle.outcome.specs.declared.endings.Ending.TheVariants as ending
 
 -- what each stream gets, and the exit status
-pub record Said : Type 0 where
+pub record Writing : Type 0 where
   pub output : List ℕ
   pub errors : List ℕ
   pub status : ℕ
 
 -- A refusal has status 1. Its line goes to standard output where the command puts lines there, and to standard error where it puts data
 -- there. Its note goes to standard error, before that.
-abbrev pub refusal : Bool → List ℕ → List ℕ → Said
+abbrev pub refusal : Bool → List ℕ → List ℕ → Writing
 refusal false note line = record { output = line; errors = note; status = 1 }
 refusal true note line = record { output = []; errors = note ++ line; status = 1 }
 
 -- nothing is printed, or nothing more
-abbrev pub silence : ℕ → Said
+abbrev pub silence : ℕ → Writing
 silence status = record { output = []; errors = []; status = status }
 
 -- standard output takes no more, and a line on standard error says so
-abbrev pub full_output : Said
+abbrev pub full_output : Writing
 full_output = record { output = []; errors = fault_line Writer; status = 1 }
 
 -- a fault by its number; that of the writer is one of standard output
-abbrev pub fault_outcome : Bool → SessionFault → Said
+abbrev pub fault_outcome : Bool → SessionFault → Writing
 fault_outcome is_data Writer = full_output
 fault_outcome is_data BadLine = refusal is_data [] (fault_line BadLine)
 fault_outcome is_data NoJob = refusal is_data [] (fault_line NoJob)
@@ -59,7 +59,7 @@ abbrev pub note_on : FileNote → Content → List ℕ
 note_on note content = file_text note (content_name content)
 
 -- of a command whose output is data, or lines
-abbrev pub ending_outcome : Bool → Ending → Said
+abbrev pub ending_outcome : Bool → Ending → Writing
 ending_outcome is_data (ending.Line line) = refusal is_data [] (program_line line)
 ending_outcome is_data (ending.Fault fault) = fault_outcome is_data fault
 ending_outcome is_data ending.Failure = silence 1
@@ -70,6 +70,6 @@ ending_outcome is_data ending.NoReader = silence 141
 ending_outcome is_data ending.Misuse = silence 2
 
 -- of a command that ends in its work, or before
-abbrev pub outcome_of : Bool → Result (Unit {0}) Ending → Said
+abbrev pub outcome_of : Bool → Result (Unit {0}) Ending → Writing
 outcome_of is_data (Ok nothing) = silence 0
 outcome_of is_data (Err ending) = ending_outcome is_data ending

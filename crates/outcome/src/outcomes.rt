@@ -2,7 +2,7 @@
 ghost use Rattle.std.specs.Prelude.{◌≡◌};
 ghost use Rattle.outcome.specs.Notes.{text_on_file};
 ghost use Rattle.outcome.specs.Outcomes as spec;
-ghost use Rattle.outcome.specs.Shown.{said};
+ghost use Rattle.outcome.specs.Shown.{writing_of};
 ghost use Rattle.outcome.specs.Steps.{refusal_stream};
 ghost use Rattle.report8.specs.Program.{program_line};
 
@@ -43,7 +43,7 @@ pub struct Outcome {
 /// What is printed at the end of a command that ends so, whose output is data or lines, and its exit status. No memory is taken (this
 /// project's profile).
 pub fn outcome_of(room: LineRoom, is_data: bool, work: Result<(), Ending>) -> Outcome
-    ensures { said result ≡ spec.outcome_of is_data work }
+    ensures { writing_of result ≡ spec.outcome_of is_data work }
 {
     match work {
         Ok(()) => silence(room, 0),
@@ -52,7 +52,7 @@ pub fn outcome_of(room: LineRoom, is_data: bool, work: Result<(), Ending>) -> Ou
 }
 
 fn ending_outcome(room: LineRoom, is_data: bool, ending: Ending) -> Outcome
-    ensures { said result ≡ spec.ending_outcome is_data ending }
+    ensures { writing_of result ≡ spec.ending_outcome is_data ending }
 {
     match ending {
         Ending::Line(line) => refusal(room, is_data, None, &line),
@@ -74,7 +74,7 @@ fn ending_outcome(room: LineRoom, is_data: bool, ending: Ending) -> Outcome
 
 /// What is printed of a fault; that of the writer is one of standard output.
 fn fault_outcome(room: LineRoom, is_data: bool, fault: SessionFault) -> Outcome
-    ensures { said result ≡ spec.fault_outcome is_data fault }
+    ensures { writing_of result ≡ spec.fault_outcome is_data fault }
 {
     match fault {
         SessionFault::Writer => full_output(room),
@@ -94,7 +94,7 @@ fn refusal(
     note: Option<(FileNote, Content)>,
     line: &ProgramLine,
 ) -> Outcome
-    ensures { said result ≡ spec.refusal is_data (text_on_file note) (program_line line.now) }
+    ensures { writing_of result ≡ spec.refusal is_data (text_on_file note) (program_line line.now) }
 {
     Outcome {
         note,
@@ -116,7 +116,7 @@ fn refusal_stream(is_data: bool) -> Stream
 
 /// Standard error gets the line of a writer that takes no more.
 fn full_output(room: LineRoom) -> Outcome
-    ensures { said result ≡ spec.full_output }
+    ensures { writing_of result ≡ spec.full_output }
 {
     Outcome {
         note: None,
@@ -128,7 +128,7 @@ fn full_output(room: LineRoom) -> Outcome
 
 /// Nothing is printed.
 fn silence(room: LineRoom, status: u8) -> Outcome
-    ensures { said result ≡ spec.silence status }
+    ensures { writing_of result ≡ spec.silence status }
 {
     Outcome {
         note: None,

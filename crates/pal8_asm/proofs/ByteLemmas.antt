@@ -2,14 +2,14 @@
 use Rattle.std.proofs.Common.{◌≡◌, ℕ, true, false, Option, Some, None, Result, Ok, Err, length, List, ◌∷◌, sym, ap, ◌∙◌}
 use Rattle.pal_lex.specs.Text.{limit}
 use Rattle.pal8_lex.specs.Reading as lex
-use Rattle.pal8_lex.specs.Reading.{shown, shown_by}
+use Rattle.pal8_lex.specs.Reading.{last_statement, statement_at_end}
 use Rattle.pal8_lex.specs.Text.{as_read, live}
 use Rattle.pal8_lex.specs.Statements as lex_statements
 use Rattle.pal8_lex.specs.Statements.{is_string, statement_of}
 use Rattle.pal8_lex.specs.declared.rules.End.{End}
-use Rattle.pal8_asm.specs.Sources.{Statement, ended_at, passed, statements, with_next}
+use Rattle.pal8_asm.specs.Sources.{Statement, statement_at, pass_over, statements, with_next}
 use Rattle.pal8_asm.specs.Steps.{HasTaken, Pushes, TakesByte}
-use Rattle.pal8_asm.specs.Assembling.{Progress, Takes, left_in}
+use Rattle.pal8_asm.specs.Assembling.{Progress, Takes, remainder_of}
 use Rattle.pal8_asm.specs.declared.faults.AsmFault.{AsmFault}
 use Rattle.pal8_asm.specs.declared.faults.AsmFault.TheVariants.{At, Memory}
 
@@ -26,23 +26,23 @@ newest_is : (here : List ℕ) (b at : ℕ) (e : End) (l : lex.Progress) → at �
 newest_is here b at e l place ends it =
     let s : lex_statements.Statement = statement_of (as_read b) (live here) in
     let is : Some (record { line = l.line; tokens = l.draft.tokens; string = l.draft.string; is_cut = is_string l.draft.state; end = e }) ≡ Some s =
-    ap (λ o. shown_by o l) (sym ends) ∙ it.0 in
-    it.1 ∙ ap (λ n. ended_at n s ∷ statements here) (sym place) ∙ ap (λ x. ended_at at x ∷ statements here) (sym (ap (some_or s) is))
+    ap (λ o. statement_at_end o l) (sym ends) ∙ it.0 in
+    it.1 ∙ ap (λ n. statement_at n s ∷ statements here) (sym place) ∙ ap (λ x. statement_at at x ∷ statements here) (sym (ap (some_or s) is))
 
 -- the byte ends nothing
 pub byte_goes_on : (here : List ℕ) (b : ℕ) (l l' : lex.Progress) (a : Progress) → HasTaken here l a → Pushes here b (Ok false) l' → HasTaken (b ∷ here) l' a
-byte_goes_on here b l l' a taken it = record { has_read = it.1; leaves = ap passed it.0 ∙ taken.leaves }
+byte_goes_on here b l l' a taken it = record { has_read = it.1; leaves = ap pass_over it.0 ∙ taken.leaves }
 
 -- the byte ends a statement
 pub statement_taken : (here : List ℕ) (b at : ℕ) (e : End) (l l' : lex.Progress) (a a' : Progress) → at ≡ limit (length here) → l'.end ≡ Some e
     → Pushes here b (Ok true) l' → HasTaken here l a → (result : Result (Unit {0}) AsmFault)
-    → Takes (with_next (shown_at at e l') (Ok (left_in a))) result a' → TakesByte (b ∷ here) result l' a'
+    → Takes (with_next (shown_at at e l') (Ok (remainder_of a))) result a' → TakesByte (b ∷ here) result l' a'
 statement_taken here b at e l l' a a' place ends it taken result takes = by_result result takes
   where
-    comes : passed (statements (b ∷ here)) ≡ with_next (shown_at at e l') (Ok (left_in a))
-    comes = ap passed (newest_is here b at e l' place ends it) ∙ ap (with_next (shown_at at e l')) taken.leaves
+    comes : pass_over (statements (b ∷ here)) ≡ with_next (shown_at at e l') (Ok (remainder_of a))
+    comes = ap pass_over (newest_is here b at e l' place ends it) ∙ ap (with_next (shown_at at e l')) taken.leaves
 
-    by_result : (result : Result (Unit {0}) AsmFault) → Takes (with_next (shown_at at e l') (Ok (left_in a))) result a' → TakesByte (b ∷ here) result l' a'
+    by_result : (result : Result (Unit {0}) AsmFault) → Takes (with_next (shown_at at e l') (Ok (remainder_of a))) result a' → TakesByte (b ∷ here) result l' a'
     by_result (Ok nothing) takes = record { has_read = it.2; leaves = comes ∙ takes }
     by_result (Err (At code start)) takes = comes ∙ takes
     by_result (Err Memory) takes = tt

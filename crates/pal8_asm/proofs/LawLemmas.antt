@@ -7,17 +7,17 @@ use Rattle.pal8_pools.specs.Asks.{Ask, cell_in}
 use Rattle.pal8_pools.specs.Cells.{ArePairs, IsIn, IsPair, RiseFrom}
 use Rattle.pal8_clash.specs.Clashes.{lowest_clash}
 use Rattle.pal8_clash.specs.Laws.{NoClashIsApart}
-use Rattle.pal8_values.specs.Sums.{Known}
-use Rattle.pal8_values.specs.Words.{Asked, word_value}
+use Rattle.pal8_values.specs.Sums.{Meanings}
+use Rattle.pal8_values.specs.Words.{AskResult, word_value}
 use Rattle.pal8_lex.specs.declared.tokens.Token.{Token}
 use Rattle.pal8_grammar.specs.Bodies.{Phrase}
 use Rattle.pal8_grammar.specs.declared.bodies.Body.TheVariants as body
 use Rattle.pal8_grammar.specs.declared.faults.GrammarFault.{GrammarFault}
 use Rattle.pal8_grammar.specs.declared.steps.Step.{Step}
 use Rattle.pal8_asm.specs.Places.{Standing, spot_at, stands, truth_of, with_body_if, with_statement, with_tags}
-use Rattle.pal8_asm.specs.Sources.{Entry, Left, Passed, Statement, bracketed, is_selected, left_of, number, passed, place_of, said_of, with_brackets, with_entries as with_entries_of, with_next, with_phrase, with_said, with_selected, with_skipped, words_in}
-use Rattle.pal8_asm.specs.Tapes.{Made, cleared, cleared_by, made_of, spot_of, with_entries, with_entry, with_made}
-use Rattle.pal8_asm.specs.Assembled.{dollar_in, has_words, judged, judged_by, made_by}
+use Rattle.pal8_asm.specs.Sources.{Entry, Remainder, PassResult, Statement, brackets_with, is_selected, remainder_of_text, number, pass_over, place_of, phrase_of, with_brackets, with_entries as with_entries_of, with_next, with_phrase, with_said, with_selected, with_skipped, words_in}
+use Rattle.pal8_asm.specs.Tapes.{TapeWords, without_clash, unless_clash, words_of_entries, spot_of, with_entries, with_entry, with_made}
+use Rattle.pal8_asm.specs.Assembled.{dollar_in, has_words, result_if_any_word, result_with_words, result_of_source}
 use Rattle.pal8_asm.specs.Laws.{Apart, NoPoolNoChange, PlacesStay, ValueIsFound, meaning, passed_zero, read_zero, without_words, zero_phrase, zero_said}
 use Rattle.pal8_asm.specs.declared.faults.Fault.{Fault}
 use Rattle.pal8_asm.specs.declared.faults.Place.{Place}
@@ -27,49 +27,49 @@ use Rattle.pal8_asm.proofs.MakingLemmas.{free_by}
 -- ## No clash
 
 -- no fault of a clash is no clash among the words so far
-abbrev Free : Result Made Fault → Type 0
+abbrev Free : Result TapeWords Fault → Type 0
 Free (Err fault) = Unit {0}
 Free (Ok made) = made.clash ≡ None → lowest_clash made.asks made.words ≡ None
 
-word_is_free : (e : Entry) (made : Made) (r : Asked) → Free (with_made e made r)
+word_is_free : (e : Entry) (made : TapeWords) (r : AskResult) → Free (with_made e made r)
 word_is_free e made (Err fault) = tt
 word_is_free e made (Ok (word, asks, punched)) = free_by made.clash e.place _
 
-entry_is_free : (last : Known) (e : Entry) (r : Result Made Fault) → Free (with_entry last e r)
+entry_is_free : (last : Meanings) (e : Entry) (r : Result TapeWords Fault) → Free (with_entry last e r)
 entry_is_free last e (Err fault) = tt
 entry_is_free last e (Ok made) = word_is_free e made (word_value last (spot_of e) e.steps made.asks made.punched)
 
-entries_are_free : (last : Known) (entries : List Entry) (r : Result Made Fault) → Free r → Free (with_entries last entries r)
+entries_are_free : (last : Meanings) (entries : List Entry) (r : Result TapeWords Fault) → Free r → Free (with_entries last entries r)
 entries_are_free last [] r free = free
 entries_are_free last (e ∷ others) r free = entries_are_free last others (with_entry last e r) (entry_is_free last e r)
 
-made_is_free : (last : Known) (entries : List Entry) → Free (made_of last entries)
+made_is_free : (last : Meanings) (entries : List Entry) → Free (words_of_entries last entries)
 made_is_free last entries = entries_are_free last entries _ (λ none. refl)
 
-abbrev made_in : Made → Result Made Fault → Made
+abbrev made_in : TapeWords → Result TapeWords Fault → TapeWords
 made_in other (Err fault) = other
 made_in other (Ok made) = made
 
-module _ (dollar : Place) (made : Made) where
-  by_words : (m : Made) → lowest_clash m.asks m.words ≡ None → (has : Bool) → judged_by dollar m has ≡ Ok made → lowest_clash made.asks made.words ≡ None
-  by_words m none true is = subst (λ (x : Made). lowest_clash x.asks x.words ≡ None) (ap (made_in m) is) none
+module _ (dollar : Place) (made : TapeWords) where
+  by_words : (m : TapeWords) → lowest_clash m.asks m.words ≡ None → (has : Bool) → result_with_words dollar m has ≡ Ok made → lowest_clash made.asks made.words ≡ None
+  by_words m none true is = subst (λ (x : TapeWords). lowest_clash x.asks x.words ≡ None) (ap (made_in m) is) none
   by_words m none false is = absurd cc
 
-  by_clash : (m : Made) (clash : Option Fault) → m.clash ≡ clash → Free (Ok m) → judged dollar (cleared_by m clash) ≡ Ok made → lowest_clash made.asks made.words ≡ None
+  by_clash : (m : TapeWords) (clash : Option Fault) → m.clash ≡ clash → Free (Ok m) → result_if_any_word dollar (unless_clash m clash) ≡ Ok made → lowest_clash made.asks made.words ≡ None
   by_clash m (Some fault) same free is = absurd cc
   by_clash m None same free is = by_words m (free same) (has_words m.words) is
 
-  by_made : (r : Result Made Fault) → Free r → judged dollar (cleared r) ≡ Ok made → lowest_clash made.asks made.words ≡ None
+  by_made : (r : Result TapeWords Fault) → Free r → result_if_any_word dollar (without_clash r) ≡ Ok made → lowest_clash made.asks made.words ≡ None
   by_made (Err fault) free is = absurd cc
   by_made (Ok m) free is = by_clash m m.clash refl free is
 
-by_left : (made : Made) (l : Passed) → made_by l ≡ Ok made → lowest_clash made.asks made.words ≡ None
+by_left : (made : TapeWords) (l : PassResult) → result_of_source l ≡ Ok made → lowest_clash made.asks made.words ≡ None
 by_left made (Err fault) is = absurd cc
 by_left made (Ok left) is =
-    by_made (dollar_in left.end) made (made_of (stands left.standing.kept) left.entries) (made_is_free (stands left.standing.kept) left.entries) is
+    by_made (dollar_in left.end) made (words_of_entries (stands left.standing.kept) left.entries) (made_is_free (stands left.standing.kept) left.entries) is
 
 pub apart : NoClashIsApart → Apart
-apart law text made is c has = law made.words made.asks (by_left made (left_of text) is) c has
+apart law text made is c has = law made.words made.asks (by_left made (remainder_of_text text) is) c has
 
 -- ## No pool
 
@@ -178,12 +178,12 @@ same_truth (body.FixTable, steps) standing = refl
 same_truth (body.FixOperation name, steps) standing = refl
 same_truth (body.Word, steps) standing = refl
 
-abbrev left_or : Left → Passed → Left
+abbrev left_or : Remainder → PassResult → Remainder
 left_or other (Err fault) = other
 left_or other (Ok left) = left
 
 -- what is left, with other words
-abbrev with_words : List Entry → Left → Left
+abbrev with_words : List Entry → Remainder → Remainder
 with_words entries left = record { standing = left.standing; entries = entries; brackets = left.brackets; end = left.end }
 
 module _ (s : Statement) where
@@ -192,36 +192,36 @@ module _ (s : Statement) where
   by_brackets standing entries entries' (Err fault) = refl
   by_brackets standing entries entries' (Ok brackets) = refl
 
-  abbrev words_after : Phrase → Left → List Entry → Standing → List Entry
+  abbrev words_after : Phrase → Remainder → List Entry → Standing → List Entry
   words_after phrase left entries standing =
       with_entries_of (place_of s) (spot_at left.standing.position)
       (words_in phrase.0 standing.kept phrase.1 s.string (standing.position.location - left.standing.position.location)) entries
 
-  by_result : (phrase : Phrase) (left : Left) (entries : List Entry) (r : Result Standing Code)
+  by_result : (phrase : Phrase) (left : Remainder) (entries : List Entry) (r : Result Standing Code)
       → without_words (with_phrase s (zero_phrase phrase) (with_words entries left) r) ≡ without_words (with_phrase s phrase left r)
   by_result phrase left entries (Err fault) = refl
   by_result phrase left entries (Ok standing) =
-      ap (λ r. without_words (with_brackets s standing (words_after (zero_phrase phrase) left entries standing) (bracketed (place_of s) s.end left.brackets r)))
+      ap (λ r. without_words (with_brackets s standing (words_after (zero_phrase phrase) left entries standing) (brackets_with (place_of s) s.end left.brackets r)))
       (same_truth phrase standing)
-      ∙ by_brackets standing (words_after phrase left left.entries standing) (words_after (zero_phrase phrase) left entries standing) (bracketed (place_of s) s.end left.brackets (truth_of phrase.0 phrase.1 standing))
+      ∙ by_brackets standing (words_after phrase left left.entries standing) (words_after (zero_phrase phrase) left entries standing) (brackets_with (place_of s) s.end left.brackets (truth_of phrase.0 phrase.1 standing))
 
-  by_said : (left : Left) (entries : List Entry) (r : Result Phrase GrammarFault)
+  by_said : (left : Remainder) (entries : List Entry) (r : Result Phrase GrammarFault)
       → without_words (with_said s (with_words entries left) (zero_said r)) ≡ without_words (with_said s left r)
   by_said left entries (Err fault) = refl
   by_said left entries (Ok phrase) =
       ap (λ r. without_words (with_phrase s (zero_phrase phrase) (with_words entries left) r)) (same_statement s.tokens (length s.string) left.standing phrase)
       ∙ by_result phrase left entries (with_statement s.tokens phrase.0 phrase.1 (length s.string) left.standing)
 
-  by_reading : (left : Left) (entries : List Entry) (over selected : Bool)
+  by_reading : (left : Remainder) (entries : List Entry) (over selected : Bool)
       → without_words (if over then Ok (with_words entries left)
-      else (if selected then with_said s (with_words entries left) (zero_said (said_of left.standing.position.radix s.tokens s.is_cut s.end))
+      else (if selected then with_said s (with_words entries left) (zero_said (phrase_of left.standing.position.radix s.tokens s.is_cut s.end))
       else Ok (with_skipped s (with_words entries left))))
       ≡ without_words (if over then Ok left else (if selected then with_selected s left else Ok (with_skipped s left)))
   by_reading left entries true selected = refl
   by_reading left entries false false = refl
-  by_reading left entries false true = by_said left entries (said_of left.standing.position.radix s.tokens s.is_cut s.end)
+  by_reading left entries false true = by_said left entries (phrase_of left.standing.position.radix s.tokens s.is_cut s.end)
 
-  by_both : (other whole : Passed) → without_words other ≡ without_words whole → without_words (read_zero s other) ≡ without_words (with_next s whole)
+  by_both : (other whole : PassResult) → without_words other ≡ without_words whole → without_words (read_zero s other) ≡ without_words (with_next s whole)
   by_both (Err f) (Err g) same = same
   by_both (Err f) (Ok left) same = absurd cc
   by_both (Ok left') (Err g) same = absurd cc
@@ -231,4 +231,4 @@ module _ (s : Statement) where
 
 pub places_stay : PlacesStay
 places_stay [] = refl
-places_stay (s ∷ older) = by_both s (passed_zero older) (passed older) (places_stay older)
+places_stay (s ∷ older) = by_both s (passed_zero older) (pass_over older) (places_stay older)

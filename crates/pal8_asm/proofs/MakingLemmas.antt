@@ -8,15 +8,15 @@ use Rattle.pal8_pools.specs.Cells.{ArePairs}
 use Rattle.pal8_pools.specs.Pooled.{PoolTable}
 use Rattle.pal8_clash.specs.Clashes.{AreMarks, OthersStay, lowest_clash, with_word}
 use Rattle.pal8_grammar.specs.declared.steps.Step.{Step}
-use Rattle.pal8_values.specs.Sums.{Known}
-use Rattle.pal8_values.specs.Words.{Asked, word_value}
+use Rattle.pal8_values.specs.Sums.{Meanings}
+use Rattle.pal8_values.specs.Words.{AskResult, word_value}
 use Rattle.pal8_values.specs.Answering.{IsAsked}
 use Rattle.pal8_values.specs.Laws.{GoesNear, WordsAskNear}
 use Rattle.pal8_values.specs.declared.sums.Spot.{Spot}
 use Rattle.pal8_asm.specs.Kept.{cut, entry_of, total}
-use Rattle.pal8_asm.specs.Sources.{Entry, entry_at, resolved}
-use Rattle.pal8_asm.specs.Tapes.{Made, clash_fault, first_of, spot_of, with_entries, with_entry, with_made}
-use Rattle.pal8_asm.specs.Steps.{AddsPool, GivesAt, IsMaking, Makes, coded_at}
+use Rattle.pal8_asm.specs.Sources.{Entry, entry_at, with_values}
+use Rattle.pal8_asm.specs.Tapes.{TapeWords, clash_fault, first_of, spot_of, with_entries, with_entry, with_made}
+use Rattle.pal8_asm.specs.Steps.{AddsPool, GivesAt, IsMaking, Makes, fault_at}
 use Rattle.pal8_asm.specs.declared.faults.Fault.{Fault}
 use Rattle.pal8_asm.specs.declared.faults.Place.{Place}
 use Rattle.pal8_asm.specs.declared.entries.Head.{Head}
@@ -24,13 +24,13 @@ use Rattle.pal8_asm.specs.declared.faults.AsmFault.{AsmFault}
 use Rattle.pal8_asm.specs.declared.faults.AsmFault.TheVariants.{At, Memory}
 
 -- The rest of the entries comes to what all of them come to.
-pub record IsOnTheWay (last : Known) (whole : Result Made Fault) (heads : List Head) (steps : List Step) (pools : PoolTable) (marks : List Bool) (clash : Option Fault)
+pub record IsOnTheWay (last : Meanings) (whole : Result TapeWords Fault) (heads : List Head) (steps : List Step) (pools : PoolTable) (marks : List Bool) (clash : Option Fault)
     (pairs : List (ℕ × ℕ)) : Type 0 where
-  pub so_far : Result Made Fault
+  pub so_far : Result TapeWords Fault
   pub same : with_entries last (cut heads steps) so_far ≡ whole
   pub making : IsMaking so_far pools marks clash pairs
 
-entries_stay : (last : Known) (entries : List Entry) (fault : Fault) → with_entries last entries (Err fault) ≡ Err fault
+entries_stay : (last : Meanings) (entries : List Entry) (fault : Fault) → with_entries last entries (Err fault) ≡ Err fault
 entries_stay last [] fault = refl
 entries_stay last (e ∷ others) fault = entries_stay last others fault
 
@@ -38,7 +38,7 @@ abbrev entry : Head → List Step → Entry
 entry h steps = entry_of h (take h.count steps)
 
 -- an entry that fails makes all fail
-pub entry_fails : (last : Known) (whole : Result Made Fault) (heads : List Head) (h : Head) (steps : List Step) (pools pools' : PoolTable) (marks marks' : List Bool)
+pub entry_fails : (last : Meanings) (whole : Result TapeWords Fault) (heads : List Head) (h : Head) (steps : List Step) (pools pools' : PoolTable) (marks marks' : List Bool)
     (clash clash' : Option Fault) (pairs pairs' : List (ℕ × ℕ)) (fault : AsmFault) → 1 ≤ length heads → h ≡ get_or heads 0 h
     → (way : IsOnTheWay last whole heads steps pools marks clash pairs) → Makes (with_entry last (entry h steps) way.so_far) (Err fault) pools' marks' clash' pairs'
     → Makes whole (Err fault) pools' marks' clash' pairs'
@@ -54,12 +54,12 @@ abbrev fault_or : {A : Type 0} → Fault → Result A Fault → Fault
 fault_or other (Err fault) = fault
 fault_or other (Ok a) = other
 
-coded_word : (e : Entry) (made : Made) (whole : Asked) (fault : Fault) → coded_at e.place whole ≡ Err fault → with_made e made whole ≡ Err fault
+coded_word : (e : Entry) (made : TapeWords) (whole : AskResult) (fault : Fault) → fault_at e.place whole ≡ Err fault → with_made e made whole ≡ Err fault
 coded_word e made (Err why) fault is = ap Err (ap (fault_or fault) is)
 coded_word e made (Ok asked) fault is = absurd cc
 
 -- a word that fails
-pub word_fails : (last : Known) (e : Entry) (whole : Result Made Fault) (pools pools' : PoolTable) (marks marks' : List Bool) (clash clash' : Option Fault)
+pub word_fails : (last : Meanings) (e : Entry) (whole : Result TapeWords Fault) (pools pools' : PoolTable) (marks marks' : List Bool) (clash clash' : Option Fault)
     (pairs pairs' : List (ℕ × ℕ)) (fault : AsmFault) (making : IsMaking whole pools marks clash pairs)
     → GivesAt e.place (word_value last (spot_of e) e.steps making.made.asks making.made.punched) (Err fault) pools' → Makes (with_entry last e whole) (Err fault) pools' marks' clash' pairs'
 word_fails last e whole pools pools' marks marks' clash clash' pairs pairs' (At code place) making gives =
@@ -77,7 +77,7 @@ free_by None place (Some c) is = absurd cc
 free_by (Some fault) place lowest is = absurd cc
 
 -- a word that was made, and put at its cell
-pub word_goes_on : (last : Known) (e : Entry) (whole : Result Made Fault) (pools pools' : PoolTable) (marks marks' : List Bool) (clash : Option Fault)
+pub word_goes_on : (last : Meanings) (e : Entry) (whole : Result TapeWords Fault) (pools pools' : PoolTable) (marks marks' : List Bool) (clash : Option Fault)
     (pairs pairs' : List (ℕ × ℕ)) (word : ℕ) (found : Option ℕ) (making : IsMaking whole pools marks clash pairs)
     → (asked : IsAsked (word_value last (spot_of e) e.steps making.made.asks making.made.punched) word pools')
     → pairs' ≡ with_word e.is_punched e.cell word pairs → AreMarks marks' (with_word e.is_punched e.cell word making.made.words)
@@ -101,7 +101,7 @@ word_goes_on last e whole pools pools' marks marks' clash pairs pairs' word foun
 }
 
 -- the asks of a word leave those of far pages
-pub others_stay : WordsAskNear → (last : Known) (spot : Spot) (steps : List Step) (asks punched : List Ask) (word : ℕ) (pools : PoolTable)
+pub others_stay : WordsAskNear → (last : Meanings) (spot : Spot) (steps : List Step) (asks punched : List Ask) (word : ℕ) (pools : PoolTable)
     → (asked : IsAsked (word_value last spot steps asks punched) word pools) → OthersStay spot.field (spot.location / PAGE) asks asked.asks
 others_stay law last spot steps asks punched word pools asked = (subst (λ r. GoesNear spot asks r) asked.is_whole (law last spot steps asks punched)).others
 
@@ -126,22 +126,22 @@ cut_more (x ∷ heads) steps own h fits count =
     rest_fits : (n m : ℕ) (steps : List Step) → n + m ≡ length steps → m ≡ length (drop n steps)
     rest_fits n m steps is = omega (arith, is, length-drop n steps)
 
-resolved_length : (kept : Known) (steps : List Step) → length (resolved kept steps) ≡ length steps
+resolved_length : (kept : Meanings) (steps : List Step) → length (with_values kept steps) ≡ length steps
 resolved_length kept [] = refl
 resolved_length kept (s ∷ steps) = ap suc (resolved_length kept steps)
 
-module _ (heads heads1 heads2 : List Head) (steps steps1 steps2 own : List Step) (kept : Known) (h : Head) (heads_stay : heads1 ≡ heads) (heads_are : heads2 ≡ heads1 ++ h ∷ [])
-    (steps_stay : steps1 ≡ steps) (steps_are : steps2 ≡ steps1 ++ resolved kept own) (fits : total heads ≡ length steps) (count : h.count ≡ length own) where
+module _ (heads heads1 heads2 : List Head) (steps steps1 steps2 own : List Step) (kept : Meanings) (h : Head) (heads_stay : heads1 ≡ heads) (heads_are : heads2 ≡ heads1 ++ h ∷ [])
+    (steps_stay : steps1 ≡ steps) (steps_are : steps2 ≡ steps1 ++ with_values kept own) (fits : total heads ≡ length steps) (count : h.count ≡ length own) where
   pub still_fits : total heads2 ≡ length steps2
   still_fits =
       ap total (heads_are ∙ ap (λ l. l ++ h ∷ []) heads_stay) ∙ total_more heads h
-      ∙ omega (arith, fits, count, resolved_length kept own, length-append steps (resolved kept own), ap length (steps_are ∙ ap (λ l. l ++ resolved kept own) steps_stay))
+      ∙ omega (arith, fits, count, resolved_length kept own, length-append steps (with_values kept own), ap length (steps_are ∙ ap (λ l. l ++ with_values kept own) steps_stay))
 
-  pub one_more : cut heads2 steps2 ≡ cut heads steps ++ entry_of h (resolved kept own) ∷ []
+  pub one_more : cut heads2 steps2 ≡ cut heads steps ++ entry_of h (with_values kept own) ∷ []
   one_more =
       ap (λ l. cut l steps2) (heads_are ∙ ap (λ l. l ++ h ∷ []) heads_stay)
-      ∙ ap (cut (heads ++ h ∷ [])) (steps_are ∙ ap (λ l. l ++ resolved kept own) steps_stay)
-      ∙ cut_more heads steps (resolved kept own) h fits (count ∙ sym (resolved_length kept own))
+      ∙ ap (cut (heads ++ h ∷ [])) (steps_are ∙ ap (λ l. l ++ with_values kept own) steps_stay)
+      ∙ cut_more heads steps (with_values kept own) h fits (count ∙ sym (resolved_length kept own))
 
 -- the entry of a word's head is that of where it stands
 pub same_entry : (place : Place) (spot : Spot) (cell here count : ℕ) (steps : List Step) → cell ≡ 4096 * spot.field + spot.location % 0o10000

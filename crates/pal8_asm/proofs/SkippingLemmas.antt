@@ -7,15 +7,15 @@ use Rattle.pal8_lex.specs.declared.rules.End.{End}
 use Rattle.pal8_lex.specs.declared.rules.End.TheVariants as end
 use Rattle.pal8_lex.specs.declared.judging.Radix.{Radix}
 use Rattle.pal8_sym.specs.SourceNames.{first_vocabulary}
-use Rattle.pal8_grammar.specs.Bodies.{Phrase, body_in, body_phrase, free_name, has_free_tags, is_condition, judged_in, names_file, phrase_or_fault, tags_in}
+use Rattle.pal8_grammar.specs.Bodies.{Phrase, body_in, body_phrase, free_name, has_free_tags, is_condition, number_tokens, names_file, phrase_or_fault, tags_in}
 use Rattle.pal8_grammar.specs.declared.bodies.Body.{Body}
 use Rattle.pal8_grammar.specs.declared.bodies.Body.TheVariants as body
 use Rattle.pal8_grammar.specs.declared.steps.Step.{Step}
 use Rattle.pal8_grammar.specs.declared.faults.GrammarFault.{GrammarFault}
 use Rattle.pal8_grammar.specs.declared.faults.GrammarFault.TheVariants.{IC, NU, SY}
 use Rattle.pal8_asm.specs.Places.{Standing, spot_at, truth_of, with_body, with_body_if, with_statement, with_tag_if, with_tags}
-use Rattle.pal8_asm.specs.Sources.{Entry, Left, Passed, Source, Statement, bracketed, ended, is_selected, passed, place_of, said_of, statements, with_brackets, with_end, with_entries, with_next, with_phrase, with_said, with_selected, with_skipped, words_in}
-use Rattle.pal8_values.specs.Sums.{Known}
+use Rattle.pal8_asm.specs.Sources.{Entry, Remainder, PassResult, Source, Statement, brackets_with, end_of_pass, is_selected, pass_over, place_of, phrase_of, statements, with_brackets, with_end, with_entries, with_next, with_phrase, with_said, with_selected, with_skipped, words_in}
+use Rattle.pal8_values.specs.Sums.{Meanings}
 use Rattle.pal8_asm.specs.Laws.{SkippedIsNothing, plain, plain_by, plain_end, plain_statement}
 use Rattle.pal8_asm.specs.declared.faults.Place.{Place}
 use Rattle.pal8_asm.specs.declared.faults.Code.{Code}
@@ -134,15 +134,15 @@ is_said false false false (Some it) phrase is = by_test (is_condition it.0) refl
     by_test true one is = record { no_bad = refl; no_number = refl; no_other = refl; is_one = sym (ap (λ r. is_condition (said_or phrase r).0) is) ∙ one }
     by_test false one is = absurd cc
 
-condition_said : (radix : Radix) (tokens : List Token) (is_cut : Bool) (phrase : Phrase) → said_of radix tokens is_cut end.Open ≡ Ok phrase → is_condition phrase.0 ≡ true
+condition_said : (radix : Radix) (tokens : List Token) (is_cut : Bool) (phrase : Phrase) → phrase_of radix tokens is_cut end.Open ≡ Ok phrase → is_condition phrase.0 ≡ true
 condition_said radix tokens is_cut phrase is =
-    (is_said (has_bad tokens) (has_bad_number radix (judged_in tokens)) (is_cut || not (has_free_tags tokens)) (body_phrase first_vocabulary radix (body_in tokens)) phrase is).is_one
+    (is_said (has_bad tokens) (has_bad_number radix (number_tokens tokens)) (is_cut || not (has_free_tags tokens)) (body_phrase first_vocabulary radix (body_in tokens)) phrase is).is_one
 
 -- the tags alone say nothing
-tags_say_nothing : (radix : Radix) (tokens : List Token) (is_cut : Bool) (phrase : Phrase) → said_of radix tokens is_cut end.Open ≡ Ok phrase
-    → said_of radix (front tokens) is_cut end.Semicolon ≡ Ok (body.Nothing, [])
+tags_say_nothing : (radix : Radix) (tokens : List Token) (is_cut : Bool) (phrase : Phrase) → phrase_of radix tokens is_cut end.Open ≡ Ok phrase
+    → phrase_of radix (front tokens) is_cut end.Semicolon ≡ Ok (body.Nothing, [])
 tags_say_nothing radix tokens is_cut phrase is =
-    ap (λ test. if test then Err IC else (if has_bad_number radix (judged_in (front tokens)) then Err NU
+    ap (λ test. if test then Err IC else (if has_bad_number radix (number_tokens (front tokens)) then Err NU
     else (if is_cut || not (has_free_tags (front tokens)) then Err SY else phrase_or_fault end.Semicolon (body_phrase first_vocabulary radix (body_in (front tokens))))))
     (none_in_front (λ t. is_bad t.kind) has_bad refl (λ t l. refl) tokens said.no_bad)
     ∙ ap (λ test. if test then Err NU
@@ -150,14 +150,14 @@ tags_say_nothing radix tokens is_cut phrase is =
     ∙ ap (λ test. if test then Err SY else phrase_or_fault end.Semicolon (body_phrase first_vocabulary radix (body_in (front tokens)))) no_other
     ∙ ap (λ l. phrase_or_fault end.Semicolon (body_phrase first_vocabulary radix l)) (none_behind tokens)
   where
-    said : IsSaid (has_bad tokens) (has_bad_number radix (judged_in tokens)) (is_cut || not (has_free_tags tokens)) phrase
-    said = is_said (has_bad tokens) (has_bad_number radix (judged_in tokens)) (is_cut || not (has_free_tags tokens)) (body_phrase first_vocabulary radix (body_in tokens)) phrase is
+    said : IsSaid (has_bad tokens) (has_bad_number radix (number_tokens tokens)) (is_cut || not (has_free_tags tokens)) phrase
+    said = is_said (has_bad tokens) (has_bad_number radix (number_tokens tokens)) (is_cut || not (has_free_tags tokens)) (body_phrase first_vocabulary radix (body_in tokens)) phrase is
 
     by_names : (test : Bool) → has_bad_number radix (if test then tags_in tokens else tokens) ≡ false → has_bad_number radix (front tokens) ≡ false
     by_names true none = ap (has_bad_number radix) (sym (tags_are tokens)) ∙ none
     by_names false none = none_in_front (λ t. is_bad_number radix t.kind) (has_bad_number radix) refl (λ t l. refl) tokens none
 
-    no_number : has_bad_number radix (judged_in (front tokens)) ≡ false
+    no_number : has_bad_number radix (number_tokens (front tokens)) ≡ false
     no_number =
         ap (λ l. has_bad_number radix (if names_file l then tags_in (front tokens) else front tokens)) (none_behind tokens)
         ∙ by_names (names_file (body_in tokens)) said.no_number
@@ -175,7 +175,7 @@ tags_say_nothing radix tokens is_cut phrase is =
 
 -- a condition makes no word, and moves nothing
 record IsPassive (b : Body) : Type 0 where
-  pub no_words : (kept : Known) (steps : List Step) (string : List ℕ) (size : ℕ) → words_in b kept steps string size ≡ []
+  pub no_words : (kept : Meanings) (steps : List Step) (string : List ℕ) (size : ℕ) → words_in b kept steps string size ≡ []
   pub stays : (steps : List Step) (n : ℕ) (standing : Standing) → with_body b steps n standing ≡ Ok standing
 
 is_passive : (b : Body) → is_condition b ≡ true → IsPassive b
@@ -206,10 +206,10 @@ is_passive (body.FixOperation name) is = absurd cc
 is_passive body.Word is = absurd cc
 
 -- what is left, outside of all brackets
-abbrev bare : Left → Left
+abbrev bare : Remainder → Remainder
 bare left = record { standing = left.standing; entries = left.entries; brackets = []; end = left.end }
 
-abbrev left_or : Left → Passed → Left
+abbrev left_or : Remainder → PassResult → Remainder
 left_or other (Err fault) = other
 left_or other (Ok left) = left
 
@@ -217,11 +217,11 @@ module _ (line at : ℕ) (string : List ℕ) (is_cut : Bool) where
   abbrev ended_by : List Token → End → Statement
   ended_by tokens e = record { line = line; at = at; tokens = tokens; string = string; is_cut = is_cut; end = e }
 
-  module _ (before left : Left) where
+  module _ (before left : Remainder) where
     -- a statement's words and brackets
     brackets_go : (tokens : List Token) (e : End) (standing : Standing) (entries : List Entry) (brackets : List Bool) (truth : Result Bool Code)
-        → with_brackets (ended_by tokens e) standing entries (bracketed (place_of (ended_by tokens e)) e brackets truth) ≡ Ok left
-        → with_brackets (ended_by tokens (plain_end e)) standing entries (bracketed (place_of (ended_by tokens e)) (plain_end e) [] truth) ≡ Ok (bare left)
+        → with_brackets (ended_by tokens e) standing entries (brackets_with (place_of (ended_by tokens e)) e brackets truth) ≡ Ok left
+        → with_brackets (ended_by tokens (plain_end e)) standing entries (brackets_with (place_of (ended_by tokens e)) (plain_end e) [] truth) ≡ Ok (bare left)
     brackets_go tokens e standing entries brackets (Err fault) is = absurd cc
     brackets_go tokens end.Semicolon standing entries brackets (Ok holds) is = ap (λ p. Ok (bare (left_or left p))) is
     brackets_go tokens end.Line standing entries brackets (Ok holds) is = ap (λ p. Ok (bare (left_or left p))) is
@@ -249,17 +249,17 @@ module _ (line at : ℕ) (string : List ℕ) (is_cut : Bool) where
         by_truth (truth_of phrase.0 phrase.1 standing)
         (sym (ap (λ l. with_brackets (ended_by tokens end.Open) standing
         (with_entries (place_of (ended_by tokens end.Open)) (spot_at before.standing.position) l before.entries)
-        (bracketed (place_of (ended_by tokens end.Open)) end.Open before.brackets (truth_of phrase.0 phrase.1 standing)))
+        (brackets_with (place_of (ended_by tokens end.Open)) end.Open before.brackets (truth_of phrase.0 phrase.1 standing)))
         (passive.no_words standing.kept phrase.1 string (standing.position.location - before.standing.position.location)))
         ∙ sym (ap (with_phrase (ended_by tokens end.Open) phrase before) (passive.stays phrase.1 (length string) standing)) ∙ is)
       where
         by_truth : (truth : Result Bool Code)
-            → with_brackets (ended_by tokens end.Open) standing before.entries (bracketed (place_of (ended_by tokens end.Open)) end.Open before.brackets truth) ≡ Ok left
+            → with_brackets (ended_by tokens end.Open) standing before.entries (brackets_with (place_of (ended_by tokens end.Open)) end.Open before.brackets truth) ≡ Ok left
             → with_brackets (ended_by others end.Semicolon) standing before.entries (Ok []) ≡ Ok (bare left)
         by_truth (Err fault) is = absurd cc
         by_truth (Ok holds) is = ap (λ p. Ok (bare (left_or left p))) is
 
-    open_goes : (tokens : List Token) (q : Result Phrase GrammarFault) → said_of before.standing.position.radix tokens is_cut end.Open ≡ q
+    open_goes : (tokens : List Token) (q : Result Phrase GrammarFault) → phrase_of before.standing.position.radix tokens is_cut end.Open ≡ q
         → with_said (ended_by tokens end.Open) before q ≡ Ok left → with_selected (ended_by (tags_in tokens) end.Semicolon) (bare before) ≡ Ok (bare left)
     open_goes tokens (Err fault) said is = absurd cc
     open_goes tokens (Ok phrase) said is =
@@ -272,21 +272,21 @@ module _ (line at : ℕ) (string : List ℕ) (is_cut : Bool) where
 
     selected_goes : (tokens : List Token) (e : End) → with_selected (ended_by tokens e) before ≡ Ok left
         → with_selected (plain_statement (ended_by tokens e)) (bare before) ≡ Ok (bare left)
-    selected_goes tokens end.Semicolon is = said_goes tokens end.Semicolon (said_of before.standing.position.radix tokens is_cut end.Semicolon) is
-    selected_goes tokens end.Line is = said_goes tokens end.Line (said_of before.standing.position.radix tokens is_cut end.Line) is
-    selected_goes tokens end.Open is = open_goes tokens (said_of before.standing.position.radix tokens is_cut end.Open) refl is
-    selected_goes tokens end.Close is = said_goes tokens end.Close (said_of before.standing.position.radix tokens is_cut end.Close) is
-    selected_goes tokens end.Dollar is = said_goes tokens end.Dollar (said_of before.standing.position.radix tokens is_cut end.Dollar) is
+    selected_goes tokens end.Semicolon is = said_goes tokens end.Semicolon (phrase_of before.standing.position.radix tokens is_cut end.Semicolon) is
+    selected_goes tokens end.Line is = said_goes tokens end.Line (phrase_of before.standing.position.radix tokens is_cut end.Line) is
+    selected_goes tokens end.Open is = open_goes tokens (phrase_of before.standing.position.radix tokens is_cut end.Open) refl is
+    selected_goes tokens end.Close is = said_goes tokens end.Close (phrase_of before.standing.position.radix tokens is_cut end.Close) is
+    selected_goes tokens end.Dollar is = said_goes tokens end.Dollar (phrase_of before.standing.position.radix tokens is_cut end.Dollar) is
 
 -- ## Sources
 
-source_goes : (source : Source) (left : Left) → passed source ≡ Ok left → passed (plain source) ≡ Ok (bare left)
+source_goes : (source : Source) (left : Remainder) → pass_over source ≡ Ok left → pass_over (plain source) ≡ Ok (bare left)
 source_goes [] left is = ap (λ p. Ok (bare (left_or left p))) is
-source_goes (s ∷ older) left is = by_older (passed older) (source_goes older) is
+source_goes (s ∷ older) left is = by_older (pass_over older) (source_goes older) is
   where
-    by_tests : (before : Left) (over selected : Bool) → passed (plain older) ≡ Ok (bare before) → is_some before.end ≡ over
+    by_tests : (before : Remainder) (over selected : Bool) → pass_over (plain older) ≡ Ok (bare before) → is_some before.end ≡ over
         → (if over then Ok before else (if selected then with_selected s before else Ok (with_skipped s before))) ≡ Ok left
-        → passed (if over then plain older else (if selected then plain_statement s ∷ plain older else plain older)) ≡ Ok (bare left)
+        → pass_over (if over then plain older else (if selected then plain_statement s ∷ plain older else plain older)) ≡ Ok (bare left)
     by_tests before true selected goes over is = goes ∙ ap (λ p. Ok (bare (left_or left p))) is
     by_tests before false false goes over is = goes ∙ ap (λ p. Ok (bare (left_or left p))) is
     by_tests before false true goes over is =
@@ -294,22 +294,22 @@ source_goes (s ∷ older) left is = by_older (passed older) (source_goes older) 
         ∙ ap (λ test. if test then Ok (bare before) else with_selected (plain_statement s) (bare before)) over
         ∙ selected_goes s.line s.at s.string s.is_cut before left s.tokens s.end is
 
-    by_older : (r : Passed) → ((l : Left) → r ≡ Ok l → passed (plain older) ≡ Ok (bare l)) → with_next s r ≡ Ok left
-        → passed (plain_by s r (plain older)) ≡ Ok (bare left)
+    by_older : (r : PassResult) → ((l : Remainder) → r ≡ Ok l → pass_over (plain older) ≡ Ok (bare l)) → with_next s r ≡ Ok left
+        → pass_over (plain_by s r (plain older)) ≡ Ok (bare left)
     by_older (Err fault) goes is = absurd cc
     by_older (Ok before) goes is = by_tests before (is_some before.end) (is_selected before.brackets) (goes before refl) refl is
 
 pub skipped_is_nothing : SkippedIsNothing
-skipped_is_nothing text left is = by_passed (passed (statements text)) (source_goes (statements text)) is
+skipped_is_nothing text left is = by_passed (pass_over (statements text)) (source_goes (statements text)) is
   where
-    by_end : (l : Left) (brackets : List Bool) (end : Option Place) → l.brackets ≡ brackets → with_end text l brackets end ≡ Ok left → bare l ≡ left
+    by_end : (l : Remainder) (brackets : List Bool) (end : Option Place) → l.brackets ≡ brackets → with_end text l brackets end ≡ Ok left → bare l ≡ left
     by_end l [] None same is = absurd cc
     by_end l [] (Some place) same is =
         ap (λ b. record { standing = l.standing; entries = l.entries; brackets = b; end = l.end }) (sym same) ∙ ap (left_or l) is
     by_end l (newest ∷ outer) None same is = absurd cc
     by_end l (newest ∷ outer) (Some place) same is = absurd cc
 
-    by_passed : (r : Passed) → ((l : Left) → r ≡ Ok l → passed (plain (statements text)) ≡ Ok (bare l)) → ended text r ≡ Ok left
-        → passed (plain (statements text)) ≡ Ok left
+    by_passed : (r : PassResult) → ((l : Remainder) → r ≡ Ok l → pass_over (plain (statements text)) ≡ Ok (bare l)) → end_of_pass text r ≡ Ok left
+        → pass_over (plain (statements text)) ≡ Ok left
     by_passed (Err fault) goes is = absurd cc
     by_passed (Ok l) goes is = goes l refl ∙ ap Ok (by_end l l.brackets l.end refl is)

@@ -11,12 +11,12 @@ use Rattle.pal8_lex.specs.Pieces.{ends, pieces}
 use Rattle.pal8_lex.specs.Statements as lex_statements
 use Rattle.pal8_lex.specs.Statements.{statement_of}
 use Rattle.pal8_asm.specs.Laws.{FaultStays}
-use Rattle.pal8_asm.specs.Sources.{Left, Source, at_place, ended, ended_at, first_left, has_none, is_selected, passed, place_after, statements, statements_of, with_end, with_next, with_selected, with_skipped}
+use Rattle.pal8_asm.specs.Sources.{Remainder, Source, at_place, end_of_pass, statement_at, first_left, has_none, is_selected, pass_over, place_after, statements, statements_of, with_end, with_next, with_selected, with_skipped}
 use Rattle.pal8_asm.specs.declared.faults.Fault.{Fault}
 use Rattle.pal8_asm.specs.declared.faults.Place.{Place}
 use Rattle.pal8_asm.specs.Steps.{Closes, HasReadAll, HasTaken, IsMaking, IsOnTheWay, Makes, Pushes, ReadsOn, TakesByte}
-use Rattle.pal8_asm.specs.Assembling.{IsMade, MakesWords, Progress, ReadsText, left_in}
-use Rattle.pal8_asm.specs.Tapes.{Made, cleared, cleared_by, nothing_made}
+use Rattle.pal8_asm.specs.Assembling.{IsMade, MakesWords, Progress, ReadsText, remainder_of}
+use Rattle.pal8_asm.specs.Tapes.{TapeWords, without_clash, unless_clash, nothing_made}
 use Rattle.pal8_pools.specs.Pooled.{Holds, PoolTable}
 use Rattle.pal8_clash.specs.Clashes.{AreMarks}
 use Rattle.pal8_asm.specs.declared.faults.AsmFault.{AsmFault}
@@ -29,8 +29,8 @@ statements_stay text [] = ([], refl)
 statements_stay text (b ∷ later) = by_drop (is_dropped b) (statements_stay text later)
   where
     by_end : (test : Bool) → (more : Source) × (statements (later ++ text) ≡ more ++ statements text)
-        → (more : Source) × ((if test then ended_at (limit (length (later ++ text))) (statement_of (as_read b) (live (later ++ text))) ∷ statements (later ++ text) else statements (later ++ text)) ≡ more ++ statements text)
-    by_end true it = (ended_at (limit (length (later ++ text))) (statement_of (as_read b) (live (later ++ text))) ∷ it.0, ap (λ l. ended_at (limit (length (later ++ text))) (statement_of (as_read b) (live (later ++ text))) ∷ l) it.1)
+        → (more : Source) × ((if test then statement_at (limit (length (later ++ text))) (statement_of (as_read b) (live (later ++ text))) ∷ statements (later ++ text) else statements (later ++ text)) ≡ more ++ statements text)
+    by_end true it = (statement_at (limit (length (later ++ text))) (statement_of (as_read b) (live (later ++ text))) ∷ it.0, ap (λ l. statement_at (limit (length (later ++ text))) (statement_of (as_read b) (live (later ++ text))) ∷ l) it.1)
     by_end false it = it
 
     by_drop : (test : Bool) → (more : Source) × (statements (later ++ text) ≡ more ++ statements text)
@@ -48,16 +48,16 @@ lexed bytes = lex_statements.statements_of bytes
 
 -- the byte that ends a statement
 pub byte_ends_one : (here : List ℕ) (b : ℕ) (s : lex_statements.Statement) → lexed (live (b ∷ here)) ≡ s ∷ lexed (live here)
-    → statements (b ∷ here) ≡ ended_at (limit (length here)) (statement_of (as_read b) (live here)) ∷ statements here
+    → statements (b ∷ here) ≡ statement_at (limit (length here)) (statement_of (as_read b) (live here)) ∷ statements here
 byte_ends_one here b s is = by_drop (is_dropped b) is
   where
     by_end : (test : Bool) → (if test then statement_of (as_read b) (live here) ∷ lexed (live here) else lexed (live here)) ≡ s ∷ lexed (live here)
-        → (if test then ended_at (limit (length here)) (statement_of (as_read b) (live here)) ∷ statements here else statements here) ≡ ended_at (limit (length here)) (statement_of (as_read b) (live here)) ∷ statements here
+        → (if test then statement_at (limit (length here)) (statement_of (as_read b) (live here)) ∷ statements here else statements here) ≡ statement_at (limit (length here)) (statement_of (as_read b) (live here)) ∷ statements here
     by_end true is = refl
     by_end false is = absurd (not_longer s (lexed (live here)) is)
 
     by_drop : (test : Bool) → lexed (if test then live here else (as_read b, length here) ∷ live here) ≡ s ∷ lexed (live here)
-        → statements_of (if test then live here else (as_read b, length here) ∷ live here) ≡ ended_at (limit (length here)) (statement_of (as_read b) (live here)) ∷ statements here
+        → statements_of (if test then live here else (as_read b, length here) ∷ live here) ≡ statement_at (limit (length here)) (statement_of (as_read b) (live here)) ∷ statements here
     by_drop true is = absurd (not_longer s (lexed (live here)) is)
     by_drop false is = by_end (ends (pieces (live here)) (as_read b)) is
 
@@ -66,7 +66,7 @@ pub byte_ends_none : (here : List ℕ) (b : ℕ) → lexed (live (b ∷ here)) �
 byte_ends_none here b is = by_drop (is_dropped b) is
   where
     by_end : (test : Bool) → (if test then statement_of (as_read b) (live here) ∷ lexed (live here) else lexed (live here)) ≡ lexed (live here)
-        → (if test then ended_at (limit (length here)) (statement_of (as_read b) (live here)) ∷ statements here else statements here) ≡ statements here
+        → (if test then statement_at (limit (length here)) (statement_of (as_read b) (live here)) ∷ statements here else statements here) ≡ statements here
     by_end true is = absurd (not_longer (statement_of (as_read b) (live here)) (lexed (live here)) (sym is))
     by_end false is = refl
 
@@ -82,12 +82,12 @@ pushes here b false new it = (byte_ends_none here b it.0, it.1)
 -- ## What follows
 
 -- a fault is the fault of what follows, too
-fault_stays : (further source : Source) (fault : Fault) → passed source ≡ Err fault → passed (further ++ source) ≡ Err fault
+fault_stays : (further source : Source) (fault : Fault) → pass_over source ≡ Err fault → pass_over (further ++ source) ≡ Err fault
 fault_stays [] source fault is = is
 fault_stays (s ∷ further) source fault is = ap (with_next s) (fault_stays further source fault is)
 
 -- what follows the `$` that ends a source leaves nothing
-end_stays : (further source : Source) (left : Left) → is_some left.end ≡ true → passed source ≡ Ok left → passed (further ++ source) ≡ Ok left
+end_stays : (further source : Source) (left : Remainder) → is_some left.end ≡ true → pass_over source ≡ Ok left → pass_over (further ++ source) ≡ Ok left
 end_stays [] source left ends is = is
 end_stays (s ∷ further) source left ends is =
     ap (with_next s) (end_stays further source left ends is)
@@ -113,7 +113,7 @@ pub way_ends : (whole rest : List ℕ) (lexer : lex.Progress) (at : ℕ) (a : Pr
 way_ends whole rest lexer at a ends way =
     let more = statements_after way.here rest whole way.same in
     record {
-      leaves = ap passed more.1 ∙ end_stays more.0 (statements way.here) (left_in a) ends way.taken.leaves;
+      leaves = ap pass_over more.1 ∙ end_stays more.0 (statements way.here) (remainder_of a) ends way.taken.leaves;
       counts = λ none. absurd (not_both (sym (ap is_some none) ∙ ends));
     }
   where
@@ -158,11 +158,11 @@ module _ (whole rest : List ℕ) (lexer lexer' : lex.Progress) (at : ℕ) (a a' 
   pub way_fails : (fault : AsmFault) → TakesByte (slice_index rest 0 ∷ way.here) (Err fault) lexer' a' → ReadsOn whole (Err fault) lexer' at a'
   way_fails (At code place) fails =
       let more = statements_after (slice_index rest 0 ∷ way.here) (behind_one rest) whole same_again in
-      ap passed more.1 ∙ fault_stays more.0 (statements (slice_index rest 0 ∷ way.here)) (at_place place code) fails
+      ap pass_over more.1 ∙ fault_stays more.0 (statements (slice_index rest 0 ∷ way.here)) (at_place place code) fails
   way_fails Memory fails = tt
 
 -- nothing is read yet
-pub starts : (whole : List ℕ) (lexer : lex.Progress) (a : Progress) → HasRead lexer [] → left_in a ≡ first_left → IsOnTheWay (text_of whole) whole lexer 0 a
+pub starts : (whole : List ℕ) (lexer : lex.Progress) (a : Progress) → HasRead lexer [] → remainder_of a ≡ first_left → IsOnTheWay (text_of whole) whole lexer 0 a
 starts whole lexer a read is =
     record { here = []; counts = refl; same = refl; taken = record { has_read = read; leaves = ap Ok (sym is) } }
 
@@ -175,19 +175,19 @@ text_end whole lexer at line counts read is =
 
 -- what the end of a text comes to
 pub text_closes : (whole : List ℕ) (lexer : lex.Progress) (at : ℕ) (a : Progress) → HasReadAll whole lexer at a → (result : Result Place AsmFault)
-    → Closes (with_end whole (left_in a) a.brackets a.end) result a → ReadsText whole result a
-text_closes whole lexer at a read (Ok place) closes = (ap (ended whole) read.leaves ∙ closes.0, closes.1)
-text_closes whole lexer at a read (Err (At code place)) closes = ap (ended whole) read.leaves ∙ closes
+    → Closes (with_end whole (remainder_of a) a.brackets a.end) result a → ReadsText whole result a
+text_closes whole lexer at a read (Ok place) closes = (ap (end_of_pass whole) read.leaves ∙ closes.0, closes.1)
+text_closes whole lexer at a read (Err (At code place)) closes = ap (end_of_pass whole) read.leaves ∙ closes
 text_closes whole lexer at a read (Err Memory) closes = tt
 
 -- what reading further fails for
 pub text_fails : (whole : List ℕ) (lexer : lex.Progress) (at : ℕ) (a : Progress) (fault : AsmFault) → ReadsOn whole (Err fault) lexer at a → ReadsText whole (Err fault) a
-text_fails whole lexer at a (At code place) fails = ap (ended whole) fails
+text_fails whole lexer at a (At code place) fails = ap (end_of_pass whole) fails
 text_fails whole lexer at a Memory fails = tt
 
 -- ## Ends
 
-module _ (text : List ℕ) (left : Left) (place : Place) where
+module _ (text : List ℕ) (left : Remainder) (place : Place) where
   pub ends_closed : (now : List Bool) (end : Option Place) → has_none now ≡ true → end ≡ Some place → with_end text left now end ≡ Ok left
   ends_closed [] end none is = ap (with_end text left []) is
   ends_closed (newest ∷ outer) end none is = absurd cc
@@ -219,21 +219,21 @@ starts_making pools marks clash pairs holds marked none empty = record {
   free = λ is. refl;
 }
 
-pub words_fail : (whole : Result Made Fault) (fault : AsmFault) (pools pools' : PoolTable) (marks : List Bool) (clash : Option Fault) (pairs : List (ℕ × ℕ))
-    → Makes whole (Err fault) pools marks clash pairs → MakesWords (cleared whole) (Err fault) pools'
-words_fail whole (At code place) pools pools' marks clash pairs is = ap cleared is
+pub words_fail : (whole : Result TapeWords Fault) (fault : AsmFault) (pools pools' : PoolTable) (marks : List Bool) (clash : Option Fault) (pairs : List (ℕ × ℕ))
+    → Makes whole (Err fault) pools marks clash pairs → MakesWords (without_clash whole) (Err fault) pools'
+words_fail whole (At code place) pools pools' marks clash pairs is = ap without_clash is
 words_fail whole Memory pools pools' marks clash pairs is = tt
 
-pub words_clash : (whole : Result Made Fault) (pools pools' : PoolTable) (marks : List Bool) (clash : Option Fault) (pairs : List (ℕ × ℕ)) (fault : Fault)
-    → IsMaking whole pools marks clash pairs → clash ≡ Some fault → MakesWords (cleared whole) (Err (At fault.code fault.place)) pools'
+pub words_clash : (whole : Result TapeWords Fault) (pools pools' : PoolTable) (marks : List Bool) (clash : Option Fault) (pairs : List (ℕ × ℕ)) (fault : Fault)
+    → IsMaking whole pools marks clash pairs → clash ≡ Some fault → MakesWords (without_clash whole) (Err (At fault.code fault.place)) pools'
 words_clash whole pools pools' marks clash pairs fault making is =
-    ap cleared making.is_whole ∙ ap (cleared_by making.made) (sym making.clashes ∙ is)
+    ap without_clash making.is_whole ∙ ap (unless_clash making.made) (sym making.clashes ∙ is)
 
-pub words_clear : (whole : Result Made Fault) (pools : PoolTable) (marks : List Bool) (clash : Option Fault) (pairs : List (ℕ × ℕ))
-    → IsMaking whole pools marks clash pairs → clash ≡ None → IsMade (cleared whole) pools pairs
+pub words_clear : (whole : Result TapeWords Fault) (pools : PoolTable) (marks : List Bool) (clash : Option Fault) (pairs : List (ℕ × ℕ))
+    → IsMaking whole pools marks clash pairs → clash ≡ None → IsMade (without_clash whole) pools pairs
 words_clear whole pools marks clash pairs making is = record {
   made = making.made;
-  is_whole = ap cleared making.is_whole ∙ ap (cleared_by making.made) (sym making.clashes ∙ is);
+  is_whole = ap without_clash making.is_whole ∙ ap (unless_clash making.made) (sym making.clashes ∙ is);
   words = making.words;
   holds = making.holds;
 }
@@ -241,4 +241,4 @@ words_clear whole pools marks clash pairs making is = record {
 pub text_fault_stays : FaultStays
 text_fault_stays later text fault fails =
     let more = statements_stay text later in
-    ap (ended (later ++ text)) (ap passed more.1 ∙ fault_stays more.0 (statements text) fault fails)
+    ap (end_of_pass (later ++ text)) (ap pass_over more.1 ∙ fault_stays more.0 (statements text) fault fails)

@@ -6,7 +6,7 @@ use Rattle.pal_sym.specs.SymbolTable.{SymbolTable}
 use Rattle.pal_sym.specs.Values.{is_fixed, symbol_value}
 use Rattle.pal8_grammar.specs.Bodies.{Phrase}
 use Rattle.pal8_asm.specs.Places.{truth_of, with_statement}
-use Rattle.pal8_asm.specs.Sources.{Entry, Left, Statement, bracketed, end_of, first_left, place_of, said_of, with_brackets, with_phrase, with_said, with_selected}
+use Rattle.pal8_asm.specs.Sources.{Entry, Remainder, Statement, brackets_with, end_of, first_left, place_of, phrase_of, with_brackets, with_phrase, with_said, with_selected}
 use Rattle.pal8_asm.specs.Steps.{IsTaken, PassesEnd, TakesStatement}
 use Rattle.pal8_asm.specs.Assembling.{standing}
 use Rattle.pal8_asm.specs.declared.faults.AsmFault.{AsmFault}
@@ -15,17 +15,17 @@ use Rattle.pal8_asm.specs.declared.faults.Fault.{Fault}
 use Rattle.pal8_asm.specs.declared.faults.Place.{Place}
 use Rattle.pal8_asm.specs.declared.places.Position.{Position}
 
-abbrev pub left_at : SymbolTable → Position → List Entry → List Bool → Option Place → Left
+abbrev pub left_at : SymbolTable → Position → List Entry → List Bool → Option Place → Remainder
 left_at table position entries brackets end = record { standing = standing table position; entries = entries; brackets = brackets; end = end }
 
 module _ (s : Statement) (table table' : SymbolTable) (position next : Position) (entries entries' : List Entry) (brackets brackets' : List Bool) (phrase : Phrase)
-    (said : said_of position.radix s.tokens s.is_cut s.end ≡ Ok phrase)
+    (said : phrase_of position.radix s.tokens s.is_cut s.end ≡ Ok phrase)
     (taken : IsTaken (with_statement s.tokens phrase.0 phrase.1 (length s.string) (standing table position)) (place_of s) phrase.0 phrase.1 s.string position next entries table' entries') where
-  abbrev left : Left
+  abbrev left : Remainder
   left = left_at table position entries brackets None
 
   abbrev brackets_then : Result (List Bool) Fault
-  brackets_then = bracketed (place_of s) s.end brackets (truth_of phrase.0 phrase.1 (standing table' next))
+  brackets_then = brackets_with (place_of s) s.end brackets (truth_of phrase.0 phrase.1 (standing table' next))
 
   comes : with_selected s left ≡ with_brackets s (standing table' next) entries' brackets_then
   comes =

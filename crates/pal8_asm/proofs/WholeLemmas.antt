@@ -5,8 +5,8 @@ use Rattle.pal_sym.specs.Values.{symbol_value}
 use Rattle.pal8_pools.specs.Pooled.{PoolTable}
 use Rattle.pal8_asm.specs.Places.{stands}
 use Rattle.pal8_asm.specs.Sources.{at_place}
-use Rattle.pal8_asm.specs.Tapes.{Made, cleared, made_of}
-use Rattle.pal8_asm.specs.Assembled.{assembled, dollar_in, has_words, judged, judged_by, made_by}
+use Rattle.pal8_asm.specs.Tapes.{TapeWords, without_clash, words_of_entries}
+use Rattle.pal8_asm.specs.Assembled.{result_of_text, dollar_in, has_words, result_if_any_word, result_with_words, result_of_source}
 use Rattle.pal8_asm.specs.Assembling.{IsAssembled, IsMade, MakesWords, Progress, ReadsText}
 use Rattle.pal8_asm.specs.Steps.{AddsPool}
 use Rattle.pal8_asm.specs.declared.faults.AsmFault.TheVariants.{At}
@@ -22,31 +22,31 @@ has_some (pair ∷ others) is = refl
 
 module _ (text : List ℕ) (a : Progress) where
   -- a statement or the end has a fault
-  pub read_fails : (code : Code) (place : Place) → ReadsText text (Err (At code place)) a → assembled text ≡ Err (at_place place code)
-  read_fails code place is = ap made_by is
+  pub read_fails : (code : Code) (place : Place) → ReadsText text (Err (At code place)) a → result_of_text text ≡ Err (at_place place code)
+  read_fails code place is = ap result_of_source is
 
-  abbrev whole : Result Made Fault
-  whole = cleared (made_of (stands (symbol_value a.table)) a.entries)
+  abbrev whole : Result TapeWords Fault
+  whole = without_clash (words_of_entries (stands (symbol_value a.table)) a.entries)
 
   -- a word has one
   pub word_fails : (code : Code) (place end : Place) (pools : PoolTable) → ReadsText text (Ok end) a → MakesWords whole (Err (At code place)) pools
-      → assembled text ≡ Err (at_place place code)
-  word_fails code place end pools reads is = ap made_by reads.0 ∙ ap (judged (dollar_in a.end)) is
+      → result_of_text text ≡ Err (at_place place code)
+  word_fails code place end pools reads is = ap result_of_source reads.0 ∙ ap (result_if_any_word (dollar_in a.end)) is
 
   -- there is none
   pub no_word : (end : Place) (pools : PoolTable) (pairs : List (ℕ × ℕ)) → ReadsText text (Ok end) a → IsMade whole pools pairs → has_words pairs ≡ false
-      → assembled text ≡ Err (at_place end code.NW)
+      → result_of_text text ≡ Err (at_place end code.NW)
   no_word end pools pairs reads made none =
-      ap made_by reads.0 ∙ ap (judged (dollar_in a.end)) made.is_whole ∙ ap (judged_by (dollar_in a.end) made.made) (ap has_words (sym made.words) ∙ none)
+      ap result_of_source reads.0 ∙ ap (result_if_any_word (dollar_in a.end)) made.is_whole ∙ ap (result_with_words (dollar_in a.end) made.made) (ap has_words (sym made.words) ∙ none)
       ∙ ap (λ o. Err (at_place (dollar_in o) code.NW)) reads.1
 
   -- all is well
   pub all_words : (end : Place) (pools : PoolTable) (pairs pairs' : List (ℕ × ℕ)) → ReadsText text (Ok end) a → (made : IsMade whole pools pairs) → has_words pairs ≡ true
-      → AddsPool made.made.asks made.made.punched pairs pairs' → IsAssembled (assembled text) pairs'
+      → AddsPool made.made.asks made.made.punched pairs pairs' → IsAssembled (result_of_text text) pairs'
   all_words end pools pairs pairs' reads made some adds = record {
     made = made.made;
     is_whole =
-        ap made_by reads.0 ∙ ap (judged (dollar_in a.end)) made.is_whole ∙ ap (judged_by (dollar_in a.end) made.made) (ap has_words (sym made.words) ∙ some);
+        ap result_of_source reads.0 ∙ ap (result_if_any_word (dollar_in a.end)) made.is_whole ∙ ap (result_with_words (dollar_in a.end) made.made) (ap has_words (sym made.words) ∙ some);
     pool = adds.pool;
     are = adds.are ∙ ap (λ l. l ++ adds.pool) made.words;
     is_pool = adds.is_pool;

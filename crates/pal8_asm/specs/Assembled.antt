@@ -1,11 +1,11 @@
 -- What a text makes, or its first fault (PAL8, in this project's profile).
 use Rattle.std.specs.Prelude.{ℕ, Bool, true, false, Option, Some, None, Result, Ok, Err, List, [], ◌∷◌}
 use Rattle.pal8_asm.specs.Places.{stands}
-use Rattle.pal8_asm.specs.Sources.{Passed, at_place, left_of}
+use Rattle.pal8_asm.specs.Sources.{PassResult, at_place, remainder_of_text}
 use Rattle.pal8_asm.specs.declared.faults.Place.{Place}
 use Rattle.pal8_asm.specs.declared.faults.Fault.{Fault}
 use Rattle.pal8_asm.specs.declared.faults.Code.TheVariants as code
-use Rattle.pal8_asm.specs.Tapes.{Made, cleared, made_of}
+use Rattle.pal8_asm.specs.Tapes.{TapeWords, without_clash, words_of_entries}
 
 abbrev pub has_words : List (ℕ × ℕ) → Bool
 has_words [] = false
@@ -16,19 +16,19 @@ abbrev pub dollar_in : Option Place → Place
 dollar_in None = record { line = 1; start = 0 }
 dollar_in (Some place) = place
 
-abbrev pub judged_by : Place → Made → Bool → Result Made Fault
-judged_by dollar made true = Ok made
-judged_by dollar made false = Err (at_place dollar code.NW)
+abbrev pub result_with_words : Place → TapeWords → Bool → Result TapeWords Fault
+result_with_words dollar made true = Ok made
+result_with_words dollar made false = Err (at_place dollar code.NW)
 
 -- there is a punched word
-abbrev pub judged : Place → Result Made Fault → Result Made Fault
-judged dollar (Err fault) = Err fault
-judged dollar (Ok made) = judged_by dollar made (has_words made.words)
+abbrev pub result_if_any_word : Place → Result TapeWords Fault → Result TapeWords Fault
+result_if_any_word dollar (Err fault) = Err fault
+result_if_any_word dollar (Ok made) = result_with_words dollar made (has_words made.words)
 
-abbrev pub made_by : Passed → Result Made Fault
-made_by (Err fault) = Err fault
-made_by (Ok left) = judged (dollar_in left.end) (cleared (made_of (stands left.standing.kept) left.entries))
+abbrev pub result_of_source : PassResult → Result TapeWords Fault
+result_of_source (Err fault) = Err fault
+result_of_source (Ok left) = result_if_any_word (dollar_in left.end) (without_clash (words_of_entries (stands left.standing.kept) left.entries))
 
 -- what a text makes, or its first fault: of places and names; of its end; of words; of words on pools' cells; that there is no word
-abbrev pub assembled : List ℕ → Result Made Fault
-assembled text = made_by (left_of text)
+abbrev pub result_of_text : List ℕ → Result TapeWords Fault
+result_of_text text = result_of_source (remainder_of_text text)

@@ -6,9 +6,9 @@ use Rattle.std.specs.Global.{Vec}
 use Rattle.pal8_pools.specs.Cells.{ArePairs}
 use Rattle.pal8_pools.specs.Pooled.{Holds, PoolTable}
 use Rattle.pal8_asm.specs.Places.{Standing}
-use Rattle.pal8_asm.specs.Tapes.{Made}
-use Rattle.pal8_asm.specs.Assembled.{assembled}
-use Rattle.pal8_asm.specs.Sources.{Entry, Left, Passed, at_place, left_of}
+use Rattle.pal8_asm.specs.Tapes.{TapeWords}
+use Rattle.pal8_asm.specs.Assembled.{result_of_text}
+use Rattle.pal8_asm.specs.Sources.{Entry, Remainder, PassResult, at_place, remainder_of_text}
 use Rattle.pal8_asm.specs.declared.faults.Fault.{Fault}
 use Rattle.pal8_asm.specs.declared.faults.Place.{Place}
 use Rattle.pal8_asm.specs.declared.faults.AsmFault.{AsmFault}
@@ -37,37 +37,37 @@ pub record Progress : Type 0 where
   pub end : Option Place
 
 -- what the statements before leave
-abbrev pub left_in : Progress → Left
-left_in a = record { standing = standing a.table a.position; entries = a.entries; brackets = a.brackets; end = a.end }
+abbrev pub remainder_of : Progress → Remainder
+remainder_of a = record { standing = standing a.table a.position; entries = a.entries; brackets = a.brackets; end = a.end }
 
 -- a statement is taken, or its fault is answered; or memory ran out
-abbrev pub Takes : Passed → Result (Unit {0}) AsmFault → Progress → Type 0
-Takes whole (Ok nothing) new = whole ≡ Ok (left_in new)
+abbrev pub Takes : PassResult → Result (Unit {0}) AsmFault → Progress → Type 0
+Takes whole (Ok nothing) new = whole ≡ Ok (remainder_of new)
 Takes whole (Err (asm.At code place)) new = whole ≡ Err (at_place place code)
 Takes whole (Err asm.Memory) new = Unit {0}
 
 -- what a text leaves to be made was taken, and its `$` has this place; or its fault; or memory ran out
 abbrev pub ReadsText : List ℕ → Result Place AsmFault → Progress → Type 0
-ReadsText text (Ok place) a = (left_of text ≡ Ok (left_in a)) × (a.end ≡ Some place)
-ReadsText text (Err (asm.At code place)) a = left_of text ≡ Err (at_place place code)
+ReadsText text (Ok place) a = (remainder_of_text text ≡ Ok (remainder_of a)) × (a.end ≡ Some place)
+ReadsText text (Err (asm.At code place)) a = remainder_of_text text ≡ Err (at_place place code)
 ReadsText text (Err asm.Memory) a = Unit {0}
 
 -- Entries were made, after others: these are the words so far, and the pools hold what was asked.
-pub record IsMade (whole : Result Made Fault) (pools : PoolTable) (pairs : List (ℕ × ℕ)) : Type 0 where
-  pub made : Made
+pub record IsMade (whole : Result TapeWords Fault) (pools : PoolTable) (pairs : List (ℕ × ℕ)) : Type 0 where
+  pub made : TapeWords
   pub is_whole : whole ≡ Ok made
   pub words : pairs ≡ made.words
   pub holds : Holds pools made.asks made.punched
 
 -- the words are answered, and the pools hold what they asked; or the first fault of a word; or memory ran out
-abbrev pub MakesWords : Result Made Fault → Result (Vec (ℕ × ℕ)) AsmFault → PoolTable → Type 0
+abbrev pub MakesWords : Result TapeWords Fault → Result (Vec (ℕ × ℕ)) AsmFault → PoolTable → Type 0
 MakesWords whole (Ok pairs) pools = IsMade whole pools pairs.items
 MakesWords whole (Err (asm.At code place)) pools = whole ≡ Err (at_place place code)
 MakesWords whole (Err asm.Memory) pools = Unit {0}
 
 -- The pairs are the punched words of what was made, and then each cell that they ask for with its value, by rising cell.
-pub record IsAssembled (whole : Result Made Fault) (pairs : List (ℕ × ℕ)) : Type 0 where
-  pub made : Made
+pub record IsAssembled (whole : Result TapeWords Fault) (pairs : List (ℕ × ℕ)) : Type 0 where
+  pub made : TapeWords
   pub is_whole : whole ≡ Ok made
   pub pool : List (ℕ × ℕ)
   pub are : pairs ≡ made.words ++ pool
@@ -75,6 +75,6 @@ pub record IsAssembled (whole : Result Made Fault) (pairs : List (ℕ × ℕ)) :
 
 -- a text is assembled, or its first fault is answered; or memory ran out
 abbrev pub Assembles : List ℕ → Result (Vec (ℕ × ℕ)) AsmFault → Type 0
-Assembles text (Ok pairs) = IsAssembled (assembled text) pairs.items
-Assembles text (Err (asm.At code place)) = assembled text ≡ Err (at_place place code)
+Assembles text (Ok pairs) = IsAssembled (result_of_text text) pairs.items
+Assembles text (Err (asm.At code place)) = result_of_text text ≡ Err (at_place place code)
 Assembles text (Err asm.Memory) = Unit {0}

@@ -4,28 +4,28 @@ use Rattle.pal_sym.specs.Values.{if_none}
 use Rattle.pal8_pools.specs.Asks.{Ask, IsAsked, cell_in}
 use Rattle.pal8_pools.specs.Pooled.{is_cell_of}
 use Rattle.pal8_clash.specs.Clashes.{has_word}
-use Rattle.pal8_asm.specs.Assembled.{assembled}
+use Rattle.pal8_asm.specs.Assembled.{result_of_text}
 use Rattle.pal8_asm.specs.Assembling.{IsAssembled}
-use Rattle.pal8_asm.specs.Tapes.{Made}
+use Rattle.pal8_asm.specs.Tapes.{TapeWords}
 use Rattle.pal8_lex.specs.declared.rules.End.{End}
 use Rattle.pal8_lex.specs.declared.rules.End.TheVariants as end
 use Rattle.pal8_grammar.specs.Bodies.{Phrase, opens, tags_in}
 use Rattle.pal8_grammar.specs.declared.bodies.Body.TheVariants as body
 use Rattle.pal8_grammar.specs.declared.faults.GrammarFault.{GrammarFault}
-use Rattle.pal8_asm.specs.Sources.{Left, Passed, Source, Statement, first_left, is_selected, left_of, number, passed, said_of, statements, with_said, with_skipped}
+use Rattle.pal8_asm.specs.Sources.{Remainder, PassResult, Source, Statement, first_left, is_selected, remainder_of_text, number, pass_over, phrase_of, statements, with_said, with_skipped}
 use Rattle.pal8_asm.specs.declared.faults.Fault.{Fault}
 
 -- the first fault of the statements of a text is that of the text, whatever follows
 abbrev pub FaultStays : Type 0
-FaultStays = (later text : List ℕ) (fault : Fault) → passed (statements text) ≡ Err fault → left_of (later ++ text) ≡ Err fault
+FaultStays = (later text : List ℕ) (fault : Fault) → pass_over (statements text) ≡ Err fault → remainder_of_text (later ++ text) ≡ Err fault
 
 -- in a text without a fault no cell of a punched word is a pool's cell
 abbrev pub Apart : Type 0
-Apart = (text : List ℕ) (made : Made) → assembled text ≡ Ok made → (c : ℕ) → has_word made.words c ≡ true → is_cell_of made.asks made.asks c ≡ false
+Apart = (text : List ℕ) (made : TapeWords) → result_of_text text ≡ Ok made → (c : ℕ) → has_word made.words c ≡ true → is_cell_of made.asks made.asks c ≡ false
 
 -- the pairs of a text whose punched words ask nothing are these words
 abbrev pub NoPoolNoChange : Type 0
-NoPoolNoChange = (text : List ℕ) (pairs : List (ℕ × ℕ)) → (whole : IsAssembled (assembled text) pairs) → whole.made.punched ≡ [] → pairs ≡ whole.made.words
+NoPoolNoChange = (text : List ℕ) (pairs : List (ℕ × ℕ)) → (whole : IsAssembled (result_of_text text) pairs) → whole.made.punched ≡ [] → pairs ≡ whole.made.words
 
 -- what pairs give a cell: the word of the last of them at that cell
 abbrev pub meaning : List (ℕ × ℕ) → ℕ → Option ℕ
@@ -35,7 +35,7 @@ meaning (pair ∷ later) c = if_none (meaning later c) (if nat_eq pair.0 c then 
 -- in a text without a fault the cell that a punched word's literal or link asks for holds its value
 abbrev pub ValueIsFound : Type 0
 ValueIsFound =
-    (text : List ℕ) (pairs : List (ℕ × ℕ)) → (whole : IsAssembled (assembled text) pairs) → (a : Ask) → IsAsked whole.made.punched a
+    (text : List ℕ) (pairs : List (ℕ × ℕ)) → (whole : IsAssembled (result_of_text text) pairs) → (a : Ask) → IsAsked whole.made.punched a
     → meaning pairs (cell_in whole.made.asks a) ≡ Some a.value
 
 -- ## What isn't selected is nothing
@@ -58,18 +58,18 @@ plain_statement s = record {
   end = plain_end s.end;
 }
 
-abbrev pub plain_by : Statement → Passed → Source → Source
+abbrev pub plain_by : Statement → PassResult → Source → Source
 plain_by s (Err fault) others = others
 plain_by s (Ok left) others = if is_some left.end then others else (if is_selected left.brackets then plain_statement s ∷ others else others)
 
 -- the statements of a source that are selected, without conditions and brackets
 abbrev pub plain : Source → Source
 plain [] = []
-plain (s ∷ older) = plain_by s (passed older) (plain older)
+plain (s ∷ older) = plain_by s (pass_over older) (plain older)
 
 -- a text leaves what its selected statements leave, without conditions and brackets
 abbrev pub SkippedIsNothing : Type 0
-SkippedIsNothing = (text : List ℕ) (left : Left) → left_of text ≡ Ok left → passed (plain (statements text)) ≡ Ok left
+SkippedIsNothing = (text : List ℕ) (left : Remainder) → remainder_of_text text ≡ Ok left → pass_over (plain (statements text)) ≡ Ok left
 
 -- ## Places rest on no word
 
@@ -105,23 +105,23 @@ abbrev pub zero_said : Result Phrase GrammarFault → Result Phrase GrammarFault
 zero_said (Err fault) = Err fault
 zero_said (Ok phrase) = Ok (zero_phrase phrase)
 
-abbrev pub read_zero : Statement → Passed → Passed
+abbrev pub read_zero : Statement → PassResult → PassResult
 read_zero s (Err fault) = Err fault
 read_zero s (Ok left) =
     if is_some left.end then Ok left
-    else (if is_selected left.brackets then with_said s left (zero_said (said_of left.standing.position.radix s.tokens s.is_cut s.end))
+    else (if is_selected left.brackets then with_said s left (zero_said (phrase_of left.standing.position.radix s.tokens s.is_cut s.end))
     else Ok (with_skipped s left))
 
 -- what the statements of a source leave, where each word is read as the word 0
-abbrev pub passed_zero : Source → Passed
+abbrev pub passed_zero : Source → PassResult
 passed_zero [] = Ok first_left
 passed_zero (s ∷ older) = read_zero s (passed_zero older)
 
 -- what is left but the words: places, the field and names, the brackets that are open, and the end
-abbrev pub without_words : Passed → Passed
+abbrev pub without_words : PassResult → PassResult
 without_words (Err fault) = Err fault
 without_words (Ok left) = Ok record { standing = left.standing; entries = []; brackets = left.brackets; end = left.end }
 
 -- each place, field and name, each condition, the end and each fault of theirs is that of the source with each word read as the word 0
 abbrev pub PlacesStay : Type 0
-PlacesStay = (source : Source) → without_words (passed_zero source) ≡ without_words (passed source)
+PlacesStay = (source : Source) → without_words (passed_zero source) ≡ without_words (pass_over source)

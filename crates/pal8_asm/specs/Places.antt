@@ -13,7 +13,7 @@ use Rattle.pal8_grammar.specs.Bodies.{free_name}
 use Rattle.pal8_grammar.specs.declared.bodies.Body.{Body}
 use Rattle.pal8_grammar.specs.declared.bodies.Body.TheVariants as body
 use Rattle.pal8_grammar.specs.declared.steps.Step.{Step}
-use Rattle.pal8_values.specs.Sums.{Known, early_value, here_of}
+use Rattle.pal8_values.specs.Sums.{Meanings, early_value, here_of}
 use Rattle.pal8_values.specs.declared.sums.Spot.{Spot}
 use Rattle.pal8_values.specs.declared.faults.ValueFault.{ValueFault}
 use Rattle.pal8_values.specs.declared.faults.ValueFault.TheVariants as value
@@ -25,20 +25,20 @@ use Rattle.pal8_asm.specs.declared.places.TheConstants.{FIRST_PLACE}
 -- What statements leave: what names keep, which are the defined ones and the permanent ones that aren't soft; which of these `=` can't change;
 -- and where the next statement stands.
 pub record Standing : Type 0 where
-  pub kept : Known
+  pub kept : Meanings
   pub fixed : ℕ → Bool
   pub position : Position
 
 -- what a name stands for: what it keeps, else its soft value
-abbrev pub stands : Known → Known
+abbrev pub stands : Meanings → Meanings
 stands kept name = if_none (kept name) (find nat_cmp name soft_names)
 
 -- ## Places
 
 -- The place is the location, which RELOC shifts: the address at which a word runs, where the tape loads it at another one. (Without a shift a
 -- location may be 10000, which is past 7777.)
-abbrev pub shifted : ℕ → ℕ → ℕ
-shifted shift location = if nat_eq shift 0 then location else (location + shift) % 0o10000
+abbrev pub place_of_location : ℕ → ℕ → ℕ
+place_of_location shift location = if nat_eq shift 0 then location else (location + shift) % 0o10000
 
 -- the location that has this place
 abbrev pub location_at : ℕ → ℕ → ℕ
@@ -46,12 +46,12 @@ location_at shift place = (place + 0o10000 - shift) % 0o10000
 
 -- where a statement stands
 abbrev pub spot_at : Position → Spot
-spot_at p = record { field = p.field; location = p.location; here = shifted p.shift p.location; is_punched = p.is_punched }
+spot_at p = record { field = p.field; location = p.location; here = place_of_location p.shift p.location; is_punched = p.is_punched }
 
 -- ## Names
 
 -- a name keeps this value from here on
-abbrev pub with_name : ℕ → ℕ → Known → Known
+abbrev pub with_name : ℕ → ℕ → Meanings → Meanings
 with_name name v kept n = if nat_eq name n then Some v else kept n
 
 abbrev pub with_fixed : ℕ → (ℕ → Bool) → ℕ → Bool
@@ -129,7 +129,7 @@ abbrev pub kept_low : ℕ → ℕ
 kept_low location = if nat_lt location 0o20000 then location else location - 0o10000
 
 abbrev pub next_page : Position → Position
-next_page p = at_location (kept_low (p.location + to_page (shifted p.shift p.location))) p
+next_page p = at_location (kept_low (p.location + to_page (place_of_location p.shift p.location))) p
 
 -- DECIMAL and OCTAL
 abbrev pub with_radix : Radix → Position → Position
@@ -140,12 +140,12 @@ abbrev pub with_punching : Bool → Position → Position
 with_punching is_punched p = record p { is_punched = is_punched }
 
 -- RELOC alone: the place is the location again
-abbrev pub unrelocated : Position → Position
-unrelocated p = record p { shift = 0 }
+abbrev pub without_relocation : Position → Position
+without_relocation p = record p { shift = 0 }
 
 -- RELOC: this is the place from here on
-abbrev pub relocated : ℕ → Position → Position
-relocated place p = record p { shift = (place + 0o20000 - p.location) % 0o10000 }
+abbrev pub with_relocation : ℕ → Position → Position
+with_relocation place p = record p { shift = (place + 0o20000 - p.location) % 0o10000 }
 
 -- two characters a word, and 00 after the last one
 abbrev pub text_size : ℕ → ℕ
@@ -165,25 +165,25 @@ code_of value.ZE = code.ZE
 code_of value.RL = code.RL
 code_of value.Memory = code.SY
 
-abbrev pub coded : Result ℕ ValueFault → Result ℕ Code
-coded (Err fault) = Err (code_of fault)
-coded (Ok v) = Ok v
+abbrev pub as_code : Result ℕ ValueFault → Result ℕ Code
+as_code (Err fault) = Err (code_of fault)
+as_code (Ok v) = Ok v
 
-abbrev pub moved : Standing → Result Position Code → Result Standing Code
-moved s (Err fault) = Err fault
-moved s (Ok position) = Ok record { kept = s.kept; fixed = s.fixed; position = position }
+abbrev pub standing_at : Standing → Result Position Code → Result Standing Code
+standing_at s (Err fault) = Err fault
+standing_at s (Ok position) = Ok record { kept = s.kept; fixed = s.fixed; position = position }
 
 -- a body with a value
 abbrev pub with_valued : Body → Standing → ℕ → Result Standing Code
 with_valued body.Nothing s v = Ok s
-with_valued body.Origin s v = moved s (Ok (to_place v s.position))
+with_valued body.Origin s v = standing_at s (Ok (to_place v s.position))
 with_valued (body.Define name) s v = with_definition name v s
 with_valued body.Decimal s v = Ok s
 with_valued body.Octal s v = Ok s
-with_valued body.Field s v = moved s (with_field v s.position)
+with_valued body.Field s v = standing_at s (with_field v s.position)
 with_valued body.NextPage s v = Ok s
-with_valued body.Page s v = moved s (with_page v s.position)
-with_valued body.Zeros s v = moved s (with_size v s.position)
+with_valued body.Page s v = standing_at s (with_page v s.position)
+with_valued body.Zeros s v = standing_at s (with_size v s.position)
 with_valued body.Text s v = Ok s
 with_valued body.Listing s v = Ok s
 with_valued body.IfZero s v = Ok s
@@ -192,7 +192,7 @@ with_valued (body.IfDefined name) s v = Ok s
 with_valued (body.IfUndefined name) s v = Ok s
 with_valued body.NoPunch s v = Ok s
 with_valued body.Punch s v = Ok s
-with_valued body.Relocate s v = moved s (Ok (relocated v s.position))
+with_valued body.Relocate s v = standing_at s (Ok (with_relocation v s.position))
 with_valued body.Unrelocate s v = Ok s
 with_valued body.FileName s v = Ok s
 with_valued body.Device s v = Ok s
@@ -207,35 +207,35 @@ with_value_of body s (Ok v) = with_valued body s v
 
 -- a value by the names before, of which a statement's own tags are some
 abbrev pub value_at : Standing → List Step → Result ℕ Code
-value_at s steps = coded (early_value (stands s.kept) (spot_at s.position) steps)
+value_at s steps = as_code (early_value (stands s.kept) (spot_at s.position) steps)
 
 -- what a body does, with the steps of its value and the length of its string; `EXPUNGE` and such bodies aren't taken yet
 abbrev pub with_body : Body → List Step → ℕ → Standing → Result Standing Code
 with_body body.Nothing steps length s = Ok s
 with_body body.Origin steps length s = with_value_of body.Origin s (value_at s steps)
 with_body (body.Define name) steps length s = with_value_of (body.Define name) s (value_at s steps)
-with_body body.Decimal steps length s = moved s (Ok (with_radix radix.Decimal s.position))
-with_body body.Octal steps length s = moved s (Ok (with_radix radix.Octal s.position))
+with_body body.Decimal steps length s = standing_at s (Ok (with_radix radix.Decimal s.position))
+with_body body.Octal steps length s = standing_at s (Ok (with_radix radix.Octal s.position))
 with_body body.Field steps length s = with_value_of body.Field s (value_at s steps)
-with_body body.NextPage steps length s = moved s (Ok (next_page s.position))
+with_body body.NextPage steps length s = standing_at s (Ok (next_page s.position))
 with_body body.Page steps length s = with_value_of body.Page s (value_at s steps)
 with_body body.Zeros steps length s = with_value_of body.Zeros s (value_at s steps)
-with_body body.Text steps length s = moved s (with_size (text_size length) s.position)
+with_body body.Text steps length s = standing_at s (with_size (text_size length) s.position)
 with_body body.Listing steps length s = Ok s
 with_body body.IfZero steps length s = Ok s
 with_body body.IfNotZero steps length s = Ok s
 with_body (body.IfDefined name) steps length s = Ok s
 with_body (body.IfUndefined name) steps length s = Ok s
-with_body body.NoPunch steps length s = moved s (Ok (with_punching false s.position))
-with_body body.Punch steps length s = moved s (Ok (with_punching true s.position))
+with_body body.NoPunch steps length s = standing_at s (Ok (with_punching false s.position))
+with_body body.Punch steps length s = standing_at s (Ok (with_punching true s.position))
 with_body body.Relocate steps length s = with_value_of body.Relocate s (value_at s steps)
-with_body body.Unrelocate steps length s = moved s (Ok (unrelocated s.position))
-with_body body.FileName steps length s = moved s (with_size 4 s.position)
-with_body body.Device steps length s = moved s (with_size 2 s.position)
+with_body body.Unrelocate steps length s = standing_at s (Ok (without_relocation s.position))
+with_body body.FileName steps length s = standing_at s (with_size 4 s.position)
+with_body body.Device steps length s = standing_at s (with_size 2 s.position)
 with_body body.Expunge steps length s = Err code.SY
 with_body body.FixTable steps length s = Err code.SY
 with_body (body.FixOperation name) steps length s = Err code.SY
-with_body body.Word steps length s = moved s (with_size 1 s.position)
+with_body body.Word steps length s = standing_at s (with_size 1 s.position)
 
 abbrev pub with_body_if : Body → List Step → ℕ → Result Standing Code → Result Standing Code
 with_body_if body steps length (Err fault) = Err fault

@@ -14,14 +14,14 @@ use Rattle.pal8_lex.specs.declared.rules.End.TheVariants as end
 use Rattle.pal8_lex.specs.declared.judging.Radix.{Radix}
 use Rattle.pal8_lex.specs.declared.judging.Radix.TheVariants as radix
 use Rattle.pal8_sym.specs.SourceNames.{first_vocabulary}
-use Rattle.pal8_grammar.specs.Bodies.{Phrase, said_by}
+use Rattle.pal8_grammar.specs.Bodies.{Phrase, phrase_by_names}
 use Rattle.pal8_grammar.specs.declared.bodies.Body.{Body}
 use Rattle.pal8_grammar.specs.declared.bodies.Body.TheVariants as body
 use Rattle.pal8_grammar.specs.declared.steps.Step.{Step}
 use Rattle.pal8_grammar.specs.declared.steps.Step.TheVariants as step
 use Rattle.pal8_grammar.specs.declared.faults.GrammarFault.{GrammarFault}
 use Rattle.pal8_grammar.specs.declared.faults.GrammarFault.TheVariants as grammar
-use Rattle.pal8_values.specs.Sums.{Known}
+use Rattle.pal8_values.specs.Sums.{Meanings}
 use Rattle.pal8_values.specs.declared.sums.Spot.{Spot}
 use Rattle.pal8_asm.specs.Places.{Standing, spot_at, truth_of, with_statement}
 use Rattle.pal8_asm.specs.declared.faults.Place.{Place}
@@ -42,13 +42,13 @@ pub record Statement : Type 0 where
 abbrev pub Source : Type 0
 Source = List Statement
 
-abbrev pub ended_at : ℕ → lex.Statement → Statement
-ended_at at s = record { line = s.line; at = at; tokens = s.tokens; string = s.string; is_cut = s.is_cut; end = s.end }
+abbrev pub statement_at : ℕ → lex.Statement → Statement
+statement_at at s = record { line = s.line; at = at; tokens = s.tokens; string = s.string; is_cut = s.is_cut; end = s.end }
 
 -- the statements of the bytes that are there, the newest first
 abbrev pub statements_of : List (ℕ × ℕ) → Source
 statements_of [] = []
-statements_of (x ∷ older) = if ends (pieces older) x.0 then ended_at (limit x.1) (statement_of x.0 older) ∷ statements_of older else statements_of older
+statements_of (x ∷ older) = if ends (pieces older) x.0 then statement_at (limit x.1) (statement_of x.0 older) ∷ statements_of older else statements_of older
 
 -- the statements of a text, the newest first
 abbrev pub statements : List ℕ → Source
@@ -73,17 +73,17 @@ pub record Entry : Type 0 where
 
 -- What statements leave: places and names; their words, in the order of the source; and for each open bracket whether it is true, the newest first.
 -- The place of the `$` that ended the source is left, too.
-pub record Left : Type 0 where
+pub record Remainder : Type 0 where
   pub standing : Standing
   pub entries : List Entry
   pub brackets : List Bool
   pub end : Option Place
 
-abbrev pub Passed : Type 0
-Passed = Result Left Fault
+abbrev pub PassResult : Type 0
+PassResult = Result Remainder Fault
 
 -- what stands before a source: the permanent names that aren't soft, and its first place
-abbrev pub first_left : Left
+abbrev pub first_left : Remainder
 first_left = record {
   standing = record {
     kept = old.permanent;
@@ -102,7 +102,7 @@ abbrev pub number_or : Step → Option ℕ → Step
 number_or s None = s
 number_or s (Some v) = step.Number v
 
-abbrev pub resolved_step : Known → Step → Step
+abbrev pub resolved_step : Meanings → Step → Step
 resolved_step kept (step.Operation word) = step.Operation word
 resolved_step kept step.Alone = step.Alone
 resolved_step kept step.Indirect = step.Indirect
@@ -114,9 +114,9 @@ resolved_step kept (step.Sign op) = step.Sign op
 resolved_step kept (step.Open pool) = step.Open pool
 resolved_step kept step.Close = step.Close
 
-abbrev pub resolved : Known → List Step → List Step
-resolved kept [] = []
-resolved kept (s ∷ others) = resolved_step kept s ∷ resolved kept others
+abbrev pub with_values : Meanings → List Step → List Step
+with_values kept [] = []
+with_values kept (s ∷ others) = resolved_step kept s ∷ with_values kept others
 
 abbrev pub number : ℕ → List Step
 number word = step.Number word ∷ []
@@ -133,7 +133,7 @@ word_each [] = []
 word_each (s ∷ others) = (s ∷ []) ∷ word_each others
 
 -- the words of a body, each as its steps, in their order
-abbrev pub words_in : Body → Known → List Step → List ℕ → ℕ → List (List Step)
+abbrev pub words_in : Body → Meanings → List Step → List ℕ → ℕ → List (List Step)
 words_in body.Nothing kept steps string size = []
 words_in body.Origin kept steps string size = []
 words_in (body.Define name) kept steps string size = []
@@ -153,12 +153,12 @@ words_in body.NoPunch kept steps string size = []
 words_in body.Punch kept steps string size = []
 words_in body.Relocate kept steps string size = []
 words_in body.Unrelocate kept steps string size = []
-words_in body.FileName kept steps string size = word_each (resolved kept steps)
-words_in body.Device kept steps string size = word_each (resolved kept steps)
+words_in body.FileName kept steps string size = word_each (with_values kept steps)
+words_in body.Device kept steps string size = word_each (with_values kept steps)
 words_in body.Expunge kept steps string size = []
 words_in body.FixTable kept steps string size = []
 words_in (body.FixOperation name) kept steps string size = []
-words_in body.Word kept steps string size = resolved kept steps ∷ []
+words_in body.Word kept steps string size = with_values kept steps ∷ []
 
 abbrev pub entry_at : Place → Spot → List Step → Entry
 entry_at place spot steps = record {
@@ -232,48 +232,48 @@ abbrev pub end_of : Statement → Option Place
 end_of s = dollar_at s.end record { line = s.line; start = s.at }
 
 -- the brackets after a statement that is selected, which is a condition that is true or not, or has a fault
-abbrev pub bracketed : Place → End → List Bool → Result Bool Code → Result (List Bool) Fault
-bracketed place end brackets (Err fault) = Err (at_place place fault)
-bracketed place end brackets (Ok holds) = if closes_none end brackets then Err (at_place place code.PH) else Ok (brackets_after end holds brackets)
+abbrev pub brackets_with : Place → End → List Bool → Result Bool Code → Result (List Bool) Fault
+brackets_with place end brackets (Err fault) = Err (at_place place fault)
+brackets_with place end brackets (Ok holds) = if closes_none end brackets then Err (at_place place code.PH) else Ok (brackets_after end holds brackets)
 
 -- ## Statements
 
-abbrev pub with_brackets : Statement → Standing → List Entry → Result (List Bool) Fault → Passed
+abbrev pub with_brackets : Statement → Standing → List Entry → Result (List Bool) Fault → PassResult
 with_brackets s standing entries (Err fault) = Err fault
 with_brackets s standing entries (Ok brackets) = Ok record { standing = standing; entries = entries; brackets = brackets; end = end_of s }
 
-abbrev pub with_phrase : Statement → Phrase → Left → Result Standing Code → Passed
+abbrev pub with_phrase : Statement → Phrase → Remainder → Result Standing Code → PassResult
 with_phrase s phrase left (Err fault) = Err (at_place (place_of s) fault)
 with_phrase s phrase left (Ok standing) = with_brackets s standing
     (with_entries (place_of s) (spot_at left.standing.position)
     (words_in phrase.0 standing.kept phrase.1 s.string (standing.position.location - left.standing.position.location)) left.entries)
-    (bracketed (place_of s) s.end left.brackets (truth_of phrase.0 phrase.1 standing))
+    (brackets_with (place_of s) s.end left.brackets (truth_of phrase.0 phrase.1 standing))
 
-abbrev pub with_said : Statement → Left → Result Phrase GrammarFault → Passed
+abbrev pub with_said : Statement → Remainder → Result Phrase GrammarFault → PassResult
 with_said s left (Err fault) = Err (at_place (place_of s) (code_of fault))
 with_said s left (Ok phrase) = with_phrase s phrase left (with_statement s.tokens phrase.0 phrase.1 (length s.string) left.standing)
 
 -- what a statement says by the radix before it: no EXPUNGE and no FIXMRI is taken yet
-abbrev pub said_of : Radix → List Token → Bool → End → Result Phrase GrammarFault
-said_of radix tokens is_cut end = said_by first_vocabulary radix tokens is_cut end
+abbrev pub phrase_of : Radix → List Token → Bool → End → Result Phrase GrammarFault
+phrase_of radix tokens is_cut end = phrase_by_names first_vocabulary radix tokens is_cut end
 
-abbrev pub with_selected : Statement → Left → Passed
-with_selected s left = with_said s left (said_of left.standing.position.radix s.tokens s.is_cut s.end)
+abbrev pub with_selected : Statement → Remainder → PassResult
+with_selected s left = with_said s left (phrase_of left.standing.position.radix s.tokens s.is_cut s.end)
 
 -- one that isn't selected says nothing, and a bracket that it opens is false
-abbrev pub with_skipped : Statement → Left → Left
+abbrev pub with_skipped : Statement → Remainder → Remainder
 with_skipped s left = record { standing = left.standing; entries = left.entries; brackets = brackets_after s.end false left.brackets; end = left.end }
 
 -- nothing after the `$` that ended the source is read
-abbrev pub with_next : Statement → Passed → Passed
+abbrev pub with_next : Statement → PassResult → PassResult
 with_next s (Err fault) = Err fault
 with_next s (Ok left) =
     if is_some left.end then Ok left else (if is_selected left.brackets then with_selected s left else Ok (with_skipped s left))
 
 -- what the statements of a source leave, or the first fault of those that places, names and conditions have
-abbrev pub passed : Source → Passed
-passed [] = Ok first_left
-passed (s ∷ older) = with_next s (passed older)
+abbrev pub pass_over : Source → PassResult
+pass_over [] = Ok first_left
+pass_over (s ∷ older) = with_next s (pass_over older)
 
 -- ## The end of a source
 
@@ -282,16 +282,16 @@ abbrev pub place_after : List ℕ → Place
 place_after text = record { line = line_after (live text); start = limit (length text) }
 
 -- a `$` outside of all brackets ends a text
-abbrev pub with_end : List ℕ → Left → List Bool → Option Place → Passed
+abbrev pub with_end : List ℕ → Remainder → List Bool → Option Place → PassResult
 with_end text left [] None = Err (at_place (place_after text) code.NE)
 with_end text left [] (Some place) = Ok left
 with_end text left (newest ∷ outer) None = Err (at_place (place_after text) code.PH)
 with_end text left (newest ∷ outer) (Some place) = Err (at_place place code.PH)
 
-abbrev pub ended : List ℕ → Passed → Passed
-ended text (Err fault) = Err fault
-ended text (Ok left) = with_end text left left.brackets left.end
+abbrev pub end_of_pass : List ℕ → PassResult → PassResult
+end_of_pass text (Err fault) = Err fault
+end_of_pass text (Ok left) = with_end text left left.brackets left.end
 
 -- what a text leaves to be made, or its first fault except those of words
-abbrev pub left_of : List ℕ → Passed
-left_of text = ended text (passed (statements text))
+abbrev pub remainder_of_text : List ℕ → PassResult
+remainder_of_text text = end_of_pass text (pass_over (statements text))

@@ -1,10 +1,10 @@
 -- What the small steps of a pass give, for private clauses.
-use Rattle.pal8_asm.specs.Assembling.{Progress, left_in, standing}
+use Rattle.pal8_asm.specs.Assembling.{Progress, remainder_of, standing}
 use Rattle.std.specs.Prelude.{◌≡◌, ℕ, ◌-◌, Bool, true, false, length, Option, Some, None, Result, Ok, Err, List, ◌∷◌, ◌++◌}
 use Rattle.pal_sym.specs.SymbolTable.{SymbolTable}
 use Rattle.pal_sym.specs.Values.{symbol_value}
 use Rattle.pal_lex.specs.Text.{limit, text_from}
-use Rattle.pal8_lex.specs.Reading.{HasRead, shown}
+use Rattle.pal8_lex.specs.Reading.{HasRead, last_statement}
 use Rattle.pal8_lex.specs.Text.{as_read, live}
 use Rattle.pal8_lex.specs.Statements.{statement_of}
 use Rattle.pal8_lex.specs.Reading as lex
@@ -14,11 +14,11 @@ use Rattle.pal8_pools.specs.Asks.{Ask}
 use Rattle.pal8_pools.specs.Cells.{ArePairs}
 use Rattle.pal8_pools.specs.Pooled.{Holds, PoolTable}
 use Rattle.pal8_values.specs.Answering.{IsAsked}
-use Rattle.pal8_values.specs.Words.{Asked}
+use Rattle.pal8_values.specs.Words.{AskResult}
 use Rattle.pal8_asm.specs.Places.{Standing, code_of, spot_at}
-use Rattle.pal8_asm.specs.Tapes.{Made}
+use Rattle.pal8_asm.specs.Tapes.{TapeWords}
 use Rattle.pal8_clash.specs.Clashes.{AreMarks, lowest_clash}
-use Rattle.pal8_asm.specs.Sources.{Entry, Passed, at_place, ended_at, passed, statements, with_entries, words_in}
+use Rattle.pal8_asm.specs.Sources.{Entry, PassResult, at_place, statement_at, pass_over, statements, with_entries, words_in}
 use Rattle.pal8_asm.specs.declared.faults.Fault.{Fault}
 use Rattle.pal8_asm.specs.declared.faults.Place.{Place}
 use Rattle.pal8_asm.specs.declared.faults.AsmFault.{AsmFault}
@@ -59,7 +59,7 @@ PassesEnd whole (Err (asm.At code place)) brackets = whole ≡ Err (at_place pla
 PassesEnd whole (Err asm.Memory) brackets = Unit {0}
 
 -- a statement is taken at a position, or its fault is answered; or memory ran out
-abbrev pub TakesStatement : Passed → Result Position AsmFault → SymbolTable → List Entry → List Bool → Option Place → Type 0
+abbrev pub TakesStatement : PassResult → Result Position AsmFault → SymbolTable → List Entry → List Bool → Option Place → Type 0
 TakesStatement whole (Ok next) table entries brackets end = whole ≡ Ok record { standing = standing table next; entries = entries; brackets = brackets; end = end }
 TakesStatement whole (Err (asm.At code place)) table entries brackets end = whole ≡ Err (at_place place code)
 TakesStatement whole (Err asm.Memory) table entries brackets end = Unit {0}
@@ -67,7 +67,7 @@ TakesStatement whole (Err asm.Memory) table entries brackets end = Unit {0}
 -- What a statement does to names and places was done, and its words are kept.
 pub record IsTaken (whole : Result Standing Code) (place : Place) (body : Body) (steps : List Step) (string : List ℕ) (before next : Position) (old : List Entry)
     (table : SymbolTable) (new : List Entry) : Type 0 where
-  pub passed : whole ≡ Ok (standing table next)
+  pub pass_over : whole ≡ Ok (standing table next)
   pub words : new ≡ with_entries place (spot_at before) (words_in body (symbol_value table) steps string (next.location - before.location)) old
 
 abbrev pub TakesBody : Result Standing Code → Place → Body → List Step → List ℕ → Position → List Entry → Result Position AsmFault → SymbolTable → List Entry → Type 0
@@ -80,8 +80,8 @@ TakesBody whole place body steps string before old (Err asm.Memory) table new = 
 -- the answer for a byte after others: whether it ends a statement, which is then shown
 abbrev pub Pushes : List ℕ → ℕ → Result Bool AsmFault → lex.Progress → Type 0
 Pushes here b (Ok true) new =
-    (shown new ≡ Some (statement_of (as_read b) (live here)))
-    × (statements (b ∷ here) ≡ ended_at (limit (length here)) (statement_of (as_read b) (live here)) ∷ statements here) × HasRead new (b ∷ here)
+    (last_statement new ≡ Some (statement_of (as_read b) (live here)))
+    × (statements (b ∷ here) ≡ statement_at (limit (length here)) (statement_of (as_read b) (live here)) ∷ statements here) × HasRead new (b ∷ here)
 Pushes here b (Ok false) new = (statements (b ∷ here) ≡ statements here) × HasRead new (b ∷ here)
 Pushes here b (Err (asm.At code place)) new = ⊥
 Pushes here b (Err asm.Memory) new = Unit {0}
@@ -89,12 +89,12 @@ Pushes here b (Err asm.Memory) new = Unit {0}
 -- These bytes were read, and what they leave is taken.
 pub record HasTaken (here : List ℕ) (lexer : lex.Progress) (a : Progress) : Type 0 where
   pub has_read : HasRead lexer here
-  pub leaves : passed (statements here) ≡ Ok (left_in a)
+  pub leaves : pass_over (statements here) ≡ Ok (remainder_of a)
 
 -- what a byte more gives; or its fault; or memory ran out
 abbrev pub TakesByte : List ℕ → Result (Unit {0}) AsmFault → lex.Progress → Progress → Type 0
 TakesByte here (Ok nothing) lexer a = HasTaken here lexer a
-TakesByte here (Err (asm.At code place)) lexer a = passed (statements here) ≡ Err (at_place place code)
+TakesByte here (Err (asm.At code place)) lexer a = pass_over (statements here) ≡ Err (at_place place code)
 TakesByte here (Err asm.Memory) lexer a = Unit {0}
 
 -- These bytes are still to be read; what those before them leave is taken.
@@ -106,41 +106,41 @@ pub record IsOnTheWay (whole rest : List ℕ) (lexer : lex.Progress) (at : ℕ) 
 
 -- What a text leaves is taken: all of it was read, or it was read up to the `$` that ends its source.
 pub record HasReadAll (whole : List ℕ) (lexer : lex.Progress) (at : ℕ) (a : Progress) : Type 0 where
-  pub leaves : passed (statements whole) ≡ Ok (left_in a)
+  pub leaves : pass_over (statements whole) ≡ Ok (remainder_of a)
   pub counts : a.end ≡ None → (at ≡ limit (length whole)) × HasRead lexer whole
 
 -- what further bytes give; or their fault; or memory ran out
 abbrev pub ReadsOn : List ℕ → Result (Unit {0}) AsmFault → lex.Progress → ℕ → Progress → Type 0
 ReadsOn whole (Ok nothing) lexer at a = HasReadAll whole lexer at a
-ReadsOn whole (Err (asm.At code place)) lexer at a = passed (statements whole) ≡ Err (at_place place code)
+ReadsOn whole (Err (asm.At code place)) lexer at a = pass_over (statements whole) ≡ Err (at_place place code)
 ReadsOn whole (Err asm.Memory) lexer at a = Unit {0}
 
 -- a text is over: it ended at a `$` with this place, or this is the fault of its end
-abbrev pub Closes : Passed → Result Place AsmFault → Progress → Type 0
-Closes whole (Ok place) a = (whole ≡ Ok (left_in a)) × (a.end ≡ Some place)
+abbrev pub Closes : PassResult → Result Place AsmFault → Progress → Type 0
+Closes whole (Ok place) a = (whole ≡ Ok (remainder_of a)) × (a.end ≡ Some place)
 Closes whole (Err (asm.At code place)) a = whole ≡ Err (at_place place code)
 Closes whole (Err asm.Memory) a = Unit {0}
 
 -- ## Words
 
 -- the fault of a word at this place
-abbrev pub coded_at : Place → Asked → Result (ℕ × List Ask × List Ask) Fault
-coded_at place (Err fault) = Err (at_place place (code_of fault))
-coded_at place (Ok asked) = Ok asked
+abbrev pub fault_at : Place → AskResult → Result (ℕ × List Ask × List Ask) Fault
+fault_at place (Err fault) = Err (at_place place (code_of fault))
+fault_at place (Ok asked) = Ok asked
 
 -- this is the fault of a word at this place; or memory ran out
-abbrev pub IsFaultAt : Place → Asked → AsmFault → Type 0
-IsFaultAt place whole (asm.At code place') = coded_at place whole ≡ Err (at_place place' code)
+abbrev pub IsFaultAt : Place → AskResult → AsmFault → Type 0
+IsFaultAt place whole (asm.At code place') = fault_at place whole ≡ Err (at_place place' code)
 IsFaultAt place whole asm.Memory = Unit {0}
 
 -- a word is answered, and the pools hold what was asked up to it; or its fault at this place; or memory ran out
-abbrev pub GivesAt : Place → Asked → Result ℕ AsmFault → PoolTable → Type 0
+abbrev pub GivesAt : Place → AskResult → Result ℕ AsmFault → PoolTable → Type 0
 GivesAt place whole (Ok word) new = IsAsked whole word new
 GivesAt place whole (Err fault) new = IsFaultAt place whole fault
 
 -- Entries were made, after others: these are the words so far, with their cells, the first clash, and the pools hold what was asked.
-pub record IsMaking (whole : Result Made Fault) (pools : PoolTable) (marks : List Bool) (clash : Option Fault) (pairs : List (ℕ × ℕ)) : Type 0 where
-  pub made : Made
+pub record IsMaking (whole : Result TapeWords Fault) (pools : PoolTable) (marks : List Bool) (clash : Option Fault) (pairs : List (ℕ × ℕ)) : Type 0 where
+  pub made : TapeWords
   pub is_whole : whole ≡ Ok made
   pub words : pairs ≡ made.words
   pub holds : Holds pools made.asks made.punched
@@ -149,7 +149,7 @@ pub record IsMaking (whole : Result Made Fault) (pools : PoolTable) (marks : Lis
   pub free : made.clash ≡ None → lowest_clash made.asks made.words ≡ None
 
 -- what making entries gives, or the first fault of a word; or memory ran out
-abbrev pub Makes : Result Made Fault → Result (Unit {0}) AsmFault → PoolTable → List Bool → Option Fault → List (ℕ × ℕ) → Type 0
+abbrev pub Makes : Result TapeWords Fault → Result (Unit {0}) AsmFault → PoolTable → List Bool → Option Fault → List (ℕ × ℕ) → Type 0
 Makes whole (Ok nothing) pools marks clash pairs = IsMaking whole pools marks clash pairs
 Makes whole (Err (asm.At code place)) pools marks clash pairs = whole ≡ Err (at_place place code)
 Makes whole (Err asm.Memory) pools marks clash pairs = Unit {0}

@@ -2,9 +2,9 @@ ghost use Rattle.std.specs.Prelude.{◌≡◌, ◌<◌, IfOk, Ok, None, length};
 ghost use Rattle.pal8_sym.specs.SourceNames.{first_vocabulary, vocabulary_of};
 ghost use Rattle.pal8_grammar.specs.Saying.{Says};
 ghost use Rattle.pal8_asm.specs.Places.{truth_of, with_statement};
-ghost use Rattle.pal8_asm.specs.Sources.{bracketed, dollar_at, first_left, said_of, start_of, with_next, with_selected};
+ghost use Rattle.pal8_asm.specs.Sources.{brackets_with, dollar_at, first_left, phrase_of, start_of, with_next, with_selected};
 ghost use Rattle.pal8_asm.specs.Steps.{PassesEnd, TakesBody, TakesStatement};
-ghost use Rattle.pal8_asm.specs.Assembling.{Takes, left_in, standing};
+ghost use Rattle.pal8_asm.specs.Assembling.{Takes, remainder_of, standing};
 
 use crate::brackets::Brackets;
 use crate::entries::Entries;
@@ -116,7 +116,7 @@ fn pass_end(
 ) -> Result<(), AsmFault>
     requires location { position.location < 0o20000 }
     requires shift { position.shift < 0o10000 }
-    ensures { PassesEnd (bracketed place end brackets.old (truth_of body steps.now (standing symbols.now position))) result brackets.new }
+    ensures { PassesEnd (brackets_with place end brackets.old (truth_of body steps.now (standing symbols.now position))) result brackets.new }
 {
     let again = end;
     let is_true = match truth_of(symbols, body, steps, position) {
@@ -132,7 +132,7 @@ fn pass_end(
 }
 
 /// Reads what a statement says, where nothing is expunged and no operation was added.
-fn said(
+fn read_statement_anew(
     reader: &mut Reader,
     names: &SourceNames,
     tokens: &[Token],
@@ -141,7 +141,7 @@ fn said(
     radix: Radix,
 ) -> Result<Body, GrammarFault>
     requires { vocabulary_of names.now ≡ first_vocabulary }
-    ensures { Says (said_of radix tokens.now is_cut end) result reader.new }
+    ensures { Says (phrase_of radix tokens.now is_cut end) result reader.new }
 {
     reader.read_statement(names, tokens, is_cut, end, radix)
 }
@@ -175,7 +175,7 @@ fn take_statement(
         start: start_of(at, tokens),
     };
     let again = end;
-    let body = match said(reader, names, tokens, is_cut, end, position.radix) {
+    let body = match read_statement_anew(reader, names, tokens, is_cut, end, position.radix) {
         Ok(body) => body,
         Err(GrammarFault::IC) => return Err(AsmFault::At(Code::IC, place)),
         Err(GrammarFault::NU) => return Err(AsmFault::At(Code::NU, place)),
@@ -199,7 +199,7 @@ fn take_statement(
 impl Assembler {
     /// An assembler of no statement, at 0200 of field 0. It takes no memory.
     pub fn new(alloc: Global) -> Assembler
-        ensures { left_in result ≡ first_left }
+        ensures { remainder_of result ≡ first_left }
     {
         Assembler {
             symbols: Symbols::new(alloc),
@@ -229,7 +229,7 @@ impl Assembler {
         end: End,
     ) -> Result<(), AsmFault>
         ensures { Takes (with_next (record { line = line; at = at; tokens = tokens.now; string = string.now; is_cut = is_cut; end = end })
-            (Ok (left_in self.old))) result self.new }
+            (Ok (remainder_of self.old))) result self.new }
     {
         if self.end.is_some() {
             return Ok(());

@@ -2,12 +2,12 @@ ghost use Rattle.std.specs.Prelude.{◌≡◌, ◌+◌, ◌*◌, ◌%◌, ◌<�
 ghost use Rattle.word12.specs.declared.sizes.TheConstants.{FIELD, CORE};
 ghost use Rattle.pal_sym.specs.Values.{symbol_value};
 ghost use Rattle.pal8_sym.specs.Symbols.{value_of};
-ghost use Rattle.pal8_asm.specs.Tapes.{Made, with_entries as with_entries_made};
+ghost use Rattle.pal8_asm.specs.Tapes.{TapeWords, with_entries as with_entries_made};
 ghost use Rattle.pal8_asm.specs.Steps.{IsMaking, Makes};
 ghost use Rattle.pal8_asm.specs.declared.faults.Fault.{Fault};
 ghost use Rattle.pal8_grammar.specs.declared.steps.Step.{Step};
 ghost use Rattle.pal8_asm.specs.Places.{text_size};
-ghost use Rattle.pal8_asm.specs.Sources.{Entry, entry_at, next_spot, number, number_or, resolved, resolved_step, text_words, with_entries, word_each, words_in};
+ghost use Rattle.pal8_asm.specs.Sources.{Entry, entry_at, next_spot, number, number_or, with_values, resolved_step, text_words, with_entries, word_each, words_in};
 
 use crate::words::make_all;
 use crate::{AsmFault, Fault, Place};
@@ -104,7 +104,7 @@ fn cell_of(spot: Spot) -> Cell
 /// Puts steps after others, where there is room.
 fn put_steps(to: &mut Vec<Step>, symbols: &Symbols, steps: &[Step])
     requires { vec_len to.old + length steps.now ≤ vec_capacity to.old }
-    ensures { to.new.items ≡ to.old.items ++ resolved (symbol_value symbols.now) steps.now }
+    ensures { to.new.items ≡ to.old.items ++ with_values (symbol_value symbols.now) steps.now }
 {
     let mut rest = steps;
     while let [step, others @ ..] = rest {
@@ -133,7 +133,7 @@ impl Entries {
         steps: &[Step],
     ) -> Result<(), AllocError>
         requires { spot.field < 8 }
-        ensures { OnOk result (self.new ≡ self.old ++ entry_at place spot (resolved (symbol_value symbols.now) steps.now) ∷ []) }
+        ensures { OnOk result (self.new ≡ self.old ++ entry_at place spot (with_values (symbol_value symbols.now) steps.now) ∷ []) }
     {
         self.heads.reserve(1)?;
         self.steps.reserve(steps.len())?;
@@ -218,7 +218,7 @@ impl Entries {
         steps: &[Step],
     ) -> Result<(), AllocError>
         requires { spot.field < 8 }
-        ensures { OnOk result (self.new ≡ with_entries place spot (word_each (resolved (symbol_value symbols.now) steps.now)) self.old) }
+        ensures { OnOk result (self.new ≡ with_entries place spot (word_each (with_values (symbol_value symbols.now) steps.now)) self.old) }
     {
         let mut at = spot;
         let mut rest = steps;
@@ -269,7 +269,7 @@ impl Entries {
         clash: &mut Option<Fault>,
         pairs: &mut Vec<(Cell, Word)>,
     ) -> Result<(), AsmFault>
-        ensures { (whole : Result Made Fault) → IsMaking whole pools.old cells.old clash.old pairs.old.items
+        ensures { (whole : Result TapeWords Fault) → IsMaking whole pools.old cells.old clash.old pairs.old.items
             → Makes (with_entries_made (value_of symbols.now) self.now whole) result pools.new cells.new clash.new pairs.new.items }
     {
         make_all(

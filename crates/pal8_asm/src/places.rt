@@ -1,6 +1,6 @@
 ghost use Rattle.std.specs.Prelude.{◌≡◌, ◌<◌, IfOk, true};
 ghost use Rattle.pal8_lex.specs.declared.judging.Radix.TheVariants.{Octal};
-ghost use Rattle.pal8_asm.specs.Places.{at_location, kept_low, location_at, next_page, relocated, shifted, spot_at, to_page, to_place, with_field, with_page, with_size};
+ghost use Rattle.pal8_asm.specs.Places.{at_location, kept_low, location_at, next_page, with_relocation, place_of_location, spot_at, to_page, to_place, with_field, with_page, with_size};
 ghost use Rattle.pal8_asm.specs.Steps.{Moves};
 ghost use Rattle.pal8_asm.specs.declared.places.TheConstants.{FIRST_PLACE};
 
@@ -39,10 +39,10 @@ pub fn first_position() -> Position
 }
 
 /// The place of a location.
-fn shifted(shift: u16, location: u16) -> u16
+fn place_of_location(shift: u16, location: u16) -> u16
     requires location { location < 0o20000 }
     requires shift { shift < 0o10000 }
-    ensures value { result ≡ shifted shift location }
+    ensures value { result ≡ place_of_location shift location }
     ensures range { result < 0o20000 }
 {
     if shift == 0 {
@@ -69,7 +69,7 @@ pub fn spot_at(position: Position) -> Spot
     Spot {
         field: position.field,
         location: position.location,
-        here: shifted(position.shift, position.location),
+        here: place_of_location(position.shift, position.location),
         is_punched: position.is_punched,
     }
 }
@@ -165,14 +165,14 @@ pub fn next_page(position: Position) -> Position
     ensures value { result ≡ next_page position }
     ensures range { (result.location < 0o20000) × (result.field ≡ position.field) × (result.shift ≡ position.shift) }
 {
-    let left = to_page(shifted(position.shift, position.location));
+    let left = to_page(place_of_location(position.shift, position.location));
     at_location(kept_low(position.location + left), position)
 }
 
 /// The position with the shift by which this is its place.
-pub fn relocated(place: Word, position: Position) -> Position
+pub fn with_relocation(place: Word, position: Position) -> Position
     requires { position.location < 0o20000 }
-    ensures value { result ≡ relocated place position }
+    ensures value { result ≡ with_relocation place position }
     ensures range { (result.location ≡ position.location) × (result.field ≡ position.field) × (result.shift < 0o10000) }
 {
     Position {

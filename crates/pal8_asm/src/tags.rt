@@ -4,12 +4,12 @@ ghost use Rattle.pal8_values.specs.Sums.{early_value};
 ghost use Rattle.pal8_values.specs.Answering.{Answers};
 ghost use Rattle.pal8_lex.specs.Kinds.{is_comma};
 ghost use Rattle.pal8_grammar.specs.Bodies.{free_name};
-ghost use Rattle.pal8_asm.specs.Places.{coded, spot_at, truth_of, with_body, with_definition, with_statement, with_tag, with_tags, with_value_of, with_valued};
+ghost use Rattle.pal8_asm.specs.Places.{as_code, spot_at, truth_of, with_body, with_definition, with_statement, with_tag, with_tags, with_value_of, with_valued};
 ghost use Rattle.pal8_asm.specs.Steps.{Defines, IsJudged, Values};
 ghost use Rattle.pal8_asm.specs.Assembling.{Passes, standing};
 
 use crate::places::{
-    Position, next_page, relocated, spot_at, to_place, with_field, with_page, with_size,
+    Position, next_page, with_relocation, spot_at, to_place, with_field, with_page, with_size,
 };
 use crate::{Code, Stop};
 use pal_sym::SymFault;
@@ -103,7 +103,7 @@ fn early_at(symbols: &Symbols, position: Position, steps: &[Step]) -> Result<Wor
 fn value_at(symbols: &Symbols, position: Position, steps: &[Step]) -> Result<Word, Stop>
     requires location { position.location < 0o20000 }
     requires shift { position.shift < 0o10000 }
-    ensures { Values (coded (early_value (value_of symbols.now) (spot_at position) steps.now)) result }
+    ensures { Values (as_code (early_value (value_of symbols.now) (spot_at position) steps.now)) result }
 {
     match early_at(symbols, position, steps) {
         Ok(value) => Ok(value),
@@ -170,7 +170,7 @@ fn pass_valued(
         Body::Field => with_field(value, position),
         Body::Page => with_page(value, position),
         Body::Zeros => with_size(usize::from(value.get()), position),
-        Body::Relocate => Ok(relocated(value, position)),
+        Body::Relocate => Ok(with_relocation(value, position)),
         Body::Nothing | Body::Decimal | Body::Octal | Body::NextPage => Ok(position),
         Body::Text | Body::Listing | Body::Word => Ok(position),
         Body::IfZero | Body::IfNotZero | Body::IfDefined(_) | Body::IfUndefined(_) => Ok(position),
@@ -191,7 +191,7 @@ fn pass_value(
     requires field { position.field < 8 }
     requires shift { position.shift < 0o10000 }
     ensures passes { Passes (with_value_of body (standing symbols.old position)
-        (coded (early_value (value_of symbols.old) (spot_at position) steps.now))) result symbols.new }
+        (as_code (early_value (value_of symbols.old) (spot_at position) steps.now))) result symbols.new }
     ensures range { IfOk result (λ p. (p.location < 0o20000) × (p.field < 8) × (p.shift < 0o10000)) }
 {
     let again = position;

@@ -6,9 +6,9 @@ ghost use Rattle.pal8_asm.specs.Sources.{first_left, place_after, with_end};
 ghost use Rattle.pal_sym.specs.Values.{symbol_value};
 ghost use Rattle.pal8_pools.specs.Pooled.{Holds};
 ghost use Rattle.pal8_asm.specs.Places.{stands};
-ghost use Rattle.pal8_asm.specs.Tapes.{cleared, made_of};
+ghost use Rattle.pal8_asm.specs.Tapes.{without_clash, words_of_entries};
 ghost use Rattle.pal8_asm.specs.Steps.{Closes, HasTaken, IsOnTheWay, Pushes, ReadsOn, TakesByte};
-ghost use Rattle.pal8_asm.specs.Assembling.{MakesWords, ReadsText, left_in};
+ghost use Rattle.pal8_asm.specs.Assembling.{MakesWords, ReadsText, remainder_of};
 
 use crate::{AsmFault, Assembler, Code, Fault, Place};
 use pal8_clash::WordCells;
@@ -102,7 +102,7 @@ impl Assembler {
     /// The place of the `$` that ended a text, or the fault of its end, which has this place: a bracket is open, or there is no `$`.
     fn close(&self, end: Place) -> Result<Place, AsmFault>
         ensures { (text : List ℕ) → (self.now.end ≡ None → end ≡ place_after text)
-            → Closes (with_end text (left_in self.now) self.now.brackets self.now.end) result self.now }
+            → Closes (with_end text (remainder_of self.now) self.now.brackets self.now.end) result self.now }
     {
         let is_closed = self.brackets.is_empty();
         match self.end {
@@ -127,7 +127,7 @@ impl Assembler {
     /// Its fault is the first of its statements in their order, or else PH where a bracket is open at the `$`. Without a `$` it is PH or NE with the
     /// place of the text's end (PAL8, in this project's profile).
     pub fn read(&mut self, alloc: Global, text: &[u8]) -> Result<Place, AsmFault>
-        ensures { left_in self.old ≡ first_left → ReadsText (text_of text.now) result self.new }
+        ensures { remainder_of self.old ≡ first_left → ReadsText (text_of text.now) result self.new }
     {
         let mut lexer = Lexer::new(alloc);
         let mut at = 0;
@@ -147,7 +147,7 @@ impl Assembler {
     #[tactic(auto, unfolding(pal8_sym::specs::Symbols::value_of))]
     pub fn words(&self, alloc: Global, pools: &mut Pools) -> Result<Vec<(Cell, Word)>, AsmFault>
         requires { Holds pools.old [] [] }
-        ensures { MakesWords (cleared (made_of (stands (symbol_value self.now.table)) self.now.entries)) result pools.new }
+        ensures { MakesWords (without_clash (words_of_entries (stands (symbol_value self.now.table)) self.now.entries)) result pools.new }
     {
         let mut frames = Frames::new(alloc);
         let mut cells = WordCells::new(alloc)?;

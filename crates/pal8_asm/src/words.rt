@@ -4,10 +4,10 @@ ghost use Rattle.pal8_sym.specs.Symbols.{value_of};
 ghost use Rattle.pal8_pools.specs.Asks.{Ask};
 ghost use Rattle.pal8_pools.specs.Pooled.{Holds};
 ghost use Rattle.pal8_clash.specs.Clashes.{with_word};
-ghost use Rattle.pal8_values.specs.Words.{Asked, word_value};
+ghost use Rattle.pal8_values.specs.Words.{AskResult, word_value};
 ghost use Rattle.pal8_values.specs.Answering.{IsFault};
 ghost use Rattle.pal8_asm.specs.Kept.{cut, entry_of, total};
-ghost use Rattle.pal8_asm.specs.Tapes.{Made, clash_code, clash_fault, first_of, with_entries, with_entry};
+ghost use Rattle.pal8_asm.specs.Tapes.{TapeWords, clash_code, clash_fault, first_of, with_entries, with_entry};
 ghost use Rattle.pal8_asm.specs.Steps.{GivesAt, IsFaultAt, IsMaking, Makes};
 ghost use Rattle.pal8_asm.specs.declared.faults.Fault.{Fault};
 
@@ -74,7 +74,7 @@ fn first_clash(before: Option<Fault>, place: Place, cell: Option<Cell>) -> Optio
 
 /// The fault of a value in a statement that has this place.
 fn fault_at(fault: ValueFault, place: Place) -> AsmFault
-    ensures { (whole : Asked) → IsFault whole fault → IsFaultAt place whole result }
+    ensures { (whole : AskResult) → IsFault whole fault → IsFaultAt place whole result }
 {
     match fault {
         ValueFault::UA(name) => AsmFault::At(Code::UA(name), place),
@@ -133,7 +133,7 @@ fn make_one(
     head: Head,
     steps: &[Step],
 ) -> Result<(), AsmFault>
-    ensures { (whole : Result Made Fault) → IsMaking whole pools.old cells.old clash.old pairs.old.items
+    ensures { (whole : Result TapeWords Fault) → IsMaking whole pools.old cells.old clash.old pairs.old.items
         → Makes (with_entry (value_of symbols.now) (entry_of head steps.now) whole) result
         pools.new cells.new clash.new pairs.new.items }
 {
@@ -165,7 +165,7 @@ pub fn make_all(
     steps: &[Step],
 ) -> Result<(), AsmFault>
     requires { total heads.now ≤ length steps.now }
-    ensures { (whole : Result Made Fault) → IsMaking whole pools.old cells.old clash.old pairs.old.items
+    ensures { (whole : Result TapeWords Fault) → IsMaking whole pools.old cells.old clash.old pairs.old.items
         → Makes (with_entries (value_of symbols.now) (cut heads.now steps.now) whole) result
         pools.new cells.new clash.new pairs.new.items }
 {

@@ -14,7 +14,7 @@ const PRIME: u64 = 1_000_003;
 struct Sums {
     statements: u64,
     tokens: u64,
-    mixed: u64,
+    checksum: u64,
 }
 
 fn mix(sum: u64, value: u64) -> u64 {
@@ -100,14 +100,14 @@ fn with_statement(sums: Sums, lexer: &Lexer) -> Sums {
         None => 0,
     };
     let begun = mix(
-        mix(mix(sums.mixed, lexer.line()), end),
+        mix(mix(sums.checksum, lexer.line()), end),
         u64::from(lexer.is_cut()),
     );
     let tokens = lexer.tokens();
     Sums {
         statements: sums.statements.saturating_add(1),
         tokens: sums.tokens.saturating_add(tokens.len() as u64),
-        mixed: bytes_sum(tokens_sum(begun, tokens), lexer.string()),
+        checksum: bytes_sum(tokens_sum(begun, tokens), lexer.string()),
     }
 }
 
@@ -116,7 +116,7 @@ fn sums_of(alloc: Global, text: &[u8]) -> Result<Sums, AllocError> {
     let mut sums = Sums {
         statements: 0,
         tokens: 0,
-        mixed: 0,
+        checksum: 0,
     };
     for byte in text {
         if lexer.push(*byte)? {
@@ -135,7 +135,7 @@ fn main(rt: HostRuntime) -> ExitCode {
         Ok(sums) => sums,
         Err(_) => return ExitCode::FAILURE,
     };
-    match println!(rt; "{} {} {}", sums.statements, sums.tokens, sums.mixed) {
+    match println!(rt; "{} {} {}", sums.statements, sums.tokens, sums.checksum) {
         Ok(()) => ExitCode::SUCCESS,
         Err(_) => ExitCode::FAILURE,
     }

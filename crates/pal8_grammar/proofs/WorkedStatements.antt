@@ -7,7 +7,7 @@ use Rattle.pal8_lex.specs.Statements.{Statement, statements}
 use Rattle.pal8_lex.specs.declared.judging.Radix.TheVariants.{Octal}
 use Rattle.pal8_lex.specs.declared.tokens.Operator.TheVariants.{Plus, Or}
 use Rattle.pal8_sym.specs.SourceNames.{Vocabulary}
-use Rattle.pal8_grammar.specs.Bodies.{Phrase, said_by}
+use Rattle.pal8_grammar.specs.Bodies.{Phrase, phrase_by_names}
 use Rattle.pal8_grammar.specs.declared.bodies.Body.TheVariants as body
 use Rattle.pal8_grammar.specs.declared.steps.Step.TheVariants as step
 use Rattle.pal8_grammar.specs.declared.faults.GrammarFault.{GrammarFault}
@@ -15,7 +15,7 @@ use Rattle.pal8_grammar.specs.declared.faults.GrammarFault.TheVariants.{SY}
 
 abbrev first_said : Vocabulary → List Statement → Result Phrase GrammarFault
 first_said names [] = Err SY
-first_said names (s ∷ older) = said_by names Octal s.tokens s.is_cut s.end
+first_said names (s ∷ older) = phrase_by_names names Octal s.tokens s.is_cut s.end
 
 -- what the last statement of a text says
 abbrev read : Vocabulary → List ℕ → Result Phrase GrammarFault

@@ -233,8 +233,8 @@ names_file [] = false
 names_file (t ∷ others) = is_file_name (name_of t.kind)
 
 -- what is judged as a number after FILENAME and DEVICE, and elsewhere
-abbrev pub judged_in : List Token → List Token
-judged_in tokens = if names_file (body_in tokens) then tags_in tokens else tokens
+abbrev pub number_tokens : List Token → List Token
+number_tokens tokens = if names_file (body_in tokens) then tags_in tokens else tokens
 
 abbrev pub opens : End → Bool
 opens end.Semicolon = false
@@ -279,9 +279,9 @@ phrase_or_fault end None = Err SY
 phrase_or_fault end (Some it) = if ends_condition end it.0 then Ok it else Err SY
 
 -- What a statement says by the names and the radix before it, or its fault.
-abbrev pub said_by : Vocabulary → Radix → List Token → Bool → End → Result Phrase GrammarFault
-said_by names radix tokens is_cut end =
+abbrev pub phrase_by_names : Vocabulary → Radix → List Token → Bool → End → Result Phrase GrammarFault
+phrase_by_names names radix tokens is_cut end =
     if has_bad tokens then Err IC
-    else (if has_bad_number radix (judged_in tokens) then Err NU
+    else (if has_bad_number radix (number_tokens tokens) then Err NU
     else (if is_cut || not (has_free_tags tokens) then Err SY
     else phrase_or_fault end (body_phrase names radix (body_in tokens))))

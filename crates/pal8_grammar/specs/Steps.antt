@@ -3,7 +3,7 @@ use Rattle.std.specs.Prelude.{◌≡◌, Bool, true, false, Option, Some, None, 
 use Rattle.std.specs.declared.alloc.AllocError.{AllocError}
 use Rattle.pal8_sym.specs.SourceNames.{vocabulary_of}
 use Rattle.pal8_sym.specs.declared.source_names.SourceNames.{SourceNames}
-use Rattle.pal8_grammar.specs.Values.{Reading, Setting, behind_literal}
+use Rattle.pal8_grammar.specs.Values.{Reading, Setting, after_literal}
 use Rattle.pal8_grammar.specs.Bodies.{Phrase}
 use Rattle.pal8_grammar.specs.declared.bodies.Body.{Body}
 use Rattle.pal8_grammar.specs.declared.steps.Step.{Step}
@@ -22,7 +22,7 @@ Pops literals (Some outer) new = literals ≡ outer ∷ new
 -- the innermost literal was closed, if one was open
 abbrev pub Closes : Reading → Result (Option Outer) AllocError → Reading → Type 0
 Closes old (Ok None) new = (old.literals ≡ []) × (new ≡ old)
-Closes old (Ok (Some outer)) new = (old.literals ≡ outer ∷ new.literals) × (new ≡ behind_literal outer new.literals old.steps)
+Closes old (Ok (Some outer)) new = (old.literals ≡ outer ∷ new.literals) × (new ≡ after_literal outer new.literals old.steps)
 Closes old (Err refused) new = Unit {0}
 
 -- a token was taken, or can't stand there

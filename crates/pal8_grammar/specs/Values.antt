@@ -35,13 +35,13 @@ pub record Setting : Type 0 where
 -- ## Tokens
 
 -- an operation of this name, with its word
-abbrev pub called : ℕ → Option ℕ → Option (ℕ × ℕ)
-called name None = None
-called name (Some word) = Some (name, word)
+abbrev pub operation_of_name : ℕ → Option ℕ → Option (ℕ × ℕ)
+operation_of_name name None = None
+operation_of_name name (Some word) = Some (name, word)
 
 -- the operation that a token names, with its word
 abbrev pub operation_of : Vocabulary → Kind → Option (ℕ × ℕ)
-operation_of names (Name name) = called name (names.operation name)
+operation_of names (Name name) = operation_of_name name (names.operation name)
 operation_of names (Number n) = None
 operation_of names (Character c) = None
 operation_of names Here = None
@@ -146,16 +146,16 @@ number_in Octal n = n.octal
 number_in Decimal n = n.decimal
 
 -- a permanent name has its value with it, which EXPUNGE may take away later
-abbrev pub named : ℕ → Option ℕ → Step
-named name None = step.Name name
-named name (Some value) = step.Permanent name value
+abbrev pub step_of_value : ℕ → Option ℕ → Step
+step_of_value name None = step.Name name
+step_of_value name (Some value) = step.Permanent name value
 
-abbrev pub named_by : Vocabulary → ℕ → Step
-named_by names name = named name (names.permanent name)
+abbrev pub step_of_name : Vocabulary → ℕ → Step
+step_of_name names name = step_of_value name (names.permanent name)
 
 -- a reserved name is no term
 abbrev pub name_step : Vocabulary → ℕ → Option Step
-name_step names name = if is_reserved name then None else Some (named_by names name)
+name_step names name = if is_reserved name then None else Some (step_of_name names name)
 
 -- the step that a term is, if it is no literal
 abbrev pub term_of : Setting → Kind → Option Step
@@ -239,7 +239,7 @@ goes_on (stand.Term is_address) t = (t.is_spaced && not is_address) || is_some (
 -- an operation that isn't followed by a blank is a term: its name
 abbrev pub as_term : Vocabulary → ℕ → Reading → Reading
 as_term names name r =
-    record { stand = stand.Term false; literals = r.literals; steps = r.steps ++ step.Alone ∷ [] ++ named_by names name ∷ [] }
+    record { stand = stand.Term false; literals = r.literals; steps = r.steps ++ step.Alone ∷ [] ++ step_of_name names name ∷ [] }
 
 -- a token that goes on with a value: an operator, or what a blank stands before
 abbrev pub with_next_by : Setting → Stand → Option sign.Operator → Kind → Reading → Option Reading
@@ -256,16 +256,16 @@ abbrev pub with_next : Setting → Kind → Reading → Option Reading
 with_next setting kind r = with_next_by setting r.stand (operator_of kind) kind r
 
 -- The innermost literal has ended. A literal is a term of what stands around it.
-abbrev pub behind_literal : Outer → List Outer → List Step → Reading
-behind_literal outer others steps = record { stand = stand.Term outer.is_address; literals = others; steps = steps ++ step.Close ∷ [] }
+abbrev pub after_literal : Outer → List Outer → List Step → Reading
+after_literal outer others steps = record { stand = stand.Term outer.is_address; literals = others; steps = steps ++ step.Close ∷ [] }
 
 -- A token that doesn't go on with a value ends it. Such a token is its literal's own closing, or else one that goes on with what stands around. Where
 -- no literal is open, there is no such token.
 abbrev pub with_end : Setting → Token → List Outer → List Step → Option Reading
 with_end setting t [] steps = None
 with_end setting t (outer ∷ others) steps =
-    if is_closing outer.pool t.kind then Some (behind_literal outer others steps)
-    else (if goes_on (stand.Term outer.is_address) t then with_next setting t.kind (behind_literal outer others steps)
+    if is_closing outer.pool t.kind then Some (after_literal outer others steps)
+    else (if goes_on (stand.Term outer.is_address) t then with_next setting t.kind (after_literal outer others steps)
     else with_end setting t others (steps ++ step.Close ∷ []))
 
 abbrev pub with_more : Bool → Setting → Token → Reading → Option Reading
@@ -305,13 +305,13 @@ is_whole (stand.Sign is_address) = false
 is_whole (stand.Term is_address) = true
 
 -- the end closes all literals
-abbrev pub closed : List Outer → List Step → List Step
-closed [] steps = steps
-closed (outer ∷ others) steps = closed others (steps ++ step.Close ∷ [])
+abbrev pub with_literals_closed : List Outer → List Step → List Step
+with_literals_closed [] steps = steps
+with_literals_closed (outer ∷ others) steps = with_literals_closed others (steps ++ step.Close ∷ [])
 
 abbrev pub steps_in : Option Reading → Option (List Step)
 steps_in None = None
-steps_in (Some r) = if is_whole r.stand then Some (closed r.literals r.steps) else None
+steps_in (Some r) = if is_whole r.stand then Some (with_literals_closed r.literals r.steps) else None
 
 -- the steps of a value or, where it begins as one, of an expression
 abbrev pub steps_of : Setting → Stand → List Token → Option (List Step)

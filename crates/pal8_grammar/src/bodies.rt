@@ -1,6 +1,6 @@
 ghost use Rattle.std.specs.Prelude.{◌≡◌, [], ◌∷◌, Ok};
 ghost use Rattle.pal8_lex.specs.Judging.{tag_count};
-ghost use Rattle.pal8_grammar.specs.Bodies.{alone, argument_steps, body_in, body_phrase, expression_steps, form_phrase, has_free_tags, judged_in, named_phrase, operation_phrase, page_phrase, phrase, phrase_by, said_by, text_phrase, value_steps, word_phrase};
+ghost use Rattle.pal8_grammar.specs.Bodies.{alone, argument_steps, body_in, body_phrase, expression_steps, form_phrase, has_free_tags, number_tokens, named_phrase, operation_phrase, page_phrase, phrase, phrase_by, phrase_by_names, text_phrase, value_steps, word_phrase};
 ghost use Rattle.pal8_sym.specs.SourceNames.{vocabulary_of};
 ghost use Rattle.pal8_grammar.specs.Steps.{Reads, ReadsBody};
 ghost use Rattle.pal8_grammar.specs.Saying.{Says};
@@ -96,7 +96,7 @@ impl Reader {
         end: End,
         radix: Radix,
     ) -> Result<Body, GrammarFault>
-        ensures { Says (said_by (vocabulary_of names.now) radix tokens.now is_cut end) result self.new }
+        ensures { Says (phrase_by_names (vocabulary_of names.now) radix tokens.now is_cut end) result self.new }
     {
         if has_bad(tokens) {
             return Err(GrammarFault::IC);

@@ -1,5 +1,5 @@
 ghost use Rattle.std.specs.Prelude.{◌≡◌};
-ghost use Rattle.pal8_grammar.specs.Values.{if_first, is_closing, is_first_sign, is_same, modifier_by, modifier_of, name_step, named_by, number_in, number_step, opening_of, operation_of, operator_of, sign_of, term_of};
+ghost use Rattle.pal8_grammar.specs.Values.{if_first, is_closing, is_first_sign, is_same, modifier_by, modifier_of, name_step, step_of_name, number_in, number_step, opening_of, operation_of, operator_of, sign_of, term_of};
 ghost use Rattle.pal8_grammar.specs.Steps.{setting_of};
 ghost use Rattle.pal8_grammar.specs.Bodies.{is_equals, is_star, is_string};
 ghost use Rattle.pal8_grammar.specs.Names.{free_name, name_of};
@@ -143,8 +143,8 @@ fn number_step(radix: Radix, number: Number) -> Option<Step>
 }
 
 /// The step that a name is as a term. A permanent one has its value with it.
-pub fn named(names: &SourceNames, name: Name) -> Step
-    ensures { result ≡ named_by (vocabulary_of names.now) name }
+pub fn step_of_name(names: &SourceNames, name: Name) -> Step
+    ensures { result ≡ step_of_name (vocabulary_of names.now) name }
 {
     match names.permanent_value(name) {
         Some(value) => Step::Permanent(name, value),
@@ -159,7 +159,7 @@ fn name_step(names: &SourceNames, name: Name) -> Option<Step>
     if is_reserved(name) {
         None
     } else {
-        Some(named(names, name))
+        Some(step_of_name(names, name))
     }
 }
 

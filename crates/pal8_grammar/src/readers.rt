@@ -5,7 +5,7 @@ ghost use Rattle.pal8_grammar.specs.declared.stands.Stand.{Stand};
 ghost use Rattle.pal8_grammar.specs.declared.steps.Step.{Step};
 
 use crate::kinds::{
-    is_closing, modifier_of, named, opening_of, operation_of, operator_of, sign_of, term_of,
+    is_closing, modifier_of, step_of_name, opening_of, operation_of, operator_of, sign_of, term_of,
 };
 use crate::literals::Literals;
 use crate::stands::{goes_on, is_whole};
@@ -158,8 +158,8 @@ impl Reader {
             Stand::Operation(number) => match operator_of(kind) {
                 Some(operator) => {
                     self.put(Step::Alone, Stand::Term(false))?;
-                    let name = Name::numbered(number);
-                    self.put(named(names, name), Stand::Term(false))?;
+                    let name = Name::name_of_number(number);
+                    self.put(step_of_name(names, name), Stand::Term(false))?;
                     self.put_sign(false, operator)?;
                     Ok(true)
                 }

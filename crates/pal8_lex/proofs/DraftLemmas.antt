@@ -3,10 +3,10 @@ use Rattle.std.proofs.Common.{◌≡◌, ℕ, ◌+◌, ◌-◌, ◌%◌, ◌/◌
 use Rattle.pal_lex.specs.Text.{limit}
 use Rattle.word12.specs.Sixbit.{is_letter}
 use Rattle.pal8_lex.specs.Text.{capital}
-use Rattle.pal8_lex.specs.Runs.{begun, longer, run_of, weight_after}
-use Rattle.pal8_lex.specs.Kinds.{head_of_name, head_of_one, head_with, is_comma, takes_blank_behind}
+use Rattle.pal8_lex.specs.Runs.{first_kind, longer, run_of, weight_after}
+use Rattle.pal8_lex.specs.Kinds.{head_of_name, head_of_one, head_with, is_comma, takes_blank_after}
 use Rattle.pal8_lex.specs.Rules.{effect_of, is_letter_or_digit, shape_of}
-use Rattle.pal8_lex.specs.Pieces.{Piece, but_last, end_behind, grown, head_by, head_of, is_blank, kind_by, kind_of, open_by, open_of, behind_blank, spelt, string_by, string_of, takes_blank, tokens_of, with_byte, with_effect}
+use Rattle.pal8_lex.specs.Pieces.{Piece, but_last, end_after, grown, head_by, head_of, is_blank, kind_by, kind_of, open_by, open_of, after_blank, spelt, string_by, string_of, takes_blank, tokens_of, with_byte, with_effect}
 use Rattle.pal8_lex.specs.Drafting.{Present, present_of}
 use Rattle.pal8_lex.specs.Reading.{takes_room_by}
 use Rattle.pal8_lex.specs.Steps.{Fits, IsNewest, head_again}
@@ -48,7 +48,7 @@ longer_no_comma (kind.Closing pool) weight b is = refl
 longer_no_comma kind.String weight b is = refl
 longer_no_comma kind.Bad weight b is = refl
 
-begun_no_comma : (b : ℕ) → is_comma (begun b) ≡ false
+begun_no_comma : (b : ℕ) → is_comma (first_kind b) ≡ false
 begun_no_comma b = by_test (is_letter (capital b)) _ _
   where
     by_test : (test : Bool) (x : ℕ) (y : Number) → is_comma (if test then kind.Name x else kind.Number y) ≡ false
@@ -114,7 +114,7 @@ module _ (newest : Piece) (older : List Piece) (b at : ℕ) where
   run = run_of newest.first.0 newest.others
 
   abbrev last_end : ℕ
-  last_end = limit (end_behind newest.first.1 newest.others)
+  last_end = limit (end_after newest.first.1 newest.others)
 
   run_is : newest.shape ≡ shape.Run → present_of (newest ∷ older) ≡ record { tokens = tokens_of older ++ token run last_end ∷ []; string = string_of older; state = behind.Run (weight_after newest.others); head = head_with run (head_of older) }
   run_is is = rw is refl
@@ -136,7 +136,7 @@ module _ (newest : Piece) (older : List Piece) (b at : ℕ) where
 
 -- ## Which pieces a byte goes on with
 
-blank_fits : (before : List Piece) (state : Open) (head : Head) (b : ℕ) → Fits (effect_of (behind_blank state) head b) before
+blank_fits : (before : List Piece) (state : Open) (head : Head) (b : ℕ) → Fits (effect_of (after_blank state) head b) before
 blank_fits before behind.Start head b = tt
 blank_fits before behind.Blank head b = tt
 blank_fits before (behind.Run weight) head b = tt
@@ -157,7 +157,7 @@ fits (p ∷ older) head b = by_shape p.shape refl
         by_test true = record { newest = p; older = older; are = refl; is_shape = is }
         by_test false = tt
     by_shape shape.Blank is = blank_fits (p ∷ older) (open_of older) head b
-    by_shape (shape.Mark k) is = by_test (takes_blank_behind k)
+    by_shape (shape.Mark k) is = by_test (takes_blank_after k)
       where
         by_test : (test : Bool) → Fits (effect_of (if test then behind.Term else behind.Start) head b) (p ∷ older)
         by_test true = tt

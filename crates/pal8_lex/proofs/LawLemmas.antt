@@ -1,8 +1,8 @@
 -- The laws about statements and pieces.
 use Rattle.std.proofs.Common.{◌≡◌, ℕ, nat_eq, Bool, true, false, ◌&&◌, if◌then◌else◌, length, List, [], ◌∷◌, ◌++◌, refl, sym, ap, ◌∙◌}
 use Rattle.pal8_lex.specs.Text.{as_read, is_dropped, live}
-use Rattle.pal8_lex.specs.Rules.{effect_of, ends_behind, ends_by}
-use Rattle.pal8_lex.specs.Pieces.{Piece, behind_blank, end_behind, ends, head_by, head_of, is_blank, kind_by, kind_of, open_by, open_of, pieces, string_by, string_of, takes_blank, tokens_of, with_byte, with_effect, with_token}
+use Rattle.pal8_lex.specs.Rules.{effect_of, ends_after, ends_by}
+use Rattle.pal8_lex.specs.Pieces.{Piece, after_blank, end_after, ends, head_by, head_of, is_blank, kind_by, kind_of, open_by, open_of, pieces, string_by, string_of, takes_blank, tokens_of, with_byte, with_effect, with_token}
 use Rattle.pal8_lex.specs.Statements.{Statement, statement_of, statements, statements_of}
 use Rattle.pal8_lex.specs.Steps.{Fits, IsNewest}
 use Rattle.pal8_lex.specs.Laws.{StatementsStay, LinesEnd, StatementsBeginAnew, bytes_of, stretch, PiecesAreWhole, SaySame, BlanksBehindMeanNothing, BlanksAreOne, BlanksBeforeMeanNothing}
@@ -41,7 +41,7 @@ statements_stay text (b ∷ later) =
     let rest = statements_stay text later in
     (one.0 ++ rest.0, one.1 ∙ ap (λ l. one.0 ++ l) rest.1 ∙ sym (append_same one.0 rest.0 (statements text)))
 
-line_ends_behind : (head : Head) → ends_behind head 0o15 ≡ true
+line_ends_behind : (head : Head) → ends_after head 0o15 ≡ true
 line_ends_behind heads.Empty = refl
 line_ends_behind heads.One = refl
 line_ends_behind heads.Text = refl
@@ -107,7 +107,7 @@ blanks_behind later before blank is start = say_more later (blank ∷ before) be
   head = rw is refl;
 })
 
-blank_twice : (state : Open) → behind_blank (behind_blank state) ≡ behind_blank state
+blank_twice : (state : Open) → after_blank (after_blank state) ≡ after_blank state
 blank_twice behind.Start = refl
 blank_twice behind.Blank = refl
 blank_twice (behind.Run weight) = refl
@@ -136,7 +136,7 @@ blanks_before later before blank next is none = say_more later (next ∷ blank �
     by_shape shape.Run same none = absurd (cc none)
     by_shape shape.Blank same none = record { tokens = rw (is, same) refl; string = rw (is, same) refl; state = rw (is, same) (blank_twice (open_of before)); head = rw (is, same) refl }
     by_shape (shape.Mark k) same none = record {
-      tokens = rw (is, same, none, and_false (is_blank (behind_blank (open_of before))), and_false (is_blank (open_of before))) refl;
+      tokens = rw (is, same, none, and_false (is_blank (after_blank (open_of before))), and_false (is_blank (open_of before))) refl;
       string = rw (is, same) refl;
       state = rw (is, same) refl;
       head = rw (is, same) refl;

@@ -7,19 +7,19 @@ use Rattle.pal8_lex.specs.declared.rules.Head.{Head}
 use Rattle.pal8_lex.specs.declared.rules.Head.TheVariants.{Empty, One, Text, Listing, More}
 
 -- a blank after a sign or an opening means nothing
-abbrev pub takes_blank_behind : Kind → Bool
-takes_blank_behind (Name name) = true
-takes_blank_behind (Number n) = true
-takes_blank_behind (Character c) = true
-takes_blank_behind Here = true
-takes_blank_behind (Operator sign) = false
-takes_blank_behind Equals = false
-takes_blank_behind Comma = false
-takes_blank_behind Star = false
-takes_blank_behind (Opening pool) = false
-takes_blank_behind (Closing pool) = true
-takes_blank_behind String = true
-takes_blank_behind Bad = true
+abbrev pub takes_blank_after : Kind → Bool
+takes_blank_after (Name name) = true
+takes_blank_after (Number n) = true
+takes_blank_after (Character c) = true
+takes_blank_after Here = true
+takes_blank_after (Operator sign) = false
+takes_blank_after Equals = false
+takes_blank_after Comma = false
+takes_blank_after Star = false
+takes_blank_after (Opening pool) = false
+takes_blank_after (Closing pool) = true
+takes_blank_after String = true
+takes_blank_after Bad = true
 
 -- a blank before a sign or a closing means nothing
 abbrev pub takes_blank_before : Kind → Bool

@@ -2,7 +2,7 @@
 -- piece comes first.
 use Rattle.std.specs.Prelude.{ℕ, ◌+◌, ◌%◌, Bool, true, false, ◌&&◌, if◌then◌else◌, Option, Some, None, List, [], ◌∷◌, ◌++◌}
 use Rattle.pal_lex.specs.Text.{limit}
-use Rattle.pal8_lex.specs.Kinds.{takes_blank_behind, takes_blank_before, head_with}
+use Rattle.pal8_lex.specs.Kinds.{takes_blank_after, takes_blank_before, head_with}
 use Rattle.pal8_lex.specs.Runs.{run_of, weight_after}
 use Rattle.pal8_lex.specs.Rules.{ends_by, effect_of}
 use Rattle.pal8_lex.specs.declared.tokens.Kind.{Kind}
@@ -49,20 +49,20 @@ takes_blank shape.Comment = false
 takes_blank shape.Title = false
 
 -- A blank means something after what takes one, and after such a blank.
-abbrev pub behind_blank : Open → Open
-behind_blank behind.Start = behind.Start
-behind_blank behind.Blank = behind.Blank
-behind_blank (behind.Run weight) = behind.Blank
-behind_blank behind.Term = behind.Blank
-behind_blank behind.Quote = behind.Blank
-behind_blank (behind.String delimiter) = behind.Blank
-behind_blank behind.Comment = behind.Blank
-behind_blank behind.Title = behind.Blank
+abbrev pub after_blank : Open → Open
+after_blank behind.Start = behind.Start
+after_blank behind.Blank = behind.Blank
+after_blank (behind.Run weight) = behind.Blank
+after_blank behind.Term = behind.Blank
+after_blank behind.Quote = behind.Blank
+after_blank (behind.String delimiter) = behind.Blank
+after_blank behind.Comment = behind.Blank
+after_blank behind.Title = behind.Blank
 
 abbrev pub open_by : Shape → ℕ → List (ℕ × ℕ) → Open → Open
 open_by shape.Run first others before = behind.Run (weight_after others)
-open_by shape.Blank first others before = behind_blank before
-open_by (shape.Mark k) first others before = if takes_blank_behind k then behind.Term else behind.Start
+open_by shape.Blank first others before = after_blank before
+open_by (shape.Mark k) first others before = if takes_blank_after k then behind.Term else behind.Start
 open_by shape.Quote first others before = behind.Quote
 open_by shape.OpenString first others before = behind.String first
 open_by shape.ClosedString first others before = behind.Term
@@ -94,9 +94,9 @@ is_blank behind.Comment = false
 is_blank behind.Title = false
 
 -- the place after a first byte and these
-abbrev pub end_behind : ℕ → List (ℕ × ℕ) → ℕ
-end_behind first [] = first + 1
-end_behind first (x ∷ older) = x.1 + 1
+abbrev pub end_after : ℕ → List (ℕ × ℕ) → ℕ
+end_after first [] = first + 1
+end_after first (x ∷ older) = x.1 + 1
 
 abbrev pub with_token : Option Kind → Bool → ℕ → ℕ → List Token → List Token
 with_token None is_spaced start end before = before
@@ -106,7 +106,7 @@ with_token (Some k) is_spaced start end before = before ++ record { kind = k; is
 abbrev pub tokens_of : List Piece → List Token
 tokens_of [] = []
 tokens_of (p ∷ older) =
-    with_token (kind_of p) (is_blank (open_of older) && takes_blank p.shape) p.first.1 (end_behind p.first.1 p.others) (tokens_of older)
+    with_token (kind_of p) (is_blank (open_of older) && takes_blank p.shape) p.first.1 (end_after p.first.1 p.others) (tokens_of older)
 
 -- bytes of a string in their order, each modulo 0o200
 abbrev pub spelt : List (ℕ × ℕ) → List ℕ

@@ -25,36 +25,36 @@ pub record Progress : Type 0 where
   pub draft : Present
 
 -- the line after an end
-abbrev pub line_behind : End → ℕ → ℕ
-line_behind end.Semicolon line = line
-line_behind end.Line line = limit (line + 1)
-line_behind end.Open line = line
-line_behind end.Close line = line
-line_behind end.Dollar line = line
+abbrev pub next_line : End → ℕ → ℕ
+next_line end.Semicolon line = line
+next_line end.Line line = limit (line + 1)
+next_line end.Open line = line
+next_line end.Close line = line
+next_line end.Dollar line = line
 
 abbrev pub anew_by : Option End → Progress → Progress
 anew_by None l = l
-anew_by (Some e) l = record { place = l.place; line = line_behind e l.line; end = None; draft = present_of [] }
+anew_by (Some e) l = record { place = l.place; line = next_line e l.line; end = None; draft = present_of [] }
 
 -- where the newest statement is ended, the next one begins
 abbrev pub anew : Progress → Progress
 anew l = anew_by l.end l
 
 -- how a lexer stands after a text, where a statement goes on or begins
-abbrev pub behind_text : List ℕ → Progress
-behind_text text = record { place = limit (length text); line = line_after (live text); end = None; draft = present_of (pieces (live text)) }
+abbrev pub after_text : List ℕ → Progress
+after_text text = record { place = limit (length text); line = line_after (live text); end = None; draft = present_of (pieces (live text)) }
 
 -- The lexer was given this text.
 unfoldable pub HasRead : Progress → List ℕ → Type 0
-HasRead l text = anew l ≡ behind_text text
+HasRead l text = anew l ≡ after_text text
 
-abbrev pub shown_by : Option End → Progress → Option Statement
-shown_by None l = None
-shown_by (Some e) l = Some record { line = l.line; tokens = l.draft.tokens; string = l.draft.string; is_cut = is_string l.draft.state; end = e }
+abbrev pub statement_at_end : Option End → Progress → Option Statement
+statement_at_end None l = None
+statement_at_end (Some e) l = Some record { line = l.line; tokens = l.draft.tokens; string = l.draft.string; is_cut = is_string l.draft.state; end = e }
 
 -- the statement that a lexer shows, if the newest one is ended
-abbrev pub shown : Progress → Option Statement
-shown l = shown_by l.end l
+abbrev pub last_statement : Progress → Option Statement
+last_statement l = statement_at_end l.end l
 
 abbrev pub takes_room_by : Shape → Bool
 takes_room_by shape.Run = true
@@ -77,7 +77,7 @@ takes_room (effect.Completes c) = false
 -- The answer for a byte after a text: whether it ends a statement, which the lexer then shows. Where memory ran out the byte was not taken.
 abbrev pub Answers : List ℕ → ℕ → Result Bool AllocError → Progress → Type 0
 Answers text b (Ok true) new =
-    (shown new ≡ Some (statement_of (as_read b) (live text))) × (statements (b ∷ text) ≡ statement_of (as_read b) (live text) ∷ statements text)
+    (last_statement new ≡ Some (statement_of (as_read b) (live text))) × (statements (b ∷ text) ≡ statement_of (as_read b) (live text) ∷ statements text)
     × HasRead new (b ∷ text)
 Answers text b (Ok false) new = (statements (b ∷ text) ≡ statements text) × HasRead new (b ∷ text)
 Answers text b (Err refused) new =

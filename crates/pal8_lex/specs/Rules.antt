@@ -29,19 +29,19 @@ abbrev pub is_end : ℕ → Bool
 is_end b = nat_eq b 0o73 || nat_eq b 0o15 || nat_eq b 0o74 || nat_eq b 0o76 || nat_eq b 0o44
 
 -- after TEXT alone each byte but CR is no end
-abbrev pub ends_behind : Head → ℕ → Bool
-ends_behind heads.Empty b = is_end b
-ends_behind heads.One b = is_end b
-ends_behind heads.Text b = nat_eq b 0o15
-ends_behind heads.Listing b = is_end b
-ends_behind heads.More b = is_end b
+abbrev pub ends_after : Head → ℕ → Bool
+ends_after heads.Empty b = is_end b
+ends_after heads.One b = is_end b
+ends_after heads.Text b = nat_eq b 0o15
+ends_after heads.Listing b = is_end b
+ends_after heads.More b = is_end b
 
 -- CR ends each statement. In a comment, after `"` and in a string nothing else does; in a title `;` does.
 abbrev pub ends_by : Open → Head → ℕ → Bool
-ends_by behind.Start head b = ends_behind head b
-ends_by behind.Blank head b = ends_behind head b
-ends_by (behind.Run weight) head b = ends_behind head b
-ends_by behind.Term head b = ends_behind head b
+ends_by behind.Start head b = ends_after head b
+ends_by behind.Blank head b = ends_after head b
+ends_by (behind.Run weight) head b = ends_after head b
+ends_by behind.Term head b = ends_after head b
 ends_by behind.Quote head b = nat_eq b 0o15
 ends_by (behind.String delimiter) head b = nat_eq b 0o15
 ends_by behind.Comment head b = nat_eq b 0o15
@@ -75,8 +75,8 @@ mark_of b =
     else kind.Bad)))))))))))))
 
 -- the piece that a byte begins, where it is a delimiter neither of a string nor of a title
-abbrev pub begun_by : ℕ → Shape
-begun_by b =
+abbrev pub shape_of_byte : ℕ → Shape
+shape_of_byte b =
     if is_letter_or_digit b then shape.Run
     else (if nat_eq b 0o40 then shape.Blank
     else (if nat_eq b 0o11 then shape.Blank
@@ -86,11 +86,11 @@ begun_by b =
 
 -- After TEXT alone what is no blank begins a string, whatever it is; after EJECT and XLIST everything is their title.
 abbrev pub shape_of : Head → ℕ → Shape
-shape_of heads.Empty b = begun_by b
-shape_of heads.One b = begun_by b
+shape_of heads.Empty b = shape_of_byte b
+shape_of heads.One b = shape_of_byte b
 shape_of heads.Text b = if is_space b then shape.Blank else shape.OpenString
 shape_of heads.Listing b = shape.Title
-shape_of heads.More b = begun_by b
+shape_of heads.More b = shape_of_byte b
 
 -- what a byte does that ends no statement
 abbrev pub effect_of : Open → Head → ℕ → Effect

@@ -38,8 +38,8 @@ longer String weight b = String
 longer Bad weight b = Bad
 
 -- what a letter or a digit is by itself
-abbrev pub begun : ℕ → Kind
-begun b =
+abbrev pub first_kind : ℕ → Kind
+first_kind b =
     if is_letter (capital b) then Name (longer_name 0 0o10000000000 (capital b))
     else Number record {
       spelling = longer_name 0 0o10000000000 (capital b);
@@ -54,7 +54,7 @@ weight_after (x ∷ older) = weight_after older / 0o100
 
 -- what a letter or a digit is with those after it
 abbrev pub run_of : ℕ → List (ℕ × ℕ) → Kind
-run_of first [] = begun first
+run_of first [] = first_kind first
 run_of first (x ∷ older) = longer (run_of first older) (weight_after older) x.0
 
 abbrev pub word_of : ℕ → Option ℕ

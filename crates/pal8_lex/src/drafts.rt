@@ -1,16 +1,16 @@
 ghost use Rattle.std.specs.Prelude.{◌≡◌, ℕ, ◌+◌, true, false, ◌&&◌, is_some, List, [], ◌∷◌, ◌++◌, OnOk, OnErr};
 ghost use Rattle.pal_lex.specs.Text.{limit};
-ghost use Rattle.pal8_lex.specs.Runs.{begun, longer};
-ghost use Rattle.pal8_lex.specs.Kinds.{takes_blank_behind};
-ghost use Rattle.pal8_lex.specs.Pieces.{Piece, behind_blank, grown, head_by, is_blank, kind_by, open_by, string_by, takes_blank, with_byte, with_token};
+ghost use Rattle.pal8_lex.specs.Runs.{first_kind, longer};
+ghost use Rattle.pal8_lex.specs.Kinds.{takes_blank_after};
+ghost use Rattle.pal8_lex.specs.Pieces.{Piece, after_blank, grown, head_by, is_blank, kind_by, open_by, string_by, takes_blank, with_byte, with_token};
 ghost use Rattle.pal8_lex.specs.Rules.{effect_of};
 ghost use Rattle.pal8_lex.specs.Drafting.{Present, present_of};
 ghost use Rattle.pal8_lex.specs.Reading.{takes_room, takes_room_by};
 ghost use Rattle.pal8_lex.specs.Steps.{has_string};
 
-use crate::kinds::{head_again, head_with, takes_blank_before, takes_blank_behind};
+use crate::kinds::{head_again, head_with, takes_blank_before, takes_blank_after};
 use crate::rules::{Effect, Head, Open, Shape, effect_of, is_blank};
-use crate::runs::{begun, longer};
+use crate::runs::{first_kind, longer};
 use crate::{Kind, Token};
 use std::alloc::{AllocError, Global};
 use std::marker::Model;
@@ -71,7 +71,7 @@ fn kind_by(shape: Shape, byte: u8) -> Option<Kind>
     ensures { result ≡ kind_by shape byte [] }
 {
     match shape {
-        Shape::Run => Some(begun(byte)),
+        Shape::Run => Some(first_kind(byte)),
         Shape::Mark(kind) => Some(kind),
         Shape::Quote => Some(Kind::Bad),
         Shape::OpenString | Shape::ClosedString => Some(Kind::String),
@@ -81,8 +81,8 @@ fn kind_by(shape: Shape, byte: u8) -> Option<Kind>
 
 /// What a blank makes of what it stands after.
 #[inline(always)]
-fn behind_blank(state: Open) -> Open
-    ensures { result ≡ behind_blank state }
+fn after_blank(state: Open) -> Open
+    ensures { result ≡ after_blank state }
 {
     match state {
         Open::Start => Open::Start,
@@ -98,9 +98,9 @@ fn open_by(shape: Shape, byte: u8, before: Open) -> Open
 {
     match shape {
         Shape::Run => Open::Run(0o100000000),
-        Shape::Blank => behind_blank(before),
+        Shape::Blank => after_blank(before),
         Shape::Mark(kind) => {
-            if takes_blank_behind(kind) {
+            if takes_blank_after(kind) {
                 Open::Term
             } else {
                 Open::Start

@@ -1,5 +1,5 @@
 ghost use Rattle.std.specs.Prelude.{◌≡◌};
-ghost use Rattle.pal8_lex.specs.Kinds.{takes_blank_behind, takes_blank_before, is_comma, head_of_one, head_with};
+ghost use Rattle.pal8_lex.specs.Kinds.{takes_blank_after, takes_blank_before, is_comma, head_of_one, head_with};
 ghost use Rattle.pal8_lex.specs.Steps.{head_again};
 
 use crate::Kind;
@@ -24,8 +24,8 @@ const XLIST: u64 = name!(b'X' b'L' b'I' b'S' b'T');
 
 /// Whether a blank after such a token means something, as far as the token decides it.
 #[inline(always)]
-pub fn takes_blank_behind(kind: Kind) -> bool
-    ensures { result ≡ takes_blank_behind kind }
+pub fn takes_blank_after(kind: Kind) -> bool
+    ensures { result ≡ takes_blank_after kind }
 {
     match kind {
         Kind::Name(_) | Kind::Number(_) | Kind::Character(_) | Kind::Here => true,

@@ -1,6 +1,6 @@
 ghost use Rattle.std.specs.Prelude.{◌≡◌};
 ghost use Rattle.pal8_lex.specs.Text.{is_dropped, as_read, capital};
-ghost use Rattle.pal8_lex.specs.Rules.{is_letter_or_digit, is_space, is_end, ends_by, end_of, mark_of, begun_by, shape_of, effect_of};
+ghost use Rattle.pal8_lex.specs.Rules.{is_letter_or_digit, is_space, is_end, ends_by, end_of, mark_of, shape_of_byte, shape_of, effect_of};
 ghost use Rattle.pal8_lex.specs.Pieces.{is_blank};
 ghost use Rattle.pal8_lex.specs.Statements.{is_string};
 
@@ -190,8 +190,8 @@ fn mark_of(byte: u8) -> Kind
 
 /// The piece that a byte begins, where it is a delimiter neither of a string nor of a title.
 #[inline(always)]
-fn begun_by(byte: u8) -> Shape
-    ensures { result ≡ begun_by byte }
+fn shape_of_byte(byte: u8) -> Shape
+    ensures { result ≡ shape_of_byte byte }
 {
     if is_letter_or_digit(byte) {
         return Shape::Run;
@@ -219,7 +219,7 @@ fn shape_of(head: Head, byte: u8) -> Shape
             }
         }
         Head::Listing => Shape::Title,
-        Head::Empty | Head::One | Head::More => begun_by(byte),
+        Head::Empty | Head::One | Head::More => shape_of_byte(byte),
     }
 }
 

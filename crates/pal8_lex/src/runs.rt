@@ -1,7 +1,7 @@
 ghost use Rattle.std.specs.Prelude.{◌≡◌};
 ghost use Rattle.word12.specs.Sixbit.{is_letter};
 ghost use Rattle.pal8_lex.specs.Text.{capital};
-ghost use Rattle.pal8_lex.specs.Runs.{longer_name, longer_number, longer, begun};
+ghost use Rattle.pal8_lex.specs.Runs.{longer_name, longer_number, longer, first_kind};
 
 use crate::rules::capital;
 use crate::{Kind, Name, Number};
@@ -13,7 +13,7 @@ fn longer_name(name: Name, weight: u32, character: u8) -> Name
     ensures { result ≡ longer_name name weight character }
 {
     let code = u64::from(sixbit(character).unwrap_or(0));
-    Name::numbered(name.number().saturating_add(u64::from(weight) * code))
+    Name::name_of_number(name.number().saturating_add(u64::from(weight) * code))
 }
 
 /// A number with one character more: 0o10000 where it isn't one of twelve bits by this base.
@@ -53,11 +53,11 @@ pub fn longer(kind: Kind, weight: u32, byte: u8) -> Kind
 
 /// The name or the number that a letter or a digit begins.
 #[inline(always)]
-pub fn begun(byte: u8) -> Kind
-    ensures { result ≡ begun byte }
+pub fn first_kind(byte: u8) -> Kind
+    ensures { result ≡ first_kind byte }
 {
     let character = capital(byte);
-    let name = longer_name(Name::numbered(0), 0o10000000000, character);
+    let name = longer_name(Name::name_of_number(0), 0o10000000000, character);
     match character {
         b'A'..=b'Z' => Kind::Name(name),
         _ => Kind::Number(Number {

@@ -2,7 +2,7 @@
 use Rattle.std.proofs.Common.{◌≡◌, ℕ, ◌+◌, ◌-◌, ◌<◌, ◌≤◌, ◌&&◌, ◌||◌, inl, inr, nat_eq, Bool, true, false, if◌then◌else◌, length, List, [], ◌∷◌, ◌++◌, refl, sym, ap, subst, ◌∙◌, arith, suc}
 use Rattle.std.proofs.lemmas.Bool.{eqb-true, eqb-false}
 use Rattle.std.proofs.lemmas.Bool.Decides.{nat_tests}
-use Rattle.pal8_pools.specs.Asks.{Ask, IsAsked, is_among, is_of, distinct, asked_of, rank, pool_of, count, cell_in, end}
+use Rattle.pal8_pools.specs.Asks.{Ask, IsAsked, is_among, is_of, distinct, values_of_page, rank, pool_of, count, cell_in, end}
 use Rattle.pal8_pools.specs.Laws.{CellsStay, OneCellEach, PoolIsPageEnd, IsPoolCell}
 
 pub same_number : (n : ℕ) → nat_eq n n ≡ true
@@ -36,7 +36,7 @@ asked_among (b ∷ older) a (inl same) = subst (λ (x : Ask). is_among (pool_of 
 asked_among (b ∷ older) a (inr is) = by_page (is_of a.field a.page b) (asked_among older a is)
   where
     by_page : (test : Bool) → is_among (pool_of older a.field a.page) a.value ≡ true
-        → is_among (distinct (if test then b.value ∷ asked_of older a.field a.page else asked_of older a.field a.page)) a.value ≡ true
+        → is_among (distinct (if test then b.value ∷ values_of_page older a.field a.page else values_of_page older a.field a.page)) a.value ≡ true
     by_page true is = among_later (is_among (pool_of older a.field a.page) b.value) b.value a.value (pool_of older a.field a.page) is
     by_page false is = is
 
@@ -54,7 +54,7 @@ rank_under false v w pool is among = by_test (nat_eq v w) refl
 pub cell_stays : (b : Ask) (asks : List Ask) (a : Ask) → IsAsked asks a → cell_in (b ∷ asks) a ≡ cell_in asks a
 cell_stays b asks a is = ap (λ (r : ℕ). end a.field a.page - r) (by_page (is_of a.field a.page b))
   where
-    by_page : (test : Bool) → rank (distinct (if test then b.value ∷ asked_of asks a.field a.page else asked_of asks a.field a.page)) a.value ≡ rank (pool_of asks a.field a.page) a.value
+    by_page : (test : Bool) → rank (distinct (if test then b.value ∷ values_of_page asks a.field a.page else values_of_page asks a.field a.page)) a.value ≡ rank (pool_of asks a.field a.page) a.value
     by_page true = rank_under (is_among (pool_of asks a.field a.page) b.value) b.value a.value (pool_of asks a.field a.page) refl (asked_among asks a is)
     by_page false = refl
 
@@ -169,7 +169,7 @@ ranked (b ∷ older) f p r small = by_page (ranked older f p) (is_of f p b) refl
             below : (x y : ℕ) → x < suc y → (x ≡ y → ⊥) → x < y
             below x y small other = omega arith
 
-    by_page : ((r : ℕ) → r < count older f p → IsRanked older f p r) → (test : Bool) → is_of f p b ≡ test → r < length (distinct (if test then b.value ∷ asked_of older f p else asked_of older f p)) → IsRanked (b ∷ older) f p r
+    by_page : ((r : ℕ) → r < count older f p → IsRanked older f p r) → (test : Bool) → is_of f p b ≡ test → r < length (distinct (if test then b.value ∷ values_of_page older f p else values_of_page older f p)) → IsRanked (b ∷ older) f p r
     by_page hyp true of small = by_value hyp (is_among (pool_of older f p) b.value) refl (rw of refl) (of_field f p b of) (of_page f p b of) small
     by_page hyp false of small = older_one (pool_of older f p) (rw of refl) (hyp r small) (λ a _ _ _. refl)
 

@@ -3,7 +3,7 @@ use Rattle.std.proofs.Common.{◌≡◌, ℕ, nat_eq, Bool, true, false, if◌th
 use Rattle.pal_sym.specs.Values.{if_none}
 use Rattle.pal8_sym.specs.Permanent.{permanent}
 use Rattle.pal8_sym.specs.Symbols.{value_in}
-use Rattle.pal8_sym.specs.SourceNames.{Gives, kept_in, own_value, permanent_in}
+use Rattle.pal8_sym.specs.SourceNames.{Gives, hard_value, own_value, permanent_in}
 use Rattle.pal8_sym.specs.declared.source_names.SourceNames.{SourceNames}
 
 over : (test : Bool) (value : ℕ) (own rest rest' : Option ℕ) → rest ≡ rest'
@@ -16,8 +16,8 @@ pub gives : (name value : ℕ) (old new : SourceNames) → ((n : ℕ) → own_va
 gives name value old new own same = record {
   values = λ n. ap (λ o. if_none o (value_in (permanent_in new n))) (own n)
       ∙ over (nat_eq name n) value (own_value old n) _ _ (ap (λ b. value_in (if b then None else permanent n)) same);
-  kept = λ n. ap (λ o. if_none o (kept_in (permanent_in new n))) (own n)
-      ∙ over (nat_eq name n) value (own_value old n) _ _ (ap (λ b. kept_in (if b then None else permanent n)) same);
+  kept = λ n. ap (λ o. if_none o (hard_value (permanent_in new n))) (own n)
+      ∙ over (nat_eq name n) value (own_value old n) _ _ (ap (λ b. hard_value (if b then None else permanent n)) same);
   own = own;
   permanent = same;
 }

@@ -29,9 +29,9 @@ is_kept None = false
 is_kept (Some m) = keeps m.standing
 
 -- the value that a permanent name has, if it isn't soft
-abbrev pub kept_in : Option Meaning → Option ℕ
-kept_in None = None
-kept_in (Some m) = if keeps m.standing then Some m.value else None
+abbrev pub hard_value : Option Meaning → Option ℕ
+hard_value None = None
+hard_value (Some m) = if keeps m.standing then Some m.value else None
 
 -- what a permanent name stands for, unless EXPUNGE took it away
 abbrev pub permanent_in : SourceNames → ℕ → Option Meaning
@@ -56,7 +56,7 @@ value_of names name = if_none (own_value names name) (permanent_value names name
 
 -- the value that a name keeps, whatever the source defines later: a soft one gives way
 abbrev pub kept_value : SourceNames → ℕ → Option ℕ
-kept_value names name = if_none (own_value names name) (kept_in (permanent_in names name))
+kept_value names name = if_none (own_value names name) (hard_value (permanent_in names name))
 
 -- `=` can't give a name another value
 abbrev pub is_fixed : SourceNames → ℕ → Bool

@@ -88,7 +88,7 @@ const SOFT: [(u64, u16); 42] = [
 ];
 
 /// The reserved names that PAL III lacks.
-const RESERVED: [u64; 17] = [
+const RESERVED_NAMES: [u64; 17] = [
     name!(b'P' b'A' b'G' b'E' 0 0),
     name!(b'Z' b'B' b'L' b'O' b'C' b'K'),
     name!(b'T' b'E' b'X' b'T' 0 0),
@@ -149,7 +149,7 @@ fn is_old_reserved(name: Name) -> bool
 pub fn is_reserved(name: Name) -> bool
     ensures { result ≡ is_reserved name }
 {
-    is_old_reserved(name) || is_one_of(&RESERVED, name.number())
+    is_old_reserved(name) || is_one_of(&RESERVED_NAMES, name.number())
 }
 
 /// Whether a number is one of a list.
@@ -172,7 +172,7 @@ fn is_one_of(list: &[u64], number: u64) -> bool
 pub fn permanent(name: Name) -> Option<Meaning>
     ensures { result ≡ permanent name }
 {
-    match Symbols::permanent(SymbolName::numbered(name.number())) {
+    match Symbols::permanent(SymbolName::name_of_number(name.number())) {
         Some(value) => Some(Meaning {
             value,
             standing: standing_of(name),
@@ -199,11 +199,11 @@ pub(crate) fn soft_value(name: Name) -> Option<Word>
     ensures value { result ≡ find nat_cmp name soft_names }
     ensures range { IfSome result (λ word. word < 0o10000) }
 {
-    listed(&SOFT, name.number())
+    word_in_list(&SOFT, name.number())
 }
 
 /// The word that stands beside a name in a list.
-fn listed(list: &[(u64, u16)], name: u64) -> Option<Word>
+fn word_in_list(list: &[(u64, u16)], name: u64) -> Option<Word>
     requires { IsTrue (all_words list.now) }
     ensures value { result ≡ find nat_cmp name list.now }
     ensures range { IfSome result (λ word. word < 0o10000) }

@@ -4,7 +4,7 @@ ghost use Rattle.std.specs.Prelude.{◌≡◌, ℕ, ◌<◌, None, IfSome, is_so
 ghost use Rattle.pal_lex.specs.Language as pal3;
 ghost use Rattle.pal8_sym.specs.Permanent.{permanent};
 ghost use Rattle.pal8_sym.specs.Symbols.{value_in};
-ghost use Rattle.pal8_sym.specs.SourceNames.{DefinesOperation, DefinesTag, DefinesValue, Expunges, FixesAll, is_fixed, is_kept, is_operation, is_other, first_vocabulary, is_own_fixed, keeps, kept_in, kept_value, operation_word, own_value, permanent_in, permanent_value, value_of, vocabulary_of};
+ghost use Rattle.pal8_sym.specs.SourceNames.{DefinesOperation, DefinesTag, DefinesValue, Expunges, FixesAll, is_fixed, is_kept, is_operation, is_other, first_vocabulary, is_own_fixed, keeps, hard_value, kept_value, operation_word, own_value, permanent_in, permanent_value, value_of, vocabulary_of};
 ghost use Rattle.pal8_sym.specs.Steps.{Frees, Puts, PutsFree};
 
 use crate::permanent_names::{Meaning, Standing, is_operation, permanent};
@@ -46,8 +46,8 @@ fn is_kept(meaning: Option<Meaning>) -> bool
 }
 
 /// The value of a permanent name that isn't soft.
-fn kept_in(meaning: Option<Meaning>) -> Option<Word>
-    ensures value { result ≡ kept_in meaning }
+fn hard_value(meaning: Option<Meaning>) -> Option<Word>
+    ensures value { result ≡ hard_value meaning }
     ensures range { IfSome result (λ word. word < 0o10000) }
 {
     match meaning {
@@ -157,7 +157,7 @@ impl SourceNames {
     {
         match self.own_value(name) {
             Some(word) => Some(word),
-            None => kept_in(self.permanent(name)),
+            None => hard_value(self.permanent(name)),
         }
     }
 

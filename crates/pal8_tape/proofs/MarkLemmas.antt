@@ -1,6 +1,6 @@
 -- Where in its statement a fault is.
 use Rattle.std.proofs.Common.{◌≡◌, ℕ, true, if◌then◌else◌, Option, Some, None, Ok, List, [], ◌∷◌, sym, ap, ◌∙◌}
-use Rattle.pal8_lex.specs.Reading.{Answers, Progress, shown_by}
+use Rattle.pal8_lex.specs.Reading.{Answers, Progress, statement_at_end}
 use Rattle.pal8_lex.specs.Statements.{Statement, statements}
 use Rattle.pal8_lex.specs.declared.rules.End.{End}
 use Rattle.pal8_lex.specs.declared.tokens.Token.{Token}
@@ -14,7 +14,7 @@ tokens_or : Option Statement → List Token
 tokens_or None = []
 tokens_or (Some s) = s.tokens
 
-shown_tokens : (e : Option End) (l : Progress) (s : Statement) → shown_by e l ≡ Some s → l.draft.tokens ≡ s.tokens
+shown_tokens : (e : Option End) (l : Progress) (s : Statement) → statement_at_end e l ≡ Some s → l.draft.tokens ≡ s.tokens
 unfolding tokens_or
 shown_tokens None l s is = absurd cc
 shown_tokens (Some e) l s is = ap tokens_or is

@@ -2,7 +2,7 @@
 use Rattle.std.proofs.Common.{◌≡◌, ℕ, ◌+◌, ◌≤◌, ◌<◌, nat_eq, Bool, true, false, if◌then◌else◌, length, take, get_or, suc, List, [], ◌∷◌, ◌++◌, refl, sym, ap, ◌∙◌, arith}
 use Rattle.std.proofs.Math.Seq.{take-suc}
 use Rattle.pal_lex.specs.Text.{text_from, text_of}
-use Rattle.pal8_tape.specs.Places.{column_behind, column_with}
+use Rattle.pal8_tape.specs.Places.{column_after, column_with}
 
 grown : (text bytes : List ℕ) (b : ℕ) → text_from text (bytes ++ b ∷ []) ≡ b ∷ text_from text bytes
 grown text [] b = refl
@@ -16,8 +16,8 @@ next_byte bytes n b inside is =
     ∙ ap (λ c. c ∷ text_of (take n bytes)) (sym is)
 
 pub column_more : (bytes : List ℕ) (n b : ℕ) → n < length bytes → b ≡ get_or bytes n 0
-    → column_behind (text_of (take (n + 1) bytes)) ≡ column_with b (column_behind (text_of (take n bytes)))
-column_more bytes n b inside is = ap column_behind (next_byte bytes n b inside is)
+    → column_after (text_of (take (n + 1) bytes)) ≡ column_with b (column_after (text_of (take n bytes)))
+column_more bytes n b inside is = ap column_after (next_byte bytes n b inside is)
 
 bound_by : (line cr : Bool) (column n : ℕ) → column ≤ n + 1 → (if line then 1 else (if cr then column else column + 1)) ≤ n + 1 + 1
 bound_by true cr column n bound = omega arith

@@ -2,7 +2,7 @@
 use Rattle.std.specs.Prelude.{◌≡◌, ℕ, Err, get_or, List}
 use Rattle.bin_tape.specs.Writing.{tape_of}
 use Rattle.pal_lex.specs.Text.{text_of}
-use Rattle.pal8_asm.specs.Assembled.{assembled}
+use Rattle.pal8_asm.specs.Assembled.{result_of_text}
 use Rattle.pal8_asm.specs.Assembling.{IsAssembled}
 use Rattle.pal8_asm.specs.declared.faults.Fault as asm
 use Rattle.pal8_tape.specs.Marks.{fault_mark}
@@ -15,7 +15,7 @@ use Rattle.pal8_tape.specs.declared.faults.SourceFault.TheVariants.{At, Memory}
 -- pools with their values, by rising cell.
 pub record IsTape (source frames : List ℕ) : Type 0 where
   pub pairs : List (ℕ × ℕ)
-  pub are_all : IsAssembled (assembled (text_of source)) pairs
+  pub are_all : IsAssembled (result_of_text (text_of source)) pairs
   pub are : frames ≡ tape_of pairs
 
 -- a fault of a source that is at a byte, by its number from 0
@@ -28,5 +28,5 @@ with_place source fault = at_mark source fault (fault_mark source fault.code fau
 
 -- the first fault of the source, with its place; or memory ran out
 abbrev pub IsTold : List ℕ → SourceFault → Type 0
-IsTold source (At fault) = (met : asm.Fault) × (assembled (text_of source) ≡ Err met) × (fault ≡ with_place source met)
+IsTold source (At fault) = (met : asm.Fault) × (result_of_text (text_of source) ≡ Err met) × (fault ≡ with_place source met)
 IsTold source Memory = Unit {0}

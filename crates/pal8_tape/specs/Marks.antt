@@ -9,8 +9,8 @@ use Rattle.pal8_lex.specs.declared.tokens.Kind.TheVariants as kind
 use Rattle.pal8_lex.specs.declared.judging.Radix.{Radix}
 use Rattle.pal8_lex.specs.declared.judging.Radix.TheVariants.{Octal, Decimal}
 use Rattle.pal8_grammar.specs.Bodies.{body_in}
-use Rattle.pal8_asm.specs.Assembled.{assembled}
-use Rattle.pal8_asm.specs.Tapes.{Made}
+use Rattle.pal8_asm.specs.Assembled.{result_of_text}
+use Rattle.pal8_asm.specs.Tapes.{TapeWords}
 use Rattle.pal8_asm.specs.declared.faults.Fault.{Fault}
 use Rattle.pal8_asm.specs.declared.faults.Code.{Code}
 use Rattle.pal8_asm.specs.declared.faults.Code.TheVariants.{IC, SY, NU, UA, DT, RD, IR, II, FD, PG, PF, DZ, PE, ZE, PageClash, ZeroClash, RL, PH, NE, NW}
@@ -122,13 +122,13 @@ mark_in code radix start (s ∷ older) = if begins start s.tokens then mark_of c
 
 -- ## Numbers
 
-abbrev pub radix_by : Result Made Fault → Radix
+abbrev pub radix_by : Result TapeWords Fault → Radix
 radix_by (Ok made) = Decimal
 radix_by (Err fault) = if is_number_fault fault.code then Octal else Decimal
 
 -- How numbers are read where a statement begins: in octal, if 8 is none there.
 abbrev pub radix_at : List ℕ → ℕ → Radix
-radix_at source start = radix_by (assembled (text_of (take start source ++ codes "8;")))
+radix_at source start = radix_by (result_of_text (text_of (take start source ++ codes "8;")))
 
 abbrev pub radix_for : Code → List ℕ → ℕ → Radix
 radix_for code source start = if is_number_fault code then radix_at source start else Octal

@@ -1,18 +1,18 @@
 -- Where a byte of a source stands (this project's profile of PAL8).
 use Rattle.std.specs.Prelude.{ℕ, ◌+◌, nat_eq, if◌then◌else◌, take, List, [], ◌∷◌}
 use Rattle.pal_lex.specs.Text.{text_of}
-use Rattle.assemble8.specs.Places.{line_behind}
-use Rattle.assemble8.specs.declared.faults.Place.{Place}
+use Rattle.host_sources.specs.Places.{next_line}
+use Rattle.host_sources.specs.declared.faults.Place.{Place}
 
 -- the column after one more byte: LF ends a line, and CR counts for nothing
 abbrev pub column_with : ℕ → ℕ → ℕ
 column_with b column = if nat_eq b 0o12 then 1 else (if nat_eq b 0o15 then column else column + 1)
 
 -- the column after a text with its newest byte first, from 1
-abbrev pub column_behind : List ℕ → ℕ
-column_behind [] = 1
-column_behind (b ∷ older) = column_with b (column_behind older)
+abbrev pub column_after : List ℕ → ℕ
+column_after [] = 1
+column_after (b ∷ older) = column_with b (column_after older)
 
 -- the line and the column of a byte of a source, by its number from 0
 abbrev pub place_of : List ℕ → ℕ → Place
-place_of source at = record { source = 0; line = line_behind (text_of (take at source)); column = column_behind (text_of (take at source)) }
+place_of source at = record { source = 0; line = next_line (text_of (take at source)); column = column_after (text_of (take at source)) }

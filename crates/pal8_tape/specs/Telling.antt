@@ -3,8 +3,8 @@ use Rattle.std.specs.Prelude.{ℕ, codes, decimal, List, [], ◌++◌}
 use Rattle.word12.specs.Octal.{octal5}
 use Rattle.pal8_asm.specs.declared.faults.Code.{Code}
 use Rattle.pal8_asm.specs.declared.faults.Code.TheVariants.{IC, SY, NU, UA, DT, RD, IR, II, FD, PG, PF, DZ, PE, ZE, PageClash, ZeroClash, RL, PH, NE, NW}
-use Rattle.assemble8.specs.Spelling.{spelling}
-use Rattle.assemble8.specs.Telling.{character_text, located, marked_line}
+use Rattle.host_sources.specs.Spelling.{spelling}
+use Rattle.host_sources.specs.Telling.{character_text, place_text, marked_line}
 use Rattle.pal8_tape.specs.declared.faults.Fault.{Fault}
 
 -- the two letters of a fault
@@ -77,14 +77,14 @@ about NE byte = []
 about NW byte = []
 
 -- `CODE: WORDS`, and after it what the fault is about
-abbrev pub told : Code → ℕ → List ℕ
-told code byte = letters_of code ++ codes ": " ++ words_of code ++ about code byte ++ codes "\n"
+abbrev pub fault_words : Code → ℕ → List ℕ
+fault_words code byte = letters_of code ++ codes ": " ++ words_of code ++ about code byte ++ codes "\n"
 
 -- `? 5 CODE LINE`, as it is reported to scripts
-abbrev pub numbered : Fault → List ℕ
-numbered fault = codes "? 5 " ++ letters_of fault.code ++ codes " " ++ decimal fault.line ++ codes "\n"
+abbrev pub script_text : Fault → List ℕ
+script_text fault = codes "? 5 " ++ letters_of fault.code ++ codes " " ++ decimal fault.line ++ codes "\n"
 
 -- The text of a fault of a source with this name. It is the fault with its place, its line with a caret below its place,
 -- and the line that scripts get.
 abbrev pub fault_text : List ℕ → List ℕ → Fault → List ℕ
-fault_text source name fault = located name fault.place ++ told fault.code fault.byte ++ marked_line source fault.place ++ numbered fault
+fault_text source name fault = place_text name fault.place ++ fault_words fault.code fault.byte ++ marked_line source fault.place ++ script_text fault

@@ -1,7 +1,7 @@
 ghost use Rattle.std.specs.Prelude.{◌≡◌};
 ghost use Rattle.pal8_tape.specs.declared.faults.SourceFault.TheVariants.{Memory};
 
-use assemble8::Place;
+use host_sources::Place;
 use pal8_asm::Code;
 use std::alloc::AllocError;
 use thiserror::Error;

@@ -5,7 +5,7 @@ ghost use Rattle.pal8_lex.specs.Reading.{HasRead};
 ghost use Rattle.pal8_lex.specs.Statements.{statements};
 ghost use Rattle.pal8_tape.specs.Marks.{begins, fault_mark, first_start, is_meant, is_name, is_number_fault, is_redefinition, mark_in, mark_of, meant_mark, radix_at, radix_for};
 
-use assemble8::first_bytes;
+use host_sources::first_bytes;
 use pal8_asm::{AsmFault, Code, assemble};
 use pal8_lex::{Kind, Lexer, Radix, Token, tag_count};
 use std::alloc::{AllocError, Global};

@@ -1,9 +1,9 @@
 //! Where a byte of a source stands.
 ghost use Rattle.std.specs.Prelude.{◌≡◌, ◌<◌, take};
 ghost use Rattle.pal_lex.specs.Text.{text_of};
-ghost use Rattle.pal8_tape.specs.Places.{column_behind, column_with, place_of};
+ghost use Rattle.pal8_tape.specs.Places.{column_after, column_with, place_of};
 
-use assemble8::{Place, first_bytes, line_behind};
+use host_sources::{Place, first_bytes, next_line};
 
 /// The place of a byte of a source, by its number from 0. Where there is none of this number, it is the place after the
 /// last one.
@@ -13,14 +13,14 @@ pub(crate) fn place_of(source: &[u8], at: usize) -> Place
     let before = first_bytes(source, at);
     Place {
         source: 0,
-        line: line_behind(before),
-        column: column_behind(before),
+        line: next_line(before),
+        column: column_after(before),
     }
 }
 
 /// The column after a text, from 1.
-fn column_behind(text: &[u8]) -> usize
-    ensures { result ≡ column_behind (text_of text.now) }
+fn column_after(text: &[u8]) -> usize
+    ensures { result ≡ column_after (text_of text.now) }
 {
     let mut column = 1;
     for byte in text {

@@ -2,7 +2,7 @@
 ghost use Rattle.std.specs.Prelude.{◌≡◌, IfOk};
 ghost use Rattle.pal8_tape.specs.Signs.{character_sign, is_of_pal8, name_sign, sign_text};
 
-use assemble8::{About, put_spelling};
+use host_sources::{About, put_spelling};
 use pal8_lex::Name;
 use pal8_sym::is_reserved;
 use std::alloc::{AllocError, Global};
@@ -24,7 +24,7 @@ fn name_sign(alloc: Global, name: u64) -> Result<Vec<u8>, AllocError>
     ensures { IfOk result (λ text. text.items ≡ name_sign name) }
 {
     let mut text = Vec::new(alloc);
-    if is_reserved(Name::numbered(name)) {
+    if is_reserved(Name::name_of_number(name)) {
         put_spelling(&mut text, name)?;
     }
     Ok(text)

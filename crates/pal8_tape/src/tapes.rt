@@ -1,7 +1,7 @@
 //! A source to a tape.
 ghost use Rattle.std.specs.Prelude.{◌≡◌, get_or, IfOk, IfErr};
 ghost use Rattle.pal_lex.specs.Text.{text_of};
-ghost use Rattle.pal8_asm.specs.Assembled.{assembled};
+ghost use Rattle.pal8_asm.specs.Assembled.{result_of_text};
 ghost use Rattle.pal8_asm.specs.Assembling.{IsAssembled, Assembles};
 ghost use Rattle.pal8_tape.specs.Answers.{IsTape, IsTold};
 ghost use Rattle.pal8_tape.specs.Answers as spec;
@@ -36,7 +36,7 @@ pub fn tape_of(alloc: Global, source: &[u8]) -> Result<Vec<u8>, SourceFault>
 
 /// The frames of the tape of a source's pairs.
 fn frames_of(alloc: Global, source: &[u8], pairs: &[(Cell, Word)]) -> Result<Vec<u8>, AllocError>
-    requires { IsAssembled (assembled (text_of source.now)) pairs.now }
+    requires { IsAssembled (result_of_text (text_of source.now)) pairs.now }
     ensures { IfOk result (λ frames. IsTape source.now frames.items) }
 {
     has_words();

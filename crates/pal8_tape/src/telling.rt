@@ -1,12 +1,12 @@
 //! Faults, as a compiler reports them.
 ghost use Rattle.std.specs.Prelude.{◌≡◌, ◌++◌, IfOk, OnOk};
 ghost use Rattle.word12.specs.Octal.{octal5};
-ghost use Rattle.pal8_tape.specs.Telling.{about, told, numbered, fault_text};
+ghost use Rattle.pal8_tape.specs.Telling.{about, fault_words, script_text, fault_text};
 ghost use Rattle.std.specs.Prelude.{codes};
 
 use crate::Fault;
 use crate::codes::{letters_of, words_of};
-use assemble8::{put_character, put_marked_line, put_number, put_place, put_spelling};
+use host_sources::{put_character, put_marked_line, put_number, put_place, put_spelling};
 use pal8_asm::Code;
 use std::alloc::{AllocError, Global};
 use word12::Cell;
@@ -27,15 +27,15 @@ pub fn fault_text(
 {
     let mut text = Vec::new(alloc);
     put_place(&mut text, name, fault.place)?;
-    put_told(&mut text, fault.code, fault.byte)?;
+    put_fault(&mut text, fault.code, fault.byte)?;
     put_marked_line(alloc, &mut text, source, fault.place)?;
     put_numbered(&mut text, fault)?;
     Ok(text)
 }
 
 /// Puts a fault by its letters and words, and after them what it is about.
-fn put_told(text: &mut Vec<u8>, code: Code, byte: u8) -> Result<(), AllocError>
-    ensures { OnOk result (text.new.items ≡ text.old.items ++ told code byte) }
+fn put_fault(text: &mut Vec<u8>, code: Code, byte: u8) -> Result<(), AllocError>
+    ensures { OnOk result (text.new.items ≡ text.old.items ++ fault_words code byte) }
 {
     let again = code;
     let last = code;
@@ -81,7 +81,7 @@ fn put_cell(text: &mut Vec<u8>, cell: Cell) -> Result<(), AllocError>
 
 /// Puts a fault as it is reported to scripts.
 fn put_numbered(text: &mut Vec<u8>, fault: Fault) -> Result<(), AllocError>
-    ensures { OnOk result (text.new.items ≡ text.old.items ++ numbered fault) }
+    ensures { OnOk result (text.new.items ≡ text.old.items ++ script_text fault) }
 {
     text.extend_from_slice(b"? 5 ")?;
     text.extend_from_slice(letters_of(fault.code))?;

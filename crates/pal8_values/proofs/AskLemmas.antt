@@ -8,7 +8,7 @@ use Rattle.pal8_pools.specs.Asks.{Ask, cell_in, pool_of, rank}
 use Rattle.pal8_pools.specs.Pooled.{Answers, PoolTable, with_punched}
 use Rattle.pal8_pools.specs.declared.faults.PoolFault.{PoolFault}
 use Rattle.pal8_pools.specs.declared.faults.PoolFault.TheVariants.{Full}
-use Rattle.pal8_values.specs.Words.{Asked, ask_of, full, is_torn, page_of, page_start, value_of, with_ask, with_cell, with_cell_of, with_close, with_literal}
+use Rattle.pal8_values.specs.Words.{AskResult, ask_of, full, is_torn, page_of, page_start, value_of, with_ask, with_cell, with_cell_of, with_close, with_literal}
 use Rattle.pal8_values.specs.Answering.{IsAsked, IsFault}
 use Rattle.pal8_values.specs.declared.sums.Sum.{Sum}
 use Rattle.pal8_values.specs.declared.sums.Spot.{Spot}
@@ -23,7 +23,7 @@ at_most a b is = grind (arith, nat_tests)
 above : (a b : ℕ) → b < a → nat_le a b ≡ false
 above a b is = grind (arith, nat_tests)
 
-full_is : (whole : Asked) (test : Bool) → whole ≡ Err (if test then ZE else PE) → IsFault whole (if test then ZE else PE)
+full_is : (whole : AskResult) (test : Bool) → whole ≡ Err (if test then ZE else PE) → IsFault whole (if test then ZE else PE)
 full_is whole true is = is
 full_is whole false is = is
 
@@ -32,7 +32,7 @@ module _ (spot : Spot) (pool : Pool) (value page : ℕ) (asks punched : List Ask
   abbrev a : Ask
   a = ask_of spot pool value
 
-  abbrev by_rank : Bool → Asked
+  abbrev by_rank : Bool → AskResult
   by_rank test =
       if test then Ok (page_start pool spot.here + cell_in (a ∷ asks) a % PAGE, a ∷ asks, with_punched spot.is_punched a punched) else Err (full a.page)
 

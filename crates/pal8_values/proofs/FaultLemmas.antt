@@ -2,7 +2,7 @@
 use Rattle.std.proofs.Common.{◌≡◌, ℕ, ◌-◌, ◌≤◌, length, get_or, take, drop, Result, Ok, Err, List, [], ◌∷◌, suc, refl, sym, ap, subst, ◌∙◌, arith}
 use Rattle.std.proofs.lemmas.List.{take_all}
 use Rattle.pal8_grammar.specs.declared.steps.Step.{Step}
-use Rattle.pal8_values.specs.Sums.{Known, direct_value, with_plain, with_plains}
+use Rattle.pal8_values.specs.Sums.{Meanings, direct_value, with_plain, with_plains}
 use Rattle.pal8_values.specs.Answering.{IsFault}
 use Rattle.pal8_values.specs.declared.sums.Sum.{Sum}
 use Rattle.pal8_values.specs.declared.sums.Spot.{Spot}
@@ -37,7 +37,7 @@ keeps_fault f keeps whole Memory is = tt
 pub same_fault : {A : Type 0} (whole other : Result A ValueFault) (fault : ValueFault) → whole ≡ other → IsFault whole fault → IsFault other fault
 same_fault whole other fault e is = subst (λ w. IsFault w fault) e is
 
-module _ (known : Known) (spot : Spot) where
+module _ (known : Meanings) (spot : Spot) where
   plains_stay : (steps : List Step) (e : ValueFault) → with_plains known spot steps (Err e) ≡ Err e
   plains_stay [] e = refl
   plains_stay (step ∷ others) e = plains_stay others e

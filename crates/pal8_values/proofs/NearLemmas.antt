@@ -5,12 +5,12 @@ use Rattle.std.proofs.lemmas.List.{append_assoc}
 use Rattle.word12.specs.declared.sizes.TheConstants.{PAGE}
 use Rattle.pal8_lex.specs.declared.tokens.Pool.{Pool}
 use Rattle.pal8_lex.specs.declared.tokens.Pool.TheVariants.{Own, Zero}
-use Rattle.pal8_pools.specs.Asks.{Ask, asked_of, cell_in, is_of, pool_of, rank}
+use Rattle.pal8_pools.specs.Asks.{Ask, values_of_page, cell_in, is_of, pool_of, rank}
 use Rattle.pal8_pools.specs.Pooled.{with_punched}
 use Rattle.pal8_grammar.specs.declared.steps.Step.{Step}
 use Rattle.pal8_grammar.specs.declared.steps.Step.TheVariants as step
-use Rattle.pal8_values.specs.Sums.{Known, offset_of, with_plain, with_value}
-use Rattle.pal8_values.specs.Words.{Asked, Evaluation, ask_of, evaluation, full, is_torn, page_start, referred, value_by, with_ask, with_cell, with_cell_of, with_close, with_link, with_literal, with_step, with_step_if, with_steps, word_in}
+use Rattle.pal8_values.specs.Sums.{Meanings, offset_of, with_plain, with_value}
+use Rattle.pal8_values.specs.Words.{AskResult, Evaluation, ask_of, evaluation, full, is_torn, page_start, word_of_reference, value_by, with_ask, with_cell, with_cell_of, with_close, with_link, with_literal, with_step, with_step_if, with_steps, word_in}
 use Rattle.pal8_values.specs.Laws.{AsksNear, GoesNear, WordsAskNear, is_near}
 use Rattle.pal8_values.specs.declared.sums.Sum.{Sum}
 use Rattle.pal8_values.specs.declared.sums.Spot.{Spot}
@@ -48,10 +48,10 @@ module _ (spot : Spot) where
   one_near pool value asks = record {
     more = ask_of spot pool value ∷ [];
     are = refl;
-    others = λ f p far. ap (λ test. if test then value ∷ asked_of asks f p else asked_of asks f p) (is_far pool value f p far);
+    others = λ f p far. ap (λ test. if test then value ∷ values_of_page asks f p else values_of_page asks f p) (is_far pool value f p far);
   }
 
-  goes_further : (a b : List Ask) (r : Asked) → AsksNear spot a b → GoesNear spot b r → GoesNear spot a r
+  goes_further : (a b : List Ask) (r : AskResult) → AsksNear spot a b → GoesNear spot b r → GoesNear spot a r
   goes_further a b (Err fault) near goes = tt
   goes_further a b (Ok (value, c, punched)) near goes = goes_on a b c near goes
 
@@ -73,12 +73,12 @@ module _ (spot : Spot) where
       by_shift false =
           by_room (nat_le (rank (pool_of (ask_of spot pool value ∷ asks) (ask_of spot pool value).field (ask_of spot pool value).page) value) 0o177)
 
-  link_near : (operation : ℕ) (asks : List Ask) (r : Asked) → GoesNear spot asks r → GoesNear spot asks (with_link operation r)
+  link_near : (operation : ℕ) (asks : List Ask) (r : AskResult) → GoesNear spot asks r → GoesNear spot asks (with_link operation r)
   link_near operation asks (Err fault) goes = tt
   link_near operation asks (Ok (cell, after, punched)) goes = goes
 
   reference_near : (operation : ℕ) (is_indirect : Bool) (offset : Option ℕ) (address : ℕ) (asks punched : List Ask)
-      → GoesNear spot asks (referred spot operation is_indirect offset address asks punched)
+      → GoesNear spot asks (word_of_reference spot operation is_indirect offset address asks punched)
   reference_near operation is_indirect (Some offset) address asks punched = stays asks
   reference_near operation true None address asks punched = tt
   reference_near operation false None address asks punched = link_near operation asks (with_ask spot Own address asks punched) (ask_near Own address asks punched)
@@ -101,12 +101,12 @@ module _ (spot : Spot) where
   plain_near frames asks punched (Err fault) = tt
   plain_near frames asks punched (Ok s) = stays asks
 
-  cell_near : (frame : Frame) (others : List Frame) (asks : List Ask) (r : Asked) → GoesNear spot asks r → StepsNear asks (with_cell frame others r)
+  cell_near : (frame : Frame) (others : List Frame) (asks : List Ask) (r : AskResult) → GoesNear spot asks r → StepsNear asks (with_cell frame others r)
   cell_near frame others asks (Err fault) goes = tt
   cell_near frame others asks (Ok (cell, after, punched)) goes =
       further asks after (evaluation others after punched (with_value cell frame.sum)) goes (plain_near others after punched (with_value cell frame.sum))
 
-  literal_near : (frame : Frame) (others : List Frame) (asks : List Ask) (r : Asked) → GoesNear spot asks r → StepsNear asks (with_literal spot frame others r)
+  literal_near : (frame : Frame) (others : List Frame) (asks : List Ask) (r : AskResult) → GoesNear spot asks r → StepsNear asks (with_literal spot frame others r)
   literal_near frame others asks (Err fault) goes = tt
   literal_near frame others asks (Ok (value, after, punched)) goes =
       further asks after (with_cell frame others (with_ask spot frame.pool value after punched)) goes
@@ -117,7 +117,7 @@ module _ (spot : Spot) where
   close_near (frame ∷ others) s asks punched =
       literal_near frame others asks (value_by spot s.is_reference s asks punched) (value_near s.is_reference s asks punched)
 
-  step_near : (known : Known) (s : Step) (e : Evaluation) → StepsNear e.asks (with_step known spot s e)
+  step_near : (known : Meanings) (s : Step) (e : Evaluation) → StepsNear e.asks (with_step known spot s e)
   step_near known (step.Operation word) e = plain_near e.frames e.asks e.punched (with_plain known spot (step.Operation word) e.sum)
   step_near known step.Alone e = plain_near e.frames e.asks e.punched (with_plain known spot step.Alone e.sum)
   step_near known step.Indirect e = plain_near e.frames e.asks e.punched (with_plain known spot step.Indirect e.sum)
@@ -129,12 +129,12 @@ module _ (spot : Spot) where
   step_near known (step.Open pool) e = stays e.asks
   step_near known step.Close e = close_near e.frames e.sum e.asks e.punched
 
-  step_if_near : (known : Known) (s : Step) (before : List Ask) (r : Result Evaluation ValueFault) → StepsNear before r
+  step_if_near : (known : Meanings) (s : Step) (before : List Ask) (r : Result Evaluation ValueFault) → StepsNear before r
       → StepsNear before (with_step_if known spot s r)
   step_if_near known s before (Err fault) near = tt
   step_if_near known s before (Ok e) near = further before e.asks (with_step known spot s e) near (step_near known s e)
 
-  steps_near : (known : Known) (steps : List Step) (before : List Ask) (r : Result Evaluation ValueFault) → StepsNear before r
+  steps_near : (known : Meanings) (steps : List Step) (before : List Ask) (r : Result Evaluation ValueFault) → StepsNear before r
       → StepsNear before (with_steps known spot steps r)
   steps_near known [] before r near = near
   steps_near known (s ∷ others) before r near = steps_near known others before (with_step_if known spot s r) (step_if_near known s before r near)

@@ -2,7 +2,7 @@
 use Rattle.std.specs.Prelude.{◌≡◌, ℕ, Result, Ok, Err, List}
 use Rattle.pal8_pools.specs.Asks.{Ask}
 use Rattle.pal8_pools.specs.Pooled.{Holds, PoolTable}
-use Rattle.pal8_values.specs.Words.{Asked}
+use Rattle.pal8_values.specs.Words.{AskResult}
 use Rattle.pal8_values.specs.declared.faults.ValueFault.{ValueFault}
 use Rattle.pal8_values.specs.declared.faults.ValueFault.TheVariants.{UA, PF, DZ, IR, II, PE, ZE, RL, Memory}
 
@@ -24,13 +24,13 @@ Answers whole (Ok found) = whole ≡ Ok found
 Answers whole (Err fault) = IsFault whole fault
 
 -- A value was found, and the pools hold what was asked up to it.
-pub record IsAsked (whole : Asked) (value : ℕ) (new : PoolTable) : Type 0 where
+pub record IsAsked (whole : AskResult) (value : ℕ) (new : PoolTable) : Type 0 where
   pub asks : List Ask
   pub punched : List Ask
   pub is_whole : whole ≡ Ok (value, asks, punched)
   pub holds : Holds new asks punched
 
 -- a value with its asks is answered, or its fault
-abbrev pub Gives : Asked → Result ℕ ValueFault → PoolTable → Type 0
+abbrev pub Gives : AskResult → Result ℕ ValueFault → PoolTable → Type 0
 Gives whole (Ok value) new = IsAsked whole value new
 Gives whole (Err fault) new = IsFault whole fault

@@ -11,17 +11,17 @@ use Rattle.pal8_values.specs.declared.faults.ValueFault.{ValueFault}
 use Rattle.pal8_values.specs.declared.faults.ValueFault.TheVariants.{UA, PF, DZ, IR}
 
 -- what names stand for
-abbrev pub Known : Type 0
-Known = ℕ → Option ℕ
+abbrev pub Meanings : Type 0
+Meanings = ℕ → Option ℕ
 
 -- Each operator gives twelve bits: sum, difference and product modulo 0o10000, inclusive or, and, and the quotient without remainder.
-abbrev pub joined : Operator → ℕ → ℕ → ℕ
-joined Plus a b = (a + b) % 0o10000
-joined Minus a b = (a + 0o10000 - b) % 0o10000
-joined Or a b = bit_or a b
-joined And a b = bit_and a b
-joined Times a b = a * b % 0o10000
-joined Divide a b = a / b
+abbrev pub join_values : Operator → ℕ → ℕ → ℕ
+join_values Plus a b = (a + b) % 0o10000
+join_values Minus a b = (a + 0o10000 - b) % 0o10000
+join_values Or a b = bit_or a b
+join_values And a b = bit_and a b
+join_values Times a b = a * b % 0o10000
+join_values Divide a b = a / b
 
 -- there is no quotient by 0
 abbrev pub is_undivided : Operator → ℕ → Bool
@@ -40,7 +40,7 @@ empty = record { is_reference = false; operation = 0; is_indirect = false; total
 abbrev pub with_value : ℕ → Sum → Result Sum ValueFault
 with_value v s =
     if is_undivided s.sign v then Err DZ
-    else Ok record s { total = joined s.sign s.total v }
+    else Ok record s { total = join_values s.sign s.total v }
 
 abbrev pub with_known : ℕ → Option ℕ → Sum → Result Sum ValueFault
 with_known name None s = Err (UA name)
@@ -59,17 +59,17 @@ abbrev pub without_operation : Sum → Sum
 without_operation s = record { is_reference = false; operation = 0; is_indirect = false; total = s.total; sign = s.sign }
 
 -- a permanent name has its value where the source gives it none
-abbrev pub known_or : ℕ → Option ℕ → ℕ
-known_or value None = value
-known_or value (Some v) = v
+abbrev pub meaning_or : ℕ → Option ℕ → ℕ
+meaning_or value None = value
+meaning_or value (Some v) = v
 
 -- a step that neither opens nor closes a literal
-abbrev pub with_plain : Known → Spot → Step → Sum → Result Sum ValueFault
+abbrev pub with_plain : Meanings → Spot → Step → Sum → Result Sum ValueFault
 with_plain known spot (step.Operation word) s = Ok record { is_reference = true; operation = word; is_indirect = false; total = s.total; sign = s.sign }
 with_plain known spot step.Alone s = Ok (without_operation s)
 with_plain known spot step.Indirect s = Ok record s { is_indirect = true }
 with_plain known spot (step.Name name) s = with_known name (known name) s
-with_plain known spot (step.Permanent name value) s = with_value (known_or value (known name)) s
+with_plain known spot (step.Permanent name value) s = with_value (meaning_or value (known name)) s
 with_plain known spot (step.Number word) s = with_value word s
 with_plain known spot step.Here s = with_place (here_of spot) s
 with_plain known spot (step.Sign op) s = Ok record s { sign = op }
@@ -108,15 +108,15 @@ abbrev pub direct_value : ℕ → Result Sum ValueFault → Result ℕ ValueFaul
 direct_value here (Err fault) = Err fault
 direct_value here (Ok s) = direct here s.is_reference s
 
-abbrev pub with_plain_if : Known → Spot → Step → Result Sum ValueFault → Result Sum ValueFault
+abbrev pub with_plain_if : Meanings → Spot → Step → Result Sum ValueFault → Result Sum ValueFault
 with_plain_if known spot step (Err fault) = Err fault
 with_plain_if known spot step (Ok s) = with_plain known spot step s
 
 -- steps more, up to the first fault
-abbrev pub with_plains : Known → Spot → List Step → Result Sum ValueFault → Result Sum ValueFault
+abbrev pub with_plains : Meanings → Spot → List Step → Result Sum ValueFault → Result Sum ValueFault
 with_plains known spot [] s = s
 with_plains known spot (step ∷ others) s = with_plains known spot others (with_plain_if known spot step s)
 
 -- the value of steps at a place, or its first fault from the left
-abbrev pub early_value : Known → Spot → List Step → Result ℕ ValueFault
+abbrev pub early_value : Meanings → Spot → List Step → Result ℕ ValueFault
 early_value known spot steps = direct_value spot.here (with_plains known spot steps (Ok empty))

@@ -7,7 +7,7 @@ use Rattle.pal8_pools.specs.Asks.{Ask, cell_in, pool_of, rank}
 use Rattle.pal8_pools.specs.Pooled.{with_punched}
 use Rattle.pal8_grammar.specs.declared.steps.Step.{Step}
 use Rattle.pal8_grammar.specs.declared.steps.Step.TheVariants as step
-use Rattle.pal8_values.specs.Sums.{Known, empty, offset_of, reference_word, with_plain, with_value}
+use Rattle.pal8_values.specs.Sums.{Meanings, empty, offset_of, reference_word, with_plain, with_value}
 use Rattle.pal8_values.specs.declared.sums.Sum.{Sum}
 use Rattle.pal8_values.specs.declared.sums.Spot.{Spot}
 use Rattle.pal8_values.specs.declared.frames.Frame.{Frame}
@@ -23,8 +23,8 @@ pub record Evaluation : Type 0 where
   pub punched : List Ask
 
 -- a value; what was asked up to it, and what punched words asked of that
-abbrev pub Asked : Type 0
-Asked = Result (ℕ × List Ask × List Ask) ValueFault
+abbrev pub AskResult : Type 0
+AskResult = Result (ℕ × List Ask × List Ask) ValueFault
 
 -- the fault of a page that is full
 abbrev pub full : ℕ → ValueFault
@@ -49,7 +49,7 @@ abbrev pub is_torn : Pool → Spot → Bool
 is_torn Own spot = (nat_le PAGE spot.location || nat_le PAGE spot.here) && not (nat_eq (spot.location % PAGE) (spot.here % PAGE))
 is_torn Zero spot = false
 
-abbrev pub with_cell_of : Spot → Pool → Ask → List Ask → List Ask → Asked
+abbrev pub with_cell_of : Spot → Pool → Ask → List Ask → List Ask → AskResult
 with_cell_of spot pool a asks punched =
     if nat_le (rank (pool_of (a ∷ asks) a.field a.page) a.value) 0o177 then Ok (
       page_start pool spot.here + cell_in (a ∷ asks) a % PAGE,
@@ -59,27 +59,27 @@ with_cell_of spot pool a asks punched =
     else Err (full a.page)
 
 -- the address of the cell that an ask gets after others, if its page has one left
-abbrev pub with_ask : Spot → Pool → ℕ → List Ask → List Ask → Asked
+abbrev pub with_ask : Spot → Pool → ℕ → List Ask → List Ask → AskResult
 with_ask spot pool value asks punched =
     if is_torn pool spot then Err RL else with_cell_of spot pool (ask_of spot pool value) asks punched
 
 -- a link reaches its address by the cell that holds it
-abbrev pub with_link : ℕ → Asked → Asked
+abbrev pub with_link : ℕ → AskResult → AskResult
 with_link operation (Err fault) = Err fault
 with_link operation (Ok (cell, asks, punched)) = Ok (reference_word operation true (cell % PAGE + 0o200), asks, punched)
 
 -- the word of a reference: where its address is out of reach, a link, unless it is indirect
-abbrev pub referred : Spot → ℕ → Bool → Option ℕ → ℕ → List Ask → List Ask → Asked
-referred spot operation is_indirect (Some offset) address asks punched = Ok (reference_word operation is_indirect offset, asks, punched)
-referred spot operation true None address asks punched = Err II
-referred spot operation false None address asks punched = with_link operation (with_ask spot Own address asks punched)
+abbrev pub word_of_reference : Spot → ℕ → Bool → Option ℕ → ℕ → List Ask → List Ask → AskResult
+word_of_reference spot operation is_indirect (Some offset) address asks punched = Ok (reference_word operation is_indirect offset, asks, punched)
+word_of_reference spot operation true None address asks punched = Err II
+word_of_reference spot operation false None address asks punched = with_link operation (with_ask spot Own address asks punched)
 
-abbrev pub value_by : Spot → Bool → Sum → List Ask → List Ask → Asked
+abbrev pub value_by : Spot → Bool → Sum → List Ask → List Ask → AskResult
 value_by spot false s asks punched = Ok (s.total, asks, punched)
-value_by spot true s asks punched = referred spot s.operation s.is_indirect (offset_of spot.here s.total) s.total asks punched
+value_by spot true s asks punched = word_of_reference spot s.operation s.is_indirect (offset_of spot.here s.total) s.total asks punched
 
 -- what a value is where it ends
-abbrev pub value_of : Spot → Sum → List Ask → List Ask → Asked
+abbrev pub value_of : Spot → Sum → List Ask → List Ask → AskResult
 value_of spot s asks punched = value_by spot s.is_reference s asks punched
 
 abbrev pub evaluation : List Frame → List Ask → List Ask → Result Sum ValueFault → Result Evaluation ValueFault
@@ -87,12 +87,12 @@ evaluation frames asks punched (Err fault) = Err fault
 evaluation frames asks punched (Ok s) = Ok record { sum = s; frames = frames; asks = asks; punched = punched }
 
 -- a literal is a term of what stands around it: the address of its cell
-abbrev pub with_cell : Frame → List Frame → Asked → Result Evaluation ValueFault
+abbrev pub with_cell : Frame → List Frame → AskResult → Result Evaluation ValueFault
 with_cell frame others (Err fault) = Err fault
 with_cell frame others (Ok (cell, asks, punched)) = evaluation others asks punched (with_value cell frame.sum)
 
 -- a literal asks for its own value
-abbrev pub with_literal : Spot → Frame → List Frame → Asked → Result Evaluation ValueFault
+abbrev pub with_literal : Spot → Frame → List Frame → AskResult → Result Evaluation ValueFault
 with_literal spot frame others (Err fault) = Err fault
 with_literal spot frame others (Ok (value, asks, punched)) = with_cell frame others (with_ask spot frame.pool value asks punched)
 
@@ -102,7 +102,7 @@ with_close spot [] s asks punched = Ok record { sum = s; frames = []; asks = ask
 with_close spot (frame ∷ others) s asks punched = with_literal spot frame others (value_of spot s asks punched)
 
 -- one step more
-abbrev pub with_step : Known → Spot → Step → Evaluation → Result Evaluation ValueFault
+abbrev pub with_step : Meanings → Spot → Step → Evaluation → Result Evaluation ValueFault
 with_step known spot (step.Operation word) e = evaluation e.frames e.asks e.punched (with_plain known spot (step.Operation word) e.sum)
 with_step known spot step.Alone e = evaluation e.frames e.asks e.punched (with_plain known spot step.Alone e.sum)
 with_step known spot step.Indirect e = evaluation e.frames e.asks e.punched (with_plain known spot step.Indirect e.sum)
@@ -115,21 +115,21 @@ with_step known spot (step.Open pool) e =
     Ok record { sum = empty; frames = record { pool = pool; sum = e.sum } ∷ e.frames; asks = e.asks; punched = e.punched }
 with_step known spot step.Close e = with_close spot e.frames e.sum e.asks e.punched
 
-abbrev pub with_step_if : Known → Spot → Step → Result Evaluation ValueFault → Result Evaluation ValueFault
+abbrev pub with_step_if : Meanings → Spot → Step → Result Evaluation ValueFault → Result Evaluation ValueFault
 with_step_if known spot step (Err fault) = Err fault
 with_step_if known spot step (Ok e) = with_step known spot step e
 
 -- steps more, up to the first fault
-abbrev pub with_steps : Known → Spot → List Step → Result Evaluation ValueFault → Result Evaluation ValueFault
+abbrev pub with_steps : Meanings → Spot → List Step → Result Evaluation ValueFault → Result Evaluation ValueFault
 with_steps known spot [] e = e
 with_steps known spot (step ∷ others) e = with_steps known spot others (with_step_if known spot step e)
 
-abbrev pub word_in : Spot → Result Evaluation ValueFault → Asked
+abbrev pub word_in : Spot → Result Evaluation ValueFault → AskResult
 word_in spot (Err fault) = Err fault
 word_in spot (Ok e) = value_of spot e.sum e.asks e.punched
 
 -- The word of steps at a place, after these asks, of which those are of punched words, and the asks after it. The asks of its terms come from the
 -- left, those in a literal before the literal's own, that of a link last. Else it is the first fault from the left.
-abbrev pub word_value : Known → Spot → List Step → List Ask → List Ask → Asked
+abbrev pub word_value : Meanings → Spot → List Step → List Ask → List Ask → AskResult
 word_value known spot steps asks punched =
     word_in spot (with_steps known spot steps (Ok record { sum = empty; frames = []; asks = asks; punched = punched }))

@@ -1,6 +1,6 @@
 ghost use Rattle.std.specs.Prelude.{◌≡◌, ◌<◌, IfSome, false};
 ghost use Rattle.pal8_sym.specs.Symbols.{value_of};
-ghost use Rattle.pal8_values.specs.Sums.{direct, direct_by, early_value, empty, indirect_bit, is_undivided, joined, known_or, offset_of, here_of, reference_word, with_known, with_place, with_plain, with_value};
+ghost use Rattle.pal8_values.specs.Sums.{direct, direct_by, early_value, empty, indirect_bit, is_undivided, join_values, meaning_or, offset_of, here_of, reference_word, with_known, with_place, with_plain, with_value};
 ghost use Rattle.pal8_values.specs.Answering.{Answers};
 
 use crate::ValueFault;
@@ -62,7 +62,7 @@ fn is_undivided(sign: Operator, value: Word) -> bool
 
 /// The product modulo 0o10000.
 fn product(before: Word, value: Word) -> Word
-    ensures value { result ≡ joined Operator.Times before value }
+    ensures value { result ≡ join_values Operator.Times before value }
     ensures range { result < 0o10000 }
 {
     let product = u32::from(before.get()) * u32::from(value.get());
@@ -70,9 +70,9 @@ fn product(before: Word, value: Word) -> Word
 }
 
 /// Two values joined. A quotient by 0 is no value.
-fn joined(sign: Operator, before: Word, value: Word) -> Word
+fn join_values(sign: Operator, before: Word, value: Word) -> Word
     requires { is_undivided sign value ≡ false }
-    ensures value { result ≡ joined sign before value }
+    ensures value { result ≡ join_values sign before value }
     ensures range { result < 0o10000 }
 {
     match sign {
@@ -95,7 +95,7 @@ pub fn with_value(value: Word, sum: Sum) -> Result<Sum, ValueFault>
         return Err(ValueFault::DZ);
     }
     Ok(Sum {
-        total: joined(before.sign, before.total, value),
+        total: join_values(before.sign, before.total, value),
         ..again
     })
 }
@@ -132,7 +132,7 @@ fn with_place(spot: Spot, sum: Sum) -> Result<Sum, ValueFault>
 
 /// A permanent name more, with the value that it has where the source gives it none.
 fn with_permanent(symbols: &Symbols, name: Name, value: Word, sum: Sum) -> Result<Sum, ValueFault>
-    ensures { Answers (with_value (known_or value (value_of symbols.now name)) sum) result }
+    ensures { Answers (with_value (meaning_or value (value_of symbols.now name)) sum) result }
 {
     match symbols.value(name) {
         Some(known) => with_value(known, sum),

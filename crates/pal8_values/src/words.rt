@@ -3,7 +3,7 @@ ghost use Rattle.word12.specs.declared.sizes.TheConstants.{FIELD, PAGE};
 ghost use Rattle.pal8_sym.specs.Symbols.{value_of as symbol_value};
 ghost use Rattle.pal8_pools.specs.Asks.{Ask};
 ghost use Rattle.pal8_pools.specs.Pooled.{Holds};
-ghost use Rattle.pal8_values.specs.Words.{full, is_torn, page_of, page_start, referred, value_of, with_ask, with_close, with_step, word_value};
+ghost use Rattle.pal8_values.specs.Words.{full, is_torn, page_of, page_start, word_of_reference, value_of, with_ask, with_close, with_step, word_value};
 ghost use Rattle.pal8_values.specs.Steps.{Takes};
 ghost use Rattle.pal8_values.specs.Answering.{Gives};
 
@@ -97,7 +97,7 @@ fn ask(
 }
 
 /// The word of a memory reference whose address is out of reach: it goes through a link.
-fn linked(
+fn word_through_link(
     pools: &mut Pools,
     alloc: Global,
     spot: Spot,
@@ -108,7 +108,7 @@ fn linked(
     requires place { spot.location < 0o10000 }
     requires here { spot.here < 0o10000 }
     ensures { (asks punched : List Ask) → Holds pools.old asks punched
-        → Gives (referred spot operation false None address asks punched) result pools.new }
+        → Gives (word_of_reference spot operation false None address asks punched) result pools.new }
 {
     let cell = match ask(pools, alloc, spot, Pool::Own, address) {
         Ok(cell) => cell,
@@ -135,7 +135,7 @@ fn value_of(pools: &mut Pools, alloc: Global, spot: Spot, sum: Sum) -> Result<Wo
             if sum.is_indirect {
                 return Err(ValueFault::II);
             }
-            linked(pools, alloc, spot, sum.operation, sum.total)
+            word_through_link(pools, alloc, spot, sum.operation, sum.total)
         }
     }
 }

@@ -4,7 +4,7 @@ use Rattle.pal_lex.specs.Statements.{statements}
 use Rattle.pal_lex.specs.declared.phrases.Body.{Body}
 use Rattle.pal_lex.specs.declared.phrases.Body.TheVariants.{Nothing, Origin, Define, Decimal, Octal, Pause, Field, Reference, Word}
 use Rattle.pal_lex.specs.declared.phrases.Part.{Part}
-use Rattle.pal_asm.specs.Expressions.{Known, address_value}
+use Rattle.pal_asm.specs.Expressions.{Meanings, address_value}
 use Rattle.pal_asm.specs.Places.{Source, is_word, values, place_at}
 use Rattle.pal_asm.specs.Words.{offset_of, offset_to, with_offset, body_word, cell_at, with_pair, word_values, pairs_by}
 use Rattle.pal_asm.specs.Faults.{at_line, address_fault, no_offset, out_of_reach, word_fault, words_fault, has_word, last_line, no_word}
@@ -17,7 +17,7 @@ use Rattle.pal_asm.proofs.WholeLemmas.{first_none, second_none, some_none, value
 abbrev Is : Option ℕ → Type 0
 Is value = (v : ℕ) × (value ≡ Some v)
 
-address_is : (known : Known) (place : ℕ) (address : Option (List Part)) → address_fault known place address ≡ None → Is (address_value known place address)
+address_is : (known : Meanings) (place : ℕ) (address : Option (List Part)) → address_fault known place address ≡ None → Is (address_value known place address)
 address_is known place None none = (0, refl)
 address_is known place (Some e) none = valued known place e none
 
@@ -26,7 +26,7 @@ offset_is None none = some_none none
 offset_is (Some o) none = (o, refl)
 
 -- a word with no fault is there
-word_is : (known : Known) (place : ℕ) (body : Body) → is_word body ≡ true → word_fault known place body ≡ None → Is (body_word known place body)
+word_is : (known : Meanings) (place : ℕ) (body : Body) → is_word body ≡ true → word_fault known place body ≡ None → Is (body_word known place body)
 word_is known place Nothing word none = absurd cc
 word_is known place (Origin e) word none = absurd cc
 word_is known place (Define name e) word none = absurd cc
@@ -49,14 +49,14 @@ no_less : (pairs : List (ℕ × ℕ)) (cell : ℕ) (word : Option ℕ) → 0 < l
 no_less pairs cell None some = some
 no_less pairs cell (Some word) some = omega (arith, some, length-append pairs ((cell, word) ∷ []))
 
-code_none : (line : ℕ) (known : Known) (place : ℕ) (body : Body) → at_line line (word_fault known place body) ≡ None → word_fault known place body ≡ None
+code_none : (line : ℕ) (known : Meanings) (place : ℕ) (body : Body) → at_line line (word_fault known place body) ≡ None → word_fault known place body ≡ None
 code_none line known place body none = by_code (word_fault known place body) none
   where
     by_code : (code : Option _) → at_line line code ≡ None → code ≡ None
     by_code None e = refl
     by_code (Some code) e = some_none e
 
-some_pairs : (last : Known) (source : Source) → has_word source ≡ true → words_fault last source ≡ None → 0 < length (pairs_by last source)
+some_pairs : (last : Meanings) (source : Source) → has_word source ≡ true → words_fault last source ≡ None → 0 < length (pairs_by last source)
 some_pairs last [] word none = absurd cc
 some_pairs last (Err fault ∷ older) word none = some_pairs last older word none
 some_pairs last (Ok s ∷ older) word none = by_test (is_word s.body) refl (λ e. some_pairs last older e (first_none _ _ none)) word

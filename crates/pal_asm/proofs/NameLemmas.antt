@@ -6,7 +6,7 @@ use Rattle.std.proofs.lemmas.Bool.Decides.{nat_tests}
 use Rattle.pal_sym.specs.SymbolTable.{SymbolTable}
 use Rattle.pal_sym.specs.Values.{symbol_value, is_fixed as fixed_in, DefinesTag}
 use Rattle.pal_asm.specs.declared.faults.Code.TheVariants.{DT}
-use Rattle.pal_asm.specs.Expressions.{Known}
+use Rattle.pal_asm.specs.Expressions.{Meanings}
 use Rattle.pal_asm.specs.Places.{with_tags, is_among}
 use Rattle.pal_asm.specs.Faults.{first_of, past, defined_otherwise, tags_fault}
 use Rattle.pal_asm.specs.PassSteps.{tag_fault}
@@ -24,7 +24,7 @@ first_one (x ∷ others) a long first =
     ap (λ v. v ∷ others) (sym first) ∙ ap (λ v. a ∷ v) (sym (ap (λ n. take n others) (less_one (length others)) ∙ take_all (length others) others (omega arith)))
 
 -- a name was defined, or stood for this value already
-abbrev pub Adds : ℕ → ℕ → Known → Known → Type 0
+abbrev pub Adds : ℕ → ℕ → Meanings → Meanings → Type 0
 Adds tag place old new = (n : ℕ) → new n ≡ (if nat_eq tag n then Some place else old n)
 
 swapped : {A : Type 0} (s t : Bool) (a b : A) → (if t then a else (if s then a else b)) ≡ (if s then a else (if t then a else b))
@@ -33,7 +33,7 @@ swapped true false a b = refl
 swapped false true a b = refl
 swapped false false a b = refl
 
-pub with_tag_more : (tags : List ℕ) (tag place : ℕ) (old new : Known) → Adds tag place old new
+pub with_tag_more : (tags : List ℕ) (tag place : ℕ) (old new : Meanings) → Adds tag place old new
     → (n : ℕ) → with_tags tags place new n ≡ with_tags (tag ∷ tags) place old n
 with_tag_more [] tag place old new adds n = adds n
 with_tag_more (t ∷ tags) tag place old new adds n =
@@ -52,13 +52,13 @@ chosen : (test : Bool) (place : ℕ) (value : Option ℕ) → (test ≡ true →
 chosen true place value before = same_again place ∙ sym (by_before place value (before refl))
 chosen false place value before = refl
 
-other_tag : (t tag place : ℕ) (old new : Known) → Adds tag place old new → (old tag ≡ None) ⊎ (old tag ≡ Some place)
+other_tag : (t tag place : ℕ) (old new : Meanings) → Adds tag place old new → (old tag ≡ None) ⊎ (old tag ≡ Some place)
     → defined_otherwise DT place (new t) ≡ defined_otherwise DT place (old t)
 other_tag t tag place old new adds before =
     ap (defined_otherwise DT place) (adds t)
     ∙ chosen (nat_eq tag t) place (old t) (λ e. subst (λ n. (old n ≡ None) ⊎ (old n ≡ Some place)) (eqb-true tag t e) before)
 
-pub tags_fault_more : (tags : List ℕ) (tag place : ℕ) (old new : Known) → Adds tag place old new → (old tag ≡ None) ⊎ (old tag ≡ Some place)
+pub tags_fault_more : (tags : List ℕ) (tag place : ℕ) (old new : Meanings) → Adds tag place old new → (old tag ≡ None) ⊎ (old tag ≡ Some place)
     → tags_fault new place tags ≡ tags_fault old place tags
 tags_fault_more [] tag place old new adds before = refl
 tags_fault_more (t ∷ tags) tag place old new adds before =
@@ -66,12 +66,12 @@ tags_fault_more (t ∷ tags) tag place old new adds before =
     ∙ ap (first_of (first_of (past place) (defined_otherwise DT place (old t)))) (tags_fault_more tags tag place old new adds before)
 
 -- a tag that was defined has no fault
-pub first_tag : (tags : List ℕ) (tag place : ℕ) (old : Known) → past place ≡ None → (old tag ≡ None) ⊎ (old tag ≡ Some place)
+pub first_tag : (tags : List ℕ) (tag place : ℕ) (old : Meanings) → past place ≡ None → (old tag ≡ None) ⊎ (old tag ≡ Some place)
     → tags_fault old place (tag ∷ tags) ≡ tags_fault old place tags
 first_tag tags tag place old none before = rw (none, by_before place (old tag) before) refl
 
 -- a tag that has no fault leaves that of the others
-pub judged_one : (rest : List ℕ) (tag place : ℕ) (known : Known) → 1 ≤ length rest → tag ≡ get_or rest 0 tag → tag_fault place (known tag) ≡ None
+pub judged_one : (rest : List ℕ) (tag place : ℕ) (known : Meanings) → 1 ≤ length rest → tag ≡ get_or rest 0 tag → tag_fault place (known tag) ≡ None
     → tags_fault known place (behind_one rest) ≡ tags_fault known place rest
 judged_one rest tag place known long first none =
     sym (ap (tags_fault known place) (first_one rest tag long first) ∙ ap (λ f. first_of f (tags_fault known place (behind_one rest))) none)

@@ -4,7 +4,7 @@ use Rattle.pal_lex.specs.Text.{text_from, up_to_end, is_over, line_after}
 use Rattle.pal_lex.specs.Statements.{statements, first_fault}
 use Rattle.pal_lex.specs.Joins.{pauses, join_of}
 use Rattle.pal_lex.specs.Laws.{has_next, ByteGoesOn, JoinGoesOn, PauseJoins}
-use Rattle.pal_lex.specs.Reading.{HasRead, HasPaused, Answers, HandsOut, Pauses, TellsFault as LexTells, Ends, BeginsNext, EndsSource as LexEnds, is_pause_body, with_tokens, tokens_behind}
+use Rattle.pal_lex.specs.Reading.{HasRead, HasPaused, Answers, HandsOut, Pauses, TellsFault as LexTells, Ends, BeginsNext, EndsSource as LexEnds, is_pause_body, with_tokens, tokens_after}
 use Rattle.pal_lex.specs.Progress as lex
 use Rattle.pal_lex.specs.Progress.{Setting, setting}
 use Rattle.pal_lex.specs.declared.faults.LexFault.{LexFault}
@@ -20,7 +20,7 @@ use Rattle.pal_asm.specs.declared.faults.Code.TheVariants.{NE}
 use Rattle.pal_asm.specs.declared.faults.AsmFault.{AsmFault}
 use Rattle.pal_asm.specs.declared.faults.AsmFault.TheVariants.{At, Memory}
 use Rattle.pal_asm.specs.declared.passing.Pass.{Pass}
-use Rattle.pal_asm.specs.Passing.{Counts, Paused, Stands, IsBehind, TellsJoinFault, HasPassed, Settles, SettlesIn, PassesTo, EndsSource, BeginsSecondPass}
+use Rattle.pal_asm.specs.Passing.{Counts, Pause, Stands, StandsAfter, TellsJoinFault, HasPassed, Settles, SettlesIn, PassesTo, EndsSource, BeginsSecondPass}
 use Rattle.pal_asm.specs.TextSteps.{is_pause_answer, PassesByte}
 use Rattle.pal_asm.proofs.ByteLemmas.{from_behind, the_rest, up_to, one_more}
 
@@ -51,7 +51,7 @@ tells_here fault_in stays goes stay lexer ended prefix several here is_last Fits
   | inr paused ↦ by_others others follows paused.1
 ]
   where
-    by_others : (os : List (List ℕ)) → has_next os ≡ several → Paused lexer prefix several here Fits → fault_in (statements (join_of ((later ++ here) ∷ os) ++ prefix)) ≡ Some f
+    by_others : (os : List (List ℕ)) → has_next os ≡ several → Pause lexer prefix several here Fits → fault_in (statements (join_of ((later ++ here) ∷ os) ++ prefix)) ≡ Some f
     by_others [] e p = absurd (never several e p.follows)
       where
         never : (b : Bool) → false ≡ b → b ≡ true → ⊥
@@ -71,7 +71,7 @@ stands_map lexer ended prefix several here is_last Fits Fits' change stands = el
 ]
 
 -- behind PAUSE anything may come
-pub paused_more : (lexer : lex.Progress) (prefix : List ℕ) (several : Bool) (here bytes : List ℕ) (Fits : Source → Type 0) → Paused lexer prefix several here Fits → Paused lexer prefix several (text_from here bytes) Fits
+pub paused_more : (lexer : lex.Progress) (prefix : List ℕ) (several : Bool) (here bytes : List ℕ) (Fits : Source → Type 0) → Pause lexer prefix several here Fits → Pause lexer prefix several (text_from here bytes) Fits
 paused_more lexer prefix several here bytes Fits p =
     let rest = from_behind bytes here in
     record {
@@ -105,8 +105,8 @@ stands_read old new ended prefix several here bytes i j is_last Fits low read pa
   | inr p ↦
       inr (
         p.0,
-        subst (λ (l : lex.Progress). Paused l prefix several (text_from here (take j bytes)) Fits) (sym (paused p.1.cut p.1.paused))
-            (subst (λ t. Paused old prefix several t Fits) (sym (farther i j low)) (paused_more old prefix several (text_from here (take i bytes)) (take (j - i) (drop i bytes)) Fits p.1)),
+        subst (λ (l : lex.Progress). Pause l prefix several (text_from here (take j bytes)) Fits) (sym (paused p.1.cut p.1.paused))
+            (subst (λ t. Pause old prefix several t Fits) (sym (farther i j low)) (paused_more old prefix several (text_from here (take i bytes)) (take (j - i) (drop i bytes)) Fits p.1)),
       )
 ]
   where
@@ -141,7 +141,7 @@ counts_more old new prefix several here b Fits Fits' counts same fine read at = 
 
 -- a byte that ended PAUSE
 pub pauses_here : PauseJoins → (old new : lex.Progress) (prefix : List ℕ) (several : Bool) (here : List ℕ) (b : ℕ) (s : Statement) (Fits : Source → Type 0) → Counts old prefix several here Fits
-    → Pauses (length prefix) (here ++ prefix) b s old new → Paused new prefix several (b ∷ here) Fits
+    → Pauses (length prefix) (here ++ prefix) b s old new → Pause new prefix several (b ∷ here) Fits
 pauses_here law old new prefix several here b s Fits counts p = record {
   cut = up_to_end (here ++ prefix);
   paused = p.paused;
@@ -152,12 +152,12 @@ pauses_here law old new prefix several here b s Fits counts p = record {
 }
 
 -- behind PAUSE
-pub paused_byte : (old new : lex.Progress) (prefix : List ℕ) (several : Bool) (here : List ℕ) (b : ℕ) (Fits : Source → Type 0) → Paused old prefix several here Fits → new ≡ old → Paused new prefix several (b ∷ here) Fits
+pub paused_byte : (old new : lex.Progress) (prefix : List ℕ) (several : Bool) (here : List ℕ) (b : ℕ) (Fits : Source → Type 0) → Pause old prefix several here Fits → new ≡ old → Pause new prefix several (b ∷ here) Fits
 paused_byte old new prefix several here b Fits p same =
-    subst (λ (l : lex.Progress). Paused l prefix several (b ∷ here) Fits) (sym same) (paused_more old prefix several here (b ∷ []) Fits p)
+    subst (λ (l : lex.Progress). Pause l prefix several (b ∷ here) Fits) (sym same) (paused_more old prefix several here (b ∷ []) Fits p)
 
-waits : (pass : Pass) (source : Source) → pass.waiting ≡ None → IsBehind pass.waiting pass.assembler source → IsFirst pass.assembler source
-waits pass source none is = subst (λ w. IsBehind w pass.assembler source) none is
+waits : (pass : Pass) (source : Source) → pass.waiting ≡ None → StandsAfter pass.waiting pass.assembler source → IsFirst pass.assembler source
+waits pass source none is = subst (λ w. StandsAfter w pass.assembler source) none is
 
 -- a character was taken
 pub passed_byte : PauseJoins → (pass new : Pass) (lexer : lex.Progress) (answer : Option Statement) (prefix : List ℕ) (several : Bool) (here : List ℕ) (b : ℕ) → pass.waiting ≡ None
@@ -165,7 +165,7 @@ pub passed_byte : PauseJoins → (pass new : Pass) (lexer : lex.Progress) (answe
     → ((text : List ℕ) → HasPaused pass.lexer text → IsNothing (Ok answer) × (lexer ≡ pass.lexer))
     → setting lexer ≡ setting pass.lexer
     → (is_pause_answer answer ≡ true → new ≡ record { lexer = lexer; assembler = pass.assembler; waiting = pass.waiting; ended = true })
-    → (is_pause_answer answer ≡ false → new ≡ record { lexer = lexer; assembler = pass.assembler; waiting = answer; ended = pass.ended })
+    → (is_pause_answer answer ≡ false → new ≡ record { lexer = lexer; assembler = pass.assembler; waiting = answer; ended = pass.is_at_end })
     → HasPassed pass prefix several here false → HasPassed new prefix several (b ∷ here) false
 passed_byte joins pass new lexer answer prefix several here b none answers paused same pausing keeping has = elim has [
   | inl counts ↦ by_answer answer refl counts.0 counts.1 (answers (length prefix) (here ++ prefix) counts.1.read)
@@ -173,32 +173,32 @@ passed_byte joins pass new lexer answer prefix several here b none answers pause
       let is = paused p.1.cut p.1.paused in
       let nothing = same_answer answer is.0 in
       subst (λ (n : Pass). HasPassed n prefix several (b ∷ here) false) (sym (keeping (ap is_pause_answer nothing)))
-      (subst (λ w. HasPassed (record { lexer = lexer; assembler = pass.assembler; waiting = w; ended = pass.ended }) prefix several (b ∷ here) false) (none ∙ sym nothing)
-      (inr (p.0, paused_byte pass.lexer lexer prefix several here b (λ s. IsBehind pass.waiting pass.assembler s) p.1 is.1)))
+      (subst (λ w. HasPassed (record { lexer = lexer; assembler = pass.assembler; waiting = w; ended = pass.is_at_end }) prefix several (b ∷ here) false) (none ∙ sym nothing)
+      (inr (p.0, paused_byte pass.lexer lexer prefix several here b (λ s. StandsAfter pass.waiting pass.assembler s) p.1 is.1)))
 ]
   where
-    after_pause : (s : Statement) (p : Bool) → answer ≡ Some s → is_pause_body s.body ≡ p → pass.ended ≡ false → Counts pass.lexer prefix several here (λ q. IsBehind pass.waiting pass.assembler q)
+    after_pause : (s : Statement) (p : Bool) → answer ≡ Some s → is_pause_body s.body ≡ p → pass.is_at_end ≡ false → Counts pass.lexer prefix several here (λ q. StandsAfter pass.waiting pass.assembler q)
         → HandsOut p (length prefix) (here ++ prefix) b s pass.lexer lexer → HasPassed new prefix several (b ∷ here) false
     after_pause s true is pause going counts out =
         subst (λ (n : Pass). HasPassed n prefix several (b ∷ here) false) (sym (pausing (ap is_pause_answer is ∙ pause)))
-        (inr (refl, pauses_here joins pass.lexer lexer prefix several here b s (λ q. IsBehind pass.waiting pass.assembler q) counts out))
+        (inr (refl, pauses_here joins pass.lexer lexer prefix several here b s (λ q. StandsAfter pass.waiting pass.assembler q) counts out))
     after_pause s false is pause going counts out =
         subst (λ (n : Pass). HasPassed n prefix several (b ∷ here) false) (sym (keeping (ap is_pause_answer is ∙ pause)))
-        (subst (λ w. HasPassed (record { lexer = lexer; assembler = pass.assembler; waiting = w; ended = pass.ended }) prefix several (b ∷ here) false) (sym is)
+        (subst (λ w. HasPassed (record { lexer = lexer; assembler = pass.assembler; waiting = w; ended = pass.is_at_end }) prefix several (b ∷ here) false) (sym is)
         (inl (
           going,
-          counts_more pass.lexer lexer prefix several here b (λ q. IsBehind pass.waiting pass.assembler q) (λ q. IsBehind (Some s) pass.assembler q) counts same out.no_fault out.read
-              (statements (here ++ prefix), (tokens_behind (here ++ prefix), (out.newest, pause, waits pass _ none counts.at))),
+          counts_more pass.lexer lexer prefix several here b (λ q. StandsAfter pass.waiting pass.assembler q) (λ q. StandsAfter (Some s) pass.assembler q) counts same out.no_fault out.read
+              (statements (here ++ prefix), (tokens_after (here ++ prefix), (out.newest, pause, waits pass _ none counts.at))),
         )))
 
-    by_answer : (a : Option Statement) → answer ≡ a → pass.ended ≡ false → Counts pass.lexer prefix several here (λ q. IsBehind pass.waiting pass.assembler q)
+    by_answer : (a : Option Statement) → answer ≡ a → pass.is_at_end ≡ false → Counts pass.lexer prefix several here (λ q. StandsAfter pass.waiting pass.assembler q)
         → Answers (length prefix) (here ++ prefix) b (Ok a) pass.lexer lexer → HasPassed new prefix several (b ∷ here) false
     by_answer None is going counts told =
         subst (λ (n : Pass). HasPassed n prefix several (b ∷ here) false) (sym (keeping (ap is_pause_answer is)))
-        (subst (λ w. HasPassed (record { lexer = lexer; assembler = pass.assembler; waiting = w; ended = pass.ended }) prefix several (b ∷ here) false) (sym is)
+        (subst (λ w. HasPassed (record { lexer = lexer; assembler = pass.assembler; waiting = w; ended = pass.is_at_end }) prefix several (b ∷ here) false) (sym is)
         (inl (
           going,
-          counts_more pass.lexer lexer prefix several here b (λ q. IsBehind pass.waiting pass.assembler q) (λ q. IsBehind None pass.assembler q) counts same told.0 told.2
+          counts_more pass.lexer lexer prefix several here b (λ q. StandsAfter pass.waiting pass.assembler q) (λ q. StandsAfter None pass.assembler q) counts same told.0 told.2
               (subst (λ q. IsFirst pass.assembler q) (sym told.1) (waits pass _ none counts.at)),
         )))
     by_answer (Some s) is going counts told = after_pause s (is_pause_body s.body) is refl going counts told
@@ -217,28 +217,28 @@ goes_on_by goes prefix here later b others several lexer Fits counts follows qui
 pub refused_byte : ByteGoesOn → LexicalFaultIsTold → (pass : Pass) (lexer : lex.Progress) (f : LexFault) (answer : AsmFault) (prefix : List ℕ) (several : Bool) (here : List ℕ) (b : ℕ) → answer ≡ lexical f → pass.waiting ≡ None
     → ((seam : ℕ) (text : List ℕ) → HasRead pass.lexer seam text → Answers seam text b (Err f) pass.lexer lexer)
     → ((text : List ℕ) → HasPaused pass.lexer text → IsNothing (Err f) × (lexer ≡ pass.lexer))
-    → HasPassed pass prefix several here false → PassesByte prefix several here b (Err answer) (record { lexer = lexer; assembler = pass.assembler; waiting = pass.waiting; ended = pass.ended })
+    → HasPassed pass prefix several here false → PassesByte prefix several here b (Err answer) (record { lexer = lexer; assembler = pass.assembler; waiting = pass.waiting; ended = pass.is_at_end })
 refused_byte goes told pass lexer f answer prefix several here b e none answers paused has = elim has [
   | inl counts ↦ subst (λ a. PassesByte prefix several here b (Err a) now) (sym e) (by_fault f counts.0 counts.1 (answers (length prefix) (here ++ prefix) counts.1.read))
   | inr p ↦ not_ok f (paused p.1.cut p.1.paused).0
 ]
   where
     now : Pass
-    now = record { lexer = lexer; assembler = pass.assembler; waiting = pass.waiting; ended = pass.ended }
+    now = record { lexer = lexer; assembler = pass.assembler; waiting = pass.waiting; ended = pass.is_at_end }
 
-    tells : (g : LexFault) → Counts pass.lexer prefix several here (λ q. IsBehind pass.waiting pass.assembler q) → LexTells (length prefix) (here ++ prefix) b g pass.lexer lexer → TellsJoinFault first_order prefix several (b ∷ here) (lexical g)
+    tells : (g : LexFault) → Counts pass.lexer prefix several here (λ q. StandsAfter pass.waiting pass.assembler q) → LexTells (length prefix) (here ++ prefix) b g pass.lexer lexer → TellsJoinFault first_order prefix several (b ∷ here) (lexical g)
     tells g counts is later others follows =
-        let more = goes_on_by goes prefix here later b others several pass.lexer (λ q. IsBehind pass.waiting pass.assembler q) counts follows (is.1 counts.fine) in
+        let more = goes_on_by goes prefix here later b others several pass.lexer (λ q. StandsAfter pass.waiting pass.assembler q) counts follows (is.1 counts.fine) in
         ap first_order more.1 ∙ first_stays more.0 (statements (b ∷ here ++ prefix)) (lexical g) (told (here ++ prefix) b g (waits pass _ none counts.at).no_fault is.0)
 
-    by_fault : (g : LexFault) → pass.ended ≡ false → Counts pass.lexer prefix several here (λ q. IsBehind pass.waiting pass.assembler q) → Answers (length prefix) (here ++ prefix) b (Err g) pass.lexer lexer
+    by_fault : (g : LexFault) → pass.is_at_end ≡ false → Counts pass.lexer prefix several here (λ q. StandsAfter pass.waiting pass.assembler q) → Answers (length prefix) (here ++ prefix) b (Err g) pass.lexer lexer
         → PassesByte prefix several here b (Err (lexical g)) now
     by_fault (fault.IC line) going counts is = tells (fault.IC line) counts is
     by_fault (fault.SY line) going counts is = tells (fault.SY line) counts is
     by_fault (fault.NU line) going counts is = tells (fault.NU line) counts is
     by_fault (fault.NE line) going counts is = absurd is
     by_fault fault.Memory going counts is =
-        subst (λ (l : lex.Progress). HasPassed (record { lexer = l; assembler = pass.assembler; waiting = pass.waiting; ended = pass.ended }) prefix several here false) (sym is.3) (inl (going, counts))
+        subst (λ (l : lex.Progress). HasPassed (record { lexer = l; assembler = pass.assembler; waiting = pass.waiting; ended = pass.is_at_end }) prefix several here false) (sym is.3) (inl (going, counts))
 
 -- ## Characters
 
@@ -258,7 +258,7 @@ refused_in prefix several here bytes i b new Memory inside is has = has
 
 -- ## A statement that waits
 
-pub settled_by : (pass new : Pass) (prefix : List ℕ) (several : Bool) (here : List ℕ) (is_last : Bool) → ((source : Source) → IsBehind pass.waiting pass.assembler source → Settles source (Ok tt) pass new)
+pub settled_by : (pass new : Pass) (prefix : List ℕ) (several : Bool) (here : List ℕ) (is_last : Bool) → ((source : Source) → StandsAfter pass.waiting pass.assembler source → Settles source (Ok tt) pass new)
     → HasPassed pass prefix several here is_last → HasPassed new prefix several here is_last
 settled_by pass new prefix several here is_last settles has = elim has [
   | inl counts ↦
@@ -272,7 +272,7 @@ settled_by pass new prefix several here is_last settles has = elim has [
 ]
 
 -- want of memory for it changes nothing
-pub not_settled : (pass new : Pass) (prefix : List ℕ) (several : Bool) (here : List ℕ) (is_last : Bool) → ((source : Source) → IsBehind pass.waiting pass.assembler source → Settles source (Err Memory) pass new)
+pub not_settled : (pass new : Pass) (prefix : List ℕ) (several : Bool) (here : List ℕ) (is_last : Bool) → ((source : Source) → StandsAfter pass.waiting pass.assembler source → Settles source (Err Memory) pass new)
     → HasPassed pass prefix several here is_last → HasPassed new prefix several here is_last
 not_settled pass new prefix several here is_last settles has = elim has [
   | inl counts ↦ subst (λ (n : Pass). HasPassed n prefix several here is_last) (sym (settles _ counts.1.at)) (inl counts)
@@ -280,14 +280,14 @@ not_settled pass new prefix several here is_last settles has = elim has [
 ]
 
 -- its fault is told
-pub settle_tells : JoinGoesOn → StatementsStay → (pass new : Pass) (prefix : List ℕ) (several : Bool) (here : List ℕ) (is_last : Bool) (f : AsmFault) → ((source : Source) → IsBehind pass.waiting pass.assembler source → first_order source ≡ Some f)
+pub settle_tells : JoinGoesOn → StatementsStay → (pass new : Pass) (prefix : List ℕ) (several : Bool) (here : List ℕ) (is_last : Bool) (f : AsmFault) → ((source : Source) → StandsAfter pass.waiting pass.assembler source → first_order source ≡ Some f)
     → HasPassed pass prefix several here is_last → TellsJoinFault first_order prefix several here f
 settle_tells goes stay pass new prefix several here is_last f told has =
-    tells_here first_order first_stays goes stay pass.lexer pass.ended prefix several here is_last (λ s. IsBehind pass.waiting pass.assembler s) f has told
+    tells_here first_order first_stays goes stay pass.lexer pass.is_at_end prefix several here is_last (λ s. StandsAfter pass.waiting pass.assembler s) f has told
 
 -- what it comes to within characters
 pub settle_in : JoinGoesOn → StatementsStay → (pass new : Pass) (prefix : List ℕ) (several : Bool) (here bytes : List ℕ) (i : ℕ) (r : Result (Unit {0}) AsmFault)
-    → ((source : Source) → IsBehind pass.waiting pass.assembler source → Settles source r pass new)
+    → ((source : Source) → StandsAfter pass.waiting pass.assembler source → Settles source r pass new)
     → HasPassed pass prefix several (text_from here (take i bytes)) false → PassesTo prefix several here bytes i r new
 settle_in goes stay pass new prefix several here bytes i (Ok done) settles has = settled_by pass new prefix several (text_from here (take i bytes)) false settles has
 settle_in goes stay pass new prefix several here bytes i (Err Memory) settles has = not_settled pass new prefix several (text_from here (take i bytes)) false settles has
@@ -299,25 +299,25 @@ settle_in goes stay pass new prefix several here bytes i (Err (At code line)) se
 -- the assembler has taken a statement that waited
 pub statement_settled : (s : Statement) (old new : asm.Progress) (pass : Pass) (source : Source) → pass.waiting ≡ Some s
     → ((older : Source) (tokens : List Token) → is_pause_body s.body ≡ false → IsFirst pass.assembler older → AnswersFirst older (with_tokens tokens s) (Ok tt) pass.assembler new)
-    → IsBehind pass.waiting pass.assembler source → IsFirst new source
+    → StandsAfter pass.waiting pass.assembler source → IsFirst new source
 statement_settled s old new pass source is answers behind =
-    let b : IsBehind (Some s) pass.assembler source = subst (λ w. IsBehind w pass.assembler source) is behind in
+    let b : StandsAfter (Some s) pass.assembler source = subst (λ w. StandsAfter w pass.assembler source) is behind in
     subst (λ q. IsFirst new q) (sym b.1.1.0) (answers b.0 b.1.0 b.1.1.1 b.1.1.2)
 
 -- the assembler has refused it
 pub statement_refused : (s : Statement) (new : asm.Progress) (pass : Pass) (source : Source) (f : AsmFault) → pass.waiting ≡ Some s
     → ((older : Source) (tokens : List Token) → is_pause_body s.body ≡ false → IsFirst pass.assembler older → AnswersFirst older (with_tokens tokens s) (Err f) pass.assembler new)
-    → IsBehind pass.waiting pass.assembler source → Settles source (Err f) pass (record { lexer = pass.lexer; assembler = new; waiting = pass.waiting; ended = pass.ended })
+    → StandsAfter pass.waiting pass.assembler source → Settles source (Err f) pass (record { lexer = pass.lexer; assembler = new; waiting = pass.waiting; ended = pass.is_at_end })
 statement_refused s new pass source f is answers behind =
     by_fault f (answers b.0 b.1.0 b.1.1.1 b.1.1.2)
   where
-    b : IsBehind (Some s) pass.assembler source
-    b = subst (λ w. IsBehind w pass.assembler source) is behind
+    b : StandsAfter (Some s) pass.assembler source
+    b = subst (λ w. StandsAfter w pass.assembler source) is behind
 
     by_fault : (g : AsmFault) → AnswersFirst b.0 (with_tokens b.1.0 s) (Err g) pass.assembler new
-        → Settles source (Err g) pass (record { lexer = pass.lexer; assembler = new; waiting = pass.waiting; ended = pass.ended })
+        → Settles source (Err g) pass (record { lexer = pass.lexer; assembler = new; waiting = pass.waiting; ended = pass.is_at_end })
     by_fault (At code line) told = ap first_order b.1.1.0 ∙ told.0
-    by_fault Memory told = ap (λ (a : asm.Progress). record { lexer = pass.lexer; assembler = a; waiting = pass.waiting; ended = pass.ended }) told.0
+    by_fault Memory told = ap (λ (a : asm.Progress). record { lexer = pass.lexer; assembler = a; waiting = pass.waiting; ended = pass.is_at_end }) told.0
 
 -- ## Between sources, and between the passes
 
@@ -347,7 +347,7 @@ turned text seam old new pass none is ends turns = (
 
 -- what it comes to where the pass stands
 pub settled_in : JoinGoesOn → StatementsStay → (pass new : Pass) (prefix : List ℕ) (several : Bool) (here : List ℕ) (is_last : Bool) (r : Result (Unit {0}) AsmFault)
-    → ((source : Source) → IsBehind pass.waiting pass.assembler source → Settles source r pass new) → HasPassed pass prefix several here is_last → SettlesIn prefix several here is_last r new
+    → ((source : Source) → StandsAfter pass.waiting pass.assembler source → Settles source r pass new) → HasPassed pass prefix several here is_last → SettlesIn prefix several here is_last r new
 settled_in goes stay pass new prefix several here is_last (Ok tt) settles has = settled_by pass new prefix several here is_last settles has
 settled_in goes stay pass new prefix several here is_last (Err Memory) settles has = not_settled pass new prefix several here is_last settles has
 settled_in goes stay pass new prefix several here is_last (Err (At code line)) settles has = settle_tells goes stay pass new prefix several here is_last (At code line) settles has

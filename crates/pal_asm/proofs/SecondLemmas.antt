@@ -10,7 +10,7 @@ use Rattle.pal_asm.specs.declared.faults.Code.TheVariants.{NW}
 use Rattle.pal_asm.specs.declared.faults.AsmFault.{AsmFault}
 use Rattle.pal_asm.specs.declared.faults.AsmFault.TheVariants.{At}
 use Rattle.pal_asm.specs.declared.spots.Spot.{Spot}
-use Rattle.pal_asm.specs.Places.{Source, is_among, fixed_at, values, place_at, values_at, field_by, field_at}
+use Rattle.pal_asm.specs.Places.{Source, is_among, is_fixed_at, values, place_at, values_at, field_by, field_at}
 use Rattle.pal_asm.specs.Words.{word_values, body_word, with_pair, pairs_by}
 use Rattle.pal_asm.specs.Faults.{first_of, tags_fault, body_fault, at_line, first_order, last_line, word_fault}
 use Rattle.pal_asm.specs.Progress.{Progress}
@@ -41,7 +41,7 @@ turned whole old again symbols spot first line failed is word begins passed = re
   has_word = ap (λ b. if b then None else Some (At NW (last_line whole))) (sym passed.word ∙ ap (λ (p : Progress). p.spot.word) (sym is) ∙ word);
   words = refl;
   pass = refl;
-  goes_on = ap (λ (p : Progress). p.failed) is ∙ passed.goes_on;
+  goes_on = ap (λ (p : Progress). p.fault) is ∙ passed.goes_on;
 }
 
 -- ## A statement of a whole source with no fault of the first order
@@ -56,14 +56,14 @@ module _ (whole later older : Source) (s : Statement) (split : whole ≡ later +
   tags_fine : tags_fault (values older) (place_at older) s.tags ≡ None
   tags_fine = first_none _ _ (no_fault_at s older fine)
 
-  pub body_fine : body_fault (fixed_at s.tags older) (values_at s.tags older) (place_at older) s.body ≡ None
+  pub body_fine : body_fault (is_fixed_at s.tags older) (values_at s.tags older) (place_at older) s.body ≡ None
   body_fine = second_none _ _ (no_fault_at s older fine)
 
   -- a permanent name stands for its value
   kept : (n v : ℕ) → permanent n ≡ Some v → values older n ≡ Some v
   kept n v is = (permanent_kept older n v (first_none _ _ fine) is).1
 
-  kept_at_body : (n v : ℕ) → permanent n ≡ Some v → (fixed_at s.tags older n ≡ true) × (values_at s.tags older n ≡ Some v)
+  kept_at_body : (n v : ℕ) → permanent n ≡ Some v → (is_fixed_at s.tags older n ≡ true) × (values_at s.tags older n ≡ Some v)
   kept_at_body n v is =
       let before = permanent_kept older n v (first_none _ _ fine) is in
       (or_right (is_among s.tags n) _ before.0, tags_keep s.tags (place_at older) (values older) tags_fine n v before.1)
@@ -76,7 +76,7 @@ module _ (whole later older : Source) (s : Statement) (split : whole ≡ later +
   -- the body passed again
   pub body_passed : (n : ℕ) → with_body_again (word_values (values whole) s.tags older) (place_at older) s.body n ≡ second_values whole (Ok s ∷ older) n
   body_passed =
-      body_set (fixed_at s.tags older) (values_at s.tags older) (values whole) (place_at older) s.body body_fine
+      body_set (is_fixed_at s.tags older) (values_at s.tags older) (values whole) (place_at older) s.body body_fine
       (λ n is. subst (λ w. IsKnown (values w) n) (sym split) (body_to_whole later s older n here is)) kept_at_body
 
 -- what names stand for at a body
@@ -111,16 +111,16 @@ second_more whole later older s old again symbols middle new spot next line fail
         symbols = fun_ext (λ n. made.values n ∙ ap (λ k. with_body_again k spot.location s.body n) names ∙ ap (λ p. with_body_again known p s.body n) there
             ∙ body_passed whole later older s split second.no_fault n);
         location = ap (λ (p : Spot). p.location) made.moved ∙ ap (λ k. place_by k spot.location s.body) names ∙ ap (λ p. place_by known p s.body) there
-            ∙ same_place (fixed_at s.tags older) (values_at s.tags older) known (place_at older) s.body grows fine ∙ sym (place_passed s older);
+            ∙ same_place (is_fixed_at s.tags older) (values_at s.tags older) known (place_at older) s.body grows fine ∙ sym (place_passed s older);
         field = ap (λ (p : Spot). p.field) made.moved ∙ ap (λ k. field_by k spot.location s.body spot.field) names
             ∙ ap (λ p. field_by known p s.body spot.field) there ∙ ap (field_by known (place_at older) s.body) in_field
-            ∙ same_field (fixed_at s.tags older) (values_at s.tags older) known (place_at older) s.body (field_at older) grows fine;
+            ∙ same_field (is_fixed_at s.tags older) (values_at s.tags older) known (place_at older) s.body (field_at older) grows fine;
         no_fault = second.no_fault;
         has_word = second.has_word;
         words = ap (λ f. first_of f (at_line s.line (word_fault known (place_at older) s.body))) second.words
             ∙ ap (at_line s.line) (ap (λ p. word_fault known p s.body) (sym there) ∙ ap (λ k. word_fault k spot.location s.body) (sym names) ∙ made.no_word_fault);
         pass = ap (λ (p : Progress). p.is_second) is ∙ second.pass;
-        goes_on = ap (λ (p : Progress). p.failed) is ∙ second.goes_on;
+        goes_on = ap (λ (p : Progress). p.fault) is ∙ second.goes_on;
       },
     )
 
@@ -131,7 +131,7 @@ without_second (Some a) b code none e = e
 pub second_fault_more : (whole later older : Source) (s : Statement) (old after : Progress) (again : Bool) (symbols middle : SymbolTable) (spot : Spot) (line : ℕ) (failed : Option AsmFault) (tags : List ℕ) (code : Code) (fault : AsmFault)
     → progress again symbols spot line failed ≡ old → tags ≡ s.tags → ((n : ℕ) → symbol_value middle n ≡ with_tags_again tags (spot.location % 4096) (symbol_value symbols) n)
     → first_of (word_fault (symbol_value middle) spot.location s.body) (spot_fault (symbol_value middle) spot.location s.body) ≡ Some code
-    → fault ≡ At code s.line → after.failed ≡ Some (At code s.line) → whole ≡ later ++ Ok s ∷ older → IsSecond old whole older
+    → fault ≡ At code s.line → after.fault ≡ Some (At code s.line) → whole ≡ later ++ Ok s ∷ older → IsSecond old whole older
     → AnswersSecond whole older s (Err fault) old after
 second_fault_more whole later older s old after again symbols middle spot line failed tags code fault is same set told named kept split second =
     let names : symbol_value middle ≡ word_values (values whole) s.tags older = at_body whole later older s old again symbols middle spot line failed tags is same set split second in
@@ -141,7 +141,7 @@ second_fault_more whole later older s old after again symbols middle spot line f
     let known = word_values (values whole) s.tags older in
     let on : spot_fault (symbol_value middle) spot.location s.body ≡ None =
     ap (λ k. spot_fault k spot.location s.body) names ∙ ap (λ p. spot_fault known p s.body) there
-    ∙ goes_on (fixed_at s.tags older) (values_at s.tags older) known (place_at older) s.body grows fine in
+    ∙ goes_on (is_fixed_at s.tags older) (values_at s.tags older) known (place_at older) s.body grows fine in
     subst (λ f. AnswersSecond whole older s (Err f) old after) (sym named) (
       ap (λ f. first_of f (at_line s.line (word_fault known (place_at older) s.body))) second.words
           ∙ ap (at_line s.line) (ap (λ p. word_fault known p s.body) (sym there) ∙ ap (λ k. word_fault k spot.location s.body) (sym names)

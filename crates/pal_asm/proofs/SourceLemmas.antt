@@ -18,9 +18,9 @@ use Rattle.pal_asm.specs.Places.{Source, values}
 use Rattle.pal_asm.specs.Faults.{first_of, first_order, no_end, words_fault}
 use Rattle.pal_asm.specs.Laws.{StatementsStay}
 use Rattle.pal_asm.specs.Passes.{IsFirst, IsSecond}
-use Rattle.pal_asm.specs.Passing.{Counts, Stands, IsBehind, IsMade, PassesTo, MakesTo, HasPassed, HasMade, IsWithin, EndsSource, BeginsSecondPass}
+use Rattle.pal_asm.specs.Passing.{Counts, Stands, StandsAfter, IsMade, PassesTo, MakesTo, HasPassed, HasMade, IsWithin, EndsSource, BeginsSecondPass}
 use Rattle.pal_asm.specs.Progress as asm
-use Rattle.pal_asm.specs.Texts.{texts, Behind, RanOut, IsFaultOf}
+use Rattle.pal_asm.specs.Texts.{texts, GoesOnAfter, RanOut, IsFaultOf}
 use Rattle.pal_asm.specs.TextSteps.{are_several, GoesOn, BeginsPass, BeginsAgain, PassesSource, MakesSource, AreWordsOf, IsWordsFault}
 use Rattle.pal_asm.proofs.NameLemmas.{behind_one, first_one}
 use Rattle.pal_asm.proofs.WholeLemmas.{some_none}
@@ -106,7 +106,7 @@ before_newest (b ∷ text) newest older is = elim (one_more b text) [
 -- the statements that a pass stands behind are the first of the join
 pub stands_behind : JoinGoesOn → StatementsStay → (lexer : lex.Progress) (ended : Bool) (before text here later : List ℕ) (others : List (List ℕ)) (Fits : Source → Type 0) → text ≡ later ++ here
     → Stands lexer ended before (has_next others) here false Fits
-    → (prefix : List ℕ) × (Behind (statements (join_of (text ∷ others) ++ before)) (statements prefix) × Fits (statements prefix))
+    → (prefix : List ℕ) × (GoesOnAfter (statements (join_of (text ∷ others) ++ before)) (statements prefix) × Fits (statements prefix))
 stands_behind joins stay lexer ended before text here later [] Fits is stands = elim stands [
   | inl counts ↦
       let more = joins before here later [] counts.1.clear counts.1.fine in
@@ -123,7 +123,7 @@ stands_behind joins stay lexer ended before text here later (next ∷ others) Fi
       (p.cut, ((more.0, ap statements (ap (λ t. join_of (t ∷ next ∷ others) ++ before) is ∙ p.joins later next others) ∙ more.1), p.at))
 ]
 
-ran_out_by : (whole : Source) (waiting : Option Statement) (assembler : asm.Progress) (prefix : List ℕ) → Behind whole (statements prefix) → IsBehind waiting assembler (statements prefix) → RanOut whole
+ran_out_by : (whole : Source) (waiting : Option Statement) (assembler : asm.Progress) (prefix : List ℕ) → GoesOnAfter whole (statements prefix) → StandsAfter waiting assembler (statements prefix) → RanOut whole
 ran_out_by whole None assembler prefix behind is = record { prefix = prefix; behind = behind; no_fault = is.no_fault }
 ran_out_by whole (Some s) assembler prefix behind is =
     let shorter = before_newest prefix (Ok (with_tokens is.1.0 s)) is.0 is.1.1.0 in
@@ -144,8 +144,8 @@ later_of bytes i =
 
 -- ## The first pass
 
-waits : (pass : Pass) (source : Source) → pass.waiting ≡ None → IsBehind pass.waiting pass.assembler source → IsFirst pass.assembler source
-waits pass source none is = subst (λ w. IsBehind w pass.assembler source) none is
+waits : (pass : Pass) (source : Source) → pass.waiting ≡ None → StandsAfter pass.waiting pass.assembler source → IsFirst pass.assembler source
+waits pass source none is = subst (λ w. StandsAfter w pass.assembler source) none is
 
 no_memory : {C : Type 0} (text : List ℕ) → no_end text ≡ Some Memory → C
 no_memory text e = by_test (is_over text) e
@@ -156,17 +156,17 @@ no_memory text e = by_test (is_over text) e
 
 -- the source was taken, and what comes behind it
 pub passes_on : EndsJoin → (before bytes : List ℕ) (others : List (List ℕ)) (offset : ℕ) (r : Result Bool AsmFault) (pass new : Pass) → length bytes ≤ offset → pass.waiting ≡ None
-    → PassesTo before (has_next others) [] bytes offset (Ok tt) pass → GoesOn others pass.lexer r new.lexer new.ended → new.assembler ≡ pass.assembler → new.waiting ≡ pass.waiting
+    → PassesTo before (has_next others) [] bytes offset (Ok tt) pass → GoesOn others pass.lexer r new.lexer new.is_at_end → new.assembler ≡ pass.assembler → new.waiting ≡ pass.waiting
     → PassesSource before (text_of bytes) others r new
-passes_on law before bytes others offset r pass new long none passes goes same waiting = by_result r (reaches law before (text_of bytes) others r pass.lexer new.lexer pass.ended new.ended (λ s. IsBehind new.waiting new.assembler s) stands goes)
+passes_on law before bytes others offset r pass new long none passes goes same waiting = by_result r (reaches law before (text_of bytes) others r pass.lexer new.lexer pass.is_at_end new.is_at_end (λ s. StandsAfter new.waiting new.assembler s) stands goes)
   where
-    stands : Stands pass.lexer pass.ended before (has_next others) (text_of bytes) false (λ s. IsBehind new.waiting new.assembler s)
+    stands : Stands pass.lexer pass.is_at_end before (has_next others) (text_of bytes) false (λ s. StandsAfter new.waiting new.assembler s)
     stands =
-        stands_map pass.lexer pass.ended before (has_next others) (text_of bytes) false (λ s. IsBehind pass.waiting pass.assembler s) (λ s. IsBehind new.waiting new.assembler s)
-        (λ s is. subst (λ w. IsBehind w new.assembler s) (sym waiting) (subst (λ (a : asm.Progress). IsBehind pass.waiting a s) (sym same) is))
+        stands_map pass.lexer pass.is_at_end before (has_next others) (text_of bytes) false (λ s. StandsAfter pass.waiting pass.assembler s) (λ s. StandsAfter new.waiting new.assembler s)
+        (λ s is. subst (λ w. StandsAfter w new.assembler s) (sym waiting) (subst (λ (a : asm.Progress). StandsAfter pass.waiting a s) (sym same) is))
         (subst (λ t. HasPassed pass before (has_next others) t false) (all_taken [] bytes offset long) passes)
 
-    by_result : (q : Result Bool AsmFault) → Reaches before (text_of bytes) others q new.lexer new.ended (λ s. IsBehind new.waiting new.assembler s) → PassesSource before (text_of bytes) others q new
+    by_result : (q : Result Bool AsmFault) → Reaches before (text_of bytes) others q new.lexer new.is_at_end (λ s. StandsAfter new.waiting new.assembler s) → PassesSource before (text_of bytes) others q new
     by_result (Ok true) to = (to.0, (to.1.0, (to.1.1, to.1.2, waiting ∙ none)))
     by_result (Ok false) to = (to.0, (to.1.0, waits new (statements (join_of (text_of bytes ∷ others) ++ before)) (waiting ∙ none) to.1.1, waiting ∙ none))
     by_result (Err (At code line)) to = ap (λ o. first_of o (no_end (join_of (text_of bytes ∷ others) ++ before))) (waits new (statements (join_of (text_of bytes ∷ others) ++ before)) (waiting ∙ none) to.1).no_fault ∙ to.0
@@ -178,7 +178,7 @@ pub passes_not : JoinGoesOn → StatementsStay → (before bytes : List ℕ) (ot
 passes_not joins stay before bytes others offset (At code line) new tells = ap (λ o. first_of o (no_end (join_of (text_of bytes ∷ others) ++ before))) (tells [] others refl)
 passes_not joins stay before bytes others offset Memory new has =
     let later = later_of bytes offset in
-    let at = stands_behind joins stay new.lexer new.ended before (text_of bytes) (text_from [] (take offset bytes)) later.0 others (λ s. IsBehind new.waiting new.assembler s) later.1 has in
+    let at = stands_behind joins stay new.lexer new.is_at_end before (text_of bytes) (text_from [] (take offset bytes)) later.0 others (λ s. StandsAfter new.waiting new.assembler s) later.1 has in
     ran_out_by _ new.waiting new.assembler at.0 at.1.0 at.1.1
 
 -- ## The second pass
@@ -188,20 +188,20 @@ is_within whole before bytes others is = ([], (others, (refl, ap statements is))
 
 pub makes_on : EndsJoin → (whole before bytes : List ℕ) (others : List (List ℕ)) (offset : ℕ) (r : Result Bool AsmFault) (pass new : Pass) (pairs : List (ℕ × ℕ)) → length bytes ≤ offset
     → whole ≡ join_of (text_of bytes ∷ others) ++ before → no_end whole ≡ None
-    → MakesTo (statements whole) before (has_next others) [] bytes offset (Ok tt) pass pairs → GoesOn others pass.lexer r new.lexer new.ended → new.assembler ≡ pass.assembler → new.waiting ≡ pass.waiting
+    → MakesTo (statements whole) before (has_next others) [] bytes offset (Ok tt) pass pairs → GoesOn others pass.lexer r new.lexer new.is_at_end → new.assembler ≡ pass.assembler → new.waiting ≡ pass.waiting
     → MakesSource (statements whole) before (text_of bytes) others r new pairs
-makes_on law whole before bytes others offset r pass new pairs long is ends makes goes same waiting = by_result r (reaches law before (text_of bytes) others r pass.lexer new.lexer pass.ended new.ended (λ s. IsMade (statements whole) new pairs s) stands goes)
+makes_on law whole before bytes others offset r pass new pairs long is ends makes goes same waiting = by_result r (reaches law before (text_of bytes) others r pass.lexer new.lexer pass.is_at_end new.is_at_end (λ s. IsMade (statements whole) new pairs s) stands goes)
   where
-    stands : Stands pass.lexer pass.ended before (has_next others) (text_of bytes) false (λ s. IsMade (statements whole) new pairs s)
+    stands : Stands pass.lexer pass.is_at_end before (has_next others) (text_of bytes) false (λ s. IsMade (statements whole) new pairs s)
     stands =
-        stands_map pass.lexer pass.ended before (has_next others) (text_of bytes) false (λ s. IsMade (statements whole) pass pairs s) (λ s. IsMade (statements whole) new pairs s)
+        stands_map pass.lexer pass.is_at_end before (has_next others) (text_of bytes) false (λ s. IsMade (statements whole) pass pairs s) (λ s. IsMade (statements whole) new pairs s)
         (λ s made. (waiting ∙ made.0, subst (λ (a : asm.Progress). IsSecond a (statements whole) s) (sym same) made.1, made.2))
         (subst (λ t. HasMade (statements whole) pass pairs before (has_next others) t false) (all_taken [] bytes offset long) makes)
 
     never : {C : Type 0} (f : AsmFault) → no_end (join_of (text_of bytes ∷ others) ++ before) ≡ Some f → C
     never f e = some_none (sym e ∙ ap no_end (sym is) ∙ ends)
 
-    by_result : (q : Result Bool AsmFault) → Reaches before (text_of bytes) others q new.lexer new.ended (λ s. IsMade (statements whole) new pairs s) → MakesSource (statements whole) before (text_of bytes) others q new pairs
+    by_result : (q : Result Bool AsmFault) → Reaches before (text_of bytes) others q new.lexer new.is_at_end (λ s. IsMade (statements whole) new pairs s) → MakesSource (statements whole) before (text_of bytes) others q new pairs
     by_result (Ok true) to = (to.0, (to.1.0, (to.1.1, to.1.2)))
     by_result (Ok false) to = to.1.1
     by_result (Err (At code line)) to = never (At code line) to.0
@@ -212,7 +212,7 @@ pub makes_not : JoinGoesOn → StatementsStay → (whole before bytes : List ℕ
 makes_not joins stay whole before bytes others offset (At code line) new pairs is tells = ap (λ t. words_fault (values (statements whole)) (statements t)) is ∙ tells [] others refl
 makes_not joins stay whole before bytes others offset Memory new pairs is has =
     let later = later_of bytes offset in
-    let at = stands_behind joins stay new.lexer new.ended before (text_of bytes) (text_from [] (take offset bytes)) later.0 others (λ s. IsMade (statements whole) new pairs s) later.1 has in
+    let at = stands_behind joins stay new.lexer new.is_at_end before (text_of bytes) (text_from [] (take offset bytes)) later.0 others (λ s. IsMade (statements whole) new pairs s) later.1 has in
     record { prefix = at.0; behind = (at.1.0.0, ap statements is ∙ at.1.0.1); no_fault = at.1.1.1.words }
 
 -- ## Several sources
@@ -274,8 +274,8 @@ second_refused whole before sources none f pass new pairs made long ends is begi
     words_refused whole before (text_of (get_or sources 0 none).now) (texts (behind_one sources)) f new made (second_at whole before sources none (Err f) pass new pairs made long ends is begins makes)
 
 -- the second pass begins with a lexer of no byte
-pub again_begins : (whole : List ℕ) (several : Bool) (lexer : lex.Progress) (pass : Pass) → HasRead lexer 0 [] → lexer.may_pause ≡ several → BeginsSecondPass whole (Ok tt) pass → (pass.lexer ≡ lexer) × (pass.ended ≡ false)
-    → (pass.ended ≡ false) × Counts pass.lexer [] several [] (λ source. IsMade (statements whole) pass [] source)
+pub again_begins : (whole : List ℕ) (several : Bool) (lexer : lex.Progress) (pass : Pass) → HasRead lexer 0 [] → lexer.may_pause ≡ several → BeginsSecondPass whole (Ok tt) pass → (pass.lexer ≡ lexer) × (pass.is_at_end ≡ false)
+    → (pass.is_at_end ≡ false) × Counts pass.lexer [] several [] (λ source. IsMade (statements whole) pass [] source)
 again_begins whole several lexer pass read may turns is = (
   is.1,
   record {

@@ -1,7 +1,7 @@
 -- A byte more of a text, and a whole text.
 use Rattle.std.proofs.Common.{◌≡◌, ℕ, nat_eq, Bool, true, false, if◌then◌else◌, Option, Some, None, Result, Ok, Err, List, [], ◌∷◌, ◌++◌, refl, ap, sym, ◌∙◌, ◌⊎◌, inl, inr, append_assoc, true≢false}
 use Rattle.pal_lex.specs.Text.{ends_statement, stretch, line_after}
-use Rattle.pal_lex.specs.Statements.{statements, first_fault, first_of as lex_first_of, with_stretch, judged, radix_after}
+use Rattle.pal_lex.specs.Statements.{statements, first_fault, first_of as lex_first_of, with_stretch, judge_statement, radix_after}
 use Rattle.pal_lex.specs.declared.faults.LexFault.{LexFault}
 use Rattle.pal_lex.specs.declared.phrases.Body.{Body}
 use Rattle.pal_lex.specs.declared.phrases.Body.TheVariants.{Nothing, Origin, Define, Decimal, Octal, Pause, Field, Reference, Word}
@@ -9,7 +9,7 @@ use Rattle.pal_lex.specs.declared.phrases.Statement.{Statement}
 use Rattle.pal_asm.specs.declared.faults.AsmFault.{AsmFault}
 use Rattle.pal_asm.specs.declared.faults.AsmFault.TheVariants.{At, Memory}
 use Rattle.pal_asm.specs.declared.faults.Code.TheVariants.{NW}
-use Rattle.pal_asm.specs.Expressions.{Known}
+use Rattle.pal_asm.specs.Expressions.{Meanings}
 use Rattle.pal_asm.specs.Places.{Source, is_word, values, place_at}
 use Rattle.pal_asm.specs.Words.{word_values}
 use Rattle.pal_asm.specs.Faults.{first_of, at_line, lexical, statement_fault, first_order, no_end, word_fault, words_fault, has_word, last_line, no_word}
@@ -19,7 +19,7 @@ use Rattle.pal_asm.specs.Passes.{IsSecond}
 use Rattle.pal_asm.specs.TextSteps.{IsWordsFault}
 use Rattle.pal_asm.specs.Passing.{BeginsSecondPass}
 use Rattle.pal_asm.specs.declared.passing.Pass.{Pass}
-use Rattle.pal_asm.specs.Texts.{Behind, IsFaultOf}
+use Rattle.pal_asm.specs.Texts.{GoesOnAfter, IsFaultOf}
 use Rattle.pal_asm.proofs.WholeLemmas.{first_none, second_none, some_none, no_fault_before, fixed_keep}
 
 -- ## Statements
@@ -36,13 +36,13 @@ one_more b text = by_test (ends_statement text b)
     by_test : (test : Bool)
         → ((if test then with_stretch (line_after text) (nat_eq b 36) (stretch text) (statements text) else statements text) ≡ statements text)
         ⊎ ((newest : Result Statement LexFault) × ((if test then with_stretch (line_after text) (nat_eq b 36) (stretch text) (statements text) else statements text) ≡ newest ∷ statements text))
-    by_test true = inr (judged (line_after text) (nat_eq b 36) (stretch text) (radix_after (statements text)), refl)
+    by_test true = inr (judge_statement (line_after text) (nat_eq b 36) (stretch text) (radix_after (statements text)), refl)
     by_test false = inl refl
 
-one_behind : (b : ℕ) (text : List ℕ) → Behind (statements (b ∷ text)) (statements text)
+one_behind : (b : ℕ) (text : List ℕ) → GoesOnAfter (statements (b ∷ text)) (statements text)
 one_behind b text = elim (one_more b text) [ inl same ↦ ([], same) | inr added ↦ (added.0 ∷ [], added.1) ]
 
-further : (whole middle older : Source) → Behind whole middle → Behind middle older → Behind whole older
+further : (whole middle older : Source) → GoesOnAfter whole middle → GoesOnAfter middle older → GoesOnAfter whole older
 further whole middle older last first =
     (last.0 ++ first.0, last.1 ∙ ap (λ s. last.0 ++ s) first.1 ∙ sym (append_assoc last.0 first.0 older))
 
@@ -85,7 +85,7 @@ first_stays [] older f told = told
 first_stays (Ok s ∷ later) older f told = ap (λ o. first_of o (at_line s.line (statement_fault s (later ++ older)))) (first_stays later older f told)
 first_stays (Err g ∷ later) older f told = ap (λ o. first_of o (Some (lexical g))) (first_stays later older f told)
 
-pub words_stay : (known : Known) (later older : Source) (f : AsmFault) → words_fault known older ≡ Some f → words_fault known (later ++ older) ≡ Some f
+pub words_stay : (known : Meanings) (later older : Source) (f : AsmFault) → words_fault known older ≡ Some f → words_fault known (later ++ older) ≡ Some f
 words_stay known [] older f told = told
 words_stay known (Ok s ∷ later) older f told =
     ap (λ o. first_of o (at_line s.line (word_fault (word_values known s.tags (later ++ older)) (place_at (later ++ older)) s.body))) (words_stay known later older f told)
@@ -93,7 +93,7 @@ words_stay known (Err g ∷ later) older f told = words_stay known later older f
 
 -- ## A source with no word
 
-quiet : (known : Known) (place : ℕ) (body : Body) → is_word body ≡ false → word_fault known place body ≡ None
+quiet : (known : Meanings) (place : ℕ) (body : Body) → is_word body ≡ false → word_fault known place body ≡ None
 quiet known place Nothing e = refl
 quiet known place (Origin p) e = refl
 quiet known place (Define name v) e = refl
@@ -108,7 +108,7 @@ neither : (a b : Bool) → (if a then true else b) ≡ false → (a ≡ false) �
 neither true b e = absurd cc
 neither false b e = (refl, e)
 
-no_words : (known : Known) (source : Source) → has_word source ≡ false → words_fault known source ≡ None
+no_words : (known : Meanings) (source : Source) → has_word source ≡ false → words_fault known source ≡ None
 no_words known [] e = refl
 no_words known (Err f ∷ older) e = no_words known older e
 no_words known (Ok s ∷ older) e =
@@ -150,7 +150,7 @@ met_second text Memory turned ran ended second = record {
 
 -- ## Laws
 
-more_bytes : (later text : List ℕ) → Behind (statements (later ++ text)) (statements text)
+more_bytes : (later text : List ℕ) → GoesOnAfter (statements (later ++ text)) (statements text)
 more_bytes [] text = ([], refl)
 more_bytes (b ∷ later) text = further _ _ _ (one_behind b (later ++ text)) (more_bytes later text)
 

@@ -14,8 +14,8 @@ use Rattle.pal_asm.specs.declared.faults.Code.{Code}
 use Rattle.pal_asm.specs.declared.faults.Code.TheVariants.{IC, SY, NU, UA, DT, RD, IR, FD, PF, NE, NW}
 use Rattle.pal_asm.specs.declared.faults.AsmFault.{AsmFault}
 use Rattle.pal_asm.specs.declared.faults.AsmFault.TheVariants.{At, Memory}
-use Rattle.pal_asm.specs.Expressions.{Known, value_of, address_value}
-use Rattle.pal_asm.specs.Places.{Source, is_word, place_at, values, values_at, fixed_at}
+use Rattle.pal_asm.specs.Expressions.{Meanings, value_of, address_value}
+use Rattle.pal_asm.specs.Places.{Source, is_word, place_at, values, values_at, is_fixed_at}
 use Rattle.pal_asm.specs.Words.{offset_of, word_values}
 
 -- the first of two
@@ -27,9 +27,9 @@ first_of (Some fault) later = Some fault
 abbrev pub past : ℕ → Option Code
 past place = if nat_lt 0o7777 place then Some PF else None
 
-abbrev pub undefined : Option ℕ → Option Code
-undefined None = Some UA
-undefined (Some value) = None
+abbrev pub fault_of_name : Option ℕ → Option Code
+fault_of_name None = Some UA
+fault_of_name (Some value) = None
 
 -- a name stands for a value other than this one
 abbrev pub defined_otherwise : Code → ℕ → Option ℕ → Option Code
@@ -38,20 +38,20 @@ defined_otherwise code value (Some known) = if nat_eq known value then None else
 
 -- ## Expressions
 
-abbrev pub term_fault : Known → ℕ → Term → Option Code
-term_fault known place (Name n) = undefined (known n)
+abbrev pub term_fault : Meanings → ℕ → Term → Option Code
+term_fault known place (Name n) = fault_of_name (known n)
 term_fault known place (Number n) = None
 term_fault known place Here = past place
 
 -- the terms from the left
-abbrev pub terms_fault : Known → ℕ → List Part → Option Code
+abbrev pub terms_fault : Meanings → ℕ → List Part → Option Code
 terms_fault known place [] = None
 terms_fault known place (part ∷ others) = first_of (term_fault known place part.term) (terms_fault known place others)
 
 -- ## In the order of the source, each statement by those before it
 
 -- the tags from the left, PF of each before DT
-abbrev pub tags_fault : Known → ℕ → List ℕ → Option Code
+abbrev pub tags_fault : Meanings → ℕ → List ℕ → Option Code
 tags_fault known place [] = None
 tags_fault known place (tag ∷ tags) = first_of (first_of (past place) (defined_otherwise DT place (known tag))) (tags_fault known place tags)
 
@@ -66,7 +66,7 @@ definition_fault false (Some value) known = None
 definition_fault true (Some value) known = defined_otherwise RD value known
 
 -- the fault of a body, where these names are fixed and stand for these values
-abbrev pub body_fault : (ℕ → Bool) → Known → ℕ → Body → Option Code
+abbrev pub body_fault : (ℕ → Bool) → Meanings → ℕ → Body → Option Code
 body_fault fixed known place Nothing = None
 body_fault fixed known place (Origin e) = terms_fault known place e
 body_fault fixed known place (Define name e) = first_of (terms_fault known place e) (definition_fault (fixed name) (value_of known place e) (known name))
@@ -80,7 +80,7 @@ body_fault fixed known place (Word e) = past place
 -- the fault of a statement after others: its tags, then its body
 abbrev pub statement_fault : Statement → Source → Option Code
 statement_fault s older =
-    first_of (tags_fault (values older) (place_at older) s.tags) (body_fault (fixed_at s.tags older) (values_at s.tags older) (place_at older) s.body)
+    first_of (tags_fault (values older) (place_at older) s.tags) (body_fault (is_fixed_at s.tags older) (values_at s.tags older) (place_at older) s.body)
 
 abbrev pub at_line : ℕ → Option Code → Option AsmFault
 at_line line None = None
@@ -117,11 +117,11 @@ abbrev pub out_of_reach : ℕ → Option ℕ → Option Code
 out_of_reach place None = None
 out_of_reach place (Some address) = no_offset (offset_of place address)
 
-abbrev pub address_fault : Known → ℕ → Option (List Part) → Option Code
+abbrev pub address_fault : Meanings → ℕ → Option (List Part) → Option Code
 address_fault known place None = None
 address_fault known place (Some e) = terms_fault known place e
 
-abbrev pub word_fault : Known → ℕ → Body → Option Code
+abbrev pub word_fault : Meanings → ℕ → Body → Option Code
 word_fault known place Nothing = None
 word_fault known place (Origin e) = None
 word_fault known place (Define name e) = None
@@ -134,7 +134,7 @@ word_fault known place (Reference operation indirect address) =
 word_fault known place (Word e) = terms_fault known place e
 
 -- the first fault of a word, where names stand for these values at last
-abbrev pub words_fault : Known → Source → Option AsmFault
+abbrev pub words_fault : Meanings → Source → Option AsmFault
 words_fault last [] = None
 words_fault last (Err fault ∷ older) = words_fault last older
 words_fault last (Ok s ∷ older) = first_of (words_fault last older) (at_line s.line (word_fault (word_values last s.tags older) (place_at older) s.body))

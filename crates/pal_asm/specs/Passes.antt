@@ -6,7 +6,7 @@ use Rattle.pal_lex.specs.declared.phrases.Body.TheVariants.{Nothing, Origin, Def
 use Rattle.pal_lex.specs.declared.phrases.Statement.{Statement}
 use Rattle.pal_asm.specs.declared.faults.AsmFault.{AsmFault}
 use Rattle.pal_asm.specs.declared.faults.AsmFault.TheVariants.{At, Memory}
-use Rattle.pal_asm.specs.Expressions.{Known}
+use Rattle.pal_asm.specs.Expressions.{Meanings}
 use Rattle.pal_asm.specs.Places.{Source, is_fixed, place_at, field_at, values}
 use Rattle.pal_asm.specs.Words.{pairs_by}
 use Rattle.pal_asm.specs.Faults.{tags_fault, first_order, words_fault, has_word, last_line, no_word}
@@ -38,11 +38,11 @@ pub record IsFirst (assembler : Progress) (source : Source) : Type 0 where
   pub line : assembler.line ≡ last_line source
   pub no_fault : first_order source ≡ None
   pub pass : assembler.is_second ≡ false
-  pub goes_on : assembler.failed ≡ None
+  pub goes_on : assembler.fault ≡ None
 
 -- A fault was answered, and is answered for good.
 abbrev pub HasFailed : Progress → AsmFault → Type 0
-HasFailed assembler fault = assembler.failed ≡ Some fault
+HasFailed assembler fault = assembler.fault ≡ Some fault
 
 -- What the first pass answers for a statement after others. Memory is taken for names alone; where it ran out nothing
 -- was taken.
@@ -61,7 +61,7 @@ IsJudged older statement (Err Memory) = tags_fault (values older) (place_at olde
 
 -- what names stand for after some statements of a whole source in the second pass: their last definition, and where there
 -- is none, their last in the whole
-abbrev pub second_values : Source → Source → Known
+abbrev pub second_values : Source → Source → Meanings
 second_values whole older name = if_none (values older name) (values whole name)
 
 -- The second pass stands after these statements of a whole source, which has no fault of the first order and a word;
@@ -74,7 +74,7 @@ pub record IsSecond (assembler : Progress) (whole older : Source) : Type 0 where
   pub has_word : no_word whole ≡ None
   pub words : words_fault (values whole) older ≡ None
   pub pass : assembler.is_second ≡ true
-  pub goes_on : assembler.failed ≡ None
+  pub goes_on : assembler.fault ≡ None
 
 -- what beginning the second pass answers
 abbrev pub BeginsSecond : Source → Result (Unit {0}) AsmFault → Progress → Progress → Type 0
@@ -97,11 +97,11 @@ AnswersSecond whole older statement (Err Memory) old new = ⊥
 
 -- the second pass goes on
 abbrev pub HasBegunSecond : Progress → Type 0
-HasBegunSecond assembler = (assembler.failed ≡ None) × (assembler.is_second ≡ true)
+HasBegunSecond assembler = (assembler.fault ≡ None) × (assembler.is_second ≡ true)
 
 -- the first pass goes on
 abbrev pub HasNotBegunSecond : Progress → Type 0
-HasNotBegunSecond assembler = (assembler.failed ≡ None) × (assembler.is_second ≡ false)
+HasNotBegunSecond assembler = (assembler.fault ≡ None) × (assembler.is_second ≡ false)
 
 -- the same fault for good
 abbrev pub StaysFailed : {A : Type 0} → Result A AsmFault → Progress → Progress → Type 0

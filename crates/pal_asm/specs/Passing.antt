@@ -28,7 +28,7 @@ pub record Counts (lexer : lex.Progress) (prefix : List ℕ) (several : Bool) (h
   pub at : Fits (statements (here ++ prefix))
 
 -- The source has paused, and others follow it: whatever comes in it, the join goes on after this text.
-pub record Paused (lexer : lex.Progress) (prefix : List ℕ) (several : Bool) (here : List ℕ) (Fits : Source → Type 0) : Type 0 where
+pub record Pause (lexer : lex.Progress) (prefix : List ℕ) (several : Bool) (here : List ℕ) (Fits : Source → Type 0) : Type 0 where
   pub cut : List ℕ
   pub paused : HasPaused lexer cut
   pub clear : IsClear cut
@@ -40,7 +40,7 @@ pub record Paused (lexer : lex.Progress) (prefix : List ℕ) (several : Bool) (h
 -- where it has paused or ended.
 abbrev pub Stands : lex.Progress → Bool → List ℕ → Bool → List ℕ → Bool → (Source → Type 0) → Type 0
 Stands lexer ended prefix several here is_last Fits =
-    ((ended ≡ is_last) × Counts lexer prefix several here Fits) ⊎ ((ended ≡ true) × Paused lexer prefix several here Fits)
+    ((ended ≡ is_last) × Counts lexer prefix several here Fits) ⊎ ((ended ≡ true) × Pause lexer prefix several here Fits)
 
 -- A fault is known from the statements of the join, whatever follows this text in its source, and whatever sources follow.
 abbrev pub TellsJoinFault : (Source → Option AsmFault) → List ℕ → Bool → List ℕ → AsmFault → Type 0
@@ -50,14 +50,14 @@ TellsJoinFault fault_in prefix several here fault =
 -- ## The first pass
 
 -- the first pass stands after these statements, except that the newest may wait; tokens say nothing to it
-abbrev pub IsBehind : Option Statement → asm.Progress → Source → Type 0
-IsBehind None assembler source = IsFirst assembler source
-IsBehind (Some statement) assembler source =
+abbrev pub StandsAfter : Option Statement → asm.Progress → Source → Type 0
+StandsAfter None assembler source = IsFirst assembler source
+StandsAfter (Some statement) assembler source =
     (older : Source) × ((tokens : List Token) × ((source ≡ Ok (with_tokens tokens statement) ∷ older) × (is_pause_body statement.body ≡ false) × IsFirst assembler older))
 
 -- the first pass stands in a source after this text of it
 abbrev pub HasPassed : Pass → List ℕ → Bool → List ℕ → Bool → Type 0
-HasPassed pass prefix several here is_last = Stands pass.lexer pass.ended prefix several here is_last (λ source. IsBehind pass.waiting pass.assembler source)
+HasPassed pass prefix several here is_last = Stands pass.lexer pass.is_at_end prefix several here is_last (λ source. StandsAfter pass.waiting pass.assembler source)
 
 -- what the statement that may wait gives
 abbrev pub Settles : Source → Result (Unit {0}) AsmFault → Pass → Pass → Type 0
@@ -85,7 +85,7 @@ IsMade whole pass pairs source = (pass.waiting ≡ None) × IsSecond pass.assemb
 
 -- the second pass stands in a source after this text of it
 abbrev pub HasMade : Source → Pass → List (ℕ × ℕ) → List ℕ → Bool → List ℕ → Bool → Type 0
-HasMade whole pass pairs prefix several here is_last = Stands pass.lexer pass.ended prefix several here is_last (λ source. IsMade whole pass pairs source)
+HasMade whole pass pairs prefix several here is_last = Stands pass.lexer pass.is_at_end prefix several here is_last (λ source. IsMade whole pass pairs source)
 
 -- this text of a source is in a whole
 abbrev pub IsWithin : Source → List ℕ → Bool → List ℕ → Type 0

@@ -6,7 +6,7 @@ use Rattle.pal_lex.specs.declared.faults.LexFault.{LexFault}
 use Rattle.pal_lex.specs.declared.phrases.Body.{Body}
 use Rattle.pal_lex.specs.declared.phrases.Body.TheVariants.{Nothing, Origin, Define, Decimal, Octal, Pause, Field, Reference, Word}
 use Rattle.pal_lex.specs.declared.phrases.Statement.{Statement}
-use Rattle.pal_asm.specs.Expressions.{Known, value_of}
+use Rattle.pal_asm.specs.Expressions.{Meanings, value_of}
 use Rattle.pal_asm.specs.declared.spots.TheConstants.{FIRST_PLACE}
 
 -- the statements of a source, each as it reads or with its fault
@@ -44,7 +44,7 @@ words_since (Err fault ∷ older) = words_since older
 words_since (Ok s ∷ older) = if sets_location s.body then 0 else ((if is_word s.body then 1 else 0) + words_since older)
 
 -- what a body sets the location to, or the setting before it
-abbrev pub set_by : Known → ℕ → Body → ℕ → ℕ
+abbrev pub set_by : Meanings → ℕ → Body → ℕ → ℕ
 set_by known place Nothing before = before
 set_by known place (Origin e) before = unwrap_or (value_of known place e) 0
 set_by known place (Define name e) before = before
@@ -56,12 +56,12 @@ set_by known place (Reference operation indirect address) before = before
 set_by known place (Word e) before = before
 
 -- a tag stands for the place of its statement
-abbrev pub with_tags : List ℕ → ℕ → Known → Known
+abbrev pub with_tags : List ℕ → ℕ → Meanings → Meanings
 with_tags [] place known name = known name
 with_tags (tag ∷ tags) place known name = if nat_eq tag name then Some place else with_tags tags place known name
 
 -- `=` gives a name the value of an expression
-abbrev pub with_body : Known → ℕ → Body → Known
+abbrev pub with_body : Meanings → ℕ → Body → Meanings
 with_body known place Nothing name = known name
 with_body known place (Origin e) name = known name
 with_body known place (Define defined e) name = if nat_eq defined name then value_of known place e else known name
@@ -92,7 +92,7 @@ abbrev pub place_at : Source → ℕ
 place_at older = last_setting older + words_since older
 
 -- what names stand for at the body of a statement with these tags: its own tags count
-abbrev pub values_at : List ℕ → Source → Known
+abbrev pub values_at : List ℕ → Source → Meanings
 values_at tags older = with_tags tags (place_at older) (values older)
 
 -- a name is one of these tags
@@ -107,11 +107,11 @@ is_fixed (Err fault ∷ older) name = is_fixed older name
 is_fixed (Ok s ∷ older) name = is_among s.tags name || is_fixed older name
 
 -- the same at the body of a statement with these tags: its own tags count
-abbrev pub fixed_at : List ℕ → Source → ℕ → Bool
-fixed_at tags older name = is_among tags name || is_fixed older name
+abbrev pub is_fixed_at : List ℕ → Source → ℕ → Bool
+is_fixed_at tags older name = is_among tags name || is_fixed older name
 
 -- the number that `FIELD` gives, or that before it
-abbrev pub field_by : Known → ℕ → Body → ℕ → ℕ
+abbrev pub field_by : Meanings → ℕ → Body → ℕ → ℕ
 field_by known place Nothing before = before
 field_by known place (Origin e) before = before
 field_by known place (Define name e) before = before

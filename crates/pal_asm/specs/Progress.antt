@@ -12,4 +12,4 @@ pub record Progress : Type 0 where
   -- the line of the last statement
   pub line : ℕ
   -- the fault that was answered, which is answered for good
-  pub failed : Option AsmFault
+  pub fault : Option AsmFault

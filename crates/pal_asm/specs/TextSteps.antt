@@ -14,9 +14,9 @@ use Rattle.pal_asm.specs.Places.{Source, values}
 use Rattle.pal_asm.specs.Words.{pairs_by, pairs_of}
 use Rattle.pal_asm.specs.Faults.{first_of, first_order, words_fault, no_end}
 use Rattle.pal_asm.specs.Passes.{IsFirst, IsSecond}
-use Rattle.pal_asm.specs.Passing.{TellsJoinFault, Counts, IsBehind, IsMade, HasPassed, HasMade, EndsSource}
+use Rattle.pal_asm.specs.Passing.{TellsJoinFault, Counts, StandsAfter, IsMade, HasPassed, HasMade, EndsSource}
 use Rattle.pal_asm.specs.Progress as asm
-use Rattle.pal_asm.specs.Texts.{Behind, RanOut, RanOutAgain}
+use Rattle.pal_asm.specs.Texts.{GoesOnAfter, RanOut, RanOutAgain}
 
 -- ## Characters and statements
 
@@ -38,10 +38,10 @@ MakesStatement whole source (Err Memory) new pairs = ⊥
 
 -- what a statement that was handed out gives in the second pass: PAUSE, or another
 abbrev pub MakesSome : Bool → Statement → Result (Unit {0}) AsmFault → Pass → List (ℕ × ℕ) → Pass → List (ℕ × ℕ) → Type 0
-MakesSome true s result old pairs new pairs' = (result ≡ Ok tt) × (new ≡ record old { ended = true }) × (pairs' ≡ pairs)
+MakesSome true s result old pairs new pairs' = (result ≡ Ok tt) × (new ≡ record old { is_at_end = true }) × (pairs' ≡ pairs)
 MakesSome false s result old pairs new pairs' =
     (new ≡ record old { assembler = new.assembler })
-    × ((whole older : Source) (tokens : List Token) → Behind whole (Ok (with_tokens tokens s) ∷ older) → IsSecond old.assembler whole older → pairs ≡ pairs_by (values whole) older
+    × ((whole older : Source) (tokens : List Token) → GoesOnAfter whole (Ok (with_tokens tokens s) ∷ older) → IsSecond old.assembler whole older → pairs ≡ pairs_by (values whole) older
     → MakesStatement whole (Ok (with_tokens tokens s) ∷ older) result new.assembler pairs')
 
 -- what an answer of the lexer gives in the second pass
@@ -83,12 +83,12 @@ HasPassedAll text pass = (seam : ℕ) × (HasRead pass.lexer seam text × IsFirs
 -- The first pass begins with the first of sources after this text.
 abbrev pub BeginsPass : List ℕ → List (List ℕ) → Pass → Type 0
 BeginsPass before sources pass =
-    (pass.ended ≡ false) × Counts pass.lexer before (are_several sources) [] (λ source. IsBehind pass.waiting pass.assembler source) × (pass.waiting ≡ None)
+    (pass.is_at_end ≡ false) × Counts pass.lexer before (are_several sources) [] (λ source. StandsAfter pass.waiting pass.assembler source) × (pass.waiting ≡ None)
 
 -- So does the second pass of a whole.
 abbrev pub BeginsAgain : Source → List ℕ → List (List ℕ) → Pass → List (ℕ × ℕ) → Type 0
 BeginsAgain whole before sources pass pairs =
-    (pass.ended ≡ false) × Counts pass.lexer before (are_several sources) [] (λ source. IsMade whole pass pairs source)
+    (pass.is_at_end ≡ false) × Counts pass.lexer before (are_several sources) [] (λ source. IsMade whole pass pairs source)
 
 -- What comes after a source that was read: the next of these counts, or nothing more does; or a `$` is missing.
 abbrev pub GoesOn : List (List ℕ) → lex.Progress → Result Bool AsmFault → lex.Progress → Bool → Type 0

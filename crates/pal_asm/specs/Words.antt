@@ -6,7 +6,7 @@ use Rattle.pal_lex.specs.Statements.{statements}
 use Rattle.pal_lex.specs.declared.phrases.Operation.{Operation}
 use Rattle.pal_lex.specs.declared.phrases.Body.{Body}
 use Rattle.pal_lex.specs.declared.phrases.Body.TheVariants.{Nothing, Origin, Define, Decimal, Octal, Pause, Field, Reference, Word}
-use Rattle.pal_asm.specs.Expressions.{Known, value_of, address_value}
+use Rattle.pal_asm.specs.Expressions.{Meanings, value_of, address_value}
 use Rattle.pal_sym.specs.Values.{if_none}
 use Rattle.pal_asm.specs.Places.{Source, place_at, field_at, values, values_at}
 
@@ -27,7 +27,7 @@ with_offset operation indirect None = None
 with_offset operation indirect (Some offset) = Some (word_of operation + (if indirect then 0o400 else 0) + offset)
 
 -- the word of a body at a place, where it is one and has one
-abbrev pub body_word : Known → ℕ → Body → Option ℕ
+abbrev pub body_word : Meanings → ℕ → Body → Option ℕ
 body_word known place Nothing = None
 body_word known place (Origin e) = None
 body_word known place (Define name e) = None
@@ -48,11 +48,11 @@ with_pair pairs cell (Some word) = pairs ++ (cell, word) ∷ []
 
 -- what names stand for in a word with these tags after these statements: their last definition before it, and where
 -- there is none, what they stand for at last
-abbrev pub word_values : Known → List ℕ → Source → Known
+abbrev pub word_values : Meanings → List ℕ → Source → Meanings
 word_values last tags older name = if_none (values_at tags older name) (last name)
 
 -- the words of statements with their cells, in the order of the source, where names stand for these values at last
-abbrev pub pairs_by : Known → Source → List (ℕ × ℕ)
+abbrev pub pairs_by : Meanings → Source → List (ℕ × ℕ)
 pairs_by last [] = []
 pairs_by last (Err fault ∷ older) = pairs_by last older
 pairs_by last (Ok s ∷ older) = with_pair (pairs_by last older) (cell_at older) (body_word (word_values last s.tags older) (place_at older) s.body)

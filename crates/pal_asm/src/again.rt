@@ -7,7 +7,7 @@ ghost use Rattle.pal_asm.specs.PassSteps.{Moves, MakesBody, SetsValue, spot_by, 
 
 use crate::Code;
 use crate::expressions::value_of;
-use crate::spots::{Spot, behind_word, field, origin};
+use crate::spots::{Spot, after_word, field, origin};
 use crate::words::word_of;
 use pal_lex::{Body, Name, Part};
 use pal_sym::{SymbolName, Symbols};
@@ -20,7 +20,7 @@ pub fn set_tags(symbols: &mut Symbols, tags: &[Name], place: Word)
 {
     let mut rest = tags;
     while let [tag, others @ ..] = rest {
-        symbols.again(SymbolName::numbered(tag.number()), place);
+        symbols.again(SymbolName::name_of_number(tag.number()), place);
         rest = others;
     }
 }
@@ -30,12 +30,12 @@ fn set_value(symbols: &mut Symbols, location: u16, name: Name, parts: &[Part]) -
     ensures { SetsValue name parts.now location symbols.old symbols.new result }
 {
     let value = value_of(symbols, location, parts)?;
-    symbols.again(SymbolName::numbered(name.number()), value);
+    symbols.again(SymbolName::name_of_number(name.number()), value);
     Ok(())
 }
 
 /// The spot after a body, in the second pass, which sets names again.
-fn moved(symbols: &mut Symbols, spot: Spot, body: &Body) -> Result<Spot, Code>
+fn spot_after(symbols: &mut Symbols, spot: Spot, body: &Body) -> Result<Spot, Code>
     ensures spot { Moves (spot_by (symbol_value symbols.old) body.now spot)
         (spot_fault (symbol_value symbols.old) spot.location body.now) result }
     ensures values { OnOk result ((n : ℕ) → symbol_value symbols.new n
@@ -50,12 +50,12 @@ fn moved(symbols: &mut Symbols, spot: Spot, body: &Body) -> Result<Spot, Code>
         }
         Body::Origin(place) => origin(symbols, spot, place.parts()),
         Body::Field(number) => field(symbols, spot, number.parts()),
-        Body::Reference { .. } | Body::Word(_) => behind_word(spot),
+        Body::Reference { .. } | Body::Word(_) => after_word(spot),
     }
 }
 
 /// The spot after a body in the second pass, and its word with the cell of that.
-pub fn made(
+pub fn spot_and_word(
     symbols: &mut Symbols,
     spot: Spot,
     body: &Body,
@@ -65,7 +65,7 @@ pub fn made(
     ensures field { IfOk result (λ made. made.0.field < 8) }
 {
     let word = word_of(symbols, spot.location, body)?;
-    let next = moved(symbols, spot, body)?;
+    let next = spot_after(symbols, spot, body)?;
     match word {
         Some(word) => Ok((
             next,

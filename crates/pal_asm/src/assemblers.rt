@@ -8,7 +8,7 @@ ghost use Rattle.pal_asm.specs.Faults.{past};
 ghost use Rattle.pal_asm.specs.PassSteps.{Moves, MakesBody, spot_by, spot_fault, with_tags_again, with_body_again, SetsValue};
 ghost use Rattle.pal_asm.specs.Passes.{IsFirst, IsSecond, AnswersFirst, IsJudged, AnswersSecond, BeginsSecond, HasBegunSecond, HasNotBegunSecond, StaysFailed};
 
-use crate::again::{made, set_tags};
+use crate::again::{spot_and_word, set_tags};
 use crate::names::{definitions, judge_tags, pass};
 use crate::spots::{Spot, first_spot};
 use crate::{AsmFault, Code};
@@ -33,7 +33,7 @@ pub struct Assembler {
     spot: Spot,
     is_second: bool,
     line: u64,
-    failed: Option<AsmFault>,
+    fault: Option<AsmFault>,
 }
 
 impl Model for Assembler {
@@ -51,7 +51,7 @@ impl Model for Assembler {
       spot = a.spot;
       is_second = a.is_second;
       line = a.line;
-      failed = a.failed;
+      fault = a.fault;
     } };
 
     ghost invariant = { λ a. a.spot.field < 8 };
@@ -67,7 +67,7 @@ impl Assembler {
             spot: first_spot(),
             is_second: false,
             line: 1,
-            failed: None,
+            fault: None,
         }
     }
 
@@ -89,7 +89,7 @@ impl Assembler {
         ensures turned { HasBegunSecond self.old → (result ≡ Ok tt) × (self.new ≡ self.old) }
         ensures failed { StaysFailed result self.old self.new }
     {
-        if let Some(fault) = self.failed {
+        if let Some(fault) = self.fault {
             return Err(fault);
         }
         if self.is_second {
@@ -124,7 +124,7 @@ impl Assembler {
         ensures turned { HasBegunSecond self.old → (result ≡ Ok tt) × (self.new ≡ self.old) }
         ensures failed { StaysFailed result self.old self.new }
     {
-        if let Some(fault) = self.failed {
+        if let Some(fault) = self.fault {
             return Err(fault);
         }
         if self.is_second {
@@ -152,7 +152,7 @@ impl Assembler {
         ensures unturned { HasNotBegunSecond self.old → (result ≡ Ok None) × (self.new ≡ self.old) }
         ensures failed { StaysFailed result self.old self.new }
     {
-        if let Some(fault) = self.failed {
+        if let Some(fault) = self.fault {
             return Err(fault);
         }
         if !self.is_second {
@@ -166,7 +166,7 @@ impl Assembler {
             statement.tags.names(),
             Word::low(self.spot.location),
         );
-        match made(&mut self.symbols, self.spot, &statement.body) {
+        match spot_and_word(&mut self.symbols, self.spot, &statement.body) {
             Ok((spot, pair)) => {
                 self.spot = spot;
                 Ok(pair)
@@ -178,9 +178,9 @@ impl Assembler {
     /// Fails for good.
     fn fail(&mut self, code: Code, line: u64) -> AsmFault
         ensures fault { result ≡ At code line }
-        ensures failed { self.new ≡ record self.old { failed = Some (At code line) } }
+        ensures failed { self.new ≡ record self.old { fault = Some (At code line) } }
     {
-        self.failed = Some(AsmFault::At(code, line));
+        self.fault = Some(AsmFault::At(code, line));
         AsmFault::At(code, line)
     }
 }

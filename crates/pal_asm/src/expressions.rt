@@ -1,7 +1,7 @@
 ghost use Rattle.std.specs.Prelude.{◌≡◌, ◌<◌, IfOk};
 ghost use Rattle.pal_sym.specs.Values.{symbol_value};
-ghost use Rattle.pal_asm.specs.Expressions.{term_value, value_of, joined, address_value};
-ghost use Rattle.pal_asm.specs.Faults.{undefined, past, term_fault, terms_fault, address_fault};
+ghost use Rattle.pal_asm.specs.Expressions.{term_value, value_of, join_values, address_value};
+ghost use Rattle.pal_asm.specs.Faults.{fault_of_name, past, term_fault, terms_fault, address_fault};
 ghost use Rattle.pal_asm.specs.PassSteps.{GivesValue};
 
 use crate::Code;
@@ -11,11 +11,11 @@ use word12::Word;
 
 /// The value of a name.
 fn name_value(symbols: &Symbols, name: Name) -> Result<Word, Code>
-    ensures value { GivesValue (symbol_value symbols.now name) (undefined (symbol_value symbols.now name))
+    ensures value { GivesValue (symbol_value symbols.now name) (fault_of_name (symbol_value symbols.now name))
         result }
     ensures range { IfOk result (λ word. word < 0o10000) }
 {
-    match symbols.value(SymbolName::numbered(name.number())) {
+    match symbols.value(SymbolName::name_of_number(name.number())) {
         Some(word) => {
             let _number = word.get();
             Ok(word)
@@ -55,8 +55,8 @@ fn term_value(symbols: &Symbols, location: u16, term: Term) -> Result<Word, Code
 }
 
 /// Two values joined.
-fn joined(joint: Joint, before: Word, value: Word) -> Word
-    ensures value { result ≡ joined joint before value }
+fn join_values(joint: Joint, before: Word, value: Word) -> Word
+    ensures value { result ≡ join_values joint before value }
     ensures range { result < 0o10000 }
 {
     match joint {
@@ -75,7 +75,7 @@ pub fn value_of(symbols: &Symbols, location: u16, parts: &[Part]) -> Result<Word
     let mut rest = parts;
     let mut value = Word::low(0);
     while let [part, others @ ..] = rest {
-        value = joined(part.joint, value, term_value(symbols, location, part.term)?);
+        value = join_values(part.joint, value, term_value(symbols, location, part.term)?);
         rest = others;
     }
     Ok(value)

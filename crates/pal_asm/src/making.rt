@@ -37,7 +37,7 @@ fn make_answer(
         None => Ok(()),
         Some(statement) => {
             if is_pause_body(&statement.body) {
-                pass.ended = true;
+                pass.is_at_end = true;
                 return Ok(());
             }
             let handed = pass.assembler.second(statement)?;

@@ -7,7 +7,7 @@ ghost use Rattle.pal_asm.specs.PassSteps.{tag_fault, Judges, DefinesTags, Passes
 
 use crate::Code;
 use crate::expressions::{place_value, value_of};
-use crate::spots::{Spot, behind_word, field, origin};
+use crate::spots::{Spot, after_word, field, origin};
 use pal_lex::{Body, Name, Part};
 use pal_sym::{SymbolName, Symbols};
 
@@ -27,7 +27,7 @@ fn judge_tag(symbols: &Symbols, tag: Name, location: u16) -> Result<(), Code>
     ensures { Judges (tag_fault location (symbol_value symbols.now tag)) result }
 {
     let place = place_value(location)?;
-    match symbols.value(SymbolName::numbered(tag.number())) {
+    match symbols.value(SymbolName::name_of_number(tag.number())) {
         Some(known) => {
             if known != place {
                 return Err(Code::DT);
@@ -59,7 +59,7 @@ fn define_tags(symbols: &mut Symbols, tags: &[Name], location: u16) -> Result<()
     while let [tag, others @ ..] = rest {
         let place = place_value(location)?;
         symbols
-            .define_tag(SymbolName::numbered(tag.number()), place)
+            .define_tag(SymbolName::name_of_number(tag.number()), place)
             .map_err(|_| Code::DT)?;
         rest = others;
     }
@@ -73,7 +73,7 @@ fn define(symbols: &mut Symbols, spot: Spot, name: Name, parts: &[Part]) -> Resu
 {
     let value = value_of(symbols, spot.location, parts)?;
     symbols
-        .define_value(SymbolName::numbered(name.number()), value)
+        .define_value(SymbolName::name_of_number(name.number()), value)
         .map_err(|_| Code::RD)?;
     Ok(spot)
 }
@@ -88,7 +88,7 @@ fn pass_body(symbols: &mut Symbols, spot: Spot, body: &Body) -> Result<Spot, Cod
         Body::Origin(place) => origin(symbols, spot, place.parts()),
         Body::Define(name, value) => define(symbols, spot, *name, value.parts()),
         Body::Field(number) => field(symbols, spot, number.parts()),
-        Body::Reference { .. } | Body::Word(_) => behind_word(spot),
+        Body::Reference { .. } | Body::Word(_) => after_word(spot),
     }
 }
 

@@ -6,7 +6,7 @@ ghost use Rattle.pal_lex.specs.Progress.{setting};
 ghost use Rattle.pal_lex.specs.Reading.{HasRead, HasPaused, is_pause_body};
 ghost use Rattle.pal_asm.specs.Places.{Source};
 ghost use Rattle.pal_asm.specs.Passes.{IsFirst};
-ghost use Rattle.pal_asm.specs.Passing.{IsBehind, HasPassed, Settles, SettlesIn, PassesTo, EndsSource, BeginsSecondPass};
+ghost use Rattle.pal_asm.specs.Passing.{StandsAfter, HasPassed, Settles, SettlesIn, PassesTo, EndsSource, BeginsSecondPass};
 ghost use Rattle.pal_asm.specs.TextSteps.{is_pause_answer, PassesByte};
 
 use crate::laws::{lexical_fault_is_told, no_lexical_fault, statements_stay};
@@ -22,7 +22,7 @@ pub struct Pass {
     /// A statement that the lexer handed out, and the assembler had no memory for.
     pub waiting: Option<Statement>,
     /// Whether nothing more of the present source is read: it has paused or ended, or the sources have.
-    pub ended: bool,
+    pub is_at_end: bool,
 }
 
 /// Whether a body is PAUSE.
@@ -60,7 +60,7 @@ pub(crate) fn read_on(lexer: &mut Lexer, text: &[u8], offset: usize) -> usize
 
 /// Hands the statement that waits, if one does, to the assembler.
 pub fn settle(pass: &mut Pass) -> Result<(), AsmFault>
-    ensures settles { (source : Source) → IsBehind pass.old.waiting pass.old.assembler source
+    ensures settles { (source : Source) → StandsAfter pass.old.waiting pass.old.assembler source
         → Settles source result pass.old pass.new }
     ensures stands { (prefix here : List ℕ) (several is_last : Bool)
         → HasPassed pass.old prefix several here is_last
@@ -81,11 +81,11 @@ pub fn settle(pass: &mut Pass) -> Result<(), AsmFault>
 
 /// Lets a statement wait that was handed out, if one was; at PAUSE nothing more of the source is read.
 fn keep(pass: &mut Pass, answer: Option<Statement>)
-    ensures paused { is_pause_answer answer ≡ true → pass.new ≡ record pass.old { ended = true } }
+    ensures paused { is_pause_answer answer ≡ true → pass.new ≡ record pass.old { is_at_end = true } }
     ensures kept { is_pause_answer answer ≡ false → pass.new ≡ record pass.old { waiting = answer } }
 {
     if is_pause(&answer) {
-        pass.ended = true;
+        pass.is_at_end = true;
     } else {
         pass.waiting = answer;
     }
@@ -141,11 +141,11 @@ pub fn pass_text(pass: &mut Pass, text: &[u8], offset: &mut usize) -> Result<(),
 
 /// Goes on with the next source, after one that may pause, where no statement waits. It takes no memory.
 pub fn end_source(pass: &mut Pass, last: bool) -> Result<(), AsmFault>
-    ensures ends { EndsSource pass.old.lexer last result pass.new.lexer pass.new.ended }
+    ensures ends { EndsSource pass.old.lexer last result pass.new.lexer pass.new.is_at_end }
     ensures others { (pass.new.assembler ≡ pass.old.assembler) × (pass.new.waiting ≡ pass.old.waiting) }
 {
     pass.lexer.next_source(last)?;
-    pass.ended = is_over(&pass.lexer);
+    pass.is_at_end = is_over(&pass.lexer);
     Ok(())
 }
 
@@ -163,12 +163,12 @@ pub fn begin_second_pass(pass: &mut Pass, lexer: Lexer) -> Result<(), AsmFault>
     requires { pass.old.waiting ≡ None }
     ensures turns { (seam : ℕ) (text : List ℕ) → HasRead pass.old.lexer seam text
         → IsFirst pass.old.assembler (statements text) → BeginsSecondPass text result pass.new }
-    ensures lexer { OnOk result ((pass.new.lexer ≡ lexer) × (pass.new.ended ≡ false)) }
+    ensures lexer { OnOk result ((pass.new.lexer ≡ lexer) × (pass.new.is_at_end ≡ false)) }
 {
     no_lexical_fault();
     pass.lexer.end()?;
     pass.assembler.begin_second()?;
     pass.lexer = lexer;
-    pass.ended = false;
+    pass.is_at_end = false;
     Ok(())
 }

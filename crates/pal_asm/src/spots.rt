@@ -68,7 +68,7 @@ pub fn field(symbols: &Symbols, spot: Spot, parts: &[Part]) -> Result<Spot, Code
 }
 
 /// The spot after a word.
-pub fn behind_word(spot: Spot) -> Result<Spot, Code>
+pub fn after_word(spot: Spot) -> Result<Spot, Code>
     ensures spot { Moves (record { location = spot.location + 1; field = spot.field; word = true })
         (past spot.location) result }
     ensures field { IfOk result (λ s. s.field ≡ spot.field) }

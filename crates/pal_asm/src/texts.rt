@@ -72,20 +72,20 @@ fn begin(alloc: Global, sources: &[&[u8]]) -> Pass
         lexer: lexer_of(alloc, sources),
         assembler: Assembler::new(alloc),
         waiting: None,
-        ended: false,
+        is_at_end: false,
     }
 }
 
 /// Goes on with the first of these sources after one that was read, and answers whether it counts. It takes no memory.
 fn go_on(pass: &mut Pass, others: &[&[u8]]) -> Result<bool, AsmFault>
-    ensures goes { GoesOn (texts others.now) pass.old.lexer result pass.new.lexer pass.new.ended }
+    ensures goes { GoesOn (texts others.now) pass.old.lexer result pass.new.lexer pass.new.is_at_end }
     ensures same { (pass.new.assembler ≡ pass.old.assembler) × (pass.new.waiting ≡ pass.old.waiting) }
 {
     if others.is_empty() {
         return Ok(false);
     }
     end_source(pass, !are_several(others))?;
-    Ok(!pass.ended)
+    Ok(!pass.is_at_end)
 }
 
 /// Takes a source in the first pass, and answers whether it goes on with the next of the others.

@@ -19,8 +19,8 @@ use Rattle.pal_asm.specs.declared.passing.Pass.{Pass}
 use Rattle.pal_blocks.specs.declared.assembling.Assembling.{Assembling}
 use Rattle.pal_blocks.specs.Blocks.{blocks_in, blocks_among, first_blocks, AreFiles, assembling_turns, turn_of}
 use Rattle.pal_blocks.specs.Sources.{newest_first, IsTapeOfSources}
-use Rattle.pal_blocks.specs.Schedule.{statements_in, joined_blocks, from_turn, known_at}
-use Rattle.pal_blocks.specs.Passing.{text_in, added, IsOver}
+use Rattle.pal_blocks.specs.Schedule.{statements_in, joined_blocks, from_turn, fault_at_turn}
+use Rattle.pal_blocks.specs.Passing.{text_in, characters_added, IsOver}
 use Rattle.pal_asm.specs.Passing.{IsMade}
 use Rattle.pal_asm.specs.Passing.{TellsJoinFault, IsWithin, HasMade, EndsSource}
 use Rattle.pal_blocks.specs.Steps.{MakesBlock, HoldsTape}
@@ -33,11 +33,11 @@ use Rattle.pal_blocks.proofs.TurnLemmas.{the_second, due_block, block_inside, mo
 
 abbrev pub MakesClause : Pass → List (ℕ × ℕ) → List ℕ → ℕ → ℕ → Result (Unit {0}) AsmFault → Pass → List (ℕ × ℕ) → Type 0
 MakesClause old pairs block offset offset' result new pairs' =
-    (whole : Source) (prefix given : List ℕ) (several : Bool) → HasMade whole old pairs prefix several (text_from (text_in given) (take offset (added given block))) (is_ended given)
+    (whole : Source) (prefix given : List ℕ) (several : Bool) → HasMade whole old pairs prefix several (text_from (text_in given) (take offset (characters_added given block))) (is_ended given)
     → IsWithin whole prefix several (text_in (given ++ frames block)) → MakesBlock whole prefix several given block offset' result new pairs'
 
 abbrev pub SkipsClause : Pass → Vec (ℕ × ℕ) → Result (Unit {0}) AsmFault → Pass → Vec (ℕ × ℕ) → Type 0
-SkipsClause old pairs result new pairs' = old.ended ≡ true → (result ≡ Ok tt) × (new ≡ old) × (pairs' ≡ pairs)
+SkipsClause old pairs result new pairs' = old.is_at_end ≡ true → (result ≡ Ok tt) × (new ≡ old) × (pairs' ≡ pairs)
 
 -- the whole of sources, as statements
 abbrev Whole : List (List ℕ) → Source
@@ -46,11 +46,11 @@ Whole sources = statements (newest_first sources)
 -- a block was taken
 pub after_second : JoinedCharacters → (sources : List (List ℕ)) (it : Assembling) (left : ℕ) (block : List ℕ) (offset : ℕ) (new : Pass) (pairs : Vec (ℕ × ℕ)) → AreFiles sources → (second : IsSecondPass sources it left) → block ≡ block_of sources (due_of it)
     → MakesClause it.pass it.pairs.items block it.offset offset (Ok tt) new pairs.items → SkipsClause it.pass it.pairs (Ok tt) new pairs
-    → IsAfter sources second.place.before second.place.words second.place.others (it.block + 1) new.lexer new.ended (λ s. IsMade (Whole sources) new pairs.items s)
+    → IsAfter sources second.place.before second.place.words second.place.others (it.block + 1) new.lexer new.is_at_end (λ s. IsMade (Whole sources) new pairs.items s)
 after_second chars sources it left block offset new pairs are second is makes skips = elim second.pass [
   | inl here ↦
       let has = makes (Whole sources) here.0 given (has_next second.place.others)
-      (subst (λ b. HasMade (Whole sources) it.pass it.pairs.items here.0 (has_next second.place.others) (text_from (text_in given) (take it.offset (added given b))) (is_ended given)) (sym (due_block sources it second.place block is)) here.2)
+      (subst (λ b. HasMade (Whole sources) it.pass it.pairs.items here.0 (has_next second.place.others) (text_from (text_in given) (take it.offset (characters_added given b))) (is_ended given)) (sym (due_block sources it second.place block is)) here.2)
       (subst (λ l. IsWithin (Whole sources) here.0 (has_next second.place.others) (text_in l)) (sym (more_frames sources it second.place block are is))
       (within_whole chars sources second.place.before second.place.words second.place.others here.0 (it.block + 1) are second.place.split (block_inside sources it.source it.block second.place are) here.1)) in
       inl (here.0, here.1, subst (λ l. HasMade (Whole sources) new pairs.items here.0 (has_next second.place.others) (text_in l) (is_ended l)) (more_frames sources it second.place block are is) has)
@@ -59,8 +59,8 @@ after_second chars sources it left block offset new pairs are second is makes sk
       inr (
         over.0,
         over.1,
-        subst (λ (n : Pass). IsOver n.lexer n.ended over.0 (λ s. IsMade (Whole sources) n pairs.items s)) (sym now.1)
-            (subst (λ (l : Vec (ℕ × ℕ)). IsOver it.pass.lexer it.pass.ended over.0 (λ s. IsMade (Whole sources) it.pass l.items s)) (sym now.2) over.2),
+        subst (λ (n : Pass). IsOver n.lexer n.is_at_end over.0 (λ s. IsMade (Whole sources) n pairs.items s)) (sym now.1)
+            (subst (λ (l : Vec (ℕ × ℕ)). IsOver it.pass.lexer it.pass.is_at_end over.0 (λ s. IsMade (Whole sources) it.pass l.items s)) (sym now.2) over.2),
       )
 ]
   where
@@ -88,7 +88,7 @@ first_whole sources more are fine = ap (λ l. first_order (statements (newest_fi
 
 -- what is known when so many blocks were read again
 known_later : (sources : List (List ℕ)) (more : ℕ) (what : Option AsmFault) → AreFiles sources → first_order (Whole sources) ≡ None → no_end (newest_first sources) ≡ None
-    → first_of (words_fault (values (Whole sources)) (statements_in more sources)) (no_word (Whole sources)) ≡ what → known_at (blocks_among sources + more) sources ≡ what
+    → first_of (words_fault (values (Whole sources)) (statements_in more sources)) (no_word (Whole sources)) ≡ what → fault_at_turn (blocks_among sources + more) sources ≡ what
 known_later sources more what are fine ends known =
     known_all sources (blocks_among sources + more) what (first_whole sources more are fine)
     (ap (λ o. from_turn (joined_blocks sources) (blocks_among sources + more) o) ends ∙ from_none (joined_blocks sources) (blocks_among sources + more))
@@ -100,13 +100,13 @@ known_later sources more what are fine ends known =
 
 -- no fault of a word is known so far
 pub no_words_fault : EndsJoin → (sources before : List (List ℕ)) (words : List ℕ) (others : List (List ℕ)) (count : ℕ) (pass : Pass) (pairs : List (ℕ × ℕ)) → count ≤ blocks_in words
-    → IsAfter sources before words others count pass.lexer pass.ended (λ s. IsMade (Whole sources) pass pairs s) → words_fault (values (Whole sources)) (statements_in (blocks_among before + count) sources) ≡ None
+    → IsAfter sources before words others count pass.lexer pass.is_at_end (λ s. IsMade (Whole sources) pass pairs s) → words_fault (values (Whole sources)) (statements_in (blocks_among before + count) sources) ≡ None
 no_words_fault law sources before words others count pass pairs low after =
-    let so = so_far law sources before words others count pass.lexer pass.ended (λ s. IsMade (Whole sources) pass pairs s) low after in
+    let so = so_far law sources before words others count pass.lexer pass.is_at_end (λ s. IsMade (Whole sources) pass pairs s) low after in
     ap (λ t. words_fault (values (Whole sources)) (statements t)) so.1.0 ∙ so.1.1.1.words
 
 known_none : EndsJoin → (sources before : List (List ℕ)) (words : List ℕ) (others : List (List ℕ)) (count : ℕ) (pass : Pass) (pairs : List (ℕ × ℕ)) → AreFiles sources → first_order (Whole sources) ≡ None → no_word (Whole sources) ≡ None → no_end (newest_first sources) ≡ None → count ≤ blocks_in words
-    → IsAfter sources before words others count pass.lexer pass.ended (λ s. IsMade (Whole sources) pass pairs s) → known_at (blocks_among sources + (blocks_among before + count)) sources ≡ None
+    → IsAfter sources before words others count pass.lexer pass.is_at_end (λ s. IsMade (Whole sources) pass pairs s) → fault_at_turn (blocks_among sources + (blocks_among before + count)) sources ≡ None
 known_none law sources before words others count pass pairs are fine word ends low after =
     known_later sources (blocks_among before + count) None are fine ends
     (ap (λ o. first_of o (no_word (Whole sources))) (no_words_fault law sources before words others count pass pairs low after) ∙ word)
@@ -115,7 +115,7 @@ known_none law sources before words others count pass pairs are fine word ends l
 pub second_stands : EndsJoin → (sources : List (List ℕ)) (it new : Assembling) (left turn : ℕ) → IsAssembling sources it left → 2 ≤ left → turn_of (assembling_turns (blocks_among sources)) left ≡ turn → left ≤ assembling_turns (blocks_among sources)
     → first_order (Whole sources) ≡ None → no_word (Whole sources) ≡ None → no_end (newest_first sources) ≡ None
     → new.blocks.items ≡ it.blocks.items → new.again ≡ true → new.offset ≡ 0 → (place : Place sources new.source new.block) → blocks_among sources + (blocks_among place.before + new.block) ≡ turn
-    → IsAfter sources place.before place.words place.others new.block new.pass.lexer new.pass.ended (λ s. IsMade (Whole sources) new.pass new.pairs.items s)
+    → IsAfter sources place.before place.words place.others new.block new.pass.lexer new.pass.is_at_end (λ s. IsMade (Whole sources) new.pass new.pairs.items s)
     → TakesBlock sources left (Ok tt) new
 second_stands law sources it new left turn is more turn_at most fine word ends same again offset place at after = (
   record {
@@ -131,11 +131,11 @@ second_stands law sources it new left turn is more turn_at most fine word ends s
       pass = subst (λ o. IsInPass sources new.source new.block o place new.pass (λ s. IsMade (Whole sources) new.pass new.pairs.items s)) (sym offset) after;
     }));
   },
-  ap (λ t. known_at t sources) turn_at ∙ now,
+  ap (λ t. fault_at_turn t sources) turn_at ∙ now,
 )
   where
-    now : known_at turn sources ≡ None
-    now = ap (λ t. known_at t sources) (sym at) ∙ known_none law sources place.before place.words place.others new.block new.pass new.pairs.items is.files fine word ends (omega (arith, place.inside)) after
+    now : fault_at_turn turn sources ≡ None
+    now = ap (λ t. fault_at_turn t sources) (sym at) ∙ known_none law sources place.before place.words place.others new.block new.pass new.pairs.items is.files fine word ends (omega (arith, place.inside)) after
 
 pub second_on : JoinedCharacters → EndsJoin → (sources : List (List ℕ)) (left : ℕ) (it : Assembling) (block : List ℕ) (offset count : ℕ) (pass : Pass) (pairs : Vec (ℕ × ℕ)) → IsAssembling sources it left → 2 ≤ left → it.again ≡ true → block ≡ block_of sources (due_of it)
     → count ≡ get_or it.blocks.items it.source 0 → nat_lt (it.block + 1) count ≡ true → MakesClause it.pass it.pairs.items block it.offset offset (Ok tt) pass pairs.items → SkipsClause it.pass it.pairs (Ok tt) pass pairs
@@ -169,7 +169,7 @@ second_not chars law sources left it block offset pass pairs f is more again thi
   | inl here ↦
       by_fault f here.0 here.1
       (makes (Whole sources) here.0 given (has_next second.place.others)
-      (subst (λ b. HasMade (Whole sources) it.pass it.pairs.items here.0 (has_next second.place.others) (text_from (text_in given) (take it.offset (added given b))) (is_ended given)) (sym (due_block sources it second.place block this)) here.2)
+      (subst (λ b. HasMade (Whole sources) it.pass it.pairs.items here.0 (has_next second.place.others) (text_from (text_in given) (take it.offset (characters_added given b))) (is_ended given)) (sym (due_block sources it second.place block this)) here.2)
       (subst (λ l. IsWithin (Whole sources) here.0 (has_next second.place.others) (text_in l)) (sym (more_frames sources it second.place block is.files this))
       (within_whole chars sources second.place.before second.place.words second.place.others here.0 (it.block + 1) is.files second.place.split (block_inside sources it.source it.block second.place is.files) here.1)))
   | inr over ↦ absurd (never (skips over.2.no_more).0)
@@ -215,14 +215,14 @@ second_not chars law sources left it block offset pass pairs f is more again thi
         ends = second.ends;
         place = second.place;
         turns = second.turns;
-        pass = inl (prefix, goes, subst (λ b. HasMade (Whole sources) pass pairs.items prefix (has_next second.place.others) (text_from (text_in given) (take offset (added given b))) (is_ended given)) (due_block sources it second.place block this) has);
+        pass = inl (prefix, goes, subst (λ b. HasMade (Whole sources) pass pairs.items prefix (has_next second.place.others) (text_from (text_in given) (take offset (characters_added given b))) (is_ended given)) (due_block sources it second.place block this) has);
       }));
     }
 
 -- the last block of a source
 pub second_next : JoinedCharacters → EndsJoin → (sources : List (List ℕ)) (left : ℕ) (it : Assembling) (block : List ℕ) (offset count total : ℕ) (pass pass2 : Pass) (pairs : Vec (ℕ × ℕ)) (last : Bool) (r : Result (Unit {0}) AsmFault) → IsAssembling sources it left → 2 ≤ left → it.again ≡ true
     → block ≡ block_of sources (due_of it) → count ≡ get_or it.blocks.items it.source 0 → nat_lt (it.block + 1) count ≡ false → total ≡ length it.blocks.items → nat_lt (it.source + 1) total ≡ true → last ≡ not (nat_lt (it.source + 1 + 1) total)
-    → MakesClause it.pass it.pairs.items block it.offset offset (Ok tt) pass pairs.items → SkipsClause it.pass it.pairs (Ok tt) pass pairs → EndsSource pass.lexer last r pass2.lexer pass2.ended → pass2.assembler ≡ pass.assembler → pass2.waiting ≡ pass.waiting
+    → MakesClause it.pass it.pairs.items block it.offset offset (Ok tt) pass pairs.items → SkipsClause it.pass it.pairs (Ok tt) pass pairs → EndsSource pass.lexer last r pass2.lexer pass2.is_at_end → pass2.assembler ≡ pass.assembler → pass2.waiting ≡ pass.waiting
     → TakesBlock sources left r (record { blocks = it.blocks; source = it.source + 1; block = 0; offset = 0; again = it.again; pass = pass2; pairs = pairs })
 second_next chars law sources left it block offset count total pass pass2 pairs last r is more again this counted test many goes lasts makes skips ends same_assembler same_waiting = by_others second.place.others refl
   where
@@ -245,24 +245,24 @@ second_next chars law sources left it block offset count total pass pass2 pairs 
         split : sources ≡ second.place.before ++ second.place.words ∷ next ∷ others
         split = second.place.split ∙ ap (λ l. second.place.before ++ second.place.words ∷ l) e
 
-        after : IsAfter sources second.place.before second.place.words (next ∷ others) (it.block + 1) pass.lexer pass.ended (λ s. IsMade (Whole sources) pass pairs.items s)
-        after = subst (λ l. IsAfter sources second.place.before second.place.words l (it.block + 1) pass.lexer pass.ended (λ s. IsMade (Whole sources) pass pairs.items s)) e (after_second chars sources it left block offset pass pairs is.files second this makes skips)
+        after : IsAfter sources second.place.before second.place.words (next ∷ others) (it.block + 1) pass.lexer pass.is_at_end (λ s. IsMade (Whole sources) pass pairs.items s)
+        after = subst (λ l. IsAfter sources second.place.before second.place.words l (it.block + 1) pass.lexer pass.is_at_end (λ s. IsMade (Whole sources) pass pairs.items s)) e (after_second chars sources it left block offset pass pairs is.files second this makes skips)
 
         next_turn : blocks_among sources + (blocks_among (second.place.before ++ second.place.words ∷ []) + 0) ≡ blocks_among sources + (blocks_among second.place.before + (it.block + 1))
         next_turn = omega (arith, among_append second.place.before (second.place.words ∷ []), at_end)
 
-        by_result : (a : Result (Unit {0}) AsmFault) → EndsSource pass.lexer last a pass2.lexer pass2.ended → TakesBlock sources left a new
+        by_result : (a : Result (Unit {0}) AsmFault) → EndsSource pass.lexer last a pass2.lexer pass2.is_at_end → TakesBlock sources left a new
         by_result (Ok done) ended =
             second_stands law sources it new left _ is more (turn_again (blocks_among sources) (blocks_among second.place.before) it.block left second.turns) (most_left (blocks_among sources) (blocks_among second.place.before) it.block left second.turns)
             fine.0 fine.1 second.ends refl again refl
             (next_place sources second.place.before second.place.words next others it.source is.files second.place.count split)
             next_turn
-            (subst (λ w. IsAfter sources (second.place.before ++ second.place.words ∷ []) next others 0 pass2.lexer pass2.ended (λ s. IsMade (Whole sources) (record { lexer = pass2.lexer; assembler = pass2.assembler; waiting = w; ended = pass2.ended }) pairs.items s)) (sym same_waiting)
-            (subst (λ a. IsAfter sources (second.place.before ++ second.place.words ∷ []) next others 0 pass2.lexer pass2.ended (λ s. IsMade (Whole sources) (record { lexer = pass2.lexer; assembler = a; waiting = pass.waiting; ended = pass2.ended }) pairs.items s)) (sym same_assembler)
-            (next_source law sources second.place.before second.place.words next others (it.block + 1) pass.lexer pass2.lexer last pass2.ended pass.ended (λ s. IsMade (Whole sources) pass pairs.items s) is.files split at_end
+            (subst (λ w. IsAfter sources (second.place.before ++ second.place.words ∷ []) next others 0 pass2.lexer pass2.is_at_end (λ s. IsMade (Whole sources) (record { lexer = pass2.lexer; assembler = pass2.assembler; waiting = w; ended = pass2.is_at_end }) pairs.items s)) (sym same_waiting)
+            (subst (λ a. IsAfter sources (second.place.before ++ second.place.words ∷ []) next others 0 pass2.lexer pass2.is_at_end (λ s. IsMade (Whole sources) (record { lexer = pass2.lexer; assembler = a; waiting = pass.waiting; ended = pass2.is_at_end }) pairs.items s)) (sym same_assembler)
+            (next_source law sources second.place.before second.place.words next others (it.block + 1) pass.lexer pass2.lexer last pass2.is_at_end pass.is_at_end (λ s. IsMade (Whole sources) pass pairs.items s) is.files split at_end
             (may_pause_next last total it.source others (omega (arith, how_many sources it second.place total is.each many, ap length e)) lasts) ended after)))
         by_result (Err f) ended =
-            absurd (never (sym (end_missing law sources second.place.before second.place.words next others (it.block + 1) pass.lexer pass2.lexer last pass2.ended pass.ended (λ s. IsMade (Whole sources) pass pairs.items s) f is.files split at_end ended after).0 ∙ second.ends))
+            absurd (never (sym (end_missing law sources second.place.before second.place.words next others (it.block + 1) pass.lexer pass2.lexer last pass2.is_at_end pass.is_at_end (λ s. IsMade (Whole sources) pass pairs.items s) f is.files split at_end ended after).0 ∙ second.ends))
           where
             never : Some f ≡ None → ⊥
             never e = cc
@@ -285,7 +285,7 @@ second_end chars law sources left it block offset count total pass pairs is more
       pairs = made.2;
     }));
   },
-  ap (λ t. known_at t sources) turn_at ∙ now,
+  ap (λ t. fault_at_turn t sources) turn_at ∙ now,
 )
   where
     second : IsSecondPass sources it left
@@ -309,15 +309,15 @@ second_end chars law sources left it block offset count total pass pairs is more
     turn_at : turn_of (assembling_turns (blocks_among sources)) left ≡ blocks_among sources + (blocks_among second.place.before + (it.block + 1))
     turn_at = turn_again (blocks_among sources) (blocks_among second.place.before) it.block left second.turns
 
-    after : IsAfter sources second.place.before second.place.words [] (it.block + 1) pass.lexer pass.ended (λ s. IsMade (Whole sources) pass pairs.items s)
-    after = subst (λ l. IsAfter sources second.place.before second.place.words l (it.block + 1) pass.lexer pass.ended (λ s. IsMade (Whole sources) pass pairs.items s)) alone (after_second chars sources it left block offset pass pairs is.files second this makes skips)
+    after : IsAfter sources second.place.before second.place.words [] (it.block + 1) pass.lexer pass.is_at_end (λ s. IsMade (Whole sources) pass pairs.items s)
+    after = subst (λ l. IsAfter sources second.place.before second.place.words l (it.block + 1) pass.lexer pass.is_at_end (λ s. IsMade (Whole sources) pass pairs.items s)) alone (after_second chars sources it left block offset pass pairs is.files second this makes skips)
 
-    now : known_at (blocks_among sources + (blocks_among second.place.before + (it.block + 1))) sources ≡ None
+    now : fault_at_turn (blocks_among sources + (blocks_among second.place.before + (it.block + 1))) sources ≡ None
     now = known_none law sources second.place.before second.place.words [] (it.block + 1) pass pairs.items is.files fine.0 fine.1 second.ends (omega (arith, at_end)) after
 
     made : IsMade (Whole sources) pass pairs.items (Whole sources)
     made =
-        let read = all_read sources second.place.before second.place.words (it.block + 1) pass.lexer pass.ended (λ s. IsMade (Whole sources) pass pairs.items s) is.files split at_end after in
+        let read = all_read sources second.place.before second.place.words (it.block + 1) pass.lexer pass.is_at_end (λ s. IsMade (Whole sources) pass pairs.items s) is.files split at_end after in
         subst (λ t. IsMade (Whole sources) pass pairs.items (statements t)) (sym read.1.1.0) read.1.1.2
 
 -- ## The last turn

@@ -11,8 +11,8 @@ use Rattle.pal_asm.specs.Faults.{first_of, first_order, no_end}
 use Rattle.pal_asm.specs.declared.faults.AsmFault.{AsmFault}
 use Rattle.pal_blocks.specs.Blocks.{blocks_among, blocks_of_each, first_blocks, first_among, AreFiles, assembling_turns, turn_of}
 use Rattle.pal_blocks.specs.Sources.{newest_first}
-use Rattle.pal_blocks.specs.Schedule.{joined_blocks, from_turn, known_again, known_at}
-use Rattle.pal_asm.specs.Passing.{IsBehind, Counts}
+use Rattle.pal_blocks.specs.Schedule.{joined_blocks, from_turn, known_again, fault_at_turn}
+use Rattle.pal_asm.specs.Passing.{StandsAfter, Counts}
 use Rattle.pal_blocks.specs.Progress.{Place, GoesOn, text_taken, IsAssembling}
 use Rattle.pal_blocks.specs.declared.assembling.Assembling.{Assembling}
 
@@ -45,7 +45,7 @@ pub not_yet : (least turn : ℕ) (fault : Option AsmFault) → turn < least → 
 not_yet least turn fault low = ap (λ test. if test then None else fault) (lt_true turn least low)
 
 -- before the first turn nothing is known
-none_at_first : (sources : List (List ℕ)) → 0 < length sources → AreFiles sources → known_at 0 sources ≡ None
+none_at_first : (sources : List (List ℕ)) → 0 < length sources → AreFiles sources → fault_at_turn 0 sources ≡ None
 none_at_first sources some are =
     ap (λ o. first_of o (first_of (from_turn (joined_blocks sources) 0 (no_end (newest_first sources))) (from_turn (blocks_among sources) 0 (known_again (0 - blocks_among sources) sources))))
     (ap (λ t. first_order (statements t)) (no_text sources) ∙ ap first_order nothing_read)
@@ -53,10 +53,10 @@ none_at_first sources some are =
     ∙ not_yet (blocks_among sources) 0 _ (some_block sources some are)
 
 pub none_before_first : (sources : List (List ℕ)) → 0 < length sources → AreFiles sources → (earlier : ℕ) → earlier < turn_of (assembling_turns (blocks_among sources)) (assembling_turns (blocks_among sources))
-    → known_at earlier sources ≡ None
+    → fault_at_turn earlier sources ≡ None
 none_before_first sources some are earlier low =
     let is : earlier ≡ 0 = omega (arith, low) in
-    ap (λ t. known_at t sources) is ∙ none_at_first sources some are
+    ap (λ t. fault_at_turn t sources) is ∙ none_at_first sources some are
 
 pub as_many : (sources : List (List ℕ)) → length (blocks_of_each sources) ≡ length sources
 as_many [] = refl
@@ -71,7 +71,7 @@ nothing_more n = omega arith
 
 -- nothing is read of the sources
 pub begun : (sources : List (List ℕ)) (it : Assembling) → 0 < length sources → AreFiles sources → it.blocks.items ≡ blocks_of_each sources
-    → it.source ≡ 0 → it.block ≡ 0 → it.offset ≡ 0 → it.again ≡ false → it.pass.ended ≡ false → it.pass.waiting ≡ None → it.pairs.items ≡ []
+    → it.source ≡ 0 → it.block ≡ 0 → it.offset ≡ 0 → it.again ≡ false → it.pass.is_at_end ≡ false → it.pass.waiting ≡ None → it.pairs.items ≡ []
     → HasRead it.pass.lexer 0 [] → it.pass.lexer.may_pause ≡ nat_lt 1 (length it.blocks.items) → IsFirst it.pass.assembler []
     → IsAssembling sources it (assembling_turns (blocks_among sources))
 begun [] it some are each source block offset again ended waiting none read several first = absurd (omega (arith, some))
@@ -108,11 +108,11 @@ begun (words ∷ others) it some are each source block offset again ended waitin
     here : text_taken words it.block it.offset ≡ []
     here = ap (λ n. text_taken words n it.offset) block ∙ ap (λ n. text_taken words 0 n) offset
 
-    counts : Counts it.pass.lexer [] (has_next others) (text_taken words it.block it.offset) (λ s. IsBehind it.pass.waiting it.pass.assembler s)
-    counts = subst (λ t. Counts it.pass.lexer [] (has_next others) t (λ s. IsBehind it.pass.waiting it.pass.assembler s)) (sym here) (record {
+    counts : Counts it.pass.lexer [] (has_next others) (text_taken words it.block it.offset) (λ s. StandsAfter it.pass.waiting it.pass.assembler s)
+    counts = subst (λ t. Counts it.pass.lexer [] (has_next others) t (λ s. StandsAfter it.pass.waiting it.pass.assembler s)) (sym here) (record {
       read = read;
       may_pause = several ∙ ap (λ l. nat_lt 1 (length l)) each ∙ ap (nat_lt 1) (as_many (words ∷ others)) ∙ sym (has_others words others);
       clear = (refl, refl);
       fine = ap first_fault nothing_read;
-      at = subst (λ w. IsBehind w it.pass.assembler (statements [])) (sym waiting) (subst (λ s. IsFirst it.pass.assembler s) (sym nothing_read) first);
+      at = subst (λ w. StandsAfter w it.pass.assembler (statements [])) (sym waiting) (subst (λ s. IsFirst it.pass.assembler s) (sym nothing_read) first);
     })

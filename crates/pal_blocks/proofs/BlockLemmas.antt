@@ -10,13 +10,13 @@ use Rattle.pal_asm.specs.Faults.{first_order, words_fault}
 use Rattle.pal_asm.specs.declared.faults.AsmFault.{AsmFault}
 use Rattle.pal_asm.specs.declared.faults.AsmFault.TheVariants.{At, Memory}
 use Rattle.pal_asm.specs.declared.passing.Pass.{Pass}
-use Rattle.pal_blocks.specs.Passing.{text_in, added}
-use Rattle.pal_asm.specs.Passing.{Counts, Paused, Stands, IsBehind, TellsJoinFault, HasPassed, SettlesIn, PassesTo, HasMade, IsWithin, MakesTo}
+use Rattle.pal_blocks.specs.Passing.{text_in, characters_added}
+use Rattle.pal_asm.specs.Passing.{Counts, Pause, Stands, StandsAfter, TellsJoinFault, HasPassed, SettlesIn, PassesTo, HasMade, IsWithin, MakesTo}
 use Rattle.pal_blocks.specs.Steps.{PassesBlock, MakesBlock}
 use Rattle.pal_blocks.proofs.TextLemmas.{JoinedCharacters, JoinedEnd, block_text, from_behind, the_rest, all_taken}
 
 -- behind PAUSE anything may come
-pub paused_more : (lexer : lex.Progress) (prefix : List ℕ) (several : Bool) (here bytes : List ℕ) (Fits : Source → Type 0) → Paused lexer prefix several here Fits → Paused lexer prefix several (text_from here bytes) Fits
+pub paused_more : (lexer : lex.Progress) (prefix : List ℕ) (several : Bool) (here bytes : List ℕ) (Fits : Source → Type 0) → Pause lexer prefix several here Fits → Pause lexer prefix several (text_from here bytes) Fits
 paused_more lexer prefix several here bytes Fits p =
     let rest = from_behind bytes here in
     record {
@@ -30,12 +30,12 @@ paused_more lexer prefix several here bytes Fits p =
     }
 
 -- the characters that a block adds where no control Z has come
-pub all_added : (given block text : List ℕ) → is_ended given ≡ false → text ≡ characters (frames block) → added given block ≡ text
+pub all_added : (given block text : List ℕ) → is_ended given ≡ false → text ≡ characters (frames block) → characters_added given block ≡ text
 all_added given block text not is = ap (λ b. if b then [] else characters (frames block)) not ∙ sym is
 
 -- a block is read from a place on
 pub begins_block : (lexer : lex.Progress) (ended : Bool) (prefix : List ℕ) (several : Bool) (given block text : List ℕ) (offset : ℕ) (Fits : Source → Type 0) → ended ≡ false → text ≡ characters (frames block)
-    → Stands lexer ended prefix several (text_from (text_in given) (take offset (added given block))) (is_ended given) Fits
+    → Stands lexer ended prefix several (text_from (text_in given) (take offset (characters_added given block))) (is_ended given) Fits
     → (is_ended given ≡ false) × Stands lexer ended prefix several (text_from (text_in given) (take offset text)) false Fits
 begins_block lexer ended prefix several given block text offset Fits going is stands = elim stands [
   | inl counts ↦
@@ -61,7 +61,7 @@ ends_block chars ends lexer ended prefix several given block text offset last Fi
   | inl counts ↦
       inl (ap (λ e. if last then true else e) counts.0 ∙ whether last ∙ sym ended_is, subst (λ t. Counts lexer prefix several t Fits) (sym text_is) counts.1)
   | inr paused ↦
-      inr (ap (λ e. if last then true else e) paused.0 ∙ either_way last, subst (λ t. Paused lexer prefix several t Fits) (sym text_is) paused.1)
+      inr (ap (λ e. if last then true else e) paused.0 ∙ either_way last, subst (λ t. Pause lexer prefix several t Fits) (sym text_is) paused.1)
 ]
   where
     ended_is : is_ended (given ++ frames block) ≡ last
@@ -72,41 +72,41 @@ ends_block chars ends lexer ended prefix several given block text offset last Fi
 
 -- nothing more of the source is read
 pub skips_block : JoinedCharacters → JoinedEnd → (lexer : lex.Progress) (ended : Bool) (prefix : List ℕ) (several : Bool) (given block : List ℕ) (offset : ℕ) (Fits : Source → Type 0) → ended ≡ true
-    → Stands lexer ended prefix several (text_from (text_in given) (take offset (added given block))) (is_ended given) Fits
+    → Stands lexer ended prefix several (text_from (text_in given) (take offset (characters_added given block))) (is_ended given) Fits
     → Stands lexer ended prefix several (text_in (given ++ frames block)) (is_ended (given ++ frames block)) Fits
 skips_block chars ends lexer ended prefix several given block offset Fits done stands = elim stands [
   | inl counts ↦
       let last = sym counts.0 ∙ done in
       inl (
         done ∙ sym (ends given (frames block) ∙ ap (λ b. if b then true else is_ended (frames block)) last),
-        subst (λ t. Counts lexer prefix several t Fits) (all_taken (text_in given) (added given block) offset (nothing last) ∙ sym (block_text chars given block)) counts.1,
+        subst (λ t. Counts lexer prefix several t Fits) (all_taken (text_in given) (characters_added given block) offset (nothing last) ∙ sym (block_text chars given block)) counts.1,
       )
   | inr paused ↦
       inr (
         paused.0,
-        subst (λ t. Paused lexer prefix several t Fits) (sym (block_text chars given block ∙ the_rest (text_in given) (added given block) offset))
-            (paused_more lexer prefix several (text_from (text_in given) (take offset (added given block))) (drop offset (added given block)) Fits paused.1),
+        subst (λ t. Pause lexer prefix several t Fits) (sym (block_text chars given block ∙ the_rest (text_in given) (characters_added given block) offset))
+            (paused_more lexer prefix several (text_from (text_in given) (take offset (characters_added given block))) (drop offset (characters_added given block)) Fits paused.1),
       )
 ]
   where
-    nothing : is_ended given ≡ true → length (added given block) ≤ offset
+    nothing : is_ended given ≡ true → length (characters_added given block) ≤ offset
     nothing last = subst (λ (l : List ℕ). length l ≤ offset) (sym (ap (λ b. if b then [] else characters (frames block)) last)) (omega arith)
 
 -- ## The first pass
 
 -- a block behind the end of what is read of a source
-pub block_skipped : JoinedCharacters → JoinedEnd → (pass new : Pass) (prefix : List ℕ) (several : Bool) (given block : List ℕ) (offset : ℕ) (r : Result (Unit {0}) AsmFault) → pass.ended ≡ true
+pub block_skipped : JoinedCharacters → JoinedEnd → (pass new : Pass) (prefix : List ℕ) (several : Bool) (given block : List ℕ) (offset : ℕ) (r : Result (Unit {0}) AsmFault) → pass.is_at_end ≡ true
     → ((prefix here : List ℕ) (several is_last : Bool) → HasPassed pass prefix several here is_last → SettlesIn prefix several here is_last r new) → (r ≡ Ok tt → new.waiting ≡ None)
-    → HasPassed pass prefix several (text_from (text_in given) (take offset (added given block))) (is_ended given) → PassesBlock prefix several given block offset r new
+    → HasPassed pass prefix several (text_from (text_in given) (take offset (characters_added given block))) (is_ended given) → PassesBlock prefix several given block offset r new
 block_skipped chars ends pass new prefix several given block offset (Ok tt) done settles none has = (
   settles prefix (text_in (given ++ frames block)) several (is_ended (given ++ frames block))
-      (skips_block chars ends pass.lexer pass.ended prefix several given block offset (λ s. IsBehind pass.waiting pass.assembler s) done has),
+      (skips_block chars ends pass.lexer pass.is_at_end prefix several given block offset (λ s. StandsAfter pass.waiting pass.assembler s) done has),
   none refl,
 )
 block_skipped chars ends pass new prefix several given block offset (Err Memory) done settles none has = settles prefix _ several (is_ended given) has
 block_skipped chars ends pass new prefix several given block offset (Err (At code line)) done settles none has =
     settles prefix (text_in (given ++ frames block)) several (is_ended (given ++ frames block))
-    (skips_block chars ends pass.lexer pass.ended prefix several given block offset (λ s. IsBehind pass.waiting pass.assembler s) done has)
+    (skips_block chars ends pass.lexer pass.is_at_end prefix several given block offset (λ s. StandsAfter pass.waiting pass.assembler s) done has)
 
 -- characters of a block were refused, or memory ran out
 pub block_refused : JoinedCharacters → (prefix : List ℕ) (several : Bool) (given block text : List ℕ) (offset : ℕ) (new : Pass) (f : AsmFault) → is_ended given ≡ false → text ≡ characters (frames block)
@@ -114,7 +114,7 @@ pub block_refused : JoinedCharacters → (prefix : List ℕ) (several : Bool) (g
 block_refused chars prefix several given block text offset new (At code line) not is tells =
     subst (λ t. TellsJoinFault first_order prefix several t (At code line)) (sym (block_text chars given block ∙ ap (text_from (text_in given)) (all_added given block text not is))) tells
 block_refused chars prefix several given block text offset new Memory not is has =
-    subst (λ b. HasPassed new prefix several (text_from (text_in given) (take offset (added given block))) b) (sym not)
+    subst (λ b. HasPassed new prefix several (text_from (text_in given) (take offset (characters_added given block))) b) (sym not)
     (subst (λ l. HasPassed new prefix several (text_from (text_in given) (take offset l)) false) (sym (all_added given block text not is)) has)
 
 -- ## The second pass
@@ -124,7 +124,7 @@ pub block_not_made : JoinedCharacters → (whole : Source) (prefix : List ℕ) (
 block_not_made chars whole prefix several given block text offset new pairs (At code line) not is tells =
     subst (λ t. TellsJoinFault (words_fault (values whole)) prefix several t (At code line)) (sym (block_text chars given block ∙ ap (text_from (text_in given)) (all_added given block text not is))) tells
 block_not_made chars whole prefix several given block text offset new pairs Memory not is has =
-    subst (λ b. HasMade whole new pairs prefix several (text_from (text_in given) (take offset (added given block))) b) (sym not)
+    subst (λ b. HasMade whole new pairs prefix several (text_from (text_in given) (take offset (characters_added given block))) b) (sym not)
     (subst (λ l. HasMade whole new pairs prefix several (text_from (text_in given) (take offset l)) false) (sym (all_added given block text not is)) has)
 
 -- the characters of a block are in the whole where the block is

@@ -6,7 +6,7 @@ use Rattle.char_pack.specs.Packing.{frames}
 use Rattle.char_pack.specs.Texts.{characters, is_ended, text}
 use Rattle.pal_lex.specs.Text.{text_of, is_over, line_after}
 use Rattle.pal_lex.specs.Statements.{statements, first_fault}
-use Rattle.pal_lex.specs.Joins.{before_pause, continued, join_of}
+use Rattle.pal_lex.specs.Joins.{before_pause, text_with_next, join_of}
 use Rattle.pal_lex.specs.Laws.{has_next, EndsJoin}
 use Rattle.pal_lex.specs.Reading.{HasRead, HasPaused}
 use Rattle.pal_lex.specs.Progress as lex
@@ -19,7 +19,7 @@ use Rattle.pal_blocks.specs.Blocks.{blocks_in, blocks_among, blocks_of_each, fir
 use Rattle.pal_blocks.specs.Sources.{texts_of, newest_first}
 use Rattle.pal_blocks.specs.Schedule.{statements_in, joined_blocks, if_paused}
 use Rattle.pal_blocks.specs.Passing.{text_in, IsOver}
-use Rattle.pal_asm.specs.Passing.{Counts, Paused, Stands}
+use Rattle.pal_asm.specs.Passing.{Counts, Pause, Stands}
 use Rattle.pal_asm.specs.Passing.{TellsJoinFault, IsWithin, EndsSource}
 use Rattle.pal_blocks.specs.Progress.{GoesOn, IsJoined}
 use Rattle.pal_blocks.proofs.TextLemmas.{JoinedCharacters, frames-append}
@@ -142,7 +142,7 @@ so_far law sources before words others count lexer ended Fits low after = elim a
     none : more ≡ 0
     none = omega (arith, low)
 
-    by_paused : (os : List (List ℕ)) (prefix : List ℕ) → Paused lexer prefix (has_next os) (text_in (frames (first_blocks count words))) Fits
+    by_paused : (os : List (List ℕ)) (prefix : List ℕ) → Pause lexer prefix (has_next os) (text_in (frames (first_blocks count words))) Fits
         → (so : List ℕ) × ((join_of (text_in (frames (first_blocks count words)) ∷ texts_of (first_among more os)) ++ prefix ≡ so) × Fits (statements so))
     by_paused [] prefix p = absurd (true≢false (sym p.follows))
     by_paused (next ∷ os) prefix p =
@@ -166,13 +166,13 @@ so_far law sources before words others count lexer ended Fits low after = elim a
 too_long : {C : Type 0} (a b c d : List ℕ) → a ++ b ≡ (0 ∷ a ++ b) ++ d → C
 too_long a b c d e = absurd (omega (arith, ap length e, length-append (0 ∷ a ++ b) d))
 
-pub some_pause : (lexer : lex.Progress) (prefix : List ℕ) (several : Bool) (here : List ℕ) (Fits : Source → Type 0) (behind : ℕ) → Paused lexer prefix several here Fits → if_paused (before_pause here) behind ≡ behind
+pub some_pause : (lexer : lex.Progress) (prefix : List ℕ) (several : Bool) (here : List ℕ) (Fits : Source → Type 0) (behind : ℕ) → Pause lexer prefix several here Fits → if_paused (before_pause here) behind ≡ behind
 some_pause lexer prefix several here Fits behind p = by_pause (before_pause here) refl
   where
     by_pause : (o : Option (List ℕ)) → before_pause here ≡ o → if_paused o behind ≡ behind
     by_pause None e =
         too_long here prefix [] p.cut
-        (ap (λ o. continued here o (0 ∷ here ++ prefix) ++ prefix) (sym e) ∙ p.joins [] (0 ∷ here ++ prefix) [])
+        (ap (λ o. text_with_next here o (0 ∷ here ++ prefix) ++ prefix) (sym e) ∙ p.joins [] (0 ∷ here ++ prefix) [])
     by_pause (Some cut) e = refl
 
 pub no_pause : EndsJoin → (lexer : lex.Progress) (prefix : List ℕ) (several : Bool) (here : List ℕ) (Fits : Source → Type 0) (behind : ℕ) → Counts lexer prefix several here Fits → if_paused (before_pause here) behind ≡ 0
@@ -181,7 +181,7 @@ no_pause law lexer prefix several here Fits behind counts = by_pause (before_pau
     by_pause : (o : Option (List ℕ)) → before_pause here ≡ o → if_paused o behind ≡ 0
     by_pause None e = refl
     by_pause (Some cut) e =
-        absurd (omega (arith, ap length (ap (λ o. continued here o (0 ∷ here)) (sym e) ∙ law prefix here ((0 ∷ here) ∷ []) counts.clear counts.fine), length-append (0 ∷ here) cut))
+        absurd (omega (arith, ap length (ap (λ o. text_with_next here o (0 ∷ here)) (sym e) ∙ law prefix here ((0 ∷ here) ∷ []) counts.clear counts.fine), length-append (0 ∷ here) cut))
 
 pub joined_least : (words : List ℕ) (others : List (List ℕ)) → blocks_in words ≤ joined_blocks (words ∷ others)
 joined_least words [] = omega arith
@@ -261,7 +261,7 @@ next_source law sources before words next others count old new last over ended F
             },
           )
       | inr paused ↦
-          let p : Paused old prefix true (text_in (frames words)) Fits = subst (λ t. Paused old prefix true t Fits) whole_here paused.1 in
+          let p : Pause old prefix true (text_in (frames words)) Fits = subst (λ t. Pause old prefix true t Fits) whole_here paused.1 in
           let begins = ends.0 p.cut p.paused p.clear in
           inl (
             p.cut,

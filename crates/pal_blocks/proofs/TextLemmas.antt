@@ -7,7 +7,7 @@ use Rattle.char_pack.specs.Packing.{frames}
 use Rattle.char_pack.specs.Texts.{characters, is_ended, text}
 use Rattle.pal_lex.specs.Text.{text_from, text_of}
 use Rattle.pal_blocks.specs.Blocks.{first_blocks, block_at}
-use Rattle.pal_blocks.specs.Passing.{text_in, added}
+use Rattle.pal_blocks.specs.Passing.{text_in, characters_added}
 
 -- the laws of texts that are used
 abbrev pub JoinedCharacters : Type 0
@@ -98,5 +98,5 @@ one_block done words inside =
     ∙ frames-append (take (256 * done) words) (take 256 (drop (256 * done) words)) (omega (arith, length-take-le (256 * done) words (omega (arith, inside))))
 
 -- the text of frames and a block, by the characters that the block adds
-pub block_text : JoinedCharacters → (given block : List ℕ) → text_in (given ++ frames block) ≡ text_from (text_in given) (added given block)
-block_text chars given block = ap text_of (chars given (frames block)) ∙ from_both (characters given) (added given block) []
+pub block_text : JoinedCharacters → (given block : List ℕ) → text_in (given ++ frames block) ≡ text_from (text_in given) (characters_added given block)
+block_text chars given block = ap text_of (chars given (frames block)) ∙ from_both (characters given) (characters_added given block) []

@@ -23,10 +23,10 @@ use Rattle.pal_asm.specs.declared.passing.Pass.{Pass}
 use Rattle.pal_blocks.specs.declared.assembling.Assembling.{Assembling}
 use Rattle.pal_blocks.specs.Blocks.{blocks_in, blocks_among, blocks_of_each, first_blocks, first_among, block_at, AreFiles, assembling_turns, turn_of}
 use Rattle.pal_blocks.specs.Sources.{texts_of, newest_first}
-use Rattle.pal_blocks.specs.Schedule.{statements_in, joined_blocks, from_turn, known_again, known_at}
+use Rattle.pal_blocks.specs.Schedule.{statements_in, joined_blocks, from_turn, known_again, fault_at_turn}
 use Rattle.pal_blocks.specs.Schedule.{if_paused}
-use Rattle.pal_blocks.specs.Passing.{text_in, added, IsOver}
-use Rattle.pal_asm.specs.Passing.{Counts, IsMade, IsBehind}
+use Rattle.pal_blocks.specs.Passing.{text_in, characters_added, IsOver}
+use Rattle.pal_asm.specs.Passing.{Counts, IsMade, StandsAfter}
 use Rattle.pal_asm.specs.Passing.{TellsJoinFault, HasPassed, Settles, EndsSource, BeginsSecondPass}
 use Rattle.pal_blocks.specs.Steps.{PassesBlock}
 use Rattle.pal_blocks.specs.Progress.{due_of, block_of, Place, text_taken, IsInPass, IsFirstPass, IsSecondPass, IsAssembling}
@@ -79,28 +79,28 @@ count_is sources it place each =
 
 -- ## What is known
 
-pub none_more : (sources : List (List ℕ)) (total left turn : ℕ) → 2 ≤ left → left ≤ total → turn_of total left ≡ turn → ((earlier : ℕ) → earlier < turn_of total left → known_at earlier sources ≡ None)
-    → known_at turn sources ≡ None → (earlier : ℕ) → earlier < turn_of total (left - 1) → known_at earlier sources ≡ None
+pub none_more : (sources : List (List ℕ)) (total left turn : ℕ) → 2 ≤ left → left ≤ total → turn_of total left ≡ turn → ((earlier : ℕ) → earlier < turn_of total left → fault_at_turn earlier sources ≡ None)
+    → fault_at_turn turn sources ≡ None → (earlier : ℕ) → earlier < turn_of total (left - 1) → fault_at_turn earlier sources ≡ None
 none_more sources total left turn more most is none now earlier low = elim (leb_tells (suc earlier) turn) [
   | inl h ↦ none earlier (omega (arith, h.1, is))
-  | inr h ↦ ap (λ t. known_at t sources) (same h.1) ∙ now
+  | inr h ↦ ap (λ t. fault_at_turn t sources) (same h.1) ∙ now
 ]
   where
     same : turn < suc earlier → earlier ≡ turn
     same high = omega (arith, high, is, low, more, most)
 
 pub known_all : (sources : List (List ℕ)) (turn : ℕ) (what : Option AsmFault) → first_order (statements_in turn sources) ≡ None → from_turn (joined_blocks sources) turn (no_end (newest_first sources)) ≡ None
-    → from_turn (blocks_among sources) turn (known_again (turn - blocks_among sources) sources) ≡ what → known_at turn sources ≡ what
+    → from_turn (blocks_among sources) turn (known_again (turn - blocks_among sources) sources) ≡ what → fault_at_turn turn sources ≡ what
 known_all sources turn what first ends again =
     ap (λ o. first_of o (first_of (from_turn (joined_blocks sources) turn (no_end (newest_first sources))) (from_turn (blocks_among sources) turn (known_again (turn - blocks_among sources) sources)))) first
     ∙ ap (λ o. first_of o (from_turn (blocks_among sources) turn (known_again (turn - blocks_among sources) sources))) ends
     ∙ again
 
-pub known_first : (sources : List (List ℕ)) (turn : ℕ) (f : AsmFault) → first_order (statements_in turn sources) ≡ Some f → known_at turn sources ≡ Some f
+pub known_first : (sources : List (List ℕ)) (turn : ℕ) (f : AsmFault) → first_order (statements_in turn sources) ≡ Some f → fault_at_turn turn sources ≡ Some f
 known_first sources turn f told =
     ap (λ o. first_of o (first_of (from_turn (joined_blocks sources) turn (no_end (newest_first sources))) (from_turn (blocks_among sources) turn (known_again (turn - blocks_among sources) sources)))) told
 
-pub known_end : (sources : List (List ℕ)) (turn : ℕ) (f : AsmFault) → first_order (statements_in turn sources) ≡ None → from_turn (joined_blocks sources) turn (no_end (newest_first sources)) ≡ Some f → known_at turn sources ≡ Some f
+pub known_end : (sources : List (List ℕ)) (turn : ℕ) (f : AsmFault) → first_order (statements_in turn sources) ≡ None → from_turn (joined_blocks sources) turn (no_end (newest_first sources)) ≡ Some f → fault_at_turn turn sources ≡ Some f
 known_end sources turn f first told =
     ap (λ o. first_of o (first_of (from_turn (joined_blocks sources) turn (no_end (newest_first sources))) (from_turn (blocks_among sources) turn (known_again (turn - blocks_among sources) sources)))) first
     ∙ ap (λ o. first_of o (from_turn (blocks_among sources) turn (known_again (turn - blocks_among sources) sources))) told
@@ -131,9 +131,9 @@ fault_end text f first told =
 
 -- a fault ends the turn
 pub takes_fault : (sources : List (List ℕ)) (left turn : ℕ) (f : AsmFault) (new : Assembling) → turn_of (assembling_turns (blocks_among sources)) left ≡ turn
-    → ((earlier : ℕ) → earlier < turn_of (assembling_turns (blocks_among sources)) left → known_at earlier sources ≡ None) → (f ≡ Memory → ⊥)
-    → known_at turn sources ≡ Some f → fault_of (newest_first sources) ≡ Some f → TakesBlock sources left (Err f) new
-takes_fault sources left turn (At code line) new is none not now fault = (record { now = ap (λ t. known_at t sources) is ∙ now; before = none }, fault)
+    → ((earlier : ℕ) → earlier < turn_of (assembling_turns (blocks_among sources)) left → fault_at_turn earlier sources ≡ None) → (f ≡ Memory → ⊥)
+    → fault_at_turn turn sources ≡ Some f → fault_of (newest_first sources) ≡ Some f → TakesBlock sources left (Err f) new
+takes_fault sources left turn (At code line) new is none not now fault = (record { now = ap (λ t. fault_at_turn t sources) is ∙ now; before = none }, fault)
 takes_fault sources left turn Memory new is none not now fault = absurd (not refl)
 
 pub not_memory : (text : List ℕ) (f : AsmFault) → no_end text ≡ Some f → f ≡ Memory → ⊥
@@ -153,26 +153,26 @@ not_memory text f told is = by_test (is_over text) (told ∙ ap (λ g. Some g) i
 
 abbrev pub PassesClause : Pass → List ℕ → ℕ → ℕ → Result (Unit {0}) AsmFault → Pass → Type 0
 PassesClause old block offset offset' result new =
-    (prefix given : List ℕ) (several : Bool) → HasPassed old prefix several (text_from (text_in given) (take offset (added given block))) (is_ended given) → PassesBlock prefix several given block offset' result new
+    (prefix given : List ℕ) (several : Bool) → HasPassed old prefix several (text_from (text_in given) (take offset (characters_added given block))) (is_ended given) → PassesBlock prefix several given block offset' result new
 
 abbrev pub EndedClause : Pass → Result (Unit {0}) AsmFault → Pass → Type 0
-EndedClause old result new = old.ended ≡ true → (source : Source) → IsBehind old.waiting old.assembler source → Settles source result old new
+EndedClause old result new = old.is_at_end ≡ true → (source : Source) → StandsAfter old.waiting old.assembler source → Settles source result old new
 
 -- a block was taken
 pub after_first : (sources : List (List ℕ)) (it : Assembling) (left : ℕ) (block : List ℕ) (offset : ℕ) (new : Pass) → AreFiles sources → (first : IsFirstPass sources it left) → block ≡ block_of sources (due_of it)
     → PassesClause it.pass block it.offset offset (Ok tt) new → EndedClause it.pass (Ok tt) new
-    → IsAfter sources first.place.before first.place.words first.place.others (it.block + 1) new.lexer new.ended (λ s. IsBehind new.waiting new.assembler s)
+    → IsAfter sources first.place.before first.place.words first.place.others (it.block + 1) new.lexer new.is_at_end (λ s. StandsAfter new.waiting new.assembler s)
 after_first sources it left block offset new are first is passes settles = elim first.pass [
   | inl here ↦
       let has = passes here.0 given (has_next first.place.others)
-      (subst (λ b. HasPassed it.pass here.0 (has_next first.place.others) (text_from (text_in given) (take it.offset (added given b))) (is_ended given)) (sym (due_block sources it first.place block is)) here.2) in
+      (subst (λ b. HasPassed it.pass here.0 (has_next first.place.others) (text_from (text_in given) (take it.offset (characters_added given b))) (is_ended given)) (sym (due_block sources it first.place block is)) here.2) in
       inl (here.0, here.1, subst (λ l. HasPassed new here.0 (has_next first.place.others) (text_in l) (is_ended l)) (more_frames sources it first.place block are is) has.0)
   | inr over ↦
       let now = settles over.2.no_more (statements over.0) over.2.at in
       inr (
         over.0,
         over.1,
-        subst (λ (n : Pass). IsOver n.lexer n.ended over.0 (λ s. IsBehind n.waiting n.assembler s)) (sym now.0)
+        subst (λ (n : Pass). IsOver n.lexer n.is_at_end over.0 (λ s. StandsAfter n.waiting n.assembler s)) (sym now.0)
             (record { no_more = over.2.no_more; seam = over.2.seam; read = over.2.read; over = over.2.over; fine = over.2.fine; at = now.1 }),
       )
 ]
@@ -180,8 +180,8 @@ after_first sources it left block offset new are first is passes settles = elim 
     given : List ℕ
     given = frames (first_blocks it.block first.place.words)
 
-settled_first : (pass : Pass) → pass.waiting ≡ None → (s : Source) → IsBehind pass.waiting pass.assembler s → IsFirst pass.assembler s
-settled_first pass none s is = subst (λ w. IsBehind w pass.assembler s) none is
+settled_first : (pass : Pass) → pass.waiting ≡ None → (s : Source) → StandsAfter pass.waiting pass.assembler s → IsFirst pass.assembler s
+settled_first pass none s is = subst (λ w. StandsAfter w pass.assembler s) none is
 
 turn_is : (n base k left : ℕ) → base + k + left ≡ 2 * n + 1 → turn_of (assembling_turns n) left ≡ base + (k + 1)
 turn_is n base k left turns = omega (arith, turns)
@@ -199,7 +199,7 @@ ends_none sources before words others count lexer ended Fits are split low after
 -- the first pass goes on at a block
 pub first_stands : EndsJoin → (sources : List (List ℕ)) (it new : Assembling) (left turn : ℕ) → IsAssembling sources it left → 2 ≤ left → turn_of (assembling_turns (blocks_among sources)) left ≡ turn → left ≤ assembling_turns (blocks_among sources)
     → new.blocks.items ≡ it.blocks.items → new.again ≡ false → new.pairs.items ≡ [] → new.offset ≡ 0 → new.pass.waiting ≡ None → (place : Place sources new.source new.block) → blocks_among place.before + new.block ≡ turn
-    → IsAfter sources place.before place.words place.others new.block new.pass.lexer new.pass.ended (λ s. IsBehind new.pass.waiting new.pass.assembler s)
+    → IsAfter sources place.before place.words place.others new.block new.pass.lexer new.pass.is_at_end (λ s. StandsAfter new.pass.waiting new.pass.assembler s)
     → TakesBlock sources left (Ok tt) new
 first_stands law sources it new left turn is more turn_at most same again none offset waiting place at after = (
   record {
@@ -212,23 +212,23 @@ first_stands law sources it new left turn is more turn_at most same again none o
       none = none;
       place = place;
       turns = omega (arith, turn_at, at, more, most);
-      pass = subst (λ o. IsInPass sources new.source new.block o place new.pass (λ s. IsBehind new.pass.waiting new.pass.assembler s)) (sym offset) after;
+      pass = subst (λ o. IsInPass sources new.source new.block o place new.pass (λ s. StandsAfter new.pass.waiting new.pass.assembler s)) (sym offset) after;
     });
   },
-  ap (λ t. known_at t sources) turn_at ∙ now,
+  ap (λ t. fault_at_turn t sources) turn_at ∙ now,
 )
   where
-    so : (text : List ℕ) × ((newest_first (first_among (blocks_among place.before + new.block) sources) ≡ text) × IsBehind new.pass.waiting new.pass.assembler (statements text))
-    so = so_far law sources place.before place.words place.others new.block new.pass.lexer new.pass.ended (λ s. IsBehind new.pass.waiting new.pass.assembler s) (omega (arith, place.inside)) after
+    so : (text : List ℕ) × ((newest_first (first_among (blocks_among place.before + new.block) sources) ≡ text) × StandsAfter new.pass.waiting new.pass.assembler (statements text))
+    so = so_far law sources place.before place.words place.others new.block new.pass.lexer new.pass.is_at_end (λ s. StandsAfter new.pass.waiting new.pass.assembler s) (omega (arith, place.inside)) after
 
     low : turn < blocks_among sources
     low = omega (arith, at, place.inside, ap blocks_among place.split, among_append place.before (place.words ∷ place.others))
 
-    now : known_at turn sources ≡ None
+    now : fault_at_turn turn sources ≡ None
     now = known_all sources turn None
         (ap (λ t. first_order (statements_in t sources)) (sym at) ∙ ap (λ t. first_order (statements t)) so.1.0 ∙ (settled_first new.pass waiting (statements so.0) so.1.1).no_fault)
         (ap (λ t. from_turn (joined_blocks sources) t (no_end (newest_first sources))) (sym at)
-        ∙ ends_none sources place.before place.words place.others new.block new.pass.lexer new.pass.ended (λ s. IsBehind new.pass.waiting new.pass.assembler s) is.files place.split place.inside after)
+        ∙ ends_none sources place.before place.words place.others new.block new.pass.lexer new.pass.is_at_end (λ s. StandsAfter new.pass.waiting new.pass.assembler s) is.files place.split place.inside after)
         (not_yet (blocks_among sources) turn _ low)
 
 most_left : (n base k left : ℕ) → base + k + left ≡ 2 * n + 1 → left ≤ assembling_turns n
@@ -275,8 +275,8 @@ first_not chars sources left it block offset pass f is more again this passes se
     turn_at = turn_is (blocks_among sources) (blocks_among first.place.before) it.block left first.turns
 
     in_block : (prefix : List ℕ) → HasPassed it.pass prefix (has_next first.place.others) (text_taken first.place.words it.block it.offset) (is_ended given)
-        → HasPassed it.pass prefix (has_next first.place.others) (text_from (text_in given) (take it.offset (added given block))) (is_ended given)
-    in_block prefix has = subst (λ b. HasPassed it.pass prefix (has_next first.place.others) (text_from (text_in given) (take it.offset (added given b))) (is_ended given)) (sym (due_block sources it first.place block this)) has
+        → HasPassed it.pass prefix (has_next first.place.others) (text_from (text_in given) (take it.offset (characters_added given block))) (is_ended given)
+    in_block prefix has = subst (λ b. HasPassed it.pass prefix (has_next first.place.others) (text_from (text_in given) (take it.offset (characters_added given b))) (is_ended given)) (sym (due_block sources it first.place block this)) has
 
     told : (g : AsmFault) → (g ≡ Memory → ⊥) → first_order (statements_in (blocks_among first.place.before + (it.block + 1)) sources) ≡ Some g → first_order (statements (newest_first sources)) ≡ Some g → TakesBlock sources left (Err g) new
     told g not here whole =
@@ -315,11 +315,11 @@ first_not chars sources left it block offset pass f is more again this passes se
               inl (
                 here.0,
                 here.1,
-                subst (λ b. HasPassed pass here.0 (has_next first.place.others) (text_from (text_in given) (take offset (added given b))) (is_ended given)) (due_block sources it first.place block this)
+                subst (λ b. HasPassed pass here.0 (has_next first.place.others) (text_from (text_in given) (take offset (characters_added given b))) (is_ended given)) (due_block sources it first.place block this)
                     (passed here.0 given (has_next first.place.others) (in_block here.0 here.2)),
               )
           | inr over ↦
-              inr (over.0, over.1, subst (λ (n : Pass). IsOver n.lexer n.ended over.0 (λ s. IsBehind n.waiting n.assembler s)) (sym (settled over.2.no_more (statements over.0) over.2.at)) over.2)
+              inr (over.0, over.1, subst (λ (n : Pass). IsOver n.lexer n.is_at_end over.0 (λ s. StandsAfter n.waiting n.assembler s)) (sym (settled over.2.no_more (statements over.0) over.2.at)) over.2)
         ];
       });
     }
@@ -383,7 +383,7 @@ end_missing law sources before words next others count old new last over ended F
 
 pub first_next : EndsJoin → (sources : List (List ℕ)) (left : ℕ) (it : Assembling) (block : List ℕ) (offset count total : ℕ) (pass pass2 : Pass) (last : Bool) (r : Result (Unit {0}) AsmFault) → IsAssembling sources it left → 2 ≤ left → it.again ≡ false
     → block ≡ block_of sources (due_of it) → count ≡ get_or it.blocks.items it.source 0 → nat_lt (it.block + 1) count ≡ false → total ≡ length it.blocks.items → nat_lt (it.source + 1) total ≡ true → last ≡ not (nat_lt (it.source + 1 + 1) total)
-    → PassesClause it.pass block it.offset offset (Ok tt) pass → EndedClause it.pass (Ok tt) pass → pass.waiting ≡ None → EndsSource pass.lexer last r pass2.lexer pass2.ended → pass2.assembler ≡ pass.assembler → pass2.waiting ≡ pass.waiting
+    → PassesClause it.pass block it.offset offset (Ok tt) pass → EndedClause it.pass (Ok tt) pass → pass.waiting ≡ None → EndsSource pass.lexer last r pass2.lexer pass2.is_at_end → pass2.assembler ≡ pass.assembler → pass2.waiting ≡ pass.waiting
     → TakesBlock sources left r (record { blocks = it.blocks; source = it.source + 1; block = 0; offset = 0; again = it.again; pass = pass2; pairs = it.pairs })
 first_next law sources left it block offset count total pass pass2 last r is more again this counted test many goes lasts passes settles none ends same_assembler same_waiting = by_others first.place.others refl
   where
@@ -406,24 +406,24 @@ first_next law sources left it block offset count total pass pass2 last r is mor
         split : sources ≡ first.place.before ++ first.place.words ∷ next ∷ others
         split = first.place.split ∙ ap (λ l. first.place.before ++ first.place.words ∷ l) e
 
-        after : IsAfter sources first.place.before first.place.words (next ∷ others) (it.block + 1) pass.lexer pass.ended (λ s. IsBehind pass.waiting pass.assembler s)
-        after = subst (λ l. IsAfter sources first.place.before first.place.words l (it.block + 1) pass.lexer pass.ended (λ s. IsBehind pass.waiting pass.assembler s)) e (after_first sources it left block offset pass is.files first this passes settles)
+        after : IsAfter sources first.place.before first.place.words (next ∷ others) (it.block + 1) pass.lexer pass.is_at_end (λ s. StandsAfter pass.waiting pass.assembler s)
+        after = subst (λ l. IsAfter sources first.place.before first.place.words l (it.block + 1) pass.lexer pass.is_at_end (λ s. StandsAfter pass.waiting pass.assembler s)) e (after_first sources it left block offset pass is.files first this passes settles)
 
         next_turn : blocks_among (first.place.before ++ first.place.words ∷ []) + 0 ≡ blocks_among first.place.before + (it.block + 1)
         next_turn = omega (arith, among_append first.place.before (first.place.words ∷ []), at_end)
 
-        by_result : (a : Result (Unit {0}) AsmFault) → EndsSource pass.lexer last a pass2.lexer pass2.ended → TakesBlock sources left a new
+        by_result : (a : Result (Unit {0}) AsmFault) → EndsSource pass.lexer last a pass2.lexer pass2.is_at_end → TakesBlock sources left a new
         by_result (Ok done) ended =
             first_stands law sources it new left _ is more turn_at (most_left (blocks_among sources) (blocks_among first.place.before) it.block left first.turns) refl again first.none refl (same_waiting ∙ none)
             (next_place sources first.place.before first.place.words next others it.source is.files first.place.count split)
             next_turn
-            (subst (λ w. IsAfter sources (first.place.before ++ first.place.words ∷ []) next others 0 pass2.lexer pass2.ended (λ s. IsBehind w pass2.assembler s)) (sym same_waiting)
-            (subst (λ a. IsAfter sources (first.place.before ++ first.place.words ∷ []) next others 0 pass2.lexer pass2.ended (λ s. IsBehind pass.waiting a s)) (sym same_assembler)
-            (next_source law sources first.place.before first.place.words next others (it.block + 1) pass.lexer pass2.lexer last pass2.ended pass.ended (λ s. IsBehind pass.waiting pass.assembler s) is.files split at_end
+            (subst (λ w. IsAfter sources (first.place.before ++ first.place.words ∷ []) next others 0 pass2.lexer pass2.is_at_end (λ s. StandsAfter w pass2.assembler s)) (sym same_waiting)
+            (subst (λ a. IsAfter sources (first.place.before ++ first.place.words ∷ []) next others 0 pass2.lexer pass2.is_at_end (λ s. StandsAfter pass.waiting a s)) (sym same_assembler)
+            (next_source law sources first.place.before first.place.words next others (it.block + 1) pass.lexer pass2.lexer last pass2.is_at_end pass.is_at_end (λ s. StandsAfter pass.waiting pass.assembler s) is.files split at_end
             (may_pause_next last total it.source others (omega (arith, how_many sources it first.place total is.each many, ap length e)) lasts) ended after)))
         by_result (Err f) ended =
-            let missing = end_missing law sources first.place.before first.place.words next others (it.block + 1) pass.lexer pass2.lexer last pass2.ended pass.ended (λ s. IsBehind pass.waiting pass.assembler s) f is.files split at_end ended after in
-            let so = so_far law sources first.place.before first.place.words (next ∷ others) (it.block + 1) pass.lexer pass.ended (λ s. IsBehind pass.waiting pass.assembler s) (omega (arith, at_end)) after in
+            let missing = end_missing law sources first.place.before first.place.words next others (it.block + 1) pass.lexer pass2.lexer last pass2.is_at_end pass.is_at_end (λ s. StandsAfter pass.waiting pass.assembler s) f is.files split at_end ended after in
+            let so = so_far law sources first.place.before first.place.words (next ∷ others) (it.block + 1) pass.lexer pass.is_at_end (λ s. StandsAfter pass.waiting pass.assembler s) (omega (arith, at_end)) after in
             takes_fault sources left _ f new turn_at is.none (not_memory (newest_first sources) f missing.0)
             (known_end sources _ f (ap (λ t. first_order (statements t)) so.1.0 ∙ (settled_first pass none (statements so.0) so.1.1).no_fault)
             (from_now (joined_blocks sources) (blocks_among first.place.before + (it.block + 1)) (no_end (newest_first sources)) (omega (arith, missing.1)) ∙ missing.0))
@@ -466,7 +466,7 @@ pub first_turn : EndsJoin → NoWordIsTold → (sources : List (List ℕ)) (left
     → block ≡ block_of sources (due_of it) → count ≡ get_or it.blocks.items it.source 0 → nat_lt (it.block + 1) count ≡ false → total ≡ length it.blocks.items → nat_lt (it.source + 1) total ≡ false
     → PassesClause it.pass block it.offset offset (Ok tt) pass → EndedClause it.pass (Ok tt) pass → pass.waiting ≡ None
     → ((seam : ℕ) (text : List ℕ) → HasRead pass.lexer seam text → IsFirst pass.assembler (statements text) → BeginsSecondPass text r pass2)
-    → (r ≡ Ok tt → HasRead pass2.lexer 0 [] × (pass2.lexer.may_pause ≡ nat_lt 1 (length it.blocks.items)) × (pass2.ended ≡ false))
+    → (r ≡ Ok tt → HasRead pass2.lexer 0 [] × (pass2.lexer.may_pause ≡ nat_lt 1 (length it.blocks.items)) × (pass2.is_at_end ≡ false))
     → TakesBlock sources left r (record { blocks = it.blocks; source = 0; block = 0; offset = 0; again = true; pass = pass2; pairs = it.pairs })
 first_turn law noword sources left it block offset count total pass pass2 r is more again this counted test many stops passes settles none turns fresh = by_result r refl (turns read.1.0 read.0 read.1.1.1 done)
   where
@@ -491,11 +491,11 @@ first_turn law noword sources left it block offset count total pass pass2 r is m
     turn_at : turn_of (assembling_turns (blocks_among sources)) left ≡ blocks_among sources
     turn_at = turn_is (blocks_among sources) (blocks_among first.place.before) it.block left first.turns ∙ sym all
 
-    after : IsAfter sources first.place.before first.place.words [] (it.block + 1) pass.lexer pass.ended (λ s. IsBehind pass.waiting pass.assembler s)
-    after = subst (λ l. IsAfter sources first.place.before first.place.words l (it.block + 1) pass.lexer pass.ended (λ s. IsBehind pass.waiting pass.assembler s)) alone (after_first sources it left block offset pass is.files first this passes settles)
+    after : IsAfter sources first.place.before first.place.words [] (it.block + 1) pass.lexer pass.is_at_end (λ s. StandsAfter pass.waiting pass.assembler s)
+    after = subst (λ l. IsAfter sources first.place.before first.place.words l (it.block + 1) pass.lexer pass.is_at_end (λ s. StandsAfter pass.waiting pass.assembler s)) alone (after_first sources it left block offset pass is.files first this passes settles)
 
-    read : (so : List ℕ) × ((seam : ℕ) × ((newest_first sources ≡ so) × HasRead pass.lexer seam so × IsBehind pass.waiting pass.assembler (statements so)))
-    read = all_read sources first.place.before first.place.words (it.block + 1) pass.lexer pass.ended (λ s. IsBehind pass.waiting pass.assembler s) is.files split at_end after
+    read : (so : List ℕ) × ((seam : ℕ) × ((newest_first sources ≡ so) × HasRead pass.lexer seam so × StandsAfter pass.waiting pass.assembler (statements so)))
+    read = all_read sources first.place.before first.place.words (it.block + 1) pass.lexer pass.is_at_end (λ s. StandsAfter pass.waiting pass.assembler s) is.files split at_end after
 
     done : IsFirst pass.assembler (statements read.0)
     done = settled_first pass none (statements read.0) read.1.1.2
@@ -526,7 +526,7 @@ first_turn law noword sources left it block offset count total pass pass2 r is m
         none = none_more sources (assembling_turns (blocks_among sources)) left (blocks_among sources) more (most_left (blocks_among sources) (blocks_among first.place.before) it.block left first.turns) turn_at is.none now;
         at = inr (inl (by_sources sources refl));
       },
-      ap (λ t. known_at t sources) turn_at ∙ now,
+      ap (λ t. fault_at_turn t sources) turn_at ∙ now,
     )
       where
         ends : no_end (newest_first sources) ≡ None
@@ -535,7 +535,7 @@ first_turn law noword sources left it block offset count total pass pass2 r is m
         made : IsMade (statements (newest_first sources)) pass2 [] []
         made = subst (λ t. IsMade (statements t) pass2 [] []) (sym whole) turned.1
 
-        now : known_at (blocks_among sources) sources ≡ None
+        now : fault_at_turn (blocks_among sources) sources ≡ None
         now = known_all sources (blocks_among sources) None so_fine (ap (λ o. from_turn (joined_blocks sources) (blocks_among sources) o) ends ∙ from_none (joined_blocks sources) (blocks_among sources)) (again_is None made.1.has_word)
 
         by_sources : (l : List (List ℕ)) → sources ≡ l → IsSecondPass sources new (left - 1)

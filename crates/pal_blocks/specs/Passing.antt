@@ -13,8 +13,8 @@ abbrev pub text_in : List ℕ → List ℕ
 text_in given = text_of (characters given)
 
 -- the characters that a block adds after frames of the same source
-abbrev pub added : List ℕ → List ℕ → List ℕ
-added given block = if is_ended given then [] else characters (frames block)
+abbrev pub characters_added : List ℕ → List ℕ → List ℕ
+characters_added given block = if is_ended given then [] else characters (frames block)
 
 -- A `$` has ended this text, which is all of the source, and nothing after it is read.
 pub record IsOver (lexer : lex.Progress) (ended : Bool) (text : List ℕ) (Fits : Source → Type 0) : Type 0 where

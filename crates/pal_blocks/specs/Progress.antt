@@ -13,9 +13,9 @@ use Rattle.pal_blocks.specs.declared.assembling.Assembling.{Assembling}
 use Rattle.pal_blocks.specs.declared.assembling.Due.{Due}
 use Rattle.pal_blocks.specs.Blocks.{blocks_in, blocks_among, blocks_of_each, first_blocks, first_among, block_at, AreFiles, assembling_turns, turn_of}
 use Rattle.pal_blocks.specs.Sources.{newest_first}
-use Rattle.pal_blocks.specs.Schedule.{joined_blocks, known_at}
-use Rattle.pal_blocks.specs.Passing.{text_in, added, IsOver}
-use Rattle.pal_asm.specs.Passing.{Stands, IsBehind, IsMade}
+use Rattle.pal_blocks.specs.Schedule.{joined_blocks, fault_at_turn}
+use Rattle.pal_blocks.specs.Passing.{text_in, characters_added, IsOver}
+use Rattle.pal_asm.specs.Passing.{Stands, StandsAfter, IsMade}
 
 -- the block that comes next
 abbrev pub due_of : Assembling → Due
@@ -53,14 +53,14 @@ IsJoined sources done text = (count : ℕ) → newest_first (first_among (done +
 -- the text of so many first blocks of a file, and so many characters that the next block adds
 abbrev pub text_taken : List ℕ → ℕ → ℕ → List ℕ
 text_taken words block offset =
-    text_from (text_in (frames (first_blocks block words))) (take offset (added (frames (first_blocks block words)) (block_at block words)))
+    text_from (text_in (frames (first_blocks block words))) (take offset (characters_added (frames (first_blocks block words)) (block_at block words)))
 
 -- A pass stands in a source that counts, or after the `$` that ended one before it.
 abbrev pub IsInPass : (sources : List (List ℕ)) (source block offset : ℕ) → Place sources source block → Pass → (Source → Type 0) → Type 0
 IsInPass sources source block offset place pass Fits =
     ((prefix : List ℕ) × GoesOn sources (blocks_among place.before) (place.words ∷ place.others) prefix
-    × Stands pass.lexer pass.ended prefix (has_next place.others) (text_taken place.words block offset) (is_ended (frames (first_blocks block place.words))) Fits)
-    ⊎ ((text : List ℕ) × IsJoined sources (blocks_among place.before) text × IsOver pass.lexer pass.ended text Fits)
+    × Stands pass.lexer pass.is_at_end prefix (has_next place.others) (text_taken place.words block offset) (is_ended (frames (first_blocks block place.words))) Fits)
+    ⊎ ((text : List ℕ) × IsJoined sources (blocks_among place.before) text × IsOver pass.lexer pass.is_at_end text Fits)
 
 -- The blocks are read for the first time.
 pub record IsFirstPass (sources : List (List ℕ)) (it : Assembling) (left : ℕ) : Type 0 where
@@ -68,7 +68,7 @@ pub record IsFirstPass (sources : List (List ℕ)) (it : Assembling) (left : ℕ
   pub none : it.pairs.items ≡ []
   pub place : Place sources it.source it.block
   pub turns : blocks_among place.before + it.block + left ≡ assembling_turns (blocks_among sources)
-  pub pass : IsInPass sources it.source it.block it.offset place it.pass (λ source. IsBehind it.pass.waiting it.pass.assembler source)
+  pub pass : IsInPass sources it.source it.block it.offset place it.pass (λ source. StandsAfter it.pass.waiting it.pass.assembler source)
 
 -- The blocks are read again, where all of them are known to have a `$`, a word and no fault of a statement.
 pub record IsSecondPass (sources : List (List ℕ)) (it : Assembling) (left : ℕ) : Type 0 where
@@ -90,5 +90,5 @@ pub record IsAssembling (sources : List (List ℕ)) (it : Assembling) (left : �
   pub files : AreFiles sources
   pub each : it.blocks.items ≡ blocks_of_each sources
   pub more : 1 ≤ left
-  pub none : (earlier : ℕ) → earlier < turn_of (assembling_turns (blocks_among sources)) left → known_at earlier sources ≡ None
+  pub none : (earlier : ℕ) → earlier < turn_of (assembling_turns (blocks_among sources)) left → fault_at_turn earlier sources ≡ None
   pub at : IsFirstPass sources it left ⊎ (IsSecondPass sources it left ⊎ IsAtEnd sources it left)

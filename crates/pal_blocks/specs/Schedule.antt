@@ -38,13 +38,13 @@ known_again again sources =
 
 -- The first fault that is known at a turn. It is one of the statements that were read, or a missing `$`, once the source
 -- was read at whose end it is missing. From the last block on it may be one of those that take the whole source.
-abbrev pub known_at : ℕ → List (List ℕ) → Option AsmFault
-known_at turn sources =
+abbrev pub fault_at_turn : ℕ → List (List ℕ) → Option AsmFault
+fault_at_turn turn sources =
     first_of (first_order (statements_in turn sources))
     (first_of (from_turn (joined_blocks sources) turn (no_end (newest_first sources)))
     (from_turn (blocks_among sources) turn (known_again (turn - blocks_among sources) sources)))
 
 -- a fault is known at this turn, and none at a turn before
 pub record IsFirstKnown (sources : List (List ℕ)) (turn : ℕ) (fault : AsmFault) : Type 0 where
-  pub now : known_at turn sources ≡ Some fault
-  pub before : (earlier : ℕ) → earlier < turn → known_at earlier sources ≡ None
+  pub now : fault_at_turn turn sources ≡ Some fault
+  pub before : (earlier : ℕ) → earlier < turn → fault_at_turn earlier sources ≡ None

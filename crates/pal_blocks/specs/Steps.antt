@@ -9,7 +9,7 @@ use Rattle.pal_asm.specs.Passing.{TellsJoinFault, HasPassed, HasMade}
 use Rattle.pal_asm.specs.declared.faults.AsmFault.{AsmFault}
 use Rattle.pal_asm.specs.declared.faults.AsmFault.TheVariants.{At, Memory}
 use Rattle.pal_asm.specs.declared.passing.Pass.{Pass}
-use Rattle.pal_blocks.specs.Passing.{text_in, added}
+use Rattle.pal_blocks.specs.Passing.{text_in, characters_added}
 use Rattle.bin_tape.specs.Pairs.{ArePairs}
 use Rattle.bin_tape.specs.Writing.{tape_of}
 
@@ -17,7 +17,7 @@ use Rattle.bin_tape.specs.Writing.{tape_of}
 abbrev pub PassesBlock : List ℕ → Bool → List ℕ → List ℕ → ℕ → Result (Unit {0}) AsmFault → Pass → Type 0
 PassesBlock prefix several given block offset (Ok nothing) pass =
     HasPassed pass prefix several (text_in (given ++ frames block)) (is_ended (given ++ frames block)) × (pass.waiting ≡ None)
-PassesBlock prefix several given block offset (Err Memory) pass = HasPassed pass prefix several (text_from (text_in given) (take offset (added given block))) (is_ended given)
+PassesBlock prefix several given block offset (Err Memory) pass = HasPassed pass prefix several (text_from (text_in given) (take offset (characters_added given block))) (is_ended given)
 PassesBlock prefix several given block offset (Err (At code line)) pass = TellsJoinFault first_order prefix several (text_in (given ++ frames block)) (At code line)
 
 -- what a block does in the second pass of a whole source
@@ -25,7 +25,7 @@ abbrev pub MakesBlock : Source → List ℕ → Bool → List ℕ → List ℕ �
 MakesBlock whole prefix several given block offset (Ok nothing) pass pairs =
     HasMade whole pass pairs prefix several (text_in (given ++ frames block)) (is_ended (given ++ frames block))
 MakesBlock whole prefix several given block offset (Err Memory) pass pairs =
-    HasMade whole pass pairs prefix several (text_from (text_in given) (take offset (added given block))) (is_ended given)
+    HasMade whole pass pairs prefix several (text_from (text_in given) (take offset (characters_added given block))) (is_ended given)
 MakesBlock whole prefix several given block offset (Err (At code line)) pass pairs =
     TellsJoinFault (words_fault (values whole)) prefix several (text_in (given ++ frames block)) (At code line)
 

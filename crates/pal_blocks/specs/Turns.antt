@@ -7,13 +7,13 @@ use Rattle.pal_asm.specs.declared.faults.AsmFault.TheVariants.{At, Memory}
 use Rattle.pal_blocks.specs.declared.assembling.Assembling.{Assembling}
 use Rattle.pal_blocks.specs.Blocks.{blocks_among, assembling_turns, turn_of}
 use Rattle.pal_blocks.specs.Sources.{newest_first, assembled_words, IsTapeOfSources}
-use Rattle.pal_blocks.specs.Schedule.{known_at, IsFirstKnown}
+use Rattle.pal_blocks.specs.Schedule.{fault_at_turn, IsFirstKnown}
 use Rattle.pal_blocks.specs.Progress.{IsAssembling}
 
 -- What a turn that reads a block does, where so many are left. Where memory runs out no turn is taken.
 abbrev pub TakesBlock : List (List ℕ) → ℕ → Result (Unit {0}) AsmFault → Assembling → Type 0
 TakesBlock sources left (Ok nothing) new =
-    IsAssembling sources new (left - 1) × (known_at (turn_of (assembling_turns (blocks_among sources)) left) sources ≡ None)
+    IsAssembling sources new (left - 1) × (fault_at_turn (turn_of (assembling_turns (blocks_among sources)) left) sources ≡ None)
 TakesBlock sources left (Err Memory) new = IsAssembling sources new left
 TakesBlock sources left (Err (At code line)) new =
     IsFirstKnown sources (turn_of (assembling_turns (blocks_among sources)) left) (At code line) × (fault_of (newest_first sources) ≡ Some (At code line))

@@ -64,7 +64,7 @@ impl Assembling {
                 lexer,
                 assembler: Assembler::new(alloc),
                 waiting: None,
-                ended: false,
+                is_at_end: false,
             },
             pairs: Vec::new(alloc),
         }

@@ -6,7 +6,7 @@ ghost use Rattle.char_pack.specs.Texts.{is_ended};
 ghost use Rattle.pal_lex.specs.Text.{text_from};
 ghost use Rattle.pal_asm.specs.Places.{Source};
 ghost use Rattle.pal_asm.specs.Passing.{HasMade, IsWithin};
-ghost use Rattle.pal_blocks.specs.Passing.{text_in, added};
+ghost use Rattle.pal_blocks.specs.Passing.{text_in, characters_added};
 ghost use Rattle.pal_blocks.specs.Steps.{MakesBlock};
 
 use crate::passing::lay_characters;
@@ -26,14 +26,14 @@ pub(crate) fn make_block(
     requires { length block.now ≡ BLOCK }
     ensures makes { (whole : Source) (prefix given : List ℕ) (several : Bool)
         → HasMade whole pass.old pairs.old.items prefix several
-        (text_from (text_in given) (take offset.old (added given block.now))) (is_ended given)
+        (text_from (text_in given) (take offset.old (characters_added given block.now))) (is_ended given)
         → IsWithin whole prefix several (text_in (given ++ frames block.now))
         → MakesBlock whole prefix several given block.now offset.new result pass.new pairs.new.items }
-    ensures ended { pass.old.ended ≡ true → (result ≡ Ok tt) × (pass.new ≡ pass.old)
+    ensures ended { pass.old.is_at_end ≡ true → (result ≡ Ok tt) × (pass.new ≡ pass.old)
         × (pairs.new ≡ pairs.old) }
 {
     joined_text();
-    if pass.ended {
+    if pass.is_at_end {
         return Ok(());
     }
     let mut bytes = [0; BLOCK_FRAMES];
@@ -41,7 +41,7 @@ pub(crate) fn make_block(
     let (text, _) = bytes.split_at(count);
     make_text(pass, pairs, text, offset)?;
     if count < BLOCK_FRAMES {
-        pass.ended = true;
+        pass.is_at_end = true;
     }
     Ok(())
 }

@@ -6,8 +6,8 @@ ghost use Rattle.char_pack.specs.Packing.{frames};
 ghost use Rattle.char_pack.specs.Texts.{characters, is_ended};
 ghost use Rattle.pal_lex.specs.Text.{text_from};
 ghost use Rattle.pal_asm.specs.Places.{Source};
-ghost use Rattle.pal_asm.specs.Passing.{IsBehind, HasPassed, Settles};
-ghost use Rattle.pal_blocks.specs.Passing.{text_in, added};
+ghost use Rattle.pal_asm.specs.Passing.{StandsAfter, HasPassed, Settles};
+ghost use Rattle.pal_blocks.specs.Passing.{text_in, characters_added};
 ghost use Rattle.pal_blocks.specs.Steps.{PassesBlock};
 
 use char_pack::laws::joined_text;
@@ -46,14 +46,14 @@ pub(crate) fn pass_block(
     requires { length block.now ≡ BLOCK }
     ensures passes { (prefix given : List ℕ) (several : Bool)
         → HasPassed pass.old prefix several
-        (text_from (text_in given) (take offset.old (added given block.now))) (is_ended given)
+        (text_from (text_in given) (take offset.old (characters_added given block.now))) (is_ended given)
         → PassesBlock prefix several given block.now offset.new result pass.new }
-    ensures ended { pass.old.ended ≡ true → (source : Source)
-        → IsBehind pass.old.waiting pass.old.assembler source → Settles source result pass.old pass.new }
+    ensures ended { pass.old.is_at_end ≡ true → (source : Source)
+        → StandsAfter pass.old.waiting pass.old.assembler source → Settles source result pass.old pass.new }
     ensures none { OnOk result (pass.new.waiting ≡ None) }
 {
     joined_text();
-    if pass.ended {
+    if pass.is_at_end {
         return settle(pass);
     }
     let mut bytes = [0; BLOCK_FRAMES];
@@ -61,7 +61,7 @@ pub(crate) fn pass_block(
     let (text, _) = bytes.split_at(count);
     pass_text(pass, text, offset)?;
     if count < BLOCK_FRAMES {
-        pass.ended = true;
+        pass.is_at_end = true;
     }
     Ok(())
 }

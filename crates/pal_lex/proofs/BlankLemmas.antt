@@ -1,7 +1,7 @@
 -- Blanks that mean nothing.
 use Rattle.std.proofs.Common.{◌≡◌, ℕ, nat_eq, Bool, true, false, ◌||◌, if◌then◌else◌, Option, Some, None, is_some, List, [], ◌∷◌, ◌++◌, refl, ap, sym, ◌∙◌, arith}
 use Rattle.std.proofs.lemmas.Bool.Decides.{nat_tests}
-use Rattle.pal_lex.specs.Cutting.{Piece, Run, Mark, is_coded, is_space, sign_of, is_operand, trimmed, with_character, with_blank, with_sign, with_byte, pieces}
+use Rattle.pal_lex.specs.Cutting.{Piece, Run, Mark, is_coded, is_space, sign_of, is_operand, without_end_blank, with_character, with_blank, with_sign, with_byte, pieces}
 use Rattle.pal_lex.specs.Runs.{base, in_order, tokens}
 use Rattle.pal_lex.specs.Laws.{ends_idle, begins_idle, BlanksMeanNothing}
 use Rattle.pal_lex.specs.declared.pieces.Term.TheVariants.{Here}
@@ -75,7 +75,7 @@ no_operand b = no_operand_by (nat_eq b 43) (nat_eq b 45) (nat_eq b 61) (nat_eq b
 behind_sign : (s : Option Kind) (place at : ℕ) (before : List Piece) → is_some s ≡ true → operand_in s ≡ false
     → with_blank place (with_sign s at before) ≡ with_sign s at before
 behind_sign None place at before some e = absurd cc
-behind_sign (Some kind) place at before some e = ap (λ (t : Bool). if t then Mark Blank place ∷ Mark kind at ∷ trimmed before else Mark kind at ∷ trimmed before) e
+behind_sign (Some kind) place at before some e = ap (λ (t : Bool). if t then Mark Blank place ∷ Mark kind at ∷ without_end_blank before else Mark kind at ∷ without_end_blank before) e
 
 behind_by : (operand : Bool) (place at here : ℕ) (kind : Kind) (before : List Piece) → is_operand kind ≡ operand
     → with_blank place (if operand then Mark Blank at ∷ Mark kind here ∷ before else Mark kind here ∷ before)
@@ -104,7 +104,7 @@ behind_idle place (live ∷ older) e = idle_by (is_space live.0) (is_some (sign_
 -- ## A blank before a sign, or at the end
 
 trimmed_by : (operand : Bool) (place at : ℕ) (kind : Kind) (before : List Piece) → is_operand kind ≡ operand
-    → trimmed (if operand then Mark Blank place ∷ Mark kind at ∷ before else Mark kind at ∷ before) ≡ trimmed (Mark kind at ∷ before)
+    → without_end_blank (if operand then Mark Blank place ∷ Mark kind at ∷ before else Mark kind at ∷ before) ≡ without_end_blank (Mark kind at ∷ before)
 trimmed_by true place at (Term t) before e = refl
 trimmed_by true place at BadNumber before e = refl
 trimmed_by true place at Blank before e = absurd cc
@@ -115,7 +115,7 @@ trimmed_by true place at Comma before e = absurd cc
 trimmed_by true place at Star before e = absurd cc
 trimmed_by false place at kind before e = refl
 
-trimmed_blank : (place : ℕ) (before : List Piece) → trimmed (with_blank place before) ≡ trimmed before
+trimmed_blank : (place : ℕ) (before : List Piece) → without_end_blank (with_blank place before) ≡ without_end_blank before
 trimmed_blank place [] = refl
 trimmed_blank place (Run first others start end ∷ before) = refl
 trimmed_blank place (Mark kind at ∷ before) = trimmed_by (is_operand kind) place at kind before refl
@@ -141,15 +141,15 @@ before_idle b place live (next ∷ later) before space e = ap (with_byte live.0 
 by_before : (radix : Radix) (b place : ℕ) (before later : List (ℕ × ℕ)) → is_space b ≡ true → ends_idle before ≡ true
     → tokens radix (later ++ (b, place) ∷ before) ≡ tokens radix (later ++ before)
 by_before radix b place before later space e =
-    ap (λ l. in_order (base radix) (trimmed l))
+    ap (λ l. in_order (base radix) (without_end_blank l))
     (pieces_behind later ((b, place) ∷ before) before (blank_byte b place (pieces before) space ∙ behind_idle place before e))
 
 by_later : (radix : Radix) (b place : ℕ) (before later : List (ℕ × ℕ)) → is_space b ≡ true → begins_idle later ≡ true
     → tokens radix (later ++ (b, place) ∷ before) ≡ tokens radix (later ++ before)
 by_later radix b place before [] space e =
-    ap (in_order (base radix)) (ap trimmed (blank_byte b place (pieces before) space) ∙ trimmed_blank place (pieces before))
+    ap (in_order (base radix)) (ap without_end_blank (blank_byte b place (pieces before) space) ∙ trimmed_blank place (pieces before))
 by_later radix b place before (live ∷ later) space e =
-    ap (λ l. in_order (base radix) (trimmed l)) (before_idle b place live later before space e)
+    ap (λ l. in_order (base radix) (without_end_blank l)) (before_idle b place live later before space e)
 
 by_either : (behind ahead : Bool) (radix : Radix) (b place : ℕ) (before later : List (ℕ × ℕ)) → is_space b ≡ true
     → ends_idle before ≡ behind → begins_idle later ≡ ahead → (behind || ahead) ≡ true

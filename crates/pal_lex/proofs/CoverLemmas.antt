@@ -2,10 +2,10 @@
 use Rattle.std.proofs.Common.{◌≡◌, ℕ, ◌+◌, ◌≤◌, nat_eq, Bool, true, false, ◌||◌, not, if◌then◌else◌, Option, Some, None, is_some, length, List, [], ◌∷◌, ◌++◌, refl, ap, sym, subst, ◌∙◌, arith, append-nil, append_assoc}
 use Rattle.std.proofs.lemmas.Bool.Decides.{nat_tests}
 use Rattle.pal_lex.specs.Text.{is_ignored, in_comment, is_dead, is_end, stretch, limit}
-use Rattle.pal_lex.specs.Cutting.{Piece, Run, Mark, is_coded, is_space, sign_of, is_legal, has_illegal, is_blank, is_operand, trimmed, with_character, with_blank, with_sign, pieces}
+use Rattle.pal_lex.specs.Cutting.{Piece, Run, Mark, is_coded, is_space, sign_of, is_legal, has_illegal, is_blank, is_operand, without_end_blank, with_character, with_blank, with_sign, pieces}
 use Rattle.pal_lex.specs.Runs.{base, run_kind, token, in_order, tokens}
 use Rattle.pal_lex.specs.Statements.{radix_after, statements}
-use Rattle.pal_lex.specs.Spans.{between, solid, joined, HasAll}
+use Rattle.pal_lex.specs.Spans.{between, solid, bytes_between, HasAll}
 use Rattle.pal_lex.specs.declared.pieces.Token.{Token}
 use Rattle.pal_lex.specs.declared.pieces.Term.TheVariants.{Here}
 use Rattle.pal_lex.specs.declared.pieces.Kind.{Kind}
@@ -36,7 +36,7 @@ trimmed_by : (blank : Bool) (text : List ℕ) (kind : Kind) (place : ℕ) (befor
 trimmed_by true text kind place before e = sym (ap (λ (t : Bool). joined_pieces text before ++ (if t then [] else between text place (place + 1))) e ∙ append-nil (joined_pieces text before))
 trimmed_by false text kind place before e = refl
 
-trimmed_joined : (text : List ℕ) (before : List Piece) → joined_pieces text (trimmed before) ≡ joined_pieces text before
+trimmed_joined : (text : List ℕ) (before : List Piece) → joined_pieces text (without_end_blank before) ≡ joined_pieces text before
 trimmed_joined text [] = refl
 trimmed_joined text (Run first others start end ∷ before) = refl
 trimmed_joined text (Mark kind place ∷ before) = trimmed_by (is_blank kind) text kind place before refl
@@ -102,7 +102,7 @@ byte_joined b text before true space dot sign c s o legal i a = rw (no_space b c
 byte_joined b text before false true dot sign c s o legal i a = rw s (with_space b text before a)
 byte_joined b text before false false true sign c s o legal i a = rw s (with_mark b text (Term Here) before i refl a)
 byte_joined b text before false false false (Some kind) c s o legal i a =
-    rw s (with_mark b text kind (trimmed before) i (sign_is_plain b kind o) (all_trimmed text before a)
+    rw s (with_mark b text kind (without_end_blank before) i (sign_is_plain b kind o) (all_trimmed text before a)
     ∙ ap (λ l. l ++ b ∷ []) (trimmed_joined text before))
 byte_joined b text before false false false None c s o legal i a = cc
 
@@ -153,14 +153,14 @@ piece_joined later text base (Mark kind place) s small =
     ∙ between_longer later text place (place + 1) s.0)
 
 joined-append : (text : List ℕ) (found : List Token) (last : Token)
-    → joined text (found ++ last ∷ []) ≡ joined text found ++ (if is_blank last.kind then [] else between text last.start last.end)
+    → bytes_between text (found ++ last ∷ []) ≡ bytes_between text found ++ (if is_blank last.kind then [] else between text last.start last.end)
 joined-append text [] last = append-nil (if is_blank last.kind then [] else between text last.start last.end)
 joined-append text (t ∷ found) last =
     ap (λ l. (if is_blank t.kind then [] else between text t.start t.end) ++ l) (joined-append text found last)
-    ∙ sym (append_assoc (if is_blank t.kind then [] else between text t.start t.end) (joined text found) (if is_blank last.kind then [] else between text last.start last.end))
+    ∙ sym (append_assoc (if is_blank t.kind then [] else between text t.start t.end) (bytes_between text found) (if is_blank last.kind then [] else between text last.start last.end))
 
 joined_tokens : (later text : List ℕ) (base : ℕ) (before : List Piece) → AllStand text before → length text ≤ 18446744073709551615
-    → joined (later ++ text) (in_order base before) ≡ joined_pieces text before
+    → bytes_between (later ++ text) (in_order base before) ≡ joined_pieces text before
 joined_tokens later text base [] a small = refl
 joined_tokens later text base (piece ∷ before) a small =
     joined-append (later ++ text) (in_order base before) (token base piece)
@@ -172,14 +172,14 @@ behind later b text = sym (append_assoc later (b ∷ []) text)
 
 -- tokens of a stretch leave nothing of it out but blanks, whatever follows the text
 pub covers_in : (radix : Radix) (text later : List ℕ) (b : ℕ) → length text ≤ 18446744073709551615 → has_illegal (stretch text) ≡ false
-    → joined (later ++ b ∷ text) (tokens radix (stretch text)) ≡ solid (stretch text)
+    → bytes_between (later ++ b ∷ text) (tokens radix (stretch text)) ≡ solid (stretch text)
 covers_in radix text later b small legal =
     let k = known text legal in
-    ap (λ t. joined t (tokens radix (stretch text))) (behind later b text)
-    ∙ joined_tokens (later ++ b ∷ []) text (base radix) (trimmed (pieces (stretch text))) (all_trimmed text (pieces (stretch text)) k.stand) small
+    ap (λ t. bytes_between t (tokens radix (stretch text))) (behind later b text)
+    ∙ joined_tokens (later ++ b ∷ []) text (base radix) (without_end_blank (pieces (stretch text))) (all_trimmed text (pieces (stretch text)) k.stand) small
     ∙ trimmed_joined text (pieces (stretch text)) ∙ cover text legal
 
 pub has_all : HasAll
 has_all text later b statement small e =
     let g = has_tokens text b statement e in
-    ap (joined (later ++ b ∷ text)) g.1 ∙ covers_in (radix_after (statements text)) text later b small g.0
+    ap (bytes_between (later ++ b ∷ text)) g.1 ∙ covers_in (radix_after (statements text)) text later b small g.0

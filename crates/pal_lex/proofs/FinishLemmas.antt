@@ -3,13 +3,13 @@ use Rattle.std.proofs.Common.{◌≡◌, ℕ, ◌+◌, ◌≤◌, nat_eq, Bool, 
 use Rattle.pal_lex.specs.Text.{is_dead, is_end, is_over, ends_statement, stretch, since, up_to_end, cr_count, limit, line_after, text_from}
 use Rattle.pal_lex.specs.Cutting.{has_illegal, pieces}
 use Rattle.pal_lex.specs.Runs.{base, tokens}
-use Rattle.pal_lex.specs.Grammar.{said, has_bad_number}
+use Rattle.pal_lex.specs.Grammar.{phrase_of_tokens, has_bad_number}
 use Rattle.pal_lex.specs.Drafting.{Cut, cut}
 use Rattle.pal_lex.specs.Statements.{radix_by, radix_after, statements, fault_of, first_of, first_fault}
 use Rattle.pal_lex.specs.Joins.{is_lone_pause, is_pause}
 use Rattle.pal_lex.specs.Progress.{Progress}
-use Rattle.pal_lex.specs.JudgeSteps.{Judges, dies, comment_after, ended, ended_statement, paused, pause_statement, next, failed}
-use Rattle.pal_lex.specs.Reading.{IsReading, StateIs, HasRead, IsPaused, HasPaused, tokens_behind, tokens_since, with_tokens, is_pause_body, IsHandedOut, Pauses, HandsOut, TellsFault, Answers, ReadsOn, BeginsSource}
+use Rattle.pal_lex.specs.JudgeSteps.{Judges, dies, comment_after, after_statement, ended_statement, after_pause, pause_statement, next, after_fault}
+use Rattle.pal_lex.specs.Reading.{IsReading, StateIs, HasRead, IsPaused, HasPaused, tokens_after, tokens_since, with_tokens, is_pause_body, IsHandedOut, Pauses, HandsOut, TellsFault, Answers, ReadsOn, BeginsSource}
 use Rattle.pal_lex.specs.declared.faults.LexFault.{LexFault}
 use Rattle.pal_lex.specs.declared.faults.LexFault.TheVariants.{IC, SY, NU, NE, Memory}
 use Rattle.pal_lex.specs.declared.lexing.State.{State}
@@ -53,13 +53,13 @@ illegal_is old seam text b h = sym (same_illegal (live seam text) (stretch text)
 tokens_are : (old : Progress) (seam : ℕ) (text : List ℕ) (b : ℕ) → Here old seam text b → old.draft.illegal ≡ false → old.draft.tokens ≡ tokens_since seam text
 tokens_are old seam text b h legal = ap (λ (c : Cut). c.tokens) (put_legal (radix_after (statements text)) (live seam text) old.draft h.now.draft legal)
 
-bad_is : (old : Progress) (seam : ℕ) (text : List ℕ) (b : ℕ) → Here old seam text b → old.draft.illegal ≡ false → has_bad_number (tokens_behind text) ≡ has_bad_number old.draft.tokens
+bad_is : (old : Progress) (seam : ℕ) (text : List ℕ) (b : ℕ) → Here old seam text b → old.draft.illegal ≡ false → has_bad_number (tokens_after text) ≡ has_bad_number old.draft.tokens
 bad_is old seam text b h legal =
     sym (same_bad (radix_after (statements text)) (live seam text) (stretch text) (bytes_since seam (stretch text))) ∙ sym (ap has_bad_number (tokens_are old seam text b h legal))
 
-said_is : (old : Progress) (seam : ℕ) (text : List ℕ) (b : ℕ) → Here old seam text b → old.draft.illegal ≡ false → said (tokens_behind text) ≡ said old.draft.tokens
+said_is : (old : Progress) (seam : ℕ) (text : List ℕ) (b : ℕ) → Here old seam text b → old.draft.illegal ≡ false → phrase_of_tokens (tokens_after text) ≡ phrase_of_tokens old.draft.tokens
 said_is old seam text b h legal =
-    sym (same_said (radix_after (statements text)) (live seam text) (stretch text) (bytes_since seam (stretch text))) ∙ sym (ap said (tokens_are old seam text b h legal))
+    sym (same_said (radix_after (statements text)) (live seam text) (stretch text) (bytes_since seam (stretch text))) ∙ sym (ap phrase_of_tokens (tokens_are old seam text b h legal))
 
 pause_is : (old : Progress) (seam : ℕ) (text : List ℕ) (b : ℕ) → Here old seam text b → is_pause (stretch text) ≡ (not old.draft.illegal && is_lone_pause old.draft.tokens)
 pause_is old seam text b h =
@@ -83,9 +83,9 @@ line_behind false line count e = omega arith
 
 read_by : (dollar : Bool) (old : Progress) (seam : ℕ) (text : List ℕ) (b : ℕ) (s : Said) → Here old seam text b → old.state ≡ Reading → nat_eq b 36 ≡ dollar
     → first_fault (statements (b ∷ text)) ≡ None → radix_after (statements (b ∷ text)) ≡ radix_by s.body (radix_after (statements text))
-    → StateIs (if dollar then Over else old.state) (ended b s.body old) seam (b ∷ text)
+    → StateIs (if dollar then Over else old.state) (after_statement b s.body old) seam (b ∷ text)
 read_by true old seam text b s h state e none radix = (none, rw (h.now.not_over, e, h.dead) refl)
-read_by false old seam text b s h state e none radix = subst (λ (s' : State). StateIs s' (ended b s.body old) seam (b ∷ text)) (sym state) record {
+read_by false old seam text b s h state e none radix = subst (λ (s' : State). StateIs s' (after_statement b s.body old) seam (b ∷ text)) (sym state) record {
   begun = omega (arith, h.now.begun);
   comment = ap (λ (c : Bool). comment_after c b) h.now.comment;
   place = omega (arith, h.now.begun, h.now.place);
@@ -96,18 +96,18 @@ read_by false old seam text b s h state e none radix = subst (λ (s' : State). S
   not_over = rw (h.now.not_over, e) refl;
 }
 
-has_ended : (old : Progress) (seam : ℕ) (text : List ℕ) (b : ℕ) (s : Said) → StateIs (if nat_eq b 36 then Over else old.state) (ended b s.body old) seam (b ∷ text) → HasRead (ended b s.body old) seam (b ∷ text)
+has_ended : (old : Progress) (seam : ℕ) (text : List ℕ) (b : ℕ) (s : Said) → StateIs (if nat_eq b 36 then Over else old.state) (after_statement b s.body old) seam (b ∷ text) → HasRead (after_statement b s.body old) seam (b ∷ text)
 unfolding HasRead
 has_ended old seam text b s h = h
 
 handed_out : (old : Progress) (seam : ℕ) (text : List ℕ) (b : ℕ) (s : Said) → old.state ≡ Reading → Here old seam text b → Judges old.line old.draft.illegal old.draft.tokens (Ok s)
-    → IsHandedOut seam text b (ended_statement b s old) old (ended b s.body old)
+    → IsHandedOut seam text b (ended_statement b s old) old (after_statement b s.body old)
 handed_out old seam text b s state h judges =
-    let good : newest text b ≡ Ok (with_tokens (tokens_behind text) (record (ended_statement b s old) { line = line_after text })) =
+    let good : newest text b ≡ Ok (with_tokens (tokens_after text) (record (ended_statement b s old) { line = line_after text })) =
     rw (illegal_is old seam text b h ∙ judges.0, bad_is old seam text b h judges.0 ∙ judges.1, said_is old seam text b h judges.0 ∙ judges.2) refl in
-    let is : statements (b ∷ text) ≡ Ok (with_tokens (tokens_behind text) (ended_statement b s old)) ∷ statements text =
+    let is : statements (b ∷ text) ≡ Ok (with_tokens (tokens_after text) (ended_statement b s old)) ∷ statements text =
     newest_is old seam text b h ∙ ap (λ n. n ∷ statements text) good
-    ∙ ap (λ n. Ok (with_tokens (tokens_behind text) (record (ended_statement b s old) { line = n })) ∷ statements text) (sym h.now.line) in
+    ∙ ap (λ n. Ok (with_tokens (tokens_after text) (record (ended_statement b s old) { line = n })) ∷ statements text) (sym h.now.line) in
     let none : first_fault (statements (b ∷ text)) ≡ None = ap first_fault is ∙ ap (λ f. first_of f None) h.now.no_fault in
     record {
       no_fault = none;
@@ -118,7 +118,7 @@ handed_out old seam text b s state h judges =
     }
 
 pub said_finished : (old new : Progress) (seam : ℕ) (text : List ℕ) (b : ℕ) (s : Said) (statement : Statement) → old.state ≡ Reading → Here old seam text b
-    → Judges old.line old.draft.illegal old.draft.tokens (Ok s) → statement ≡ ended_statement b s old → new ≡ ended b s.body old
+    → Judges old.line old.draft.illegal old.draft.tokens (Ok s) → statement ≡ ended_statement b s old → new ≡ after_statement b s.body old
     → HandsOut (is_pause_body statement.body) seam text b statement old new
 said_finished old new seam text b s statement state h judges is becomes =
     subst (λ (p : Bool). HandsOut p seam text b statement old new) (sym (ap (λ (t : Statement). is_pause_body t.body) is ∙ said_no_pause old.draft.tokens s judges.2))
@@ -140,7 +140,7 @@ alone_legal true alone e = absurd cc
 alone_legal false alone e = refl
 
 pause_out : (old : Progress) (seam : ℕ) (text : List ℕ) (b : ℕ) → Here old seam text b → old.may_pause ≡ true → (not old.draft.illegal && is_lone_pause old.draft.tokens) ≡ true
-    → Pauses seam text b (pause_statement old) old (paused old)
+    → Pauses seam text b (pause_statement old) old (after_pause old)
 pause_out old seam text b h may alone =
     let radix : radix_after (statements (up_to_end text)) ≡ radix_after (statements text) = ap radix_after (cut_statements text) in
     record {
@@ -153,19 +153,19 @@ pause_out old seam text b h may alone =
       source = refl;
       same = cut_statements text;
       clear = (cut_twice text, cut_over text ∙ h.now.not_over);
-      paused = has_paused (paused old) (up_to_end text) record {
+      after_pause = has_paused (after_pause old) (up_to_end text) record {
         state = refl;
         line = h.now.line ∙ sym (cut_line text);
         radix = h.now.radix ∙ sym radix;
         draft = refl;
         no_fault = ap first_fault (cut_statements text) ∙ h.now.no_fault;
         not_over = cut_over text ∙ h.now.not_over;
-        ended = cut_twice text;
+        after_statement = cut_twice text;
       };
     }
 
 pub pause_finished : (old new : Progress) (seam : ℕ) (text : List ℕ) (b : ℕ) (statement : Statement) → Here old seam text b → old.may_pause ≡ true
-    → (not old.draft.illegal && is_lone_pause old.draft.tokens) ≡ true → statement ≡ pause_statement old → new ≡ paused old
+    → (not old.draft.illegal && is_lone_pause old.draft.tokens) ≡ true → statement ≡ pause_statement old → new ≡ after_pause old
     → HandsOut (is_pause_body statement.body) seam text b statement old new
 pause_finished old new seam text b statement h may alone is becomes =
     subst (λ (p : Bool). HandsOut p seam text b statement old new) (sym (ap (λ (t : Statement). is_pause_body t.body) is))
@@ -192,7 +192,7 @@ tells old seam text b fault h quiet bad =
 
 pub fault_finished : (old new : Progress) (seam : ℕ) (text : List ℕ) (b : ℕ) (fault : LexFault) → Here old seam text b
     → (old.may_pause ≡ true → (not old.draft.illegal && is_lone_pause old.draft.tokens) ≡ false) → Judges old.line old.draft.illegal old.draft.tokens (Err fault)
-    → new ≡ failed fault old → Answers seam text b (Err fault) old new
+    → new ≡ after_fault fault old → Answers seam text b (Err fault) old new
 fault_finished old new seam text b (IC line) h quiet judges becomes =
     subst (λ (n : Progress). TellsFault seam text b (IC line) old n) (sym becomes)
     (tells old seam text b (IC line) h quiet (rw (illegal_is old seam text b h ∙ judges.1) (ap (λ l. Err (IC l)) (sym h.now.line ∙ sym judges.0))))

@@ -5,8 +5,8 @@ use Rattle.pal_lex.specs.Cutting.{is_blank}
 use Rattle.pal_lex.specs.Language.{is_named, free_name}
 use Rattle.pal_lex.specs.Runs.{name_number}
 use Rattle.std.specs.Prelude.{codes}
-use Rattle.pal_lex.specs.Grammar.{joint_of, term_of, parts, with_part, terms, reference, is_comma, with_tag, said}
-use Rattle.pal_lex.specs.BehindSteps.{behind, tagged}
+use Rattle.pal_lex.specs.Grammar.{joint_of, term_of, parts, with_part, terms, reference, is_comma, with_tag, phrase_of_tokens}
+use Rattle.pal_lex.specs.BehindSteps.{parts_after, with_tags_before}
 use Rattle.pal_lex.specs.declared.pieces.Token.{Token}
 use Rattle.pal_lex.specs.declared.pieces.Term.{Term}
 use Rattle.pal_lex.specs.declared.phrases.Joint.{Joint}
@@ -36,27 +36,27 @@ first_one (x ∷ others) a long first = ap (λ v. v ∷ others) (sym first) ∙ 
 
 -- ## Terms
 
-pub behind_more : (before : List Part) (part : Part) (o : Option (List Part)) → behind (before ++ part ∷ []) o ≡ behind before (with_part (Some part) o)
+pub behind_more : (before : List Part) (part : Part) (o : Option (List Part)) → parts_after (before ++ part ∷ []) o ≡ parts_after before (with_part (Some part) o)
 behind_more before part None = refl
 behind_more before part (Some found) = ap Some (append_assoc before (part ∷ []) found)
 
-pub behind_first : (part : Part) (o : Option (List Part)) → behind (part ∷ []) o ≡ with_part (Some part) o
+pub behind_first : (part : Part) (o : Option (List Part)) → parts_after (part ∷ []) o ≡ with_part (Some part) o
 behind_first part None = refl
 behind_first part (Some found) = refl
 
 pub parts_more : (blanks : Bool) (rest : List Token) (j t : Token) (joint : Joint) (term : Term) (before after : List Part)
     → 2 ≤ length rest → j ≡ get_or rest 0 j → t ≡ get_or rest 1 t → Some joint ≡ joint_of blanks j.kind → Some term ≡ term_of t.kind
     → after ≡ before ++ record { joint = joint; term = term } ∷ []
-    → behind after (parts blanks (behind_two rest)) ≡ behind before (parts blanks rest)
+    → parts_after after (parts blanks (behind_two rest)) ≡ parts_after before (parts blanks rest)
 parts_more blanks rest j t joint term before after long first second is_joint is_term e =
     rw e (behind_more before (record { joint = joint; term = term }) (parts blanks (behind_two rest))
-    ∙ ap (behind before) (sym (ap (parts blanks) (first_two rest j t long first second) ∙ rw (← is_joint, ← is_term) refl)))
+    ∙ ap (parts_after before) (sym (ap (parts blanks) (first_two rest j t long first second) ∙ rw (← is_joint, ← is_term) refl)))
 
 pub terms_first : (blanks : Bool) (tokens : List Token) (t : Token) (term : Term) (before items : List Part)
     → 1 ≤ length tokens → t ≡ get_or tokens 0 t → Some term ≡ term_of t.kind → before ≡ [] → items ≡ before ++ record { joint = Add; term = term } ∷ []
-    → behind items (parts blanks (behind_one tokens)) ≡ terms blanks tokens
+    → parts_after items (parts blanks (behind_one tokens)) ≡ terms blanks tokens
 terms_first blanks tokens t term before items long first is_term none e =
-    ap (λ l. behind l (parts blanks (behind_one tokens))) (e ∙ ap (λ l. l ++ record { joint = Add; term = term } ∷ []) none)
+    ap (λ l. parts_after l (parts blanks (behind_one tokens))) (e ∙ ap (λ l. l ++ record { joint = Add; term = term } ∷ []) none)
     ∙ behind_first (record { joint = Add; term = term }) (parts blanks (behind_one tokens))
     ∙ sym (ap (terms blanks) (first_one tokens t long first) ∙ rw (← is_term) refl)
 
@@ -74,12 +74,12 @@ reference_zero_page op indirect rest t u long first second blank other named = s
 
 -- ## Tags
 
-pub tagged_more : (names : List ℕ) (name : ℕ) (o : Option Said) → tagged (names ++ name ∷ []) o ≡ tagged names (with_tag (Some name) o)
+pub tagged_more : (names : List ℕ) (name : ℕ) (o : Option Said) → with_tags_before (names ++ name ∷ []) o ≡ with_tags_before names (with_tag (Some name) o)
 tagged_more names name None = refl
 tagged_more names name (Some s) = ap (λ tags. Some record { tags = tags; body = s.body }) (append_assoc names (name ∷ []) s.tags)
 
 pub said_more : (rest : List Token) (t u : Token) (name : ℕ) (names after : List ℕ)
     → 2 ≤ length rest → t ≡ get_or rest 0 t → u ≡ get_or rest 1 u → true ≡ is_comma u.kind → Some name ≡ free_name t.kind
-    → after ≡ names ++ name ∷ [] → tagged after (said (behind_two rest)) ≡ tagged names (said rest)
-said_more rest t u name names after long first second comma free e = rw e (tagged_more names name (said (behind_two rest))
-    ∙ ap (tagged names) (sym (ap said (first_two rest t u long first second) ∙ rw (← comma, ← free) refl)))
+    → after ≡ names ++ name ∷ [] → with_tags_before after (phrase_of_tokens (behind_two rest)) ≡ with_tags_before names (phrase_of_tokens rest)
+said_more rest t u name names after long first second comma free e = rw e (tagged_more names name (phrase_of_tokens (behind_two rest))
+    ∙ ap (with_tags_before names) (sym (ap phrase_of_tokens (first_two rest t u long first second) ∙ rw (← comma, ← free) refl)))

@@ -6,7 +6,7 @@ use Rattle.word12.specs.Sixbit.{is_letter, sixbit_code}
 use Rattle.pal_lex.specs.Text.{limit}
 use Rattle.pal_lex.specs.Runs.{code_at, name_number, are_digits, number_after, number, number_kind, run_kind}
 use Rattle.pal_lex.specs.Drafting.{weight_after}
-use Rattle.pal_lex.specs.GrowthSteps.{longer_name, longer_number, grown, begun}
+use Rattle.pal_lex.specs.GrowthSteps.{longer_name, longer_number, grown, first_kind}
 use Rattle.pal_lex.specs.declared.pieces.Term.TheVariants.{Name, Number}
 use Rattle.pal_lex.specs.declared.pieces.Kind.TheVariants.{Term, BadNumber}
 
@@ -92,7 +92,7 @@ begun_by : (test : Bool) (base c : ℕ)
 begun_by true base c = ap (λ n. Term (Name n)) (omega (arith, code_small c))
 begun_by false base c = grind (arith, nat_tests)
 
-pub run_begun : (base c : ℕ) → begun base c ≡ run_kind base c []
+pub run_begun : (base c : ℕ) → first_kind base c ≡ run_kind base c []
 run_begun base c = begun_by (is_letter c) base c
 
 pub letter_begun : (base c : ℕ) → is_letter c ≡ true → Term (Name (longer_name 0 1073741824 c)) ≡ run_kind base c []

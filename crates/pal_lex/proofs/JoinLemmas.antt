@@ -5,7 +5,7 @@ use Rattle.pal_lex.specs.Text.{is_ignored, in_comment, is_dead, is_end, is_over,
 use Rattle.pal_lex.specs.Cutting.{has_illegal}
 use Rattle.pal_lex.specs.Runs.{tokens}
 use Rattle.pal_lex.specs.Statements.{radix_after, statements, fault_of, first_of, first_fault}
-use Rattle.pal_lex.specs.Joins.{is_lone_pause, is_pause, pauses, IsClear, first_text, before_pause, continued, join_of}
+use Rattle.pal_lex.specs.Joins.{is_lone_pause, is_pause, pauses, IsClear, first_text, before_pause, text_with_next, join_of}
 use Rattle.pal_lex.specs.Laws.{has_next, PauseIsBad, PauseJoins, JoinGoesOn, ByteGoesOn, EndsJoin}
 use Rattle.pal_lex.specs.declared.faults.LexFault.{LexFault}
 use Rattle.pal_lex.specs.declared.faults.LexFault.TheVariants.{SY}
@@ -204,7 +204,7 @@ first_stays (b ∷ later) text prefix e = ap (λ f. first_text f (if pauses (lat
 pub pause_joins : PauseJoins
 pause_joins before here later b next others clear none pausing =
     let found : before_pause (b ∷ here) ≡ Some (up_to_end here) = rw (no_pause here before clear none, sym (pauses_joined here before b clear) ∙ pausing) refl in
-    ap (λ f. continued (later ++ b ∷ here) f (join_of (next ∷ others)) ++ before) (first_stays later (b ∷ here) (up_to_end here) found)
+    ap (λ f. text_with_next (later ++ b ∷ here) f (join_of (next ∷ others)) ++ before) (first_stays later (b ∷ here) (up_to_end here) found)
     ∙ append_assoc (join_of (next ∷ others)) (up_to_end here) before
     ∙ ap (λ l. join_of (next ∷ others) ++ l) (sym (cut_joined here before clear))
 
@@ -247,7 +247,7 @@ join_front later text before [] clear none = whole_prefix later text before
 join_front later text before (next ∷ others) clear none = by_prefix (before_pause (later ++ text)) refl
   where
     by_prefix : (f : Option (List ℕ)) → before_pause (later ++ text) ≡ f
-        → Behind (statements (continued (later ++ text) f (join_of (next ∷ others)) ++ before)) (statements (text ++ before))
+        → Behind (statements (text_with_next (later ++ text) f (join_of (next ∷ others)) ++ before)) (statements (text ++ before))
     by_prefix None e = whole_prefix later text before
     by_prefix (Some prefix) e =
         further _ _ _ (whole_prefix (join_of (next ∷ others)) prefix before) (prefix_of later text before prefix clear (none refl) e)
@@ -266,4 +266,4 @@ byte_goes_on before here later b others clear none quiet =
 
 pub ends_join : EndsJoin
 ends_join before here [] clear none = refl
-ends_join before here (next ∷ others) clear none = ap (λ f. continued here f (join_of (next ∷ others))) (no_pause here before clear none)
+ends_join before here (next ∷ others) clear none = ap (λ f. text_with_next here f (join_of (next ∷ others))) (no_pause here before clear none)

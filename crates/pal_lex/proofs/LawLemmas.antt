@@ -1,7 +1,7 @@
 -- What follows a text leaves its statements as they are.
 use Rattle.std.proofs.Common.{◌≡◌, ℕ, nat_eq, Bool, true, false, ◌&&◌, not, if◌then◌else◌, Some, Result, List, [], ◌∷◌, ◌++◌, refl, ap, ◌∙◌}
 use Rattle.pal_lex.specs.Text.{is_dead, is_end, is_over, ends_statement, stretch, line_after, text_from}
-use Rattle.pal_lex.specs.Statements.{judged, radix_after, statements, fault_of, first_of, first_fault}
+use Rattle.pal_lex.specs.Statements.{judge_statement, radix_after, statements, fault_of, first_of, first_fault}
 use Rattle.pal_lex.specs.Laws.{TextGrows, StatementsStay, EndsSource, FaultStays}
 use Rattle.pal_lex.specs.declared.faults.LexFault.{LexFault}
 use Rattle.pal_lex.specs.declared.phrases.Statement.{Statement}
@@ -14,7 +14,7 @@ pub text_grows : TextGrows
 text_grows bytes b = grows_from [] bytes b
 
 abbrev pub newest : List ℕ → ℕ → Result Statement LexFault
-newest text b = judged (line_after text) (nat_eq b 36) (stretch text) (radix_after (statements text))
+newest text b = judge_statement (line_after text) (nat_eq b 36) (stretch text) (radix_after (statements text))
 
 -- one byte more
 pub one_more : (b : ℕ) (text : List ℕ) → statements (b ∷ text) ≡ (if ends_statement text b then newest text b ∷ statements text else statements text)

@@ -5,7 +5,7 @@ use Rattle.std.specs.Prelude.{codes}
 use Rattle.pal_lex.specs.Cutting.{is_blank}
 use Rattle.pal_lex.specs.Runs.{name_number}
 use Rattle.pal_lex.specs.Language.{is_named, free_name, operation_in}
-use Rattle.pal_lex.specs.Grammar.{sum, expression, map_body, is_star, is_equals, is_comma, reference, definition, field_number, spaced_body, operation_body, body, untagged, with_tag, said, has_bad_number}
+use Rattle.pal_lex.specs.Grammar.{sum, expression, map_body, is_star, is_equals, is_comma, reference, definition, field_number, spaced_body, operation_body, body, without_tags, with_tag, phrase_of_tokens, has_bad_number}
 use Rattle.pal_lex.specs.Joins.{is_lone_pause}
 use Rattle.pal_lex.specs.Reading.{is_pause_body}
 use Rattle.pal_lex.specs.declared.pieces.Term.TheVariants.{Name, Number, Here}
@@ -68,7 +68,7 @@ abbrev calm_said : Option Said → Bool
 calm_said None = true
 calm_said (Some s) = not (is_pause_body s.body)
 
-calm_untagged : (b : Option Body) → calm b ≡ true → calm_said (untagged b) ≡ true
+calm_untagged : (b : Option Body) → calm b ≡ true → calm_said (without_tags b) ≡ true
 calm_untagged None e = refl
 calm_untagged (Some b) e = e
 
@@ -81,17 +81,17 @@ said_by : (test : Bool) (a b : Option Said) → calm_said a ≡ true → calm_sa
 said_by true a b e f = e
 said_by false a b e f = f
 
-all_calm : (l : List Token) → calm_said (said l) ≡ true
+all_calm : (l : List Token) → calm_said (phrase_of_tokens l) ≡ true
 all_calm [] = refl
 all_calm (t ∷ []) = calm_untagged (body (t ∷ [])) (calm_body (t ∷ []))
 all_calm (t ∷ u ∷ others) =
-    said_by (is_comma u.kind) _ _ (calm_tag (free_name t.kind) (said others) (all_calm others)) (calm_untagged (body (t ∷ u ∷ others)) (calm_body (t ∷ u ∷ others)))
+    said_by (is_comma u.kind) _ _ (calm_tag (free_name t.kind) (phrase_of_tokens others) (all_calm others)) (calm_untagged (body (t ∷ u ∷ others)) (calm_body (t ∷ u ∷ others)))
 
 not_true : (b : Bool) → not b ≡ true → b ≡ false
 not_true true e = sym e
 not_true false e = refl
 
-pub said_no_pause : (l : List Token) (s : Said) → said l ≡ Some s → is_pause_body s.body ≡ false
+pub said_no_pause : (l : List Token) (s : Said) → phrase_of_tokens l ≡ Some s → is_pause_body s.body ≡ false
 said_no_pause l s e = not_true (is_pause_body s.body) (sym (ap calm_said e) ∙ all_calm l)
 
 -- ## PAUSE alone is no statement of the grammar
@@ -111,11 +111,11 @@ pause_kind Equals e = cc
 pause_kind Comma e = cc
 pause_kind Star e = cc
 
-pub pause_is_bad : (l : List Token) → is_lone_pause l ≡ true → said l ≡ None
+pub pause_is_bad : (l : List Token) → is_lone_pause l ≡ true → phrase_of_tokens l ≡ None
 pause_is_bad [] e = cc
 pause_is_bad (t ∷ []) e = by_kind t.kind t.start t.end (pause_kind t.kind e)
   where
-    by_kind : (kind : Kind) (start end : ℕ) → kind ≡ Term (Name (name_number (codes "PAUSE"))) → said (record { kind = kind; start = start; end = end } ∷ []) ≡ None
+    by_kind : (kind : Kind) (start end : ℕ) → kind ≡ Term (Name (name_number (codes "PAUSE"))) → phrase_of_tokens (record { kind = kind; start = start; end = end } ∷ []) ≡ None
     by_kind kind start end is = rw is refl
 pause_is_bad (t ∷ u ∷ others) e = cc
 

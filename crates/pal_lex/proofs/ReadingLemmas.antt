@@ -4,11 +4,11 @@ use Rattle.std.proofs.lemmas.Bool.Decides.{nat_tests}
 use Rattle.pal_lex.specs.Text.{ends_statement, stretch, line_after}
 use Rattle.pal_lex.specs.Cutting.{has_illegal}
 use Rattle.pal_lex.specs.Runs.{tokens}
-use Rattle.pal_lex.specs.Grammar.{said, has_bad_number}
+use Rattle.pal_lex.specs.Grammar.{phrase_of_tokens, has_bad_number}
 use Rattle.pal_lex.specs.Drafting.{Cut, cut}
-use Rattle.pal_lex.specs.Statements.{stated, judged, radix_by, radix_after, statements, fault_of, first_of, first_fault}
+use Rattle.pal_lex.specs.Statements.{statement_or_fault, judge_statement, radix_by, radix_after, statements, fault_of, first_of, first_fault}
 use Rattle.pal_lex.specs.Progress.{Progress}
-use Rattle.pal_lex.specs.JudgeSteps.{passed, ended}
+use Rattle.pal_lex.specs.JudgeSteps.{after_byte, after_statement}
 use Rattle.pal_lex.specs.Reading.{StateIs, HasRead, TellsFault, Answers, Ends, EndsSource}
 use Rattle.pal_lex.specs.Laws.{IsOfStatement, FaultsAreOfStatements}
 use Rattle.pal_lex.specs.declared.faults.LexFault.{LexFault}
@@ -28,7 +28,7 @@ unfolding HasRead
 has_read l seam text state e h = subst (λ (s : State). StateIs s l seam text) (sym e) h
 
 abbrev newest : List ℕ → ℕ → Result Statement LexFault
-newest text b = judged (line_after text) (nat_eq b 36) (stretch text) (radix_after (statements text))
+newest text b = judge_statement (line_after text) (nat_eq b 36) (stretch text) (radix_after (statements text))
 
 -- ## Behind a fault
 
@@ -36,7 +36,7 @@ abbrev IsOfStatements : Option LexFault → Type 0
 IsOfStatements None = Unit {0}
 IsOfStatements (Some fault) = IsOfStatement fault
 
-stated_fault : (line : ℕ) (last : Bool) (tokens : List Token) (s : Option Said) → IsOfStatements (fault_of (stated line last tokens s))
+stated_fault : (line : ℕ) (last : Bool) (tokens : List Token) (s : Option Said) → IsOfStatements (fault_of (statement_or_fault line last tokens s))
 stated_fault line last tokens None = tt
 stated_fault line last tokens (Some s) = tt
 
@@ -61,8 +61,8 @@ fault_is [] = tt
 fault_is (b ∷ text) =
     step_is (ends_statement text b) (newest text b) (statements text) (fault_is text)
     (judged_fault (has_illegal (stretch text)) (has_bad_number (tokens (radix_after (statements text)) (stretch text))) (line_after text)
-    (stated (line_after text) (nat_eq b 36) (tokens (radix_after (statements text)) (stretch text)) (said (tokens (radix_after (statements text)) (stretch text))))
-    (stated_fault (line_after text) (nat_eq b 36) (tokens (radix_after (statements text)) (stretch text)) (said (tokens (radix_after (statements text)) (stretch text)))))
+    (statement_or_fault (line_after text) (nat_eq b 36) (tokens (radix_after (statements text)) (stretch text)) (phrase_of_tokens (tokens (radix_after (statements text)) (stretch text))))
+    (stated_fault (line_after text) (nat_eq b 36) (tokens (radix_after (statements text)) (stretch text)) (phrase_of_tokens (tokens (radix_after (statements text)) (stretch text)))))
 
 pub known_fault : FaultsAreOfStatements
 known_fault text fault e = subst IsOfStatements e (fault_is text)
@@ -107,7 +107,7 @@ failed_next l seam text Memory e h = absurd (known_fault text Memory (has_failed
 
 pub begun_anew : (b : ℕ) (body : Body) (l : Progress) (state : State) (radix : Radix) (draft : Cut)
     → state ≡ (if nat_eq b 36 then Over else l.state) → radix ≡ radix_by body l.radix → draft ≡ cut Octal []
-    → passed b (record { state = state; source = l.source; may_pause = l.may_pause; comment = l.comment; place = l.place; line = l.line; radix = radix; keeps_tokens = l.keeps_tokens; draft = draft }) ≡ ended b body l
+    → after_byte b (record { state = state; source = l.source; may_pause = l.may_pause; comment = l.comment; place = l.place; line = l.line; radix = radix; keeps_tokens = l.keeps_tokens; draft = draft }) ≡ after_statement b body l
 begun_anew b body l state radix draft e r d = rw (e, r, d) refl
 
 pub is_dollar : (b : ℕ) (state : State) → b ≡ 36 → Over ≡ (if nat_eq b 36 then Over else state)

@@ -3,7 +3,7 @@ use Rattle.std.proofs.Common.{◌≡◌, ℕ, ◌+◌, ◌-◌, ◌/◌, ◌≤�
 use Rattle.std.proofs.lemmas.Bool.Decides.{nat_tests}
 use Rattle.pal_lex.specs.Text.{is_ignored, in_comment, is_dead, is_end, is_over, stretch, since, limit, line_after, cr_count, text_from}
 use Rattle.pal_lex.specs.Steps.{has_cr, with_characters, pending, PutsRun}
-use Rattle.pal_lex.specs.Cutting.{Piece, Run, Mark, is_coded, are_coded, has_illegal, trimmed, with_character, pieces}
+use Rattle.pal_lex.specs.Cutting.{Piece, Run, Mark, is_coded, are_coded, has_illegal, without_end_blank, with_character, pieces}
 use Rattle.pal_lex.specs.Runs.{base, run_kind, token, in_order}
 use Rattle.pal_lex.specs.GrowthSteps.{IsRun, grown}
 use Rattle.pal_lex.specs.Drafting.{Cut, cut_of, cut, tail_of, weight_after}
@@ -99,7 +99,7 @@ all_characters (b ∷ bytes) first others start place before =
     ∙ ap (λ n. Run first (others ++ b ∷ bytes) start n ∷ before) (omega arith)
 
 -- the tokens with the blank that is pending
-all_tokens : (base : ℕ) (before : List Piece) → NoRun before → in_order base (trimmed before) ++ pending (tail_of before) ≡ in_order base before
+all_tokens : (base : ℕ) (before : List Piece) → NoRun before → in_order base (without_end_blank before) ++ pending (tail_of before) ≡ in_order base before
 all_tokens base [] apart = refl
 all_tokens base (Run first others start end ∷ before) apart = absurd (apart _ refl)
 all_tokens base (Mark (Term t) place ∷ before) apart = append-nil _

@@ -3,10 +3,10 @@ use Rattle.std.proofs.Common.{◌≡◌, ℕ, nat_eq, nat_lt, Bool, true, false,
 use Rattle.std.specs.Prelude.{codes}
 use Rattle.word12.specs.Sixbit.{is_letter}
 use Rattle.pal_lex.specs.Text.{since}
-use Rattle.pal_lex.specs.Cutting.{Piece, Run, Mark, is_coded, is_space, sign_of, is_legal, has_illegal, is_blank, is_operand, trimmed, with_character, with_blank, with_sign, with_byte, pieces}
+use Rattle.pal_lex.specs.Cutting.{Piece, Run, Mark, is_coded, is_space, sign_of, is_legal, has_illegal, is_blank, is_operand, without_end_blank, with_character, with_blank, with_sign, with_byte, pieces}
 use Rattle.pal_lex.specs.Runs.{base, run_kind, number_kind, are_digits, number, token, in_order, tokens, name_number}
 use Rattle.pal_lex.specs.Language.{is_named, free_name, operation_in}
-use Rattle.pal_lex.specs.Grammar.{joint_of, term_of, part_of, with_part, parts, terms, is_sign, expression, map_body, is_star, is_equals, is_comma, reference, definition, field_number, spaced_body, operation_body, lone_body, longer_body, untagged, with_tag, said, is_bad, has_bad_number}
+use Rattle.pal_lex.specs.Grammar.{joint_of, term_of, part_of, with_part, parts, terms, is_sign, expression, map_body, is_star, is_equals, is_comma, reference, definition, field_number, spaced_body, operation_body, lone_body, longer_body, without_tags, with_tag, phrase_of_tokens, is_bad, has_bad_number}
 use Rattle.pal_lex.specs.Joins.{is_lone_pause, is_pause}
 use Rattle.pal_lex.specs.declared.pieces.Term.TheVariants.{Name, Number, Here}
 use Rattle.pal_lex.specs.declared.pieces.Kind.{Kind}
@@ -54,7 +54,7 @@ trim_by : (is_blank : Bool) (at : ℕ) (kind : Kind) (before : List Piece)
 trim_by true at kind before = twice before
 trim_by false at kind before = ap (λ l. Mark kind 0 ∷ l) (twice before)
 
-trim : (before : List Piece) → forgotten (trimmed before) ≡ forgotten (trimmed (forgotten before))
+trim : (before : List Piece) → forgotten (without_end_blank before) ≡ forgotten (without_end_blank (forgotten before))
 trim [] = refl
 trim (Run first others start end ∷ before) = ap (λ l. Run first others 0 0 ∷ l) (twice before)
 trim (Mark kind at ∷ before) = trim_by (is_blank kind) at kind before
@@ -119,12 +119,12 @@ bare_order base (piece ∷ before) =
     ∙ ap (λ t. all_bare (in_order base (forgotten before)) ++ t ∷ []) (bare_token base piece)
     ∙ sym (bare-append (in_order base (forgotten before)) (token base (forget piece)))
 
-same_trimmed : (a b : List (ℕ × ℕ)) → bare_bytes a ≡ bare_bytes b → forgotten (trimmed (pieces a)) ≡ forgotten (trimmed (pieces b))
-same_trimmed a b e = trim (pieces a) ∙ ap (λ l. forgotten (trimmed l)) (same_pieces a b e) ∙ sym (trim (pieces b))
+same_trimmed : (a b : List (ℕ × ℕ)) → bare_bytes a ≡ bare_bytes b → forgotten (without_end_blank (pieces a)) ≡ forgotten (without_end_blank (pieces b))
+same_trimmed a b e = trim (pieces a) ∙ ap (λ l. forgotten (without_end_blank l)) (same_pieces a b e) ∙ sym (trim (pieces b))
 
 same_tokens : (radix : Radix) (a b : List (ℕ × ℕ)) → bare_bytes a ≡ bare_bytes b → all_bare (tokens radix a) ≡ all_bare (tokens radix b)
 same_tokens radix a b e =
-    bare_order (base radix) (trimmed (pieces a)) ∙ ap (λ l. all_bare (in_order (base radix) l)) (same_trimmed a b e) ∙ sym (bare_order (base radix) (trimmed (pieces b)))
+    bare_order (base radix) (without_end_blank (pieces a)) ∙ ap (λ l. all_bare (in_order (base radix) l)) (same_trimmed a b e) ∙ sym (bare_order (base radix) (without_end_blank (pieces b)))
 
 -- ## The grammar
 
@@ -178,11 +178,11 @@ bare_longer t u others =
     (both_ways (is_named (name_number (codes "FIELD")) t.kind) _ _ _ _ (ap (map_body Field) (bare_field u others))
     (both_ways (is_blank u.kind) _ _ _ _ (bare_spaced (operation_in t.kind) (t ∷ u ∷ others) (u ∷ others)) (ap (map_body Word) (bare_expression (t ∷ u ∷ others))))))
 
-bare_said : (l : List Token) → said (all_bare l) ≡ said l
+bare_said : (l : List Token) → phrase_of_tokens (all_bare l) ≡ phrase_of_tokens l
 bare_said [] = refl
-bare_said (t ∷ []) = ap untagged (bare_lone t)
+bare_said (t ∷ []) = ap without_tags (bare_lone t)
 bare_said (t ∷ u ∷ others) =
-    both_ways (is_comma u.kind) _ _ _ _ (ap (with_tag (free_name t.kind)) (bare_said others)) (ap untagged (bare_longer t u others))
+    both_ways (is_comma u.kind) _ _ _ _ (ap (with_tag (free_name t.kind)) (bare_said others)) (ap without_tags (bare_longer t u others))
 
 bare_bad : (l : List Token) → has_bad_number (all_bare l) ≡ has_bad_number l
 bare_bad [] = refl
@@ -195,8 +195,8 @@ bare_pause (t ∷ u ∷ others) = refl
 
 -- ## Stretches of the same bytes
 
-pub same_said : (radix : Radix) (a b : List (ℕ × ℕ)) → bare_bytes a ≡ bare_bytes b → said (tokens radix a) ≡ said (tokens radix b)
-same_said radix a b e = sym (bare_said (tokens radix a)) ∙ ap said (same_tokens radix a b e) ∙ bare_said (tokens radix b)
+pub same_said : (radix : Radix) (a b : List (ℕ × ℕ)) → bare_bytes a ≡ bare_bytes b → phrase_of_tokens (tokens radix a) ≡ phrase_of_tokens (tokens radix b)
+same_said radix a b e = sym (bare_said (tokens radix a)) ∙ ap phrase_of_tokens (same_tokens radix a b e) ∙ bare_said (tokens radix b)
 
 pub same_bad : (radix : Radix) (a b : List (ℕ × ℕ)) → bare_bytes a ≡ bare_bytes b → has_bad_number (tokens radix a) ≡ has_bad_number (tokens radix b)
 same_bad radix a b e = sym (bare_bad (tokens radix a)) ∙ ap has_bad_number (same_tokens radix a b e) ∙ bare_bad (tokens radix b)
@@ -243,7 +243,7 @@ pause_by_any one other (piece ∷ next ∷ before) =
 pub same_lone_pause : (one other : Radix) (a b : List (ℕ × ℕ)) → bare_bytes a ≡ bare_bytes b → is_lone_pause (tokens one a) ≡ is_lone_pause (tokens other b)
 same_lone_pause one other a b e =
     sym (bare_pause (tokens one a)) ∙ ap is_lone_pause (same_tokens one a b e) ∙ bare_pause (tokens one b)
-    ∙ pause_by_any (base one) (base other) (trimmed (pieces b))
+    ∙ pause_by_any (base one) (base other) (without_end_blank (pieces b))
 
 pub same_pause : (a b : List (ℕ × ℕ)) → bare_bytes a ≡ bare_bytes b → is_pause a ≡ is_pause b
 same_pause a b e =

@@ -5,7 +5,7 @@ use Rattle.pal_lex.specs.Cutting.{has_illegal}
 use Rattle.pal_lex.specs.Runs.{base, tokens}
 use Rattle.pal_lex.specs.Joins.{is_lone_pause, pauses}
 use Rattle.pal_lex.specs.Statements.{radix_after, statements}
-use Rattle.pal_lex.specs.Spans.{AllSpell, joined, HasSourceSpans, HasAllOfSource, PauseHasSpans, PauseHasAll}
+use Rattle.pal_lex.specs.Spans.{AllSpell, bytes_between, HasSourceSpans, HasAllOfSource, PauseHasSpans, PauseHasAll}
 use Rattle.pal_lex.specs.declared.runs.Radix.TheVariants.{Octal}
 use Rattle.pal_lex.proofs.CoverLemmas.{covers_in}
 use Rattle.pal_lex.proofs.JoinLemmas.{clear_comment, clear_stretch, dead_joined, bytes_joined}
@@ -42,7 +42,7 @@ source_has_all before here later b statement clear small e =
     let quiet = clear_comment before clear.0 in
     let none = clear_stretch before clear.0 in
     let radix = radix_after (statements (here ++ before)) in
-    ap (λ l. joined (later ++ b ∷ here) (tokens radix l)) (since_joined here before quiet none)
+    ap (λ l. bytes_between (later ++ b ∷ here) (tokens radix l)) (since_joined here before quiet none)
     ∙ covers_in radix here later b small (legal_here here before quiet none (has_tokens (here ++ before) b statement e).0)
 
 -- ## PAUSE
@@ -68,5 +68,5 @@ pause_has_all before here later b clear small e =
     let quiet = clear_comment before clear.0 in
     let none = clear_stretch before clear.0 in
     let radix = radix_after (statements (here ++ before)) in
-    ap (λ l. joined (later ++ b ∷ here) (tokens radix l)) (since_joined here before quiet none)
+    ap (λ l. bytes_between (later ++ b ∷ here) (tokens radix l)) (since_joined here before quiet none)
     ∙ covers_in radix here later b small (legal_here here before quiet none (pause_is_legal (here ++ before) b e))

@@ -2,11 +2,11 @@
 use Rattle.std.proofs.Common.{◌≡◌, ℕ, ◌+◌, ◌≤◌, ◌<◌, nat_eq, nat_le, nat_lt, Bool, true, false, ◌&&◌, ◌||◌, not, if◌then◌else◌, Option, Some, None, is_some, Result, Ok, Err, suc, length, List, [], ◌∷◌, ◌++◌, refl, ap, sym, subst, ◌∙◌, arith, length-append, append-nil}
 use Rattle.std.proofs.lemmas.Bool.Decides.{nat_tests}
 use Rattle.pal_lex.specs.Text.{is_ignored, in_comment, is_dead, is_end, ends_statement, stretch, limit, line_after}
-use Rattle.pal_lex.specs.Cutting.{Piece, Run, Mark, is_coded, is_space, sign_of, is_legal, has_illegal, is_blank, is_operand, trimmed, with_character, with_blank, with_sign, pieces, are_coded}
+use Rattle.pal_lex.specs.Cutting.{Piece, Run, Mark, is_coded, is_space, sign_of, is_legal, has_illegal, is_blank, is_operand, without_end_blank, with_character, with_blank, with_sign, pieces, are_coded}
 use Rattle.pal_lex.specs.Runs.{base, run_kind, token, in_order, tokens}
-use Rattle.pal_lex.specs.Grammar.{said, has_bad_number}
-use Rattle.pal_lex.specs.Statements.{stated, radix_after, with_stretch, statements}
-use Rattle.pal_lex.specs.Spans.{between, mark_of, spelled, Spells, AllSpell, HasSpans}
+use Rattle.pal_lex.specs.Grammar.{phrase_of_tokens, has_bad_number}
+use Rattle.pal_lex.specs.Statements.{statement_or_fault, radix_after, with_stretch, statements}
+use Rattle.pal_lex.specs.Spans.{between, mark_of, token_of_bytes, Spells, AllSpell, HasSpans}
 use Rattle.pal_lex.specs.declared.faults.LexFault.{LexFault}
 use Rattle.pal_lex.specs.declared.faults.LexFault.TheVariants.{IC, NU}
 use Rattle.pal_lex.specs.declared.pieces.Token.{Token}
@@ -106,7 +106,7 @@ trimmed_by : (blank : Bool) (text : List ℕ) (kind : Kind) (place : ℕ) (befor
 trimmed_by true text kind place before a = a.1
 trimmed_by false text kind place before a = a
 
-pub all_trimmed : (text : List ℕ) (before : List Piece) → AllStand text before → AllStand text (trimmed before)
+pub all_trimmed : (text : List ℕ) (before : List Piece) → AllStand text before → AllStand text (without_end_blank before)
 all_trimmed text [] a = tt
 all_trimmed text (Run first others start end ∷ before) a = a
 all_trimmed text (Mark kind place ∷ before) a = trimmed_by (is_blank kind) text kind place before a
@@ -235,7 +235,7 @@ byte_known text b before true space dot sign c s d o legal i a g = character_kno
 byte_known text b before false true dot sign c s d o legal i a g = blank_known text b before i c (rw s refl) a
 byte_known text b before false false true sign c s d o legal i a g = mark_known text b (Term Here) before i c (rw (s, d) refl) a
 byte_known text b before false false false (Some kind) c s d o legal i a g =
-    mark_known text b kind (trimmed before) i c (rw (s, d) o) (all_trimmed text before a)
+    mark_known text b kind (without_end_blank before) i c (rw (s, d) o) (all_trimmed text before a)
 byte_known text b before false false false None c s d o legal i a g = cc
 
 live_comment : (b : ℕ) (comment : Bool) → is_end b ≡ false → (if nat_eq b 13 then false else (if nat_eq b 47 then true else comment)) ≡ false → comment ≡ false
@@ -272,19 +272,19 @@ limited n e = omega arith
 limited_start : (start end : ℕ) → start ≤ end → limit end < 18446744073709551615 → limit start ≡ start
 limited_start start end s e = omega arith
 
-spelled_run : (base first : ℕ) (others : List ℕ) → are_coded (first ∷ others) ≡ true → spelled base (first ∷ others) ≡ Some (run_kind base first others)
+spelled_run : (base first : ℕ) (others : List ℕ) → are_coded (first ∷ others) ≡ true → token_of_bytes base (first ∷ others) ≡ Some (run_kind base first others)
 spelled_run base first [] e = rw (both_left (is_coded first) true e) refl
 spelled_run base first (d ∷ others) e = rw e refl
 
 spells : (text : List ℕ) (base : ℕ) (piece : Piece) → Stands text piece → Spells text base (token base piece)
 spells text base (Run first others start end) s = λ small.
-    ap (λ n. spelled base (between text n (limit end))) (limited_start start end s.0 small)
-    ∙ ap (λ n. spelled base (between text start n)) (limited end small)
-    ∙ ap (spelled base) s.3 ∙ spelled_run base first others s.2
+    ap (λ n. token_of_bytes base (between text n (limit end))) (limited_start start end s.0 small)
+    ∙ ap (λ n. token_of_bytes base (between text start n)) (limited end small)
+    ∙ ap (token_of_bytes base) s.3 ∙ spelled_run base first others s.2
 spells text base (Mark kind place) s = λ small.
-    ap (λ n. spelled base (between text n (limit (place + 1)))) (limited_start place (place + 1) (omega arith) small)
-    ∙ ap (λ n. spelled base (between text place n)) (limited (place + 1) small)
-    ∙ ap (spelled base) s.1.3 ∙ rw s.1.1 s.1.2
+    ap (λ n. token_of_bytes base (between text n (limit (place + 1)))) (limited_start place (place + 1) (omega arith) small)
+    ∙ ap (λ n. token_of_bytes base (between text place n)) (limited (place + 1) small)
+    ∙ ap (token_of_bytes base) s.1.3 ∙ rw s.1.1 s.1.2
 
 spell-append : (text : List ℕ) (base : ℕ) (found : List Token) (last : Token) → AllSpell text base found → Spells text base last
     → AllSpell text base (found ++ last ∷ [])
@@ -312,7 +312,7 @@ newest : {x y : Result Statement LexFault} {xs ys : List (Result Statement LexFa
 newest e = cc
 
 good : (illegal bad : Bool) (line : ℕ) (last : Bool) (found : List Token) (s : Option Said) (statement : Statement)
-    → (if illegal then Err (IC line) else (if bad then Err (NU line) else stated line last found s)) ≡ Ok statement
+    → (if illegal then Err (IC line) else (if bad then Err (NU line) else statement_or_fault line last found s)) ≡ Ok statement
     → (illegal ≡ false) × (statement.tokens ≡ found)
 good true bad line last found s statement e = absurd (refused e)
 good false true line last found s statement e = absurd (refused e)
@@ -330,7 +330,7 @@ has_tokens_by text b statement true ends e =
     let one : statements (b ∷ text) ≡ with_stretch (line_after text) (nat_eq b 36) (stretch text) (statements text) = rw ends refl in
     let radix = radix_after (statements text) in
     good (has_illegal (stretch text)) (has_bad_number (tokens radix (stretch text))) (line_after text) (nat_eq b 36) (tokens radix (stretch text))
-    (said (tokens radix (stretch text))) statement (newest (sym one ∙ e))
+    (phrase_of_tokens (tokens radix (stretch text))) statement (newest (sym one ∙ e))
 
 -- the tokens of a statement that a byte ends are those of the stretch before it, in which no byte is illegal
 pub has_tokens : (text : List ℕ) (b : ℕ) (statement : Statement) → statements (b ∷ text) ≡ Ok statement ∷ statements text
@@ -341,9 +341,9 @@ has_tokens text b statement e = has_tokens_by text b statement (ends_statement t
 pub spells_in : (radix : Radix) (text later : List ℕ) (b : ℕ) → has_illegal (stretch text) ≡ false → AllSpell (later ++ b ∷ text) (base radix) (tokens radix (stretch text))
 spells_in radix text later b legal =
     let k = known text legal in
-    all_spell (later ++ b ∷ text) (base radix) (trimmed (pieces (stretch text)))
-    (all_longer later (b ∷ text) (trimmed (pieces (stretch text)))
-    (all_longer (b ∷ []) text (trimmed (pieces (stretch text))) (all_trimmed text (pieces (stretch text)) k.stand)))
+    all_spell (later ++ b ∷ text) (base radix) (without_end_blank (pieces (stretch text)))
+    (all_longer later (b ∷ text) (without_end_blank (pieces (stretch text)))
+    (all_longer (b ∷ []) text (without_end_blank (pieces (stretch text))) (all_trimmed text (pieces (stretch text)) k.stand)))
 
 pub spans : HasSpans
 spans text later b statement e =

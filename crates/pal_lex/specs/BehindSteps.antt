@@ -3,10 +3,10 @@ use Rattle.std.specs.Prelude.{ℕ, Option, Some, None, List, ◌++◌}
 use Rattle.pal_lex.specs.declared.phrases.Part.{Part}
 use Rattle.pal_lex.specs.declared.phrases.Said.{Said}
 
-abbrev pub behind : List Part → Option (List Part) → Option (List Part)
-behind before None = None
-behind before (Some parts) = Some (before ++ parts)
+abbrev pub parts_after : List Part → Option (List Part) → Option (List Part)
+parts_after before None = None
+parts_after before (Some parts) = Some (before ++ parts)
 
-abbrev pub tagged : List ℕ → Option Said → Option Said
-tagged names None = None
-tagged names (Some said) = Some record { tags = names ++ said.tags; body = said.body }
+abbrev pub with_tags_before : List ℕ → Option Said → Option Said
+with_tags_before names None = None
+with_tags_before names (Some said) = Some record { tags = names ++ said.tags; body = said.body }

@@ -58,10 +58,10 @@ is_operand Comma = false
 is_operand Star = false
 
 -- without a blank at the end
-abbrev pub trimmed : List Piece → List Piece
-trimmed [] = []
-trimmed (Run first others start end ∷ before) = Run first others start end ∷ before
-trimmed (Mark kind place ∷ before) = if is_blank kind then before else Mark kind place ∷ before
+abbrev pub without_end_blank : List Piece → List Piece
+without_end_blank [] = []
+without_end_blank (Run first others start end ∷ before) = Run first others start end ∷ before
+without_end_blank (Mark kind place ∷ before) = if is_blank kind then before else Mark kind place ∷ before
 
 -- a letter or a digit more
 abbrev pub with_character : ℕ → ℕ → List Piece → List Piece
@@ -82,7 +82,7 @@ with_blank place (Mark kind at ∷ before) = if is_operand kind then Mark Blank 
 
 abbrev pub with_sign : Option Kind → ℕ → List Piece → List Piece
 with_sign None place before = before
-with_sign (Some kind) place before = Mark kind place ∷ trimmed before
+with_sign (Some kind) place before = Mark kind place ∷ without_end_blank before
 
 -- the pieces with one byte more; one that is illegal makes none
 abbrev pub with_byte : ℕ → ℕ → List Piece → List Piece

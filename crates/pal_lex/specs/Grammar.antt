@@ -174,9 +174,9 @@ body (t ∷ u ∷ others) = longer_body t u others
 
 -- ## Statements
 
-abbrev pub untagged : Option Body → Option Said
-untagged None = None
-untagged (Some body) = Some record { tags = []; body = body }
+abbrev pub without_tags : Option Body → Option Said
+without_tags None = None
+without_tags (Some body) = Some record { tags = []; body = body }
 
 abbrev pub with_tag : Option ℕ → Option Said → Option Said
 with_tag None said = None
@@ -184,10 +184,10 @@ with_tag (Some name) None = None
 with_tag (Some name) (Some said) = Some record { tags = name ∷ said.tags; body = said.body }
 
 -- any number of tags, which are names with a comma, and a body
-abbrev pub said : List Token → Option Said
-said [] = untagged (body [])
-said (t ∷ []) = untagged (body (t ∷ []))
-said (t ∷ u ∷ others) = if is_comma u.kind then with_tag (free_name t.kind) (said others) else untagged (body (t ∷ u ∷ others))
+abbrev pub phrase_of_tokens : List Token → Option Said
+phrase_of_tokens [] = without_tags (body [])
+phrase_of_tokens (t ∷ []) = without_tags (body (t ∷ []))
+phrase_of_tokens (t ∷ u ∷ others) = if is_comma u.kind then with_tag (free_name t.kind) (phrase_of_tokens others) else without_tags (body (t ∷ u ∷ others))
 
 abbrev pub is_bad : Kind → Bool
 is_bad (Term t) = false

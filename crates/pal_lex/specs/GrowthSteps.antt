@@ -43,5 +43,5 @@ pub record IsRun (base first : ℕ) (others : List ℕ) (at : ℕ) (run : Grown)
   pub weight : run.weight ≡ weight_after (suc run.more)
 
 -- what a first character makes
-abbrev pub begun : ℕ → ℕ → Kind
-begun base c = if is_letter c then Term (Name (longer_name 0 0o10000000000 c)) else longer_number base 0 c
+abbrev pub first_kind : ℕ → ℕ → Kind
+first_kind base c = if is_letter c then Term (Name (longer_name 0 0o10000000000 c)) else longer_number base 0 c

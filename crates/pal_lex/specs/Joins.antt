@@ -36,13 +36,13 @@ before_pause [] = None
 before_pause (b ∷ older) = first_text (before_pause older) (if pauses older b then Some (up_to_end older) else None)
 
 -- what stands before a PAUSE, and then the next texts; or the text alone
-abbrev pub continued : List ℕ → Option (List ℕ) → List ℕ → List ℕ
-continued text None others = text
-continued text (Some prefix) others = others ++ prefix
+abbrev pub text_with_next : List ℕ → Option (List ℕ) → List ℕ → List ℕ
+text_with_next text None others = text
+text_with_next text (Some prefix) others = others ++ prefix
 
 -- The join of texts, which stand in their order: each up to the first PAUSE, followed by the join of those after it. A text that is
 -- the last, or has no PAUSE, is joined whole, and none after it.
 abbrev pub join_of : List (List ℕ) → List ℕ
 join_of [] = []
 join_of (text ∷ []) = text
-join_of (text ∷ next ∷ others) = continued text (before_pause text) (join_of (next ∷ others))
+join_of (text ∷ next ∷ others) = text_with_next text (before_pause text) (join_of (next ∷ others))

@@ -1,6 +1,6 @@
 -- What a lexer makes of a byte and of a whole stretch, for private clauses.
 use Rattle.std.specs.Prelude.{◌≡◌, ℕ, ◌+◌, nat_eq, Bool, true, false, ◌||◌, if◌then◌else◌, Some, None, Result, Ok, Err, List, []}
-use Rattle.pal_lex.specs.Grammar.{said, has_bad_number}
+use Rattle.pal_lex.specs.Grammar.{phrase_of_tokens, has_bad_number}
 use Rattle.pal_lex.specs.declared.faults.LexFault.{LexFault}
 use Rattle.pal_lex.specs.declared.faults.LexFault.TheVariants.{IC, SY, NU, NE, Memory}
 use Rattle.pal_lex.specs.declared.pieces.Token.{Token}
@@ -20,10 +20,10 @@ comment_after comment b = if nat_eq b 0o15 then false else (if nat_eq b 0o57 the
 
 -- the answer for a stretch with these tokens, or that memory ran out
 abbrev pub Judges : ℕ → Bool → List Token → Result Said LexFault → Type 0
-Judges line illegal tokens (Ok s) = (illegal ≡ false) × (has_bad_number tokens ≡ false) × (said tokens ≡ Some s)
+Judges line illegal tokens (Ok s) = (illegal ≡ false) × (has_bad_number tokens ≡ false) × (phrase_of_tokens tokens ≡ Some s)
 Judges line illegal tokens (Err (IC at)) = (at ≡ line) × (illegal ≡ true)
 Judges line illegal tokens (Err (NU at)) = (at ≡ line) × (illegal ≡ false) × (has_bad_number tokens ≡ true)
-Judges line illegal tokens (Err (SY at)) = (at ≡ line) × (illegal ≡ false) × (has_bad_number tokens ≡ false) × (said tokens ≡ None)
+Judges line illegal tokens (Err (SY at)) = (at ≡ line) × (illegal ≡ false) × (has_bad_number tokens ≡ false) × (phrase_of_tokens tokens ≡ None)
 Judges line illegal tokens (Err (NE at)) = ⊥
 Judges line illegal tokens (Err Memory) = Unit {0}
 
@@ -32,8 +32,8 @@ abbrev pub dies : Bool → ℕ → Bool
 dies comment b = is_ignored b || comment_after comment b
 
 -- one byte is counted
-abbrev pub passed : ℕ → Progress → Progress
-passed b l = record {
+abbrev pub after_byte : ℕ → Progress → Progress
+after_byte b l = record {
   state = l.state;
   source = l.source;
   may_pause = l.may_pause;
@@ -46,8 +46,8 @@ passed b l = record {
 }
 
 -- a byte ended a statement with this body
-abbrev pub ended : ℕ → Body → Progress → Progress
-ended b body l = passed b (record {
+abbrev pub after_statement : ℕ → Body → Progress → Progress
+after_statement b body l = after_byte b (record {
   state = if nat_eq b 0o44 then Over else l.state;
   source = l.source;
   may_pause = l.may_pause;
@@ -64,8 +64,8 @@ abbrev pub ended_statement : ℕ → Said → Progress → Statement
 ended_statement b s l = record { line = l.line; tags = s.tags; body = s.body; last = nat_eq b 0o44; source = l.source; tokens = if l.keeps_tokens then l.draft.tokens else [] }
 
 -- PAUSE ended the source
-abbrev pub paused : Progress → Progress
-paused l = record {
+abbrev pub after_pause : Progress → Progress
+after_pause l = record {
   state = Paused;
   source = l.source;
   may_pause = l.may_pause;
@@ -96,9 +96,9 @@ next last l = record {
 }
 
 -- a fault was met: want of memory leaves all as it was
-abbrev pub failed : LexFault → Progress → Progress
-failed (IC line) l = record l { state = Failed (IC line) }
-failed (SY line) l = record l { state = Failed (SY line) }
-failed (NU line) l = record l { state = Failed (NU line) }
-failed (NE line) l = record l { state = Failed (NE line) }
-failed Memory l = l
+abbrev pub after_fault : LexFault → Progress → Progress
+after_fault (IC line) l = record l { state = Failed (IC line) }
+after_fault (SY line) l = record l { state = Failed (SY line) }
+after_fault (NU line) l = record l { state = Failed (NU line) }
+after_fault (NE line) l = record l { state = Failed (NE line) }
+after_fault Memory l = l

@@ -59,8 +59,8 @@ abbrev pub IsFault : List ℕ → LexFault → Type 0
 IsFault text fault = first_fault (statements text) ≡ Some fault
 
 -- the tokens of the stretch at the end of a text
-abbrev pub tokens_behind : List ℕ → List Token
-tokens_behind text = tokens (radix_after (statements text)) (stretch text)
+abbrev pub tokens_after : List ℕ → List Token
+tokens_after text = tokens (radix_after (statements text)) (stretch text)
 
 -- the same with places that count from a place on
 abbrev pub tokens_since : ℕ → List ℕ → List Token
@@ -84,7 +84,7 @@ is_pause_body (Word e) = false
 -- A byte after a text ended this statement. Its tokens have the places in its source.
 pub record IsHandedOut (seam : ℕ) (text : List ℕ) (b : ℕ) (statement : Statement) (old new : Progress) : Type 0 where
   pub no_fault : first_fault (statements (b ∷ text)) ≡ None
-  pub newest : statements (b ∷ text) ≡ Ok (with_tokens (tokens_behind text) statement) ∷ statements text
+  pub newest : statements (b ∷ text) ≡ Ok (with_tokens (tokens_after text) statement) ∷ statements text
   pub tokens : statement.tokens ≡ (if old.keeps_tokens then tokens_since seam text else [])
   pub source : statement.source ≡ old.source
   pub read : HasRead new seam (b ∷ text)

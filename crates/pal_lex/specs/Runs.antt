@@ -4,7 +4,7 @@ use Rattle.std.specs.Prelude.{ℕ, ◌+◌, ◌-◌, ◌*◌, nat_lt, nat_le, Bo
 use Rattle.word12.specs.Sixbit.{is_letter}
 pub use Rattle.word12.specs.Sixbit.{code_at, name_number}
 use Rattle.pal_lex.specs.Text.{limit}
-use Rattle.pal_lex.specs.Cutting.{Piece, Run, Mark, trimmed, pieces}
+use Rattle.pal_lex.specs.Cutting.{Piece, Run, Mark, without_end_blank, pieces}
 use Rattle.pal_lex.specs.declared.pieces.Token.{Token}
 use Rattle.pal_lex.specs.declared.pieces.Term.TheVariants.{Name, Number}
 use Rattle.pal_lex.specs.declared.pieces.Kind.{Kind}
@@ -50,4 +50,4 @@ in_order base (piece ∷ before) = in_order base before ++ token base piece ∷ 
 
 -- the tokens of a whole stretch, with no blank at its ends
 abbrev pub tokens : Radix → List (ℕ × ℕ) → List Token
-tokens radix live = in_order (base radix) (trimmed (pieces live))
+tokens radix live = in_order (base radix) (without_end_blank (pieces live))

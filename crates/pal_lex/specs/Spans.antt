@@ -23,14 +23,14 @@ abbrev pub mark_of : ℕ → Option Kind
 mark_of c = if is_space c then Some Blank else (if nat_eq c 0o56 then Some (Term Here) else sign_of c)
 
 -- the token that bytes spell, by a base
-abbrev pub spelled : ℕ → List ℕ → Option Kind
-spelled base [] = None
-spelled base (c ∷ []) = if is_coded c then Some (run_kind base c []) else mark_of c
-spelled base (c ∷ d ∷ others) = if are_coded (c ∷ d ∷ others) then Some (run_kind base c (d ∷ others)) else None
+abbrev pub token_of_bytes : ℕ → List ℕ → Option Kind
+token_of_bytes base [] = None
+token_of_bytes base (c ∷ []) = if is_coded c then Some (run_kind base c []) else mark_of c
+token_of_bytes base (c ∷ d ∷ others) = if are_coded (c ∷ d ∷ others) then Some (run_kind base c (d ∷ others)) else None
 
 -- a token is what stands between its places, where its end is no more than a number of 64 bits holds
 abbrev pub Spells : List ℕ → ℕ → Token → Type 0
-Spells text base token = token.end < 18446744073709551615 → spelled base (between text token.start token.end) ≡ Some token.kind
+Spells text base token = token.end < 18446744073709551615 → token_of_bytes base (between text token.start token.end) ≡ Some token.kind
 
 abbrev pub AllSpell : List ℕ → ℕ → List Token → Type 0
 AllSpell text base [] = Unit {0}
@@ -48,16 +48,16 @@ solid [] = []
 solid (live ∷ older) = solid older ++ (if is_space live.0 then [] else live.0 ∷ [])
 
 -- what stands between the places of tokens, one after the other, without blanks
-abbrev pub joined : List ℕ → List Token → List ℕ
-joined text [] = []
-joined text (token ∷ others) = (if is_blank token.kind then [] else between text token.start token.end) ++ joined text others
+abbrev pub bytes_between : List ℕ → List Token → List ℕ
+bytes_between text [] = []
+bytes_between text (token ∷ others) = (if is_blank token.kind then [] else between text token.start token.end) ++ bytes_between text others
 
 -- The tokens of a statement that a byte ends leave nothing out but blanks. Joined they are the live bytes after the end
 -- before it, where the places are no more than a number of 64 bits holds.
 abbrev pub HasAll : Type 0
 HasAll =
     (text later : List ℕ) (b : ℕ) (statement : Statement) → length text ≤ 18446744073709551615
-    → statements (b ∷ text) ≡ Ok statement ∷ statements text → joined (later ++ b ∷ text) statement.tokens ≡ solid (stretch text)
+    → statements (b ∷ text) ≡ Ok statement ∷ statements text → bytes_between (later ++ b ∷ text) statement.tokens ≡ solid (stretch text)
 
 -- So it is in one of several sources, with the places in that source alone, which stands after the join of those before it.
 abbrev pub HasSourceSpans : Type 0
@@ -69,7 +69,7 @@ abbrev pub HasAllOfSource : Type 0
 HasAllOfSource =
     (before here later : List ℕ) (b : ℕ) (statement : Statement) → IsClear before → length here ≤ 18446744073709551615
     → statements (b ∷ here ++ before) ≡ Ok statement ∷ statements (here ++ before)
-    → joined (later ++ b ∷ here) (tokens_since (length before) (here ++ before)) ≡ solid (stretch here)
+    → bytes_between (later ++ b ∷ here) (tokens_since (length before) (here ++ before)) ≡ solid (stretch here)
 
 -- So it is with the tokens of PAUSE, which ends one of several sources.
 abbrev pub PauseHasSpans : Type 0
@@ -80,4 +80,4 @@ PauseHasSpans =
 abbrev pub PauseHasAll : Type 0
 PauseHasAll =
     (before here later : List ℕ) (b : ℕ) → IsClear before → length here ≤ 18446744073709551615 → pauses (here ++ before) b ≡ true
-    → joined (later ++ b ∷ here) (tokens_since (length before) (here ++ before)) ≡ solid (stretch here)
+    → bytes_between (later ++ b ∷ here) (tokens_since (length before) (here ++ before)) ≡ solid (stretch here)

@@ -4,7 +4,7 @@ use Rattle.std.specs.Prelude.{ℕ, nat_eq, Bool, if◌then◌else◌, Option, So
 use Rattle.pal_lex.specs.Text.{ends_statement, stretch, line_after}
 use Rattle.pal_lex.specs.Cutting.{has_illegal}
 use Rattle.pal_lex.specs.Runs.{tokens}
-use Rattle.pal_lex.specs.Grammar.{said, has_bad_number}
+use Rattle.pal_lex.specs.Grammar.{phrase_of_tokens, has_bad_number}
 use Rattle.pal_lex.specs.declared.faults.LexFault.{LexFault}
 use Rattle.pal_lex.specs.declared.faults.LexFault.TheVariants.{IC, SY, NU}
 use Rattle.pal_lex.specs.declared.pieces.Token.{Token}
@@ -15,16 +15,16 @@ use Rattle.pal_lex.specs.declared.phrases.Statement.{Statement}
 use Rattle.pal_lex.specs.declared.runs.Radix.{Radix}
 use Rattle.pal_lex.specs.declared.runs.Radix.TheVariants as radix
 
-abbrev pub stated : ℕ → Bool → List Token → Option Said → Result Statement LexFault
-stated line last tokens None = Err (SY line)
-stated line last tokens (Some said) = Ok record { line = line; tags = said.tags; body = said.body; last = last; source = 0; tokens = tokens }
+abbrev pub statement_or_fault : ℕ → Bool → List Token → Option Said → Result Statement LexFault
+statement_or_fault line last tokens None = Err (SY line)
+statement_or_fault line last tokens (Some said) = Ok record { line = line; tags = said.tags; body = said.body; last = last; source = 0; tokens = tokens }
 
 -- An illegal character is reported before a bad number, and that before a bad statement.
-abbrev pub judged : ℕ → Bool → List (ℕ × ℕ) → Radix → Result Statement LexFault
-judged line last live radix =
+abbrev pub judge_statement : ℕ → Bool → List (ℕ × ℕ) → Radix → Result Statement LexFault
+judge_statement line last live radix =
     if has_illegal live then Err (IC line)
     else (if has_bad_number (tokens radix live) then Err (NU line)
-    else stated line last (tokens radix live) (said (tokens radix live)))
+    else statement_or_fault line last (tokens radix live) (phrase_of_tokens (tokens radix live)))
 
 -- `DECIMAL` and `OCTAL` set the radix from the next statement on
 abbrev pub radix_by : body.Body → Radix → Radix
@@ -48,7 +48,7 @@ radix_after [] = radix.Octal
 radix_after (newest ∷ older) = radix_set newest (radix_after older)
 
 abbrev pub with_stretch : ℕ → Bool → List (ℕ × ℕ) → List (Result Statement LexFault) → List (Result Statement LexFault)
-with_stretch line last live older = judged line last live (radix_after older) ∷ older
+with_stretch line last live older = judge_statement line last live (radix_after older) ∷ older
 
 -- the statements of a text, the newest first, each as it reads or with its fault
 unfoldable pub statements : List ℕ → List (Result Statement LexFault)

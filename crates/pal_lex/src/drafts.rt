@@ -3,11 +3,11 @@ ghost use Rattle.pal_lex.specs.Text.{limit};
 ghost use Rattle.pal_lex.specs.Cutting.{Piece, Run, Mark, is_coded, is_operand, is_blank, sign_of, with_character, with_blank, with_sign};
 ghost use Rattle.pal_lex.specs.Runs.{base};
 ghost use Rattle.pal_lex.specs.GrowthSteps.{grown};
-ghost use Rattle.pal_lex.specs.Drafting.{cut, cut_of, spoiled};
+ghost use Rattle.pal_lex.specs.Drafting.{cut, cut_of, spoiled_cut};
 ghost use Rattle.pal_lex.specs.Steps.{pending, PutsRun};
 
 use crate::growing::run_of;
-use crate::runs::{Radix, begun, grown};
+use crate::runs::{Radix, first_kind, grown};
 use crate::{Kind, Term, Token, Tokens};
 use std::alloc::{AllocError, Global};
 use std::marker::Model;
@@ -146,7 +146,7 @@ impl Draft {
 
     /// Keeps no token of a stretch that has an illegal byte: nothing asks for them.
     fn spoil(&mut self)
-        ensures { self.new ≡ spoiled }
+        ensures { self.new ≡ spoiled_cut }
     {
         self.illegal = true;
         self.tail = Tail::Sign;
@@ -191,7 +191,7 @@ impl Draft {
             return Ok(());
         }
         let token = Token {
-            kind: begun(radix, byte),
+            kind: first_kind(radix, byte),
             start: place,
             end,
         };

@@ -1,6 +1,6 @@
 ghost use Rattle.std.specs.Prelude.{◌≡◌, true, Some, IfOk};
 ghost use Rattle.pal_lex.specs.Grammar.{joint_of, free_term, term_of, parts, terms, expression};
-ghost use Rattle.pal_lex.specs.BehindSteps.{behind};
+ghost use Rattle.pal_lex.specs.BehindSteps.{parts_after};
 
 use crate::kinds::is_sign;
 use crate::language::is_reserved;
@@ -45,12 +45,12 @@ fn term_of(kind: Kind) -> Option<Term>
 
 /// The terms before some tokens, and the terms that these are, each with what joins it to those before it.
 #[inline(always)]
-fn continued(
+fn longer_expression(
     before: SmallVec<Part, 2>,
     blanks: bool,
     tokens: &[Token],
 ) -> Result<Option<Expression>, AllocError>
-    ensures { IfOk result (λ e. e ≡ behind before.items (parts blanks tokens.now)) }
+    ensures { IfOk result (λ e. e ≡ parts_after before.items (parts blanks tokens.now)) }
 {
     let mut parts = before;
     let mut rest = tokens;
@@ -86,7 +86,7 @@ pub fn terms(
                     joint: Joint::Add,
                     term,
                 })?;
-                continued(parts, blanks, others)
+                longer_expression(parts, blanks, others)
             }
             None => Ok(None),
         },
@@ -99,7 +99,7 @@ pub fn expression(alloc: Global, tokens: &[Token]) -> Result<Option<Expression>,
     ensures { IfOk result (λ e. e ≡ expression tokens.now) }
 {
     match tokens {
-        [first, ..] if is_sign(first.kind) => continued(SmallVec::new(alloc), true, tokens),
+        [first, ..] if is_sign(first.kind) => longer_expression(SmallVec::new(alloc), true, tokens),
         _ => terms(alloc, true, tokens),
     }
 }

@@ -1,7 +1,7 @@
 ghost use Rattle.std.specs.Prelude.{◌≡◌, true, false, Some, IfOk, [], ◌∷◌};
 ghost use Rattle.pal_lex.specs.Language.{free_name};
-ghost use Rattle.pal_lex.specs.Grammar.{sum, expression, map_body, reference, definition, field_number, lone_body, longer_body, body, untagged, said, has_bad_number};
-ghost use Rattle.pal_lex.specs.BehindSteps.{tagged};
+ghost use Rattle.pal_lex.specs.Grammar.{sum, expression, map_body, reference, definition, field_number, lone_body, longer_body, body, without_tags, phrase_of_tokens, has_bad_number};
+ghost use Rattle.pal_lex.specs.BehindSteps.{with_tags_before};
 
 use crate::expressions::{expression, terms};
 use crate::kinds::{is_bad, is_blank, is_comma, is_equals, is_sign, is_star};
@@ -21,7 +21,7 @@ fn word(alloc: Global, tokens: &[Token]) -> Result<Option<Body>, AllocError>
 }
 
 /// A memory reference with an address.
-fn addressed(
+fn reference_body(
     alloc: Global,
     operation: Operation,
     indirect: bool,
@@ -56,7 +56,7 @@ fn reference(
             indirect = true;
         } else if !is_named(ZERO_PAGE, word.kind) {
             let (_, behind) = rest.split_at(1);
-            return addressed(alloc, operation, indirect, behind);
+            return reference_body(alloc, operation, indirect, behind);
         }
         rest = others;
     }
@@ -174,8 +174,8 @@ fn body(alloc: Global, tokens: &[Token]) -> Result<Option<Body>, AllocError>
 }
 
 /// What a statement says, by its tags and what stands after them.
-fn tagged(alloc: Global, names: Vec<Name>, tokens: &[Token]) -> Result<Option<Said>, AllocError>
-    ensures { IfOk result (λ s. s ≡ tagged names.items (untagged (body tokens.now))) }
+fn with_tags(alloc: Global, names: Vec<Name>, tokens: &[Token]) -> Result<Option<Said>, AllocError>
+    ensures { IfOk result (λ s. s ≡ with_tags_before names.items (without_tags (body tokens.now))) }
 {
     let body = body(alloc, tokens)?;
     match body {
@@ -188,14 +188,14 @@ fn tagged(alloc: Global, names: Vec<Name>, tokens: &[Token]) -> Result<Option<Sa
 }
 
 /// What a statement says: any number of tags, which are names with a comma, and a body.
-pub fn said(alloc: Global, tokens: &[Token]) -> Result<Option<Said>, AllocError>
-    ensures { IfOk result (λ s. s ≡ said tokens.now) }
+pub fn phrase_of_tokens(alloc: Global, tokens: &[Token]) -> Result<Option<Said>, AllocError>
+    ensures { IfOk result (λ s. s ≡ phrase_of_tokens tokens.now) }
 {
     let mut names = Vec::new(alloc);
     let mut rest = tokens;
     while let [tag, comma, others @ ..] = rest {
         if !is_comma(comma.kind) {
-            return tagged(alloc, names, rest);
+            return with_tags(alloc, names, rest);
         }
         match free_name(tag.kind) {
             Some(name) => names.push(name)?,
@@ -203,7 +203,7 @@ pub fn said(alloc: Global, tokens: &[Token]) -> Result<Option<Said>, AllocError>
         }
         rest = others;
     }
-    tagged(alloc, names, rest)
+    with_tags(alloc, names, rest)
 }
 
 /// Whether a token is a bad number.

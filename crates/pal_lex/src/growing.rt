@@ -7,7 +7,7 @@ ghost use Rattle.word12.specs.Sixbit.{is_letter};
 ghost use Rattle.pal_lex.specs.Cutting.{is_coded};
 ghost use Rattle.pal_lex.specs.GrowthSteps.{IsRun};
 
-use crate::runs::{Radix, begun, grown, longer_name};
+use crate::runs::{Radix, first_kind, grown, longer_name};
 use crate::{Kind, Name, Term, Token};
 
 /// The token of a name or a number, how many characters it has after its first one, and the weight of the next one.
@@ -42,7 +42,7 @@ fn name_of(first: u8, others: &[u8], place: u64) -> Grown
         → IsRun (base radix) first others.now at result }
     ensures range { result.more ≤ length others.now }
 {
-    let mut name = longer_name(Name::numbered(0), 0o10000000000, first);
+    let mut name = longer_name(Name::name_of_number(0), 0o10000000000, first);
     let mut end = place.saturating_add(1);
     let mut weight = 0o100000000;
     let mut more = 0;
@@ -74,7 +74,7 @@ pub fn run_of(radix: Radix, first: u8, others: &[u8], place: u64) -> Grown
         return name_of(first, others, place);
     }
     let mut token = Token {
-        kind: begun(radix, first),
+        kind: first_kind(radix, first),
         start: place,
         end: place.saturating_add(1),
     };

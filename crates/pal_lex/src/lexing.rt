@@ -6,10 +6,10 @@ ghost use Rattle.pal_lex.specs.Joins.{is_lone_pause};
 ghost use Rattle.pal_lex.specs.Cutting.{is_coded};
 ghost use Rattle.pal_lex.specs.Progress.{setting};
 ghost use Rattle.pal_lex.specs.Reading.{HasRead, HasPaused, HasFailed, Answers, Pauses, ReadsOn, Ends, EndsSource, BeginsNext};
-ghost use Rattle.pal_lex.specs.JudgeSteps.{Judges, comment_after, dies, passed, ended, ended_statement, paused, pause_statement, next, failed};
+ghost use Rattle.pal_lex.specs.JudgeSteps.{Judges, comment_after, dies, after_byte, after_statement, ended_statement, after_pause, pause_statement, next, after_fault};
 
 use crate::drafts::Draft;
-use crate::grammar::{has_bad_number, said};
+use crate::grammar::{has_bad_number, phrase_of_tokens};
 use crate::language::{PAUSE, is_named};
 use crate::phrases::Said;
 use crate::runs::Radix;
@@ -121,7 +121,7 @@ fn judge(alloc: Global, draft: &Draft, line: u64) -> Result<Said, LexFault>
     if has_bad_number(draft.tokens()) {
         return Err(LexFault::NU(line));
     }
-    let said = said(alloc, draft.tokens())?;
+    let said = phrase_of_tokens(alloc, draft.tokens())?;
     match said {
         Some(said) => Ok(said),
         None => Err(LexFault::SY(line)),
@@ -170,7 +170,7 @@ impl Lexer {
         ensures read { HasRead result 0 [] }
         ensures setting { setting result ≡ record { keeps_tokens = true; source = 0; may_pause = false } }
     {
-        Lexer::begun(alloc, true, false)
+        Lexer::new_lexer(alloc, true, false)
     }
 
     /// A lexer of no byte of a single source that hands out each statement without its tokens. It takes less time and memory.
@@ -178,7 +178,7 @@ impl Lexer {
         ensures read { HasRead result 0 [] }
         ensures setting { setting result ≡ record { keeps_tokens = false; source = 0; may_pause = false } }
     {
-        Lexer::begun(alloc, false, false)
+        Lexer::new_lexer(alloc, false, false)
     }
 
     /// A lexer of no byte of several sources, of which the first may pause. It hands out each statement with its tokens.
@@ -186,7 +186,7 @@ impl Lexer {
         ensures read { HasRead result 0 [] }
         ensures setting { setting result ≡ record { keeps_tokens = true; source = 0; may_pause = true } }
     {
-        Lexer::begun(alloc, true, true)
+        Lexer::new_lexer(alloc, true, true)
     }
 
     /// The same without tokens.
@@ -194,7 +194,7 @@ impl Lexer {
         ensures read { HasRead result 0 [] }
         ensures setting { setting result ≡ record { keeps_tokens = false; source = 0; may_pause = true } }
     {
-        Lexer::begun(alloc, false, true)
+        Lexer::new_lexer(alloc, false, true)
     }
 
     /// Takes the next byte, and hands out the statement that it ends, if it ends one.
@@ -292,7 +292,7 @@ impl Lexer {
     }
 
     #[tactic(auto, unfolding(crate::specs::Statements::statements, crate::specs::Reading::HasRead))]
-    fn begun(alloc: Global, keeps_tokens: bool, may_pause: bool) -> Lexer
+    fn new_lexer(alloc: Global, keeps_tokens: bool, may_pause: bool) -> Lexer
         ensures read { HasRead result 0 [] }
         ensures setting { setting result
             ≡ record { keeps_tokens = keeps_tokens; source = 0; may_pause = may_pause } }
@@ -482,7 +482,7 @@ impl Lexer {
     /// Hands out a statement with what it says, and begins the next one.
     fn hand_out(&mut self, said: Said, byte: u8) -> Statement
         ensures statement { result ≡ ended_statement byte said self.old }
-        ensures ended { self.new ≡ ended byte said.body self.old }
+        ensures ended { self.new ≡ after_statement byte said.body self.old }
     {
         let line = self.line;
         let last = byte == b'$';
@@ -505,7 +505,7 @@ impl Lexer {
     /// Hands out PAUSE, which ends the source.
     fn pause(&mut self) -> Statement
         ensures statement { result ≡ pause_statement self.old }
-        ensures paused { self.new ≡ paused self.old }
+        ensures paused { self.new ≡ after_pause self.old }
     {
         let tokens = self.draft.take(self.alloc, self.keeps_tokens);
         self.state = State::Paused;
@@ -521,7 +521,7 @@ impl Lexer {
 
     /// Fails for good, except for want of memory.
     fn fail(&mut self, fault: LexFault)
-        ensures { self.new ≡ failed fault self.old }
+        ensures { self.new ≡ after_fault fault self.old }
     {
         match fault {
             LexFault::Memory => {}
@@ -534,7 +534,7 @@ impl Lexer {
     /// Counts a byte.
     #[inline(always)]
     fn pass(&mut self, byte: u8)
-        ensures { self.new ≡ passed byte self.old }
+        ensures { self.new ≡ after_byte byte self.old }
     {
         self.comment = comment_after(self.comment, byte);
         self.place = self.place.saturating_add(1);

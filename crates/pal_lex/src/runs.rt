@@ -1,6 +1,6 @@
 ghost use Rattle.std.specs.Prelude.{◌≡◌, ◌≤◌};
 ghost use Rattle.pal_lex.specs.Runs.{base};
-ghost use Rattle.pal_lex.specs.GrowthSteps.{longer_name, longer_number, grown_term, grown, begun};
+ghost use Rattle.pal_lex.specs.GrowthSteps.{longer_name, longer_number, grown_term, grown, first_kind};
 
 use crate::{Kind, Name, Term};
 use word12::{Word, sixbit};
@@ -31,7 +31,7 @@ pub fn longer_name(name: Name, weight: u32, character: u8) -> Name
     ensures { result ≡ longer_name name weight character }
 {
     let code = u64::from(sixbit(character).unwrap_or(0));
-    Name::numbered(name.number().saturating_add(u64::from(weight) * code))
+    Name::name_of_number(name.number().saturating_add(u64::from(weight) * code))
 }
 
 /// A number with one character more.
@@ -74,12 +74,12 @@ pub fn grown(kind: Kind, radix: Radix, weight: u32, character: u8) -> Kind
 
 /// What a letter or a digit begins.
 #[inline(always)]
-pub fn begun(radix: Radix, character: u8) -> Kind
-    ensures { result ≡ begun (base radix) character }
+pub fn first_kind(radix: Radix, character: u8) -> Kind
+    ensures { result ≡ first_kind (base radix) character }
 {
     match character {
         b'A'..=b'Z' => Kind::Term(Term::Name(longer_name(
-            Name::numbered(0),
+            Name::name_of_number(0),
             0o10000000000,
             character,
         ))),

@@ -81,11 +81,11 @@ pub(crate) fn permanent_value(name: SymbolName) -> Option<Word>
     if name.number() % 0o1000000 != 0 {
         return None;
     }
-    listed(&PERMANENT, name.number())
+    word_in_list(&PERMANENT, name.number())
 }
 
 /// The word that stands beside a name in a list.
-fn listed(list: &[(u64, u16)], name: u64) -> Option<Word>
+fn word_in_list(list: &[(u64, u16)], name: u64) -> Option<Word>
     requires { IsTrue (all_words list.now) }
     ensures value { result ≡ find nat_cmp name list.now }
     ensures range { IfSome result (λ word. word < 0o10000) }

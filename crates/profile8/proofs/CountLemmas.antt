@@ -7,9 +7,9 @@ use Rattle.word12.specs.declared.sizes.TheConstants.{CORE}
 use Rattle.cpu8.specs.State.{next_cell}
 use Rattle.cpu8.specs.Fetches.{HaveRoom, is_fetch}
 use Rattle.terminal8.specs.Fetches.{AddsFetches, fetch_count, fetches}
-use Rattle.terminal8.specs.Terminal.{Terminal, later, stepped}
+use Rattle.terminal8.specs.Terminal.{Terminal, later, after_step}
 use Rattle.profile8.specs.Counts.{AreCounts, AreZero}
-use Rattle.profile8.specs.CountSteps.{counted}
+use Rattle.profile8.specs.CountSteps.{counts_with}
 
 -- ## Counts of one cell
 
@@ -38,22 +38,22 @@ counts_by : (k : ℕ) (t : Terminal) (cell : ℕ) (b : Bool) → fetches (later 
 counts_by k t cell b is = count-next k t cell ∙ ap (λ (b : Bool). fetch_count k t cell + (if b then 1 else 0)) is
 
 -- the cell of a step that fetches
-pub count-here : (k : ℕ) (t : Terminal) (cell : ℕ) → is_fetch (stepped (later k t)).1 ≡ true → next_cell (later k t).machine ≡ cell
+pub count-here : (k : ℕ) (t : Terminal) (cell : ℕ) → is_fetch (after_step (later k t)).1 ≡ true → next_cell (later k t).machine ≡ cell
     → fetch_count (k + 1) t cell ≡ fetch_count k t cell + 1
 count-here k t cell fetch here =
-    counts_by k t cell true (and_from (is_fetch (stepped (later k t)).1) (nat_eq (next_cell (later k t).machine) cell) fetch (eq-eqb _ _ here))
+    counts_by k t cell true (and_from (is_fetch (after_step (later k t)).1) (nat_eq (next_cell (later k t).machine) cell) fetch (eq-eqb _ _ here))
 
 -- another cell
 pub count-other : (k : ℕ) (t : Terminal) (cell : ℕ) → (next_cell (later k t).machine ≡ cell → ⊥) → fetch_count (k + 1) t cell ≡ fetch_count k t cell
 count-other k t cell apart =
-    let none = and_right (is_fetch (stepped (later k t)).1) (nat_eq (next_cell (later k t).machine) cell) (ne_eqb _ _ apart) in
+    let none = and_right (is_fetch (after_step (later k t)).1) (nat_eq (next_cell (later k t).machine) cell) (ne_eqb _ _ apart) in
     let e = counts_by k t cell false none in
     omega (arith, e)
 
 -- a step that doesn't fetch
-pub count-still : (k : ℕ) (t : Terminal) (cell : ℕ) → is_fetch (stepped (later k t)).1 ≡ false → fetch_count (k + 1) t cell ≡ fetch_count k t cell
+pub count-still : (k : ℕ) (t : Terminal) (cell : ℕ) → is_fetch (after_step (later k t)).1 ≡ false → fetch_count (k + 1) t cell ≡ fetch_count k t cell
 count-still k t cell none =
-    let e = counts_by k t cell false (and_left (is_fetch (stepped (later k t)).1) (nat_eq (next_cell (later k t).machine) cell) none) in
+    let e = counts_by k t cell false (and_left (is_fetch (after_step (later k t)).1) (nat_eq (next_cell (later k t).machine) cell) none) in
     omega (arith, e)
 
 -- ## Counts of all cells
@@ -62,7 +62,7 @@ pub counts-none : (t : Terminal) (counts : List ℕ) → length counts ≡ CORE 
 counts-none t counts size zeros = record { size = size; cells = λ cell below. zeros cell ∙ sym (count-none t cell) }
 
 counts-at : (k : ℕ) (t : Terminal) (counts : List ℕ) (here : ℕ) (fetch : Bool) → AreCounts k t counts → here < CORE
-    → next_cell (later k t).machine ≡ here → is_fetch (stepped (later k t)).1 ≡ fetch → AreCounts (k + 1) t (counted counts here fetch)
+    → next_cell (later k t).machine ≡ here → is_fetch (after_step (later k t)).1 ≡ fetch → AreCounts (k + 1) t (counts_with counts here fetch)
 counts-at k t counts here true are within at fetch = record {
   size = length-set counts here (slice_index_or counts here 0 + 1) ∙ are.size;
   cells = λ cell below. elim (cases_eq cell here) [
@@ -85,8 +85,8 @@ counts-at k t counts here false are within at fetch = record {
 }
 
 pub counts-next : (k : ℕ) (t : Terminal) (counts : List ℕ) → AreCounts k t counts → next_cell (later k t).machine < CORE
-    → AreCounts (k + 1) t (counted counts (next_cell (later k t).machine) (is_fetch (stepped (later k t)).1))
-counts-next k t counts are within = counts-at k t counts (next_cell (later k t).machine) (is_fetch (stepped (later k t)).1) are within refl refl
+    → AreCounts (k + 1) t (counts_with counts (next_cell (later k t).machine) (is_fetch (after_step (later k t)).1))
+counts-next k t counts are within = counts-at k t counts (next_cell (later k t).machine) (is_fetch (after_step (later k t)).1) are within refl refl
 
 -- there is room for one more
 pub counts-room : (k : ℕ) (t : Terminal) (counts : List ℕ) (cell : ℕ) → AreCounts k t counts → slice_index_or counts cell 0 ≤ k

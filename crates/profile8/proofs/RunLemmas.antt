@@ -8,11 +8,11 @@ use Rattle.cpu8.specs.declared.outcomes.Stepped.{Stepped}
 use Rattle.cpu8.specs.declared.outcomes.Stepped.TheVariants.{Stopped, Interrupted, Ran, Halted, Unassigned}
 use Rattle.terminal8.specs.Asks.{asks_for_key, waits_for_key}
 use Rattle.terminal8.specs.Fetches.{AddsFetches}
-use Rattle.terminal8.specs.Terminal.{Terminal, looked, next, stepped, later, last_did, is_none_left, starves, stop_of, has_halted, GoesOn, Ends, IsRun}
-use Rattle.terminal8.specs.declared.outcomes.Why.{Why}
-use Rattle.terminal8.specs.declared.outcomes.Why.TheVariants as why
+use Rattle.terminal8.specs.Terminal.{Terminal, after_look, next, after_step, later, last_did, is_none_left, starves, stop_of, has_halted, GoesOn, Ends, IsRun}
+use Rattle.terminal8.specs.declared.outcomes.TerminalEnd.{TerminalEnd}
+use Rattle.terminal8.specs.declared.outcomes.TerminalEnd.TheVariants as why
 use Rattle.profile8.specs.Counts.{AreCounts, AreZero}
-use Rattle.profile8.specs.CountSteps.{counted}
+use Rattle.profile8.specs.CountSteps.{counts_with}
 use Rattle.profile8.proofs.CountLemmas.{counts-none, counts-next, counts-more}
 
 -- A terminal has made so many steps, and the run goes on.
@@ -41,18 +41,18 @@ did-none : (t : Terminal) → last_did 0 t ≡ (if t.machine.running then Ran No
 unfolding last_did
 did-none t = refl
 
-did-next : (k : ℕ) (t : Terminal) → last_did (k + 1) t ≡ (stepped (later k t)).1
+did-next : (k : ℕ) (t : Terminal) → last_did (k + 1) t ≡ (after_step (later k t)).1
 unfolding last_did
 did-next k t = rw add-one refl
 
 -- ## How long ago the program asked for a key
 
-looked-since : (s : State) (looks : List (Option ℕ)) → (looked s looks).since ≡ 0
+looked-since : (s : State) (looks : List (Option ℕ)) → (after_look s looks).since ≡ 0
 looked-since s [] = refl
 looked-since s (None ∷ looks) = refl
 looked-since s (Some key ∷ looks) = refl
 
-attended-by : (t : Terminal) (asks : Bool) → (if asks then looked t.machine t.looks else t).since ≤ t.since
+attended-by : (t : Terminal) (asks : Bool) → (if asks then after_look t.machine t.looks else t).since ≤ t.since
 attended-by t true = omega (arith, looked-since t.machine t.looks)
 attended-by t false = omega arith
 
@@ -61,10 +61,10 @@ next-since t = omega (arith, attended-by t (asks_for_key t.since t.machine))
 
 -- ## Whether a step was an end
 
-none_some : (w : Why) → Some w ≡ None → ⊥
+none_some : (w : TerminalEnd) → Some w ≡ None → ⊥
 none_some w is = true≢false (ap (λ o. is_some o) is)
 
-why_is : (a b : Why) → Some a ≡ Some b → a ≡ b
+why_is : (a b : TerminalEnd) → Some a ≡ Some b → a ≡ b
 why_is a b is = ap (λ o. unwrap_or o a) is
 
 goes_by : (did : Stepped) → stop_of did ≡ None → runs_on did ≡ true
@@ -74,7 +74,7 @@ goes_by Stopped is = absurd (none_some why.Halt is)
 goes_by Interrupted is = refl
 goes_by (Ran printed) is = refl
 
-ends_by : (t : Terminal) (n steps : ℕ) (did : Stepped) (w : Why) → last_did steps t ≡ did → stop_of did ≡ Some w → Ends t n steps w
+ends_by : (t : Terminal) (n steps : ℕ) (did : Stepped) (w : TerminalEnd) → last_did steps t ≡ did → stop_of did ≡ Some w → Ends t n steps w
 ends_by t n steps Halted w last is = subst (λ x. Ends t n steps x) (why_is why.Halt w is) (ap (λ d. has_halted d) last)
 ends_by t n steps Stopped w last is = subst (λ x. Ends t n steps x) (why_is why.Halt w is) (ap (λ d. has_halted d) last)
 ends_by t n steps (Unassigned word) w last is = subst (λ x. Ends t n steps x) (why_is why.Unassigned w is) (word, last)
@@ -96,11 +96,11 @@ begun t counts running size zeros = record {
 
 -- what the counts are behind a step
 next-counts : (t now : Terminal) (made : ℕ) (counts counts' : List ℕ) → IsCounting t now made counts → next_cell now.machine < CORE
-    → counts' ≡ counted counts (next_cell now.machine) (is_fetch (stepped now).1) → AreCounts (made + 1) t counts'
+    → counts' ≡ counts_with counts (next_cell now.machine) (is_fetch (after_step now).1) → AreCounts (made + 1) t counts'
 next-counts t now made counts counts' i within is =
     let inside : next_cell (later made t).machine < CORE = subst (λ x. next_cell x.machine < CORE) i.going.at within in
     subst (λ l. AreCounts (made + 1) t l)
-    (sym (is ∙ ap (λ x. counted counts (next_cell x.machine) (is_fetch (stepped x).1)) i.going.at))
+    (sym (is ∙ ap (λ x. counts_with counts (next_cell x.machine) (is_fetch (after_step x).1)) i.going.at))
     (counts-next made t counts i.are inside)
 
 next-at : (t now new : Terminal) (made : ℕ) → IsGoing t now made → new ≡ next now → new ≡ later (made + 1) t
@@ -109,10 +109,10 @@ next-at t now new made i is = is ∙ ap (λ x. next x) i.at ∙ sym (later-next 
 next-goes : (t now : Terminal) (made : ℕ) → IsGoing t now made → starves now ≡ false → (k : ℕ) → k < made + 1 → GoesOn t k
 next-goes t now made i fed = below_more _ _ i.goes_on (record { runs = i.runs; fed = ap (λ x. starves x) (sym i.at) ∙ fed })
 
-next-did : (t now : Terminal) (made : ℕ) (did : Stepped) → IsGoing t now made → did ≡ (stepped now).1 → last_did (made + 1) t ≡ did
-next-did t now made did i is = did-next made t ∙ ap (λ x. (stepped x).1) (sym i.at) ∙ sym is
+next-did : (t now : Terminal) (made : ℕ) (did : Stepped) → IsGoing t now made → did ≡ (after_step now).1 → last_did (made + 1) t ≡ did
+next-did t now made did i is = did-next made t ∙ ap (λ x. (after_step x).1) (sym i.at) ∙ sym is
 
-going_on : (t now new : Terminal) (made : ℕ) (did : Stepped) → IsGoing t now made → starves now ≡ false → new ≡ next now → did ≡ (stepped now).1
+going_on : (t now new : Terminal) (made : ℕ) (did : Stepped) → IsGoing t now made → starves now ≡ false → new ≡ next now → did ≡ (after_step now).1
     → runs_on did ≡ true → IsGoing t new (made + 1)
 going_on t now new made did i fed new_is did_is runs = record {
   at = next-at t now new made i new_is;
@@ -122,8 +122,8 @@ going_on t now new made did i fed new_is did_is runs = record {
 }
 
 pub counted_on : (t now new : Terminal) (made : ℕ) (counts counts' : List ℕ) (did : Stepped) → IsCounting t now made counts → starves now ≡ false
-    → new ≡ next now → did ≡ (stepped now).1 → next_cell now.machine < CORE
-    → counts' ≡ counted counts (next_cell now.machine) (is_fetch (stepped now).1) → stop_of did ≡ None → IsCounting t new (made + 1) counts'
+    → new ≡ next now → did ≡ (after_step now).1 → next_cell now.machine < CORE
+    → counts' ≡ counts_with counts (next_cell now.machine) (is_fetch (after_step now).1) → stop_of did ≡ None → IsCounting t new (made + 1) counts'
 counted_on t now new made counts counts' did i fed new_is did_is within counts_are goes = record {
   going = going_on t now new made did i.going fed new_is did_is (goes_by did goes);
   are = next-counts t now made counts counts' i within counts_are;
@@ -148,7 +148,7 @@ fed t law asks = fed_by (is_none_left t.looks) (waits_for_key t.machine) (waits_
 
 -- the run goes on over steps that go on and ask for no key
 pub going_far : (t now : Terminal) (made k : ℕ) → AskWhereTheyWait → IsGoing t now made
-    → ((m : ℕ) → m < k → (stepped (later m now)).1 ≡ Ran None)
+    → ((m : ℕ) → m < k → (after_step (later m now)).1 ≡ Ran None)
     → ((m : ℕ) → m < k → asks_for_key (later m now).since (later m now).machine ≡ false)
     → IsGoing t (later k now) (made + k)
 going_far t now made zero law i answers asks =
@@ -166,7 +166,7 @@ going_far t now made (suc k) law i answers asks =
 
 pub counted_far : (t now new : Terminal) (made k : ℕ) (counts counts' : List ℕ) → AskWhereTheyWait
     → ((a b : ℕ) (t : Terminal) → later (a + b) t ≡ later b (later a t)) → IsCounting t now made counts → new ≡ later k now
-    → ((m : ℕ) → m < k → (stepped (later m now)).1 ≡ Ran None)
+    → ((m : ℕ) → m < k → (after_step (later m now)).1 ≡ Ran None)
     → ((m : ℕ) → m < k → asks_for_key (later m now).since (later m now).machine ≡ false)
     → AddsFetches k now counts counts' → IsCounting t new (made + k) counts'
 counted_far t now new made k counts counts' law adds i new_is answers asks more = record {
@@ -177,7 +177,7 @@ counted_far t now new made k counts counts' law adds i new_is answers asks more 
 -- ## The ends of a run
 
 -- What a run of at most n steps comes to that ends so.
-pub record HasCounted (t new : Terminal) (n steps : ℕ) (w : Why) (counts : List ℕ) : Type 0 where
+pub record HasCounted (t new : Terminal) (n steps : ℕ) (w : TerminalEnd) (counts : List ℕ) : Type 0 where
   pub run : IsRun t n steps w
   pub terminal : new ≡ later steps t
   pub counts_are : AreCounts steps t counts
@@ -194,9 +194,9 @@ stopped_run t n counts stands size zeros = record {
   counts_are = counts-none t counts size zeros;
 }
 
-pub ended_run : (t now new : Terminal) (n made : ℕ) (counts counts' : List ℕ) (did : Stepped) (w : Why) → IsCounting t now made counts → made < n
-    → starves now ≡ false → new ≡ next now → did ≡ (stepped now).1 → next_cell now.machine < CORE
-    → counts' ≡ counted counts (next_cell now.machine) (is_fetch (stepped now).1) → stop_of did ≡ Some w → HasCounted t new n (made + 1) w counts'
+pub ended_run : (t now new : Terminal) (n made : ℕ) (counts counts' : List ℕ) (did : Stepped) (w : TerminalEnd) → IsCounting t now made counts → made < n
+    → starves now ≡ false → new ≡ next now → did ≡ (after_step now).1 → next_cell now.machine < CORE
+    → counts' ≡ counts_with counts (next_cell now.machine) (is_fetch (after_step now).1) → stop_of did ≡ Some w → HasCounted t new n (made + 1) w counts'
 ended_run t now new n made counts counts' did w i sooner fed new_is did_is within counts_are stops = record {
   run = record {
     within = omega (arith, sooner);

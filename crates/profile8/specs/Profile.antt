@@ -59,8 +59,8 @@ never_lines is_never (suc cell) = never_lines is_never cell ++ never_text is_nev
 -- ## The whole
 
 -- whether a list flags a cell
-abbrev pub flagged : List Bool → ℕ → Bool
-flagged flags cell = slice_index_or flags cell false
+abbrev pub is_flagged : List Bool → ℕ → Bool
+is_flagged flags cell = slice_index_or flags cell false
 
 -- a cell has a word of the tape, and was never fetched
 abbrev pub is_never : List ℕ → (ℕ → Bool) → ℕ → Bool

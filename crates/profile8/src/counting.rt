@@ -4,9 +4,9 @@ ghost use Rattle.std.specs.Prelude.{◌≡◌, ◌+◌, ◌^◌, ◌<◌, IfOk, 
 ghost use Rattle.word12.specs.declared.sizes.TheConstants.{CORE};
 ghost use Rattle.cpu8.specs.State.{next_cell};
 ghost use Rattle.cpu8.specs.Fetches.{is_fetch};
-ghost use Rattle.terminal8.specs.Terminal.{next, stepped};
+ghost use Rattle.terminal8.specs.Terminal.{next, after_step};
 ghost use Rattle.profile8.specs.Counts.{AreZero};
-ghost use Rattle.profile8.specs.CountSteps.{counted};
+ghost use Rattle.profile8.specs.CountSteps.{counts_with};
 
 use cpu8::Stepped;
 use std::alloc::{AllocError, Global};
@@ -39,9 +39,9 @@ pub(crate) fn count_step(terminal: &mut Terminal<'_>, counts: &mut [u64]) -> Ste
     requires size { length counts.old ≡ CORE }
     requires room { slice_index_or counts.old (next_cell terminal.old.machine) 0 + 1 < 2 ^ 64 }
     ensures state { terminal.new ≡ next terminal.old }
-    ensures answer { result ≡ (stepped terminal.old).1 }
+    ensures answer { result ≡ (after_step terminal.old).1 }
     ensures counts { counts.new
-        ≡ counted counts.old (next_cell terminal.old.machine) (is_fetch (stepped terminal.old).1) }
+        ≡ counts_with counts.old (next_cell terminal.old.machine) (is_fetch (after_step terminal.old).1) }
     ensures cell { next_cell terminal.old.machine < CORE }
 {
     let cell = terminal.machine().next_cell();
@@ -56,7 +56,7 @@ pub(crate) fn count_step(terminal: &mut Terminal<'_>, counts: &mut [u64]) -> Ste
 fn count(counts: &mut [u64], cell: Cell, fetched: bool)
     requires size { length counts.old ≡ CORE }
     requires room { slice_index_or counts.old cell 0 + 1 < 2 ^ 64 }
-    ensures { counts.new ≡ counted counts.old cell fetched }
+    ensures { counts.new ≡ counts_with counts.old cell fetched }
 {
     if fetched {
         counts[cell.index()] += 1;

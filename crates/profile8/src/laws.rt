@@ -4,7 +4,7 @@ ghost use Rattle.std.specs.Prelude.{◌≡◌, ◌≢◌, ℕ, ◌+◌, Bool, tr
 ghost use Rattle.cpu8.specs.State.{next_cell};
 ghost use Rattle.cpu8.specs.Fetches.{is_fetch};
 ghost use Rattle.terminal8.specs.Fetches.{fetch_count};
-ghost use Rattle.terminal8.specs.Terminal.{Terminal, later, stepped};
+ghost use Rattle.terminal8.specs.Terminal.{Terminal, later, after_step};
 ghost use Rattle.profile8.specs.Profile.{IsProfile};
 
 use terminal8::laws::later_steps;
@@ -25,11 +25,11 @@ pub fn counts_add()
 
 /// Each step that fetches is counted, once and at one cell: the one that PC names before it. No other count changes.
 pub fn all_fetches()
-    ensures counted { (k : ℕ) (t : Terminal) → is_fetch (stepped (later k t)).1 ≡ true
+    ensures counted { (k : ℕ) (t : Terminal) → is_fetch (after_step (later k t)).1 ≡ true
         → fetch_count (k + 1) t (next_cell (later k t).machine)
         ≡ fetch_count k t (next_cell (later k t).machine) + 1 }
     ensures others { (k : ℕ) (t : Terminal) (cell : ℕ) → cell ≢ next_cell (later k t).machine
         → fetch_count (k + 1) t cell ≡ fetch_count k t cell }
-    ensures interrupts { (k : ℕ) (t : Terminal) (cell : ℕ) → is_fetch (stepped (later k t)).1 ≡ false
+    ensures interrupts { (k : ℕ) (t : Terminal) (cell : ℕ) → is_fetch (after_step (later k t)).1 ≡ false
         → fetch_count (k + 1) t cell ≡ fetch_count k t cell }
 {}

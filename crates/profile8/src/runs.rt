@@ -7,7 +7,7 @@ ghost use Rattle.profile8.specs.Counts.{AreCounts, AreZero};
 
 use crate::counting::count_step;
 use terminal8::laws::{later_steps, waiting};
-use terminal8::{Ended, Terminal, Why, stop_of};
+use terminal8::{Ended, Terminal, TerminalEnd, stop_of};
 
 /// Makes at most n steps of a terminal, each an instruction or an interrupt, and counts for each cell how often its word was fetched
 /// (this project's profile). Counts are 0 before, one for each of the 0o100000 cells of core.
@@ -26,7 +26,7 @@ pub fn count_fetches(terminal: &mut Terminal<'_>, n: u64, counts: &mut [u64]) ->
     if !terminal.machine().is_running() {
         return Ended {
             steps: 0,
-            why: Why::Halt,
+            why: TerminalEnd::Halt,
         };
     }
     waiting();
@@ -36,7 +36,7 @@ pub fn count_fetches(terminal: &mut Terminal<'_>, n: u64, counts: &mut [u64]) ->
         if terminal.starves() {
             return Ended {
                 steps: made,
-                why: Why::Keys,
+                why: TerminalEnd::Keys,
             };
         }
         let did = count_step(terminal, counts);
@@ -49,6 +49,6 @@ pub fn count_fetches(terminal: &mut Terminal<'_>, n: u64, counts: &mut [u64]) ->
     }
     Ended {
         steps: n,
-        why: Why::Limit,
+        why: TerminalEnd::Limit,
     }
 }

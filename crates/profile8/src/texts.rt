@@ -3,7 +3,7 @@
 ghost use Rattle.std.specs.Prelude.{◌≡◌, ◌++◌, decimal, IfOk, OnOk, length};
 ghost use Rattle.word12.specs.declared.sizes.TheConstants.{CORE};
 ghost use Rattle.word12.specs.Octal.{octal5};
-ghost use Rattle.profile8.specs.Profile.{IsProfile, count_line, count_lines, flagged};
+ghost use Rattle.profile8.specs.Profile.{IsProfile, count_line, count_lines, is_flagged};
 
 use crate::cells::{count_of, fetched_cells};
 use crate::unfetched::put_unfetched;
@@ -19,7 +19,7 @@ use word12::Cell;
 pub fn profile_text(alloc: Global, counts: &[u64], given: &[bool]) -> Result<Vec<u8>, AllocError>
     requires counts { length counts.now ≡ CORE }
     requires given { length given.now ≡ CORE }
-    ensures { IfOk result (λ text. IsProfile counts.now (flagged given.now) text.items) }
+    ensures { IfOk result (λ text. IsProfile counts.now (is_flagged given.now) text.items) }
 {
     let cells = fetched_cells(alloc, counts)?;
     let mut text = Vec::new(alloc);

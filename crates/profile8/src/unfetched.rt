@@ -2,7 +2,7 @@
 
 ghost use Rattle.std.specs.Prelude.{◌≡◌, ◌<◌, ◌++◌, OnOk, length};
 ghost use Rattle.word12.specs.declared.sizes.TheConstants.{CORE};
-ghost use Rattle.profile8.specs.Profile.{begins, ends, flagged, is_never, never_lines, never_text};
+ghost use Rattle.profile8.specs.Profile.{begins, ends, is_flagged, is_never, never_lines, never_text};
 ghost use Rattle.profile8.specs.TextSteps.{bound_text, end_text};
 
 use crate::texts::put_cell;
@@ -18,7 +18,7 @@ pub(crate) fn put_unfetched(
     requires counts { length counts.now ≡ CORE }
     requires given { length given.now ≡ CORE }
     ensures { OnOk result (text.new.items
-        ≡ text.old.items ++ never_lines (is_never counts.now (flagged given.now)) CORE) }
+        ≡ text.old.items ++ never_lines (is_never counts.now (is_flagged given.now)) CORE) }
 {
     for cell in 0..CORE {
         put_bounds(text, counts, given, cell)?;
@@ -37,7 +37,7 @@ fn put_bounds(
     requires given { length given.now ≡ CORE }
     requires cell { cell < CORE }
     ensures { OnOk result (text.new.items
-        ≡ text.old.items ++ never_text (is_never counts.now (flagged given.now)) cell) }
+        ≡ text.old.items ++ never_text (is_never counts.now (is_flagged given.now)) cell) }
 {
     let is_last = ends(counts, given, cell);
     put_bound(
@@ -87,7 +87,7 @@ fn begins(counts: &[u64], given: &[bool], cell: usize) -> bool
     requires counts { length counts.now ≡ CORE }
     requires given { length given.now ≡ CORE }
     requires cell { cell < CORE }
-    ensures { result ≡ begins (is_never counts.now (flagged given.now)) cell }
+    ensures { result ≡ begins (is_never counts.now (is_flagged given.now)) cell }
 {
     is_never(counts, given, cell) && (cell % FIELD == 0 || !is_never(counts, given, cell - 1))
 }
@@ -97,7 +97,7 @@ fn ends(counts: &[u64], given: &[bool], cell: usize) -> bool
     requires counts { length counts.now ≡ CORE }
     requires given { length given.now ≡ CORE }
     requires cell { cell < CORE }
-    ensures { result ≡ ends (is_never counts.now (flagged given.now)) cell }
+    ensures { result ≡ ends (is_never counts.now (is_flagged given.now)) cell }
 {
     is_never(counts, given, cell)
         && (cell % FIELD == FIELD - 1 || !is_never(counts, given, cell + 1))
@@ -108,7 +108,7 @@ fn is_never(counts: &[u64], given: &[bool], cell: usize) -> bool
     requires counts { length counts.now ≡ CORE }
     requires given { length given.now ≡ CORE }
     requires cell { cell < CORE }
-    ensures { result ≡ is_never counts.now (flagged given.now) cell }
+    ensures { result ≡ is_never counts.now (is_flagged given.now) cell }
 {
     given[cell] && counts[cell] == 0
 }

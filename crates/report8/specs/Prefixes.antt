@@ -6,10 +6,10 @@ abbrev pub prefixed_byte : List ℕ → Bool → ℕ → List ℕ
 prefixed_byte prefix begins byte = (if begins then prefix else []) ++ byte ∷ []
 
 -- after each LF a line begins
-abbrev pub prefixed_from : List ℕ → Bool → List ℕ → List ℕ
-prefixed_from prefix begins [] = []
-prefixed_from prefix begins (byte ∷ bytes) = prefixed_byte prefix begins byte ++ prefixed_from prefix (nat_eq byte 0o12) bytes
+abbrev pub with_prefix_from : List ℕ → Bool → List ℕ → List ℕ
+with_prefix_from prefix begins [] = []
+with_prefix_from prefix begins (byte ∷ bytes) = prefixed_byte prefix begins byte ++ with_prefix_from prefix (nat_eq byte 0o12) bytes
 
 -- a text with a prefix before each of its lines
-abbrev pub prefixed : List ℕ → List ℕ → List ℕ
-prefixed prefix text = prefixed_from prefix true text
+abbrev pub with_prefixes : List ℕ → List ℕ → List ℕ
+with_prefixes prefix text = with_prefix_from prefix true text

@@ -5,17 +5,17 @@ use Rattle.core_image.specs.declared.faults.CoreFault.{CoreFault}
 use Rattle.core_image.specs.declared.faults.CoreFault.TheVariants as core
 use Rattle.disk8.specs.declared.faults.DiskFault.{DiskFault}
 use Rattle.disk8.specs.declared.faults.DiskFault.TheVariants as disk
-use Rattle.pal_names.specs.declared.faults.Why.{Why as Unnamed}
-use Rattle.pal_names.specs.declared.faults.Why.TheVariants as unnamed
+use Rattle.source_names.specs.declared.faults.LineRefusal.{LineRefusal as Unnamed}
+use Rattle.source_names.specs.declared.faults.LineRefusal.TheVariants as unnamed
 use Rattle.rim_tape.specs.declared.faults.RimFault.{RimFault}
 use Rattle.rim_tape.specs.declared.faults.RimFault.TheVariants as rim
 use Rattle.terminal8.specs.declared.outcomes.Ended.{Ended}
-use Rattle.terminal8.specs.declared.outcomes.Why.{Why}
-use Rattle.terminal8.specs.declared.outcomes.Why.TheVariants as why
+use Rattle.terminal8.specs.declared.outcomes.TerminalEnd.{TerminalEnd}
+use Rattle.terminal8.specs.declared.outcomes.TerminalEnd.TheVariants as why
 use Rattle.volume_image.specs.declared.faults.ImageFault.{ImageFault}
 use Rattle.volume_image.specs.declared.faults.ImageFault.TheVariants as image
 use Rattle.script8.specs.Faults.{directory_fault_text}
-use Rattle.script8.specs.Shown.{shown}
+use Rattle.script8.specs.Shown.{name_text}
 use Rattle.report8.specs.declared.programs.ProgramLine.{ProgramLine}
 use Rattle.report8.specs.declared.programs.ProgramLine.TheVariants as line
 
@@ -44,7 +44,7 @@ core_text core.Memory = codes "? 10 MEMORY"
 abbrev pub halted_text : ℕ → ℕ → ℕ → List ℕ
 halted_text cell ac l = codes "HALT " ++ octal5 cell ++ codes " AC " ++ octal4 ac ++ codes " L " ++ octal_digit l ∷ []
 
-abbrev pub why_text : Why → List ℕ
+abbrev pub why_text : LineRefusal → List ℕ
 why_text why.Halt = codes "HALT"
 why_text why.Unassigned = codes "UNASSIGNED"
 why_text why.Keys = codes "KEYS"
@@ -85,10 +85,10 @@ program_text line.HostBusy = codes "? HOST BUSY"
 program_text line.NoWord = codes "? SOURCE 1 NO WORD"
 program_text (line.NoStart cell) = codes "? SOURCE 2 NO WORD AT " ++ octal5 cell
 program_text (line.Names number why) = names_text number why
-program_text (line.Renamed old new) = codes "RENAMED " ++ shown old ++ codes " " ++ shown new
+program_text (line.Renamed old new) = codes "RENAMED " ++ name_text old ++ codes " " ++ name_text new
 program_text line.Exists = codes "? RENAME 1 FILE EXISTS"
 program_text (line.Squeezed moved) = codes "SQUEEZED " ++ decimal moved
-program_text (line.Got name blocks) = codes "GOT " ++ shown name ++ codes " " ++ decimal blocks
+program_text (line.Got name blocks) = codes "GOT " ++ name_text name ++ codes " " ++ decimal blocks
 program_text line.HostExists = codes "? HOST EXISTS"
 program_text line.SameName = codes "? PUT 1 SAME NAME"
 program_text (line.OnlyBlocks blocks) = codes "? BLOCKS 1 ONLY " ++ decimal blocks

@@ -1,9 +1,9 @@
 -- What writing the source of a tape does to a reader and a writer.
 use Rattle.std.specs.Prelude.{ℕ, Result, Ok, Err, Option, None, Some, List, [], ◌∷◌}
 use Rattle.std.specs.Io.KnownBytes.{Appends, Keeps}
-use Rattle.pal_list.specs.Sources.{IsFlowFault, IsNamedFault, IsNamedSourceFrom, IsNamedSourceOf, IsSourceFrom, IsSourceOf}
-use Rattle.pal_list.specs.declared.faults.ListFault.{ListFault}
-use Rattle.pal_list.specs.declared.faults.ListFault.TheVariants as list
+use Rattle.tape_source.specs.Sources.{IsFlowFault, IsNamedFault, IsNamedSourceFrom, IsNamedSourceOf, IsSourceFrom, IsSourceOf}
+use Rattle.tape_source.specs.declared.faults.ListFault.{ListFault}
+use Rattle.tape_source.specs.declared.faults.ListFault.TheVariants as list
 use Rattle.script8.specs.declared.faults.SessionFault.TheVariants.{Tape, Reader, Writer, Memory}
 use Rattle.script8.specs.Reading.{IsRead}
 use Rattle.report8.specs.declared.sources.SourceFault.{SourceFault}

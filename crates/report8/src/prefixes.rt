@@ -1,13 +1,13 @@
 //! Lines with what they are about before them.
 ghost use Rattle.std.specs.Prelude.{◌≡◌, ◌++◌, IfOk, OnOk};
-ghost use Rattle.report8.specs.Prefixes.{prefixed, prefixed_byte};
+ghost use Rattle.report8.specs.Prefixes.{with_prefixes, prefixed_byte};
 
 use std::alloc::{AllocError, Global};
 
 /// A text with a prefix before each of its lines, which LF ends (this project's profile). Where a growth is refused the answer is that
 /// error.
 pub fn with_prefix(alloc: Global, prefix: &[u8], text: &[u8]) -> Result<Vec<u8>, AllocError>
-    ensures { IfOk result (λ lines. lines.items ≡ prefixed prefix.now text.now) }
+    ensures { IfOk result (λ lines. lines.items ≡ with_prefixes prefix.now text.now) }
 {
     let mut lines = Vec::new(alloc);
     let mut begins = true;

@@ -8,11 +8,11 @@ ghost use Rattle.script8.specs.declared.faults.SessionFault.TheVariants.{Memory}
 use core_image::CoreFault;
 use disk8::DiskFault;
 use os8_dir::{DirFault, Name};
-use pal_names::Why as Unnamed;
+use source_names::LineRefusal as Unnamed;
 use rim_tape::RimFault;
 use script8::text_lines::{TextLine, put, put_name, put_number};
 use script8::{SessionFault, put_directory_fault};
-use terminal8::{Ended, Why};
+use terminal8::{Ended, TerminalEnd};
 use volume_image::ImageFault;
 use word12::{Cell, Word};
 
@@ -241,15 +241,15 @@ fn put_steps(text: &mut TextLine, ended: Ended, cell: Cell)
 }
 
 /// The word for why a machine goes no further.
-fn word_of(why: Why) -> &'static [u8]
+fn word_of(why: TerminalEnd) -> &'static [u8]
     ensures word { result.now ≡ why_text why }
     ensures short { length result.now ≤ 10 }
 {
     match why {
-        Why::Halt => b"HALT",
-        Why::Unassigned => b"UNASSIGNED",
-        Why::Keys => b"KEYS",
-        Why::Limit => b"LIMIT",
+        TerminalEnd::Halt => b"HALT",
+        TerminalEnd::Unassigned => b"UNASSIGNED",
+        TerminalEnd::Keys => b"KEYS",
+        TerminalEnd::Limit => b"LIMIT",
     }
 }
 

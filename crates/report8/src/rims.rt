@@ -60,13 +60,13 @@ pub fn rim_text<R: Read, W: Write>(
         × (count ≡ 16777217 → result ≡ Err (Session fault.Reader)) }
 {
     let frames = read_all(alloc, reader)?;
-    let bytes = written(alloc, &frames, form)?;
+    let bytes = rim_output(alloc, &frames, form)?;
     write_out(writer, &bytes)?;
     Ok(())
 }
 
 /// What is written of a RIM tape.
-fn written(alloc: Global, frames: &[u8], form: RimForm) -> Result<Vec<u8>, RimFault>
+fn rim_output(alloc: Global, frames: &[u8], form: RimForm) -> Result<Vec<u8>, RimFault>
     ensures { MatchResult result (λ bytes. IsRimWritten form frames.now bytes.items)
         (λ fault. IsFault frames.now fault) }
 {

@@ -1,13 +1,13 @@
 ghost use Rattle.std.specs.Prelude.{◌≡◌, ℕ, ◌≤◌, Err, IfErr, IfOk, option_map};
-ghost use Rattle.pal_list.specs.Sources.{IsFlowFault, IsNamedFault};
+ghost use Rattle.tape_source.specs.Sources.{IsFlowFault, IsNamedFault};
 ghost use Rattle.script8.specs.Reading.{TakesBytes};
 ghost use Rattle.script8.specs.declared.faults.SessionFault.TheVariants as fault;
 ghost use Rattle.report8.specs.declared.sources.SourceFault.TheVariants.{Session};
 ghost use Rattle.report8.specs.Written.{IsNamedText, IsPlainText, IsSourceText, IsTextFault, PutsSource, WritesSource, fault_of_list};
 
 use crate::listings::write_out;
-use pal_list::{ListFault, named_source_from, named_source_of, source_from, source_of};
-use pal_names::Why;
+use tape_source::{ListFault, named_source_from, named_source_of, source_from, source_of};
+use source_names::LineRefusal;
 use script8::{SessionFault, read_all};
 use std::alloc::Global;
 use std::io::{Read, Write};
@@ -23,7 +23,7 @@ pub enum SourceFault {
     NoStart(Cell),
 
     /// This line of the names is the first that is refused, counted from 1, and why.
-    Names(u64, Why),
+    Names(u64, LineRefusal),
 
     /// The frames are no tape; or the reader, the writer or memory failed.
     Session(SessionFault),

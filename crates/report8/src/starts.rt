@@ -33,13 +33,13 @@ fn gives_word(frames: &[u8], cell: Cell) -> bool
     let mut reader = TapeReader::new();
     let mut is_given = false;
     for frame in frames {
-        is_given = is_given_behind(is_given, reader.push(*frame), cell);
+        is_given = is_given_after(is_given, reader.push(*frame), cell);
     }
     is_given
 }
 
 /// Whether a cell has a word after one more frame.
-fn is_given_behind(is_given: bool, came: Result<Tape, TapeFault>, cell: Cell) -> bool
+fn is_given_after(is_given: bool, came: Result<Tape, TapeFault>, cell: Cell) -> bool
     ensures { (out : List (ℕ × ℕ)) → is_given ≡ gives_word out cell
         → result ≡ gives_word (out ++ words_in came) cell }
 {
@@ -68,13 +68,13 @@ pub fn first_cell(frames: &[u8]) -> Option<Cell>
     let mut reader = TapeReader::new();
     let mut first = None;
     for frame in frames {
-        first = first_behind(first, reader.push(*frame));
+        first = first_after(first, reader.push(*frame));
     }
     first
 }
 
 /// The cell of the first word after one more frame.
-fn first_behind(first: Option<Cell>, came: Result<Tape, TapeFault>) -> Option<Cell>
+fn first_after(first: Option<Cell>, came: Result<Tape, TapeFault>) -> Option<Cell>
     ensures { (out : List (ℕ × ℕ)) → first ≡ first_cell out → result ≡ first_cell (out ++ words_in came) }
 {
     if first.is_some() {

@@ -2,31 +2,31 @@
 use Rattle.std.proofs.Common.{◌≡◌, ℕ, suc, ◌+◌, Option, Some, None, Ok, List, [], ◌∷◌, ◌++◌, append_assoc, append-nil, refl, sym, ap, subst, ◌∙◌, arith}
 use Rattle.std.specs.FinMap.{from_entries, insert}
 use Rattle.os8_dir.specs.Files.{Files, capacity_of, files_of}
-use Rattle.os8_dir.specs.Names.{padded}
+use Rattle.os8_dir.specs.Names.{with_end_zeros}
 use Rattle.os8_files.specs.Calls.{IsReady, info_of}
-use Rattle.os8_files.specs.Mounted.{Mounted}
-use Rattle.rescue.specs.Rescued.{AreJudged, HasNoPlace, kept_of, with_files}
+use Rattle.os8_files.specs.Mounted.{MountState}
+use Rattle.rescue.specs.Rescued.{AreJudged, HasNoPlace, files_to_keep, with_files}
 use Rattle.rescue.specs.Steps.{FitsFile}
 use Rattle.rescue.specs.declared.faults.Refusal.{Refusal}
 use Rattle.rescue.specs.declared.volumes.KeptFile.{KeptFile}
 use Rattle.rescue.proofs.RescueLemmas.{ready-again}
 
-with-more : (info : ℕ) (files : Files) (kept : List KeptFile) (f : KeptFile) → with_files info files (kept ++ f ∷ []) ≡ insert (with_files info files kept) f.name (padded info f.info, f.words.items)
+with-more : (info : ℕ) (files : Files) (kept : List KeptFile) (f : KeptFile) → with_files info files (kept ++ f ∷ []) ≡ insert (with_files info files kept) f.name (with_end_zeros info f.info, f.words.items)
 with-more info files [] f = refl
-with-more info files (k ∷ ks) f = with-more info (insert files k.name (padded info k.info, k.words.items)) ks f
+with-more info files (k ∷ ks) f = with-more info (insert files k.name (with_end_zeros info k.info, k.words.items)) ks f
 
 -- of all files those before the rest are judged, and some of them kept
-pub record IsSoFar (start : Mounted) (all : List KeptFile) (now : Mounted) (refusals : List (Option Refusal)) (place : ℕ) (rest : List KeptFile) : Type 0 where
+pub record IsSoFar (start : MountState) (all : List KeptFile) (now : MountState) (refusals : List (Option Refusal)) (place : ℕ) (rest : List KeptFile) : Type 0 where
   pub ready : IsReady now
   pub info : info_of now.blocks ≡ info_of start.blocks
   pub capacity : capacity_of now.blocks ≡ capacity_of start.blocks
   pub kept : List KeptFile
   pub files : files_of now.blocks ≡ with_files (info_of start.blocks) (from_entries []) kept
-  pub keeps : (more : List (Option Refusal)) → kept_of all (refusals ++ more) ≡ kept ++ kept_of rest more
+  pub keeps : (more : List (Option Refusal)) → files_to_keep all (refusals ++ more) ≡ kept ++ files_to_keep rest more
   pub judges : (more : List (Option Refusal)) → AreJudged (info_of start.blocks) (capacity_of start.blocks) kept place rest more
       → AreJudged (info_of start.blocks) (capacity_of start.blocks) [] 0 all (refusals ++ more)
 
-pub none-so-far : (start : Mounted) (all : List KeptFile) → IsReady start → files_of start.blocks ≡ from_entries [] → IsSoFar start all start [] 0 all
+pub none-so-far : (start : MountState) (all : List KeptFile) → IsReady start → files_of start.blocks ≡ from_entries [] → IsSoFar start all start [] 0 all
 none-so-far start all ready none = record {
   ready = ready;
   info = refl;
@@ -43,7 +43,7 @@ joined refusals more new refusal is = ap (λ l. l ++ more) is ∙ append_assoc r
 next-place : (place : ℕ) → place + 1 ≡ suc place
 next-place place = omega arith
 
-pub one-fitted : (start now next : Mounted) (all rest others : List KeptFile) (f : KeptFile) (place : ℕ) (refusals new : List (Option Refusal)) (refusal : Option Refusal)
+pub one-fitted : (start now next : MountState) (all rest others : List KeptFile) (f : KeptFile) (place : ℕ) (refusals new : List (Option Refusal)) (refusal : Option Refusal)
     → IsSoFar start all now refusals place rest → rest ≡ f ∷ others → FitsFile now f place (Ok refusal) next → new ≡ refusals ++ refusal ∷ []
     → IsSoFar start all next new (place + 1) others
 one-fitted start now next all rest others f place refusals new None so is put is_new =
@@ -55,11 +55,11 @@ one-fitted start now next all rest others f place refusals new None so is put is
       capacity = put.capacity ∙ so.capacity;
       kept = so.kept ++ f ∷ [];
       files = put.files
-          ∙ ap (λ i. insert (files_of now.blocks) f.name (padded i f.info, f.words.items)) so.info
-          ∙ ap (λ (files : Files). insert files f.name (padded info f.info, f.words.items)) so.files
+          ∙ ap (λ i. insert (files_of now.blocks) f.name (with_end_zeros i f.info, f.words.items)) so.info
+          ∙ ap (λ (files : Files). insert files f.name (with_end_zeros info f.info, f.words.items)) so.files
           ∙ sym (with-more info (from_entries []) so.kept f);
-      keeps = λ more. ap (kept_of all) (joined refusals more new None is_new) ∙ so.keeps (None ∷ more) ∙ ap (λ l. so.kept ++ kept_of l (None ∷ more)) is
-          ∙ sym (append_assoc so.kept (f ∷ []) (kept_of others more));
+      keeps = λ more. ap (files_to_keep all) (joined refusals more new None is_new) ∙ so.keeps (None ∷ more) ∙ ap (λ l. so.kept ++ files_to_keep l (None ∷ more)) is
+          ∙ sym (append_assoc so.kept (f ∷ []) (files_to_keep others more));
       judges = λ more judged.
           let first = subst (λ n. AreJudged info capacity (so.kept ++ f ∷ []) n others more) (next-place place) judged in
           let whole = subst (λ l. AreJudged info capacity so.kept place l (None ∷ more)) (sym is) first in
@@ -74,7 +74,7 @@ one-fitted start now next all rest others f place refusals new (Some refusal) so
       capacity = same.capacity ∙ so.capacity;
       kept = so.kept;
       files = same.files ∙ so.files;
-      keeps = λ more. ap (kept_of all) (joined refusals more new (Some refusal) is_new) ∙ so.keeps (Some refusal ∷ more) ∙ ap (λ l. so.kept ++ kept_of l (Some refusal ∷ more)) is;
+      keeps = λ more. ap (files_to_keep all) (joined refusals more new (Some refusal) is_new) ∙ so.keeps (Some refusal ∷ more) ∙ ap (λ l. so.kept ++ files_to_keep l (Some refusal ∷ more)) is;
       judges = λ more judged.
           let refused : HasNoPlace info capacity so.kept place f refusal = record { old = now; new = next; files = so.files; capacity_is = so.capacity; of_file = of_file; why = why } in
           let first : AreJudged info capacity so.kept place (f ∷ others) (Some refusal ∷ more) = (refused, subst (λ n. AreJudged info capacity so.kept n others more) (next-place place) judged) in
@@ -82,16 +82,16 @@ one-fitted start now next all rest others f place refusals new (Some refusal) so
           subst (AreJudged info capacity [] 0 all) (sym (joined refusals more new (Some refusal) is_new)) (so.judges (Some refusal ∷ more) whole);
     }
 
-pub all-fitted : (start now : Mounted) (all rest : List KeptFile) (place : ℕ) (refusals : List (Option Refusal)) → IsSoFar start all now refusals place rest → rest ≡ []
+pub all-fitted : (start now : MountState) (all rest : List KeptFile) (place : ℕ) (refusals : List (Option Refusal)) → IsSoFar start all now refusals place rest → rest ≡ []
     → (info_of now.blocks ≡ info_of start.blocks)
-    × (files_of now.blocks ≡ with_files (info_of start.blocks) (from_entries []) (kept_of all refusals))
+    × (files_of now.blocks ≡ with_files (info_of start.blocks) (from_entries []) (files_to_keep all refusals))
     × AreJudged (info_of start.blocks) (capacity_of start.blocks) [] 0 all refusals
 all-fitted start now all rest place refusals so is =
     let info = info_of start.blocks in
     let capacity = capacity_of start.blocks in
     let nothing : AreJudged info capacity so.kept place rest [] = subst (λ l. AreJudged info capacity so.kept place l []) (sym is) tt in
-    let keeps : kept_of all refusals ≡ so.kept =
-    ap (kept_of all) (sym (append-nil refusals)) ∙ so.keeps [] ∙ ap (λ l. so.kept ++ kept_of l []) is ∙ append-nil so.kept in (
+    let keeps : files_to_keep all refusals ≡ so.kept =
+    ap (files_to_keep all) (sym (append-nil refusals)) ∙ so.keeps [] ∙ ap (λ l. so.kept ++ files_to_keep l []) is ∙ append-nil so.kept in (
       so.info,
       so.files ∙ ap (with_files info (from_entries [])) (sym keeps),
       subst (AreJudged info capacity [] 0 all) (append-nil refusals) (so.judges [] nothing),

@@ -5,7 +5,7 @@ use Rattle.std.specs.FinMap.{from_entries, get, insert, get-insert, get-from_ent
 use Rattle.std.proofs.lemmas.Cmp.{nat_cmp_total}
 use Rattle.std.proofs.lemmas.Bool.Decides.{nat_tests, eqb_tells}
 use Rattle.os8_dir.specs.Files.{Files, FileData}
-use Rattle.os8_dir.specs.Names.{padded}
+use Rattle.os8_dir.specs.Names.{with_end_zeros}
 use Rattle.rescue.specs.Rescued.{with_files}
 use Rattle.rescue.specs.Laws.{AreThere, Differ, HasNone}
 use Rattle.rescue.specs.declared.volumes.KeptFile.{KeptFile}
@@ -25,13 +25,13 @@ get-other m name h q apart = get-with m name h q ∙ elim (eqb_tells name q) [ i
 untouched : (info name : ℕ) (files : Files) (kept : List KeptFile) → HasNone name kept → get (with_files info files kept) name ≡ get files name
 untouched info name files [] none = refl
 untouched info name files (f ∷ fs) none =
-    untouched info name (insert files f.name (padded info f.info, f.words.items)) fs none.1 ∙ get-other files f.name (padded info f.info, f.words.items) name none.0
+    untouched info name (insert files f.name (with_end_zeros info f.info, f.words.items)) fs none.1 ∙ get-other files f.name (with_end_zeros info f.info, f.words.items) name none.0
 
 are-there : (info : ℕ) (files : Files) (kept : List KeptFile) → Differ kept → AreThere info (with_files info files kept) kept
 are-there info files [] differ = tt
 are-there info files (f ∷ fs) differ = (
-  untouched info f.name (insert files f.name (padded info f.info, f.words.items)) fs differ.0 ∙ get-same files f.name (padded info f.info, f.words.items),
-  are-there info (insert files f.name (padded info f.info, f.words.items)) fs differ.1,
+  untouched info f.name (insert files f.name (with_end_zeros info f.info, f.words.items)) fs differ.0 ∙ get-same files f.name (with_end_zeros info f.info, f.words.items),
+  are-there info (insert files f.name (with_end_zeros info f.info, f.words.items)) fs differ.1,
 )
 
 pub kept-are-there : (info : ℕ) (kept : List KeptFile) → Differ kept → AreThere info (with_files info (from_entries []) kept) kept

@@ -3,9 +3,9 @@ use Rattle.std.proofs.Common.{◌≡◌, ℕ, ◌+◌, ◌-◌, ◌≤◌, List,
 use Rattle.std.specs.FinMap.{insert}
 use Rattle.std.proofs.lemmas.List.{take_all}
 use Rattle.os8_dir.specs.Files.{Files, files_of}
-use Rattle.os8_dir.specs.Names.{padded}
+use Rattle.os8_dir.specs.Names.{with_end_zeros}
 use Rattle.os8_files.specs.Calls.{IsReady, info_of}
-use Rattle.os8_files.specs.Mounted.{Mounted}
+use Rattle.os8_files.specs.Mounted.{MountState}
 use Rattle.os8_files.specs.Puts.{HasPutWith}
 use Rattle.rescue.specs.Rescued.{with_files}
 use Rattle.rescue.specs.declared.volumes.KeptFile.{KeptFile}
@@ -15,17 +15,17 @@ pub first-and-others : {X : Type 0} (xs : List X) (x : X) → 1 ≤ length xs �
 first-and-others [] x some is = absurd (omega (arith, some))
 first-and-others (y ∷ xs) x some is = ap (λ z. z ∷ xs) (sym is) ∙ ap (λ l. x ∷ l) (sym (take_all (length (y ∷ xs) - 1) xs (omega arith)))
 
-pub ready-again : (old new : Mounted) (f : KeptFile) → HasPutWith old f.name f.info f.words.items new → IsReady new
+pub ready-again : (old new : MountState) (f : KeptFile) → HasPutWith old f.name f.info f.words.items new → IsReady new
 ready-again old new f put = record {
-  running = ap (λ (m : Mounted). m.stopped) put.others ∙ put.ready.running;
-  none = ap (λ (m : Mounted). m.tentative) put.others ∙ put.ready.none;
+  running = ap (λ (m : MountState). m.stopped) put.others ∙ put.ready.running;
+  none = ap (λ (m : MountState). m.tentative) put.others ∙ put.ready.none;
 }
 
-pub files-left : (info : ℕ) (old new : Mounted) (f : KeptFile) (rest others : List KeptFile) (all : Files) → HasPutWith old f.name f.info f.words.items new
+pub files-left : (info : ℕ) (old new : MountState) (f : KeptFile) (rest others : List KeptFile) (all : Files) → HasPutWith old f.name f.info f.words.items new
     → info_of old.blocks ≡ info → rest ≡ f ∷ others → with_files info (files_of old.blocks) rest ≡ all → with_files info (files_of new.blocks) others ≡ all
 files-left info old new f rest others all put same is left =
     ap (λ (files : Files). with_files info files others) put.files
-    ∙ ap (λ i. with_files info (insert (files_of old.blocks) f.name (padded i f.info, f.words.items)) others) same
+    ∙ ap (λ i. with_files info (insert (files_of old.blocks) f.name (with_end_zeros i f.info, f.words.items)) others) same
     ∙ ap (with_files info (files_of old.blocks)) (sym is)
     ∙ left
 

@@ -2,7 +2,7 @@
 use Rattle.std.specs.Prelude.{◌≡◌, ◌≢◌, ℕ, Some, None, List, [], ◌∷◌}
 use Rattle.std.specs.FinMap.{from_entries, get}
 use Rattle.os8_dir.specs.Files.{Files}
-use Rattle.os8_dir.specs.Names.{padded}
+use Rattle.os8_dir.specs.Names.{with_end_zeros}
 use Rattle.rescue.specs.Rescued.{with_files}
 use Rattle.rescue.specs.declared.volumes.KeptFile.{KeptFile}
 
@@ -19,7 +19,7 @@ Differ (f ∷ fs) = HasNone f.name fs × Differ fs
 -- each of these files is there, with its words and so many information words
 abbrev pub AreThere : ℕ → Files → List KeptFile → Type 0
 AreThere info files [] = Unit {0}
-AreThere info files (f ∷ fs) = (get files f.name ≡ Some (padded info f.info, f.words.items)) × AreThere info files fs
+AreThere info files (f ∷ fs) = (get files f.name ≡ Some (with_end_zeros info f.info, f.words.items)) × AreThere info files fs
 
 -- of files with names of their own each is there
 abbrev pub KeptAreThere : Type 0

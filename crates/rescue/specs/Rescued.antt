@@ -8,9 +8,9 @@ use Rattle.os8_dir.specs.declared.file_faults.FileFault.{FileFault}
 use Rattle.os8_dir.specs.declared.file_faults.FileFault.TheVariants as file
 use Rattle.os8_dir.specs.Entries.{IsNamed}
 use Rattle.os8_dir.specs.Files.{Files, capacity_of, files_of}
-use Rattle.os8_dir.specs.Names.{padded}
+use Rattle.os8_dir.specs.Names.{with_end_zeros}
 use Rattle.os8_files.specs.Calls.{info_of}
-use Rattle.os8_files.specs.Mounted.{Mounted}
+use Rattle.os8_files.specs.Mounted.{MountState}
 use Rattle.os8_files.specs.Puts.{HasPutWith, PutsFileWith, blocks_filled}
 use Rattle.rescue.specs.declared.faults.RescueFault.{RescueFault}
 use Rattle.rescue.specs.declared.faults.RescueFault.TheVariants.{Image, Unread, Refused}
@@ -22,7 +22,7 @@ use Rattle.rescue.specs.declared.volumes.KeptFile.{KeptFile}
 -- Files with others put among them: each has its words, and the first of its information words, so many of them.
 abbrev pub with_files : ℕ → Files → List KeptFile → Files
 with_files info files [] = files
-with_files info files (f ∷ fs) = with_files info (insert files f.name (padded info f.info, f.words.items)) fs
+with_files info files (f ∷ fs) = with_files info (insert files f.name (with_end_zeros info f.info, f.words.items)) fs
 
 -- The image is that of a volume which has just these files.
 pub record IsRescued (kept : List KeptFile) (image : List ℕ) : Type 0 where
@@ -45,11 +45,11 @@ pub record IsAt (kept : List KeptFile) (place : ℕ) (Is : KeptFile → Type 0) 
   pub is : Is file
 
 -- a volume refuses a file with this fault
-pub record Refuses (old : Mounted) (f : KeptFile) (fault : FileFault) (new : Mounted) : Type 0 where
+pub record Refuses (old : MountState) (f : KeptFile) (fault : FileFault) (new : MountState) : Type 0 where
   pub puts : PutsFileWith old f.name f.info f.words.items (Err fault) new
 
 -- A file is put into a volume, or why not.
-abbrev pub Keeps : Mounted → KeptFile → ℕ → Result (Unit {0}) Refusal → Mounted → Type 0
+abbrev pub Keeps : MountState → KeptFile → ℕ → Result (Unit {0}) Refusal → MountState → Type 0
 Keeps old f place (Ok done) new = HasPutWith old f.name f.info f.words.items new
 Keeps old f place (Err (NoName at)) new = (at ≡ place) × (IsNamed f.name → ⊥) × (new ≡ old)
 Keeps old f place (Err (NotWhole at)) new = (at ≡ place) × (AreBlocks f.words.items → ⊥) × (new ≡ old)
@@ -59,8 +59,8 @@ Keeps old f place (Err (Failed at)) new = (at ≡ place) × ((fault : FileFault)
 
 -- a file is the first that isn't put, for this
 pub record IsRefused (refusal : Refusal) (place : ℕ) (f : KeptFile) : Type 0 where
-  pub old : Mounted
-  pub new : Mounted
+  pub old : MountState
+  pub new : MountState
   pub why : Keeps old f place (Err refusal) new
 
 -- the file at the place that a refusal gives is refused so
@@ -78,11 +78,11 @@ Rescues count kept (Err (Refused refusal)) = IsRefusedOf kept refusal
 -- ## What fits
 
 -- the files that are kept, by why each is not
-abbrev pub kept_of : List KeptFile → List (Option Refusal) → List KeptFile
-kept_of [] refusals = []
-kept_of (f ∷ fs) [] = []
-kept_of (f ∷ fs) (None ∷ refusals) = f ∷ kept_of fs refusals
-kept_of (f ∷ fs) (Some refusal ∷ refusals) = kept_of fs refusals
+abbrev pub files_to_keep : List KeptFile → List (Option Refusal) → List KeptFile
+files_to_keep [] refusals = []
+files_to_keep (f ∷ fs) [] = []
+files_to_keep (f ∷ fs) (None ∷ refusals) = f ∷ files_to_keep fs refusals
+files_to_keep (f ∷ fs) (Some refusal ∷ refusals) = files_to_keep fs refusals
 
 -- a refusal is one of the file, and not that memory ran out
 abbrev pub IsOfFile : Refusal → Type 0
@@ -94,8 +94,8 @@ IsOfFile (Failed at) = ⊥
 
 -- a volume with these files, and so many blocks for files in all, refuses one more
 pub record HasNoPlace (info capacity : ℕ) (kept : List KeptFile) (place : ℕ) (f : KeptFile) (refusal : Refusal) : Type 0 where
-  pub old : Mounted
-  pub new : Mounted
+  pub old : MountState
+  pub new : MountState
   pub files : files_of old.blocks ≡ with_files info (from_entries []) kept
   pub capacity_is : capacity_of old.blocks ≡ capacity
   pub of_file : IsOfFile refusal
@@ -113,7 +113,7 @@ AreJudged info capacity kept place (f ∷ fs) (Some refusal ∷ refusals) =
 -- the image is that of a volume of so many blocks with just the files that are kept, and each other one is refused
 pub record IsFitted (count : ℕ) (files : List KeptFile) (volume : FittedVolume) : Type 0 where
   pub info : ℕ
-  pub rescued : IsRescued (kept_of files volume.refusals.items) volume.image.items
+  pub rescued : IsRescued (files_to_keep files volume.refusals.items) volume.image.items
   pub judged : AreJudged info (count - FIRST_FILE_BLOCK) [] 0 files volume.refusals.items
 
 -- what is answered where a volume of so many blocks with what fits of these files is wanted

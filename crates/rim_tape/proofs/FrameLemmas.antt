@@ -2,7 +2,7 @@
 use Rattle.std.proofs.Common.{◌≡◌, ℕ, ◌+◌, ◌/◌, ◌%◌, ◌<◌, ◌≤◌, ◌⊎◌, inl, inr, length, length-append, replicate, take, drop, get_or, Option, Some, None, is_some, true, false, Ok, List, [], ◌∷◌, ◌++◌, append_assoc, append-nil, refl, ap, sym, ◌∙◌, add-one, zero, suc, arith}
 use Rattle.std.proofs.lemmas.List.{take-append-drop, replicate-append-replicate, length-take-le}
 use Rattle.std.proofs.Math.Seq.{take-suc, drop-cons}
-use Rattle.rim_tape.specs.Pairs.{frames_of, spelled, AreOfField0}
+use Rattle.rim_tape.specs.Pairs.{frames_of, frames_of_pairs, AreOfField0}
 use Rattle.rim_tape.specs.Tape.{IsRim, IsPart, IsOpen}
 use Rattle.rim_tape.specs.Fault.{IsOutOfPlace, RefusesFrame, IsSomeRim}
 use Rattle.rim_tape.specs.ReadSteps.{mark_of, HasBits, HasWord, HasReadTo, HasReadSome, Goes}
@@ -70,7 +70,7 @@ open_more frames place mark bits pairs part opened is short has = record {
   leader = opened.leader;
   frames_are =
       take_more frames place (mark + bits) has.inside has.is ∙ ap (λ l. l ++ (mark + bits) ∷ []) opened.frames_are
-      ∙ append_assoc (replicate opened.leader 128 ++ spelled pairs) part ((mark + bits) ∷ []);
+      ∙ append_assoc (replicate opened.leader 128 ++ frames_of_pairs pairs) part ((mark + bits) ∷ []);
   words = opened.words;
   begun = rw is (part_more part bits opened.begun short has.small);
 }
@@ -84,7 +84,7 @@ some_part part frame = omega (arith, length-append part (frame ∷ []))
 
 -- ## A whole word with its address
 
-spelled_more : (pairs : List (ℕ × ℕ)) (pair : ℕ × ℕ) → spelled (pairs ++ pair ∷ []) ≡ spelled pairs ++ frames_of pair
+spelled_more : (pairs : List (ℕ × ℕ)) (pair : ℕ × ℕ) → frames_of_pairs (pairs ++ pair ∷ []) ≡ frames_of_pairs pairs ++ frames_of pair
 spelled_more [] pair = refl
 spelled_more (first ∷ later) pair = ap (λ l. frames_of first ++ l) (spelled_more later pair)
 
@@ -110,7 +110,7 @@ address_part frames place address pairs opened has = record {
   leader = opened.leader;
   frames_are =
       word_frames frames place 64 address has
-      ∙ ap (λ l. l ++ (64 + address / 64) ∷ (address % 64) ∷ []) (opened.frames_are ∙ append-nil (replicate opened.leader 128 ++ spelled pairs));
+      ∙ ap (λ l. l ++ (64 + address / 64) ∷ (address % 64) ∷ []) (opened.frames_are ∙ append-nil (replicate opened.leader 128 ++ frames_of_pairs pairs));
   words = opened.words;
   begun = (omega arith, omega (arith, has.range), omega arith);
 }
@@ -130,11 +130,11 @@ read_more frames place cell address word pairs is read first second = record {
         ∙ ap (λ l. l ++ (0 + word / 64) ∷ (word % 64) ∷ []) (word_frames frames place 64 address first)
         ∙ append_assoc (take place frames) ((64 + address / 64) ∷ (address % 64) ∷ []) ((0 + word / 64) ∷ (word % 64) ∷ [])
         ∙ ap (λ l. take place frames ++ (64 + address / 64) ∷ (address % 64) ∷ l ∷ (word % 64) ∷ []) zero_more
-        ∙ ap (λ l. l ++ frames_of (address, word)) (read.is_open.frames_are ∙ append-nil (replicate read.is_open.leader 128 ++ spelled pairs))
-        ∙ append_assoc (replicate read.is_open.leader 128) (spelled pairs) (frames_of (address, word))
+        ∙ ap (λ l. l ++ frames_of (address, word)) (read.is_open.frames_are ∙ append-nil (replicate read.is_open.leader 128 ++ frames_of_pairs pairs))
+        ∙ append_assoc (replicate read.is_open.leader 128) (frames_of_pairs pairs) (frames_of (address, word))
         ∙ ap (λ l. replicate read.is_open.leader 128 ++ l) (sym (spelled_more pairs (address, word)))
-        ∙ ap (λ n. replicate read.is_open.leader 128 ++ spelled (pairs ++ (n, word) ∷ [])) (sym is)
-        ∙ sym (append-nil (replicate read.is_open.leader 128 ++ spelled (pairs ++ (cell, word) ∷ [])));
+        ∙ ap (λ n. replicate read.is_open.leader 128 ++ frames_of_pairs (pairs ++ (n, word) ∷ [])) (sym is)
+        ∙ sym (append-nil (replicate read.is_open.leader 128 ++ frames_of_pairs (pairs ++ (cell, word) ∷ [])));
     words = words_more pairs (cell, word) read.is_open.words (omega (arith, is, first.range)) second.range;
     begun = tt;
   };
@@ -163,7 +163,7 @@ trailer_ends frames place pairs inside is read = record {
   frames_are =
       split_at frames place inside
       ∙ ap (λ f. take place frames ++ f ∷ drop (suc place) frames) is
-      ∙ ap (λ l. l ++ 128 ∷ drop (suc place) frames) (read.is_open.frames_are ∙ append-nil (replicate read.is_open.leader 128 ++ spelled pairs));
+      ∙ ap (λ l. l ++ 128 ∷ drop (suc place) frames) (read.is_open.frames_are ∙ append-nil (replicate read.is_open.leader 128 ++ frames_of_pairs pairs));
   some = read.no_trailer is;
   words = read.is_open.words;
 }

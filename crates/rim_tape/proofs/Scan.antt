@@ -1,7 +1,7 @@
 -- Reading frames from the first to the last, as a function: so a reading, and a fault, is one only.
 use Rattle.std.proofs.Common.{◌≡◌, ℕ, suc, ◌+◌, ◌-◌, ◌*◌, ◌/◌, ◌%◌, ◌<◌, ◌≤◌, inl, inr, nat_eq, nat_lt, if◌then◌else◌, ◌∙◌, ap, refl, sym, arith, length, replicate, zero, append-nil, append_assoc, List, [], ◌∷◌, ◌++◌}
 use Rattle.std.proofs.lemmas.Bool.Decides.{nat_tests}
-use Rattle.rim_tape.specs.Pairs.{frames_of, spelled, AreOfField0}
+use Rattle.rim_tape.specs.Pairs.{frames_of, frames_of_pairs, AreOfField0}
 use Rattle.rim_tape.specs.Tape.{IsRim, IsPart, IsOpen}
 use Rattle.rim_tape.specs.Fault.{IsOutOfPlace, RefusesFrame, IsFault}
 use Rattle.rim_tape.specs.declared.faults.RimFault.{RimFault}
@@ -49,7 +49,7 @@ start = Open [] []
 
 -- leader frames, and words with their addresses
 abbrev prefix : ℕ → List (ℕ × ℕ) → List ℕ
-prefix leader pairs = replicate leader 128 ++ spelled pairs
+prefix leader pairs = replicate leader 128 ++ frames_of_pairs pairs
 
 same_at : (p q : ℕ) (o : Outcome) (ys : List ℕ) → p ≡ q → scan p o ys ≡ scan q o ys
 same_at p q o ys e = cc
@@ -110,20 +110,20 @@ pair_goes place pairs pair cell word =
     whole_word : 64 * (pair.1 / 64) + pair.1 % 64 ≡ pair.1
     whole_word = omega arith
 
-pairs_go : (place : ℕ) (before pairs : List (ℕ × ℕ)) → AreOfField0 pairs → scan place (Open before []) (spelled pairs) ≡ Open (before ++ pairs) []
+pairs_go : (place : ℕ) (before pairs : List (ℕ × ℕ)) → AreOfField0 pairs → scan place (Open before []) (frames_of_pairs pairs) ≡ Open (before ++ pairs) []
 unfolding scan
 pairs_go place before [] words = ap (λ l. Open l []) (sym (append-nil before))
 pairs_go place before (pair ∷ later) words =
-    scan-append place (Open before []) (frames_of pair) (spelled later)
-    ∙ ap (λ o. scan (place + 4) o (spelled later)) (pair_goes place before pair words.0 words.1)
+    scan-append place (Open before []) (frames_of pair) (frames_of_pairs later)
+    ∙ ap (λ o. scan (place + 4) o (frames_of_pairs later)) (pair_goes place before pair words.0 words.1)
     ∙ pairs_go (place + 4) (before ++ pair ∷ []) later words.2
     ∙ ap (λ l. Open l []) (append_assoc before (pair ∷ []) later)
 
 words_go : (leader : ℕ) (pairs : List (ℕ × ℕ)) → AreOfField0 pairs → scan 0 start (prefix leader pairs) ≡ Open pairs []
 words_go leader pairs words =
     let frames : List ℕ = replicate leader 128 in
-    scan-append 0 start frames (spelled pairs)
-    ∙ ap (λ o. scan (0 + length frames) o (spelled pairs)) (scan-leader 0 leader)
+    scan-append 0 start frames (frames_of_pairs pairs)
+    ∙ ap (λ o. scan (0 + length frames) o (frames_of_pairs pairs)) (scan-leader 0 leader)
     ∙ pairs_go (0 + length frames) [] pairs words
 
 open_goes : (frames : List ℕ) (pairs : List (ℕ × ℕ)) (part : List ℕ) → IsOpen frames pairs part → scan 0 start frames ≡ Open pairs part

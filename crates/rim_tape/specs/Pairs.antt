@@ -7,9 +7,9 @@ abbrev pub frames_of : ℕ × ℕ → List ℕ
 frames_of pair = (0o100 + pair.0 / 0o100) ∷ (pair.0 % 0o100) ∷ (pair.1 / 0o100) ∷ (pair.1 % 0o100) ∷ []
 
 -- The frames of cells with their words, both in the order of the tape.
-abbrev pub spelled : List (ℕ × ℕ) → List ℕ
-spelled [] = []
-spelled (pair ∷ later) = frames_of pair ++ spelled later
+abbrev pub frames_of_pairs : List (ℕ × ℕ) → List ℕ
+frames_of_pairs [] = []
+frames_of_pairs (pair ∷ later) = frames_of pair ++ frames_of_pairs later
 
 -- each is a cell of field 0 with a word of twelve bits
 abbrev pub AreOfField0 : List (ℕ × ℕ) → Type 0

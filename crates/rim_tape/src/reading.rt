@@ -20,7 +20,7 @@ pub fn read(alloc: Global, frames: &[u8]) -> Result<Vec<(Cell, Word)>, RimFault>
 {
     let leader = leader_length(frames);
     judge(frames, leader)?;
-    let pairs = words_behind(alloc, frames, leader)?;
+    let pairs = words_after(alloc, frames, leader)?;
     Ok(pairs)
 }
 
@@ -37,7 +37,7 @@ fn judge(frames: &[u8], leader: usize) -> Result<(), RimFault>
 }
 
 /// The words of a tape whose leader has so many frames.
-fn words_behind(alloc: Global, frames: &[u8], leader: usize) -> Result<Vec<(Cell, Word)>, RimFault>
+fn words_after(alloc: Global, frames: &[u8], leader: usize) -> Result<Vec<(Cell, Word)>, RimFault>
     requires tape { IsSomeRim frames.now }
     requires leader { HasReadTo frames.now leader [] }
     ensures { MatchResult result (λ pairs. IsRim frames.now pairs.items) (λ fault. IsFault frames.now fault) }

@@ -5,14 +5,14 @@ use Rattle.std.proofs.lemmas.Bool.Decides.{eqb_tells}
 use Rattle.os8_dir.specs.Entries.{AreDistinct, contains}
 use Rattle.os8_dir.specs.Files.{Files, files_of}
 use Rattle.os8_files.specs.Calls.{info_of}
-use Rattle.os8_dir.specs.Names.{padded}
+use Rattle.os8_dir.specs.Names.{with_end_zeros}
 use Rattle.rescue.specs.Laws.{AreThere, Differ, HasNone, KeptAreThere, OthersAreNot}
-use Rattle.rescue.specs.Rescued.{AreJudged, kept_of}
+use Rattle.rescue.specs.Rescued.{AreJudged, files_to_keep}
 use Rattle.rescue.specs.declared.faults.Refusal.{Refusal}
 use Rattle.rescue.specs.declared.volumes.KeptFile.{KeptFile}
-use Rattle.survey8.specs.declared.answers.FoundFile.{FoundFile}
-use Rattle.survey8.specs.Findings.{findings, files_found}
-use Rattle.survey8.specs.Laws.{EachSurveyIsSound, names_of_found}
+use Rattle.archive_survey.specs.declared.answers.FoundFile.{FoundFile}
+use Rattle.archive_survey.specs.Findings.{findings, files_found}
+use Rattle.archive_survey.specs.Laws.{EachSurveyIsSound, names_of_found}
 use Rattle.salvage8.specs.Laws.{AreFilesThere, EachFileIsThere, OtherFilesAreNot}
 use Rattle.salvage8.specs.Salvaging.{AreFilesOf}
 
@@ -27,7 +27,7 @@ apart first name others none = elim (eqb_tells first name) [
 ]
 
 pub none-of-name : (name : ℕ) (blocks : List (List ℕ)) (found : List FoundFile) (kept : List KeptFile) (refusals : List (Option Refusal)) → AreFilesOf blocks found kept
-    → contains (names_of_found found) name ≡ false → HasNone name (kept_of kept refusals)
+    → contains (names_of_found found) name ≡ false → HasNone name (files_to_keep kept refusals)
 none-of-name name blocks [] [] refusals of none = tt
 none-of-name name blocks [] (k ∷ kept) refusals of none = absurd of
 none-of-name name blocks (f ∷ found) [] refusals of none = absurd of
@@ -39,7 +39,7 @@ none-of-name name blocks (f ∷ found) (k ∷ kept) (Some refusal ∷ refusals) 
     none-of-name name blocks found kept refusals of.3 (apart f.name name (names_of_found found) none).1
 
 pub kept-differ : (blocks : List (List ℕ)) (found : List FoundFile) (kept : List KeptFile) (refusals : List (Option Refusal)) → AreFilesOf blocks found kept
-    → AreDistinct (names_of_found found) → Differ (kept_of kept refusals)
+    → AreDistinct (names_of_found found) → Differ (files_to_keep kept refusals)
 kept-differ blocks [] [] refusals of distinct = tt
 kept-differ blocks [] (k ∷ kept) refusals of distinct = absurd of
 kept-differ blocks (f ∷ found) [] refusals of distinct = absurd of
@@ -49,13 +49,13 @@ kept-differ blocks (f ∷ found) (k ∷ kept) (None ∷ refusals) of distinct =
 kept-differ blocks (f ∷ found) (k ∷ kept) (Some refusal ∷ refusals) of distinct = kept-differ blocks found kept refusals of.3 distinct.1
 
 pub found-are-there : (info start capacity place : ℕ) (there : Files) (blocks : List (List ℕ)) (before : List KeptFile) (found : List FoundFile) (kept : List KeptFile)
-    (refusals : List (Option Refusal)) → AreFilesOf blocks found kept → AreJudged start capacity before place kept refusals → AreThere info there (kept_of kept refusals)
+    (refusals : List (Option Refusal)) → AreFilesOf blocks found kept → AreJudged start capacity before place kept refusals → AreThere info there (files_to_keep kept refusals)
     → AreFilesThere info there blocks found refusals
 found-are-there info start capacity place there blocks before [] kept refusals of judged are = tt
 found-are-there info start capacity place there blocks before (f ∷ found) [] refusals of judged are = absurd of
 found-are-there info start capacity place there blocks before (f ∷ found) (k ∷ kept) [] of judged are = absurd judged
 found-are-there info start capacity place there blocks before (f ∷ found) (k ∷ kept) (None ∷ refusals) of judged are = (
-  ap (get there) (sym of.0) ∙ are.0 ∙ ap (λ i. Some (padded info i, k.words.items)) of.1 ∙ ap (λ w. Some (padded info f.info, w)) of.2,
+  ap (get there) (sym of.0) ∙ are.0 ∙ ap (λ i. Some (with_end_zeros info i, k.words.items)) of.1 ∙ ap (λ w. Some (with_end_zeros info f.info, w)) of.2,
   found-are-there info start capacity _ there blocks _ found kept refusals of.3 judged are.1,
 )
 found-are-there info start capacity place there blocks before (f ∷ found) (k ∷ kept) (Some refusal ∷ refusals) of judged are =
@@ -70,11 +70,11 @@ there-by kept sound image salvage s =
     let found = files_found (findings s.blocks) in
     let differ = kept-differ s.blocks found s.of_blocks.kept refusals s.of_blocks.files (sound s.blocks).distinct in
     found-are-there (info_of new.blocks) s.of_blocks.fitted.info _ 0 (files_of new.blocks) s.blocks [] found s.of_blocks.kept refusals s.of_blocks.files s.of_blocks.fitted.judged
-    (subst (λ (there : Files). AreThere (info_of new.blocks) there (kept_of s.of_blocks.kept refusals)) (sym new.files) (kept (info_of new.blocks) (kept_of s.of_blocks.kept refusals) differ))
+    (subst (λ (there : Files). AreThere (info_of new.blocks) there (files_to_keep s.of_blocks.kept refusals)) (sym new.files) (kept (info_of new.blocks) (files_to_keep s.of_blocks.kept refusals) differ))
 
 pub none-by : OthersAreNot → OtherFilesAreNot
 none-by others image salvage s name none =
     let new = s.of_blocks.fitted.rescued in
     let refusals = s.of_blocks.volume.refusals.items in
     ap (λ (there : Files). get there name) new.files
-    ∙ others (info_of new.blocks) name (kept_of s.of_blocks.kept refusals) (none-of-name name s.blocks (files_found (findings s.blocks)) s.of_blocks.kept refusals s.of_blocks.files none)
+    ∙ others (info_of new.blocks) name (files_to_keep s.of_blocks.kept refusals) (none-of-name name s.blocks (files_found (findings s.blocks)) s.of_blocks.kept refusals s.of_blocks.files none)

@@ -1,7 +1,7 @@
 -- The lines of files.
 use Rattle.std.proofs.Common.{◌≡◌, ℕ, ◌∙◌, Option, List, [], ◌∷◌, ◌++◌, refl, sym, ap, append_assoc, append-nil}
 use Rattle.rescue.specs.declared.faults.Refusal.{Refusal}
-use Rattle.survey8.specs.declared.answers.FoundFile.{FoundFile}
+use Rattle.archive_survey.specs.declared.answers.FoundFile.{FoundFile}
 use Rattle.salvage8.specs.Salvaging.{file_line, file_lines}
 
 pub line-more : (files more : List FoundFile) (refusals others : List (Option Refusal)) (f : FoundFile) (refusal : Option Refusal) (out new all : List ℕ) → files ≡ f ∷ more

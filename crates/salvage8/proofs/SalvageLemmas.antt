@@ -4,11 +4,11 @@ use Rattle.rescue.specs.Rescued.{IsFitted}
 use Rattle.rescue.specs.declared.faults.Refusal.{Refusal}
 use Rattle.rescue.specs.declared.fitting.FittedVolume.{FittedVolume}
 use Rattle.rescue.specs.declared.volumes.KeptFile.{KeptFile}
-use Rattle.survey8.specs.declared.answers.FoundFile.{FoundFile}
-use Rattle.survey8.specs.declared.answers.Survey.{Survey}
-use Rattle.survey8.specs.Findings.{findings, files_found}
-use Rattle.survey8.specs.Lines.{survey_losses}
-use Rattle.survey8.specs.Surveying.{IsSurveyOf}
+use Rattle.archive_survey.specs.declared.answers.FoundFile.{FoundFile}
+use Rattle.archive_survey.specs.declared.answers.Survey.{Survey}
+use Rattle.archive_survey.specs.Findings.{findings, files_found}
+use Rattle.archive_survey.specs.Lines.{survey_losses}
+use Rattle.archive_survey.specs.Surveying.{IsSurveyOf}
 use Rattle.salvage8.specs.Salvaging.{AreFilesOf, IsSalvageOf, count_kept, file_lines}
 use Rattle.salvage8.specs.declared.salvages.Salvage.{Salvage}
 

@@ -4,22 +4,22 @@ use Rattle.std.specs.Prelude.{slice_get}
 use Rattle.std.proofs.Math.Seq.{take-suc}
 use Rattle.std.proofs.lemmas.List.{append-nil, get_or-drop, take_all}
 use Rattle.std.proofs.lemmas.Option.{get_or_from_slice_get}
-use Rattle.os8_dir.specs.Files.{joined, run}
+use Rattle.os8_dir.specs.Files.{join_blocks, run}
 use Rattle.rescue.specs.declared.volumes.KeptFile.{KeptFile}
-use Rattle.survey8.specs.declared.answers.FoundFile.{FoundFile}
-use Rattle.survey8.specs.Laws.{AreInside}
+use Rattle.archive_survey.specs.declared.answers.FoundFile.{FoundFile}
+use Rattle.archive_survey.specs.Laws.{AreInside}
 use Rattle.salvage8.specs.Salvaging.{AreFilesOf}
 
-joined-more : (bs : List (List ℕ)) (w : List ℕ) → joined (bs ++ w ∷ []) ≡ joined bs ++ w
+joined-more : (bs : List (List ℕ)) (w : List ℕ) → join_blocks (bs ++ w ∷ []) ≡ join_blocks bs ++ w
 joined-more [] w = append-nil w
-joined-more (b ∷ bs) w = ap (λ r. b ++ r) (joined-more bs w) ∙ sym (append_assoc b (joined bs) w)
+joined-more (b ∷ bs) w = ap (λ r. b ++ r) (joined-more bs w) ∙ sym (append_assoc b (join_blocks bs) w)
 
 -- one block more of a run
 pub run-more : (blocks : List (List ℕ)) (place k : ℕ) (words : List ℕ) → place + k < length blocks → slice_get blocks (place + k) ≡ Some words → run blocks place k ++ words ≡ run blocks place (k + 1)
 run-more blocks place k words inside is =
     ap (λ w. run blocks place k ++ w) (sym (get_or-drop place blocks k [] ∙ get_or_from_slice_get blocks (place + k) words [] is))
     ∙ sym (joined-more (take k (drop place blocks)) (get_or (drop place blocks) k []))
-    ∙ ap joined (sym (take-suc (drop place blocks) k [] (omega (arith, length-drop place blocks, inside))))
+    ∙ ap join_blocks (sym (take-suc (drop place blocks) k [] (omega (arith, length-drop place blocks, inside))))
     ∙ ap (λ n. run blocks place n) (sym (add-one k))
 
 -- a list is its first and what a pattern binds behind it

@@ -3,12 +3,12 @@ use Rattle.std.specs.Prelude.{◌≡◌, ℕ, false, Option, None, Some, List, [
 use Rattle.std.specs.FinMap.{get}
 use Rattle.os8_dir.specs.Entries.{contains}
 use Rattle.os8_dir.specs.Files.{Files, files_of, run}
-use Rattle.os8_dir.specs.Names.{padded}
+use Rattle.os8_dir.specs.Names.{with_end_zeros}
 use Rattle.os8_files.specs.Calls.{info_of}
 use Rattle.rescue.specs.declared.faults.Refusal.{Refusal}
-use Rattle.survey8.specs.declared.answers.FoundFile.{FoundFile}
-use Rattle.survey8.specs.Findings.{findings, files_found}
-use Rattle.survey8.specs.Laws.{names_of_found}
+use Rattle.archive_survey.specs.declared.answers.FoundFile.{FoundFile}
+use Rattle.archive_survey.specs.Findings.{findings, files_found}
+use Rattle.archive_survey.specs.Laws.{names_of_found}
 use Rattle.salvage8.specs.Salvaging.{IsSalvaged}
 use Rattle.salvage8.specs.declared.salvages.Salvage.{Salvage}
 
@@ -17,7 +17,7 @@ abbrev pub AreFilesThere : ℕ → Files → List (List ℕ) → List FoundFile 
 AreFilesThere info there blocks [] refusals = Unit {0}
 AreFilesThere info there blocks (f ∷ files) [] = ⊥
 AreFilesThere info there blocks (f ∷ files) (None ∷ refusals) =
-    (get there f.name ≡ Some (padded info f.info, run blocks f.place f.size)) × AreFilesThere info there blocks files refusals
+    (get there f.name ≡ Some (with_end_zeros info f.info, run blocks f.place f.size)) × AreFilesThere info there blocks files refusals
 AreFilesThere info there blocks (f ∷ files) (Some refusal ∷ refusals) = AreFilesThere info there blocks files refusals
 
 -- each file that a survey reports as sound, and that is not refused, is a file of the new volume with the same words

@@ -7,13 +7,13 @@ use Rattle.rescue.specs.declared.faults.Refusal.{Refusal}
 use Rattle.rescue.specs.declared.faults.Refusal.TheVariants.{NoName, NotWhole, NoRoom, DirectoryFull, Failed}
 use Rattle.rescue.specs.declared.fitting.FittedVolume.{FittedVolume}
 use Rattle.rescue.specs.declared.volumes.KeptFile.{KeptFile}
-use Rattle.script8.specs.Shown.{shown}
+use Rattle.script8.specs.Shown.{name_text}
 use Rattle.script8.specs.declared.faults.SessionFault.TheVariants.{Memory}
 use Rattle.archive8.specs.declared.faults.ArchiveFault.{ArchiveFault}
 use Rattle.archive8.specs.declared.faults.ArchiveFault.TheVariants.{Image, Directory, Refused}
-use Rattle.survey8.specs.declared.answers.FoundFile.{FoundFile}
-use Rattle.survey8.specs.Findings.{findings, files_found}
-use Rattle.survey8.specs.Lines.{survey_losses}
+use Rattle.archive_survey.specs.declared.answers.FoundFile.{FoundFile}
+use Rattle.archive_survey.specs.Findings.{findings, files_found}
+use Rattle.archive_survey.specs.Lines.{survey_losses}
 use Rattle.salvage8.specs.declared.salvages.Salvage.{Salvage}
 
 -- each file with the words of its blocks
@@ -39,7 +39,7 @@ reason_text (Failed at) = codes "? 10 MEMORY\n"
 
 -- a file's name, its first block in the old volume, and its length
 abbrev pub place_text : FoundFile → List ℕ
-place_text f = shown f.name ++ 0o40 ∷ decimal f.place ++ 0o40 ∷ decimal f.size ++ 0o12 ∷ []
+place_text f = name_text f.name ++ 0o40 ∷ decimal f.place ++ 0o40 ∷ decimal f.size ++ 0o12 ∷ []
 
 -- each is 0
 abbrev pub are_zeros : List ℕ → Bool

@@ -2,7 +2,7 @@
 ghost use Rattle.salvage8.specs.Laws.{EachFileIsThere, OtherFilesAreNot};
 
 use rescue::laws::just_these_files;
-use survey8::laws::sound_files;
+use archive_survey::laws::sound_files;
 
 /// A law: each file that a survey of the volume reports as sound is one of the new volume, with the same words, unless its refusal is
 /// reported. There is no other file.

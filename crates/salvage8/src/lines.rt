@@ -7,7 +7,7 @@ ghost use Rattle.salvage8.specs.Salvaging.{file_line, file_lines, place_text, re
 use rescue::Refusal;
 use script8::text_lines::{TextLine, put, put_name, put_number};
 use std::alloc::AllocError;
-use survey8::FoundFile;
+use archive_survey::FoundFile;
 use word12::Word;
 
 /// Appends the lines of files, by why each is not kept.

@@ -11,8 +11,8 @@ use archive8::ArchiveFault;
 use rescue::{FittedVolume, KeptFile, volume_of_what_fits};
 use script8::SessionFault;
 use std::alloc::{AllocError, Global};
-use survey8::laws::sound_files;
-use survey8::survey_volume;
+use archive_survey::laws::sound_files;
+use archive_survey::survey_volume;
 use volume_image::{BlockStore, ImageFault, MemoryVolume};
 
 /// A new volume, and what of the old one it has not.

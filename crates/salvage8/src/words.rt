@@ -1,12 +1,12 @@
 //! The words of files, by where they lie.
 ghost use Rattle.std.specs.Prelude.{◌≡◌, ◌+◌, ◌≤◌, length, IfOk};
 ghost use Rattle.os8_dir.specs.Files.{run};
-ghost use Rattle.survey8.specs.Laws.{AreInside};
+ghost use Rattle.archive_survey.specs.Laws.{AreInside};
 ghost use Rattle.salvage8.specs.Salvaging.{AreFilesOf};
 
 use rescue::KeptFile;
 use std::alloc::{AllocError, Global};
-use survey8::FoundFile;
+use archive_survey::FoundFile;
 use volume_image::{BlockStore, MemoryVolume};
 use word12::Word;
 

@@ -12,8 +12,8 @@ use Rattle.report8.specs.declared.programs.ProgramLine.TheVariants.{HostExists, 
 use Rattle.outcome.specs.declared.endings.Ending.{Ending}
 use Rattle.outcome.specs.declared.endings.Ending.TheVariants.{Line, Fault}
 use Rattle.task8.specs.declared.forms.ImageForm.{ImageForm}
-use Rattle.many8.specs.Raw.{GetsBlocks}
-use Rattle.many8.specs.declared.faults.BlocksFault.{BlocksFault}
+use Rattle.archive_many.specs.Raw.{GetsBlocks}
+use Rattle.archive_many.specs.declared.faults.BlocksFault.{BlocksFault}
 use Rattle.volume_commands.specs.Answers.{Answers, AreLines}
 use Rattle.volume_commands.specs.Reading.{LooksAt}
 use Rattle.volume_commands.specs.Saving.{Prints, TouchesOnly}

@@ -5,7 +5,7 @@ ghost use Rattle.volume_commands.specs.Answers.{Answers, AreLines};
 ghost use Rattle.salvage_commands.specs.ScanningBlocks.{GivesPiece, IsPath, LaysFirst, ShowsPieces, WritesEach, WritesPiece, WritesPieces, ending_of_laid};
 
 use hosts::{Host, HostFault, lay};
-use many8::{BlocksFault, blocks_of};
+use archive_many::{BlocksFault, blocks_of};
 use outcome::Ending;
 use report8::ProgramLine;
 use salvage8::{Piece, Scan, form_of, piece_name, scan_image};

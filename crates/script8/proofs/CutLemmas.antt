@@ -5,7 +5,7 @@ use Rattle.std.proofs.lemmas.Bool.Decides.{eqb_tells}
 use Rattle.std.proofs.lemmas.List.{drop_all, drop-drop, take-append-drop, length-drop, length-take-le}
 use Rattle.script8.specs.Lines.{onto_first}
 use Rattle.script8.specs.Items.{lines_of, onto_ended, ended_lines, text_of}
-use Rattle.script8.specs.CutSteps.{ended_behind, ended, Cuts, TooFew}
+use Rattle.script8.specs.CutSteps.{with_line_end_after, with_line_end, Cuts, TooFew}
 
 -- a byte before some bytes
 abbrev pub onto : ℕ → Option (List ℕ) → Option (List ℕ)
@@ -55,7 +55,7 @@ pub record Prefix (is_end begun : Bool) (n : ℕ) (bs xs : List ℕ) : Type 0 wh
   pub prefix : List (List ℕ)
   pub parts : bs ≡ xs ++ rest
   pub size : length prefix ≡ n
-  pub content : text_of prefix ≡ ended_behind begun xs
+  pub content : text_of prefix ≡ with_line_end_after begun xs
   pub script : lines_in begun bs ≡ prefix ++ lines_of rest
   pub on : is_end ≡ false → Fronts begun bs prefix rest
 
@@ -76,7 +76,7 @@ lf_met is_end begun n b bs (Some xs) is same met = record {
   prefix = [] ∷ met.prefix;
   parts = ap (λ l. b ∷ l) met.parts;
   size = ap suc met.size;
-  content = rw is (ap (λ l. 10 ∷ l) met.content ∙ ap (λ x. x ∷ ended_behind false xs) (sym same));
+  content = rw is (ap (λ l. 10 ∷ l) met.content ∙ ap (λ x. x ∷ with_line_end_after false xs) (sym same));
   script = rw is (ap (λ l. [] ∷ l) met.script);
   on = λ goes_on. record {
     script = λ more. rw is (ap (λ l. [] ∷ l) ((met.on goes_on).script more));
@@ -100,7 +100,7 @@ none_some : (n : ℕ) → 0 ≡ suc n → ⊥
 none_some n is = omega (arith, is)
 
 -- any other byte stands in a line
-in_some : (is_end begun : Bool) (n b : ℕ) (bs xs rest : List ℕ) (prefix : List (List ℕ)) → (b == 10) ≡ false → bs ≡ xs ++ rest → length prefix ≡ suc n → text_of prefix ≡ ended_behind true xs
+in_some : (is_end begun : Bool) (n b : ℕ) (bs xs rest : List ℕ) (prefix : List (List ℕ)) → (b == 10) ≡ false → bs ≡ xs ++ rest → length prefix ≡ suc n → text_of prefix ≡ with_line_end_after true xs
     → lines_in true bs ≡ prefix ++ lines_of rest → (is_end ≡ false → Fronts true bs prefix rest) → Prefix is_end begun (suc n) (b ∷ bs) (b ∷ xs)
 in_some is_end begun n b bs xs rest [] other parts size content script on = absurd (none_some n size)
 in_some is_end begun n b bs xs rest (line ∷ lines) other parts size content script on = record {
@@ -151,7 +151,7 @@ cuts_by text is_end count bytes xs is met = record {
   prefix = met.prefix;
   within = rw is (rw met.parts (prefix_within xs met.rest));
   size = met.size;
-  content = met.content ∙ ap ended (sym (ap (λ n. take n text) is ∙ ap (take (length xs)) met.parts ∙ take_prefix xs met.rest));
+  content = met.content ∙ ap with_line_end (sym (ap (λ n. take n text) is ∙ ap (take (length xs)) met.parts ∙ take_prefix xs met.rest));
   script = sym (lines_same text) ∙ met.script ∙ ap (λ r. met.prefix ++ lines_of r) (sym behind);
   on = λ goes_on. record {
     script = λ more. sym (lines_same (text ++ more)) ∙ (met.on goes_on).script more ∙ ap (λ r. met.prefix ++ lines_of (r ++ more)) (sym behind);
@@ -176,17 +176,17 @@ counted : (text : List ℕ) (is_end : Bool) (count : ℕ) (size : Option ℕ) �
 counted text is_end count size is = rw (sym is) (cut_by text is_end count (taken is_end false count text) (met_by is_end false count text (λ none. refl)))
 
 -- a text whose last byte is an LF
-pub is_ended : (text prefix : List ℕ) → text ≡ prefix ++ 10 ∷ [] → ended text ≡ text
-is_ended text prefix is = ap ended is ∙ whole false prefix ∙ sym is
+pub is_ended : (text prefix : List ℕ) → text ≡ prefix ++ 10 ∷ [] → with_line_end text ≡ text
+is_ended text prefix is = ap with_line_end is ∙ whole false prefix ∙ sym is
   where
-    whole : (begun : Bool) (prefix : List ℕ) → ended_behind begun (prefix ++ 10 ∷ []) ≡ prefix ++ 10 ∷ []
+    whole : (begun : Bool) (prefix : List ℕ) → with_line_end_after begun (prefix ++ 10 ∷ []) ≡ prefix ++ 10 ∷ []
     whole begun [] = refl
     whole begun (b ∷ bs) = elim (eqb_tells b 10) [ inl is ↦ rw is.0 (ap (λ l. b ∷ l) (whole false bs)) | inr other ↦ rw other.0 (ap (λ l. b ∷ l) (whole true bs)) ]
 
 none_length : 0 < 0 → ⊥
 none_length h = omega (arith, h)
 
-open_end : (begun : Bool) (text : List ℕ) → (begun ≡ false → 0 < length text) → ((prefix : List ℕ) → text ≢ prefix ++ 10 ∷ []) → ended_behind begun text ≡ text ++ 10 ∷ []
+open_end : (begun : Bool) (text : List ℕ) → (begun ≡ false → 0 < length text) → ((prefix : List ℕ) → text ≢ prefix ++ 10 ∷ []) → with_line_end_after begun text ≡ text ++ 10 ∷ []
 open_end true [] some other = refl
 open_end false [] some other = absurd (none_length (some refl))
 open_end begun (b ∷ []) some other = elim (eqb_tells b 10) [ inl is ↦ absurd (other [] (ap (λ x. x ∷ []) is.1)) | inr is ↦ rw is.0 refl ]
@@ -196,7 +196,7 @@ open_end begun (b ∷ c ∷ cs) some other = elim (eqb_tells b 10) [
 ]
 
 -- a text whose last byte is another
-pub is_open : (text : List ℕ) → 0 < length text → ((prefix : List ℕ) → text ≢ prefix ++ 10 ∷ []) → ended text ≡ text ++ 10 ∷ []
+pub is_open : (text : List ℕ) → 0 < length text → ((prefix : List ℕ) → text ≢ prefix ++ 10 ∷ []) → with_line_end text ≡ text ++ 10 ∷ []
 is_open text some other = open_end false text (λ none. some) other
 
 size_onto : (i b : ℕ) (r : Option (List ℕ)) → size_from i (onto b r) ≡ size_from (suc i) r
@@ -376,7 +376,7 @@ some_text (b ∷ bs) some = omega arith
 
 -- the bytes of a line are some
 pub some_line : (text prefix : List ℕ) (is_end : Bool) (bytes : ℕ) → Cuts text is_end 1 bytes → prefix ≡ take bytes text → 0 < length prefix
-some_line text [] is_end bytes cuts is = absurd (no_text cuts.prefix cuts.size (cuts.content ∙ ap ended (sym is)))
+some_line text [] is_end bytes cuts is = absurd (no_text cuts.prefix cuts.size (cuts.content ∙ ap with_line_end (sym is)))
   where
     no_text : (prefix : List (List ℕ)) → length prefix ≡ 1 → text_of prefix ≡ [] → ⊥
     no_text [] size none = none_some 0 size

@@ -9,7 +9,7 @@ use Rattle.script8.specs.Items.{lines_of, ended_lines, text_of, items_of_line, l
 use Rattle.script8.proofs.CutLemmas.{ends_append}
 use Rattle.script8.specs.declared.items.Next.{Next}
 use Rattle.script8.specs.declared.items.Next.TheVariants as next
-use Rattle.script8.specs.CutSteps.{ended, HasPrefix, Cuts, FirstLineSays, TooFew}
+use Rattle.script8.specs.CutSteps.{with_line_end, HasPrefix, Cuts, FirstLineSays, TooFew}
 use Rattle.script8.specs.declared.entries.Entry.TheVariants as entry
 use Rattle.script8.specs.declared.entries.FileEntry.TheVariants as files
 use Rattle.script8.specs.declared.faults.SessionFault.{SessionFault}
@@ -47,7 +47,7 @@ one_line (line ∷ next ∷ lines) size = absurd (two_lines (length lines) size)
     two_lines : (n : ℕ) → suc (suc n) ≡ 1 → ⊥
     two_lines n h = omega (arith, h)
 
-some_bytes : (text line : List ℕ) (bytes : ℕ) → line ++ 10 ∷ [] ≡ ended (take bytes text) → 0 < bytes
+some_bytes : (text line : List ℕ) (bytes : ℕ) → line ++ 10 ∷ [] ≡ with_line_end (take bytes text) → 0 < bytes
 some_bytes text line zero is = absurd (no_end line is)
   where
     no_end : (line : List ℕ) → line ++ 10 ∷ [] ≡ [] → ⊥
@@ -59,12 +59,12 @@ some_bytes text line zero is = absurd (no_end line is)
 some_bytes text line (suc n) is = omega arith
 
 -- the first line of a text, without its LF
-pub opens : (text prefix command : List ℕ) (is_end : Bool) (bytes : ℕ) (said : Result Line SessionFault) → Cuts text is_end 1 bytes → prefix ≡ take bytes text → ended prefix ≡ command ++ 10 ∷ []
+pub opens : (text prefix command : List ℕ) (is_end : Bool) (bytes : ℕ) (said : Result Line SessionFault) → Cuts text is_end 1 bytes → prefix ≡ take bytes text → with_line_end prefix ≡ command ++ 10 ∷ []
     → said ≡ says command → FirstLineSays text is_end said bytes
 opens text prefix command is_end bytes said cuts prefix_is command_is meaning_is =
     let one = one_line cuts.prefix cuts.size in
     let whole_line = sym (ap text_of one.1) ∙ cuts.content in
-    let same = append_cancel_right one.0 command (10 ∷ []) (whole_line ∙ ap ended (sym prefix_is) ∙ command_is) in
+    let same = append_cancel_right one.0 command (10 ∷ []) (whole_line ∙ ap with_line_end (sym prefix_is) ∙ command_is) in
     record {
       line = one.0;
       meaning_is = ap says same ∙ sym meaning_is;
@@ -156,7 +156,7 @@ lines_done short name prefix more count size = rw (enough prefix more count size
 
 -- a STORE with its lines
 pub stores : (text rest prefix content name : List ℕ) (is_end : Bool) (count bytes more sum : ℕ) → FirstLineSays text is_end (Ok (line.Store name count)) bytes → rest ≡ drop bytes text → Cuts rest is_end count more
-    → prefix ≡ take more rest → content ≡ ended prefix → sum ≡ bytes + more → GivesItems text is_end (Do (entry.Files (files.Store name content)) ∷ []) sum
+    → prefix ≡ take more rest → content ≡ with_line_end prefix → sum ≡ bytes + more → GivesItems text is_end (Do (entry.Files (files.Store name content)) ∷ []) sum
 unfolding script_of whole_of
 stores text rest prefix content name is_end count bytes more sum o rest_is cuts prefix_is content_is sum_is = record {
   some = omega (arith, o.some, sum_is);
@@ -174,7 +174,7 @@ stores text rest prefix content name is_end count bytes more sum o rest_is cuts 
     behind = ap (drop more) rest_is ∙ drop-drop more bytes text ∙ ap (λ n. drop n text) (sym sum_is)
 
     content_same : text_of cuts.prefix ≡ content
-    content_same = cuts.content ∙ ap ended (sym prefix_is) ∙ sym content_is
+    content_same = cuts.content ∙ ap with_line_end (sym prefix_is) ∙ sym content_is
 
     script : (text rest last : List ℕ) → lines_of text ≡ o.line ∷ lines_of rest → lines_of rest ≡ cuts.prefix ++ lines_of last → script_of text ≡ Do (entry.Files (files.Store name content)) ∷ script_of last
     script text rest last first next =

@@ -9,11 +9,11 @@ use Rattle.std.proofs.lemmas.Fmt.{decimal_is_IsNumeral, length-decimal-le}
 use Rattle.std.proofs.lemmas.Str.{digit_value_digit}
 use Rattle.std.proofs.lemmas.Str.Parse.{digit_from_value}
 use Rattle.word12.specs.Sixbit.{sixbit_code, is_letter, is_digit}
-use Rattle.os8_dir.specs.Names.{name_of, words_of_name, paired, padded, before_dot, after_dot, codes_of, codes_within, with_code, spelled, extension_codes, parsed_name}
+use Rattle.os8_dir.specs.Names.{name_of, words_of_name, words_of_codes, with_end_zeros, before_dot, after_dot, codes_of, codes_within, with_code, name_of_codes, extension_codes, parsed_name}
 use Rattle.word12.specs.Octal.{octal_digit, octal4, octal5, octal_from, octal_of}
 use Rattle.script8.specs.Lines.{number_of, digits_from, within, cell_of, character_of}
 use Rattle.script8.specs.Replies.{character_text}
-use Rattle.script8.specs.Shown.{shown, shown_code, shown_words, shown_extension, shown_name}
+use Rattle.script8.specs.Shown.{name_text, shown_code, shown_words, shown_extension, shown_name}
 
 both : (a b : Bool) → a ≡ true → b ≡ true → a && b ≡ true
 both a b one two = rw (one, two) refl
@@ -175,7 +175,7 @@ AreCodes [] = Unit {0}
 AreCodes (code ∷ codes) = (code < 64) × AreCodes codes
 
 -- zeros behind codes are not shown
-show_padded : (size : ℕ) (text codes : List ℕ) → ShowAll text codes → length text ≤ size → shown_codes (padded size codes) ≡ text
+show_padded : (size : ℕ) (text codes : List ℕ) → ShowAll text codes → length text ≤ size → shown_codes (with_end_zeros size codes) ≡ text
 show_padded zero [] [] all few = refl
 show_padded zero [] (code ∷ codes) all few = absurd all
 show_padded zero (c ∷ cs) codes all few = absurd (omega (arith, few))
@@ -184,7 +184,7 @@ show_padded (suc size) [] (code ∷ codes) all few = absurd all
 show_padded (suc size) (c ∷ cs) [] all few = absurd all
 show_padded (suc size) (c ∷ cs) (code ∷ codes) (one, all) few = rw one.is (ap (λ t. c ∷ t) (show_padded size cs codes all (omega (arith, few))))
 
-padded_codes : (size : ℕ) (text codes : List ℕ) → ShowAll text codes → AreCodes (padded size codes)
+padded_codes : (size : ℕ) (text codes : List ℕ) → ShowAll text codes → AreCodes (with_end_zeros size codes)
 padded_codes zero text codes all = tt
 padded_codes (suc size) [] [] all = (omega arith, padded_codes size [] [] tt)
 padded_codes (suc size) [] (code ∷ codes) all = absurd all
@@ -218,8 +218,8 @@ word_small : (h l : ℕ) → h < 64 → l < 64 → 64 * h + l < 4096
 word_small h l high low = omega (arith, high, low)
 
 -- the words of six codes, and of two, shown as a name
-name_shows : (codes : List ℕ) (g h : ℕ) → length codes ≡ 6 → AreCodes codes → g < 64 → h < 64 → shown (name_of (paired (codes ++ g ∷ h ∷ []))) ≡ shown_codes codes ++ shown_extension (64 * g + h)
-unfolding shown
+name_shows : (codes : List ℕ) (g h : ℕ) → length codes ≡ 6 → AreCodes codes → g < 64 → h < 64 → name_text (name_of (words_of_codes (codes ++ g ∷ h ∷ []))) ≡ shown_codes codes ++ shown_extension (64 * g + h)
+unfolding name_text
 name_shows (a ∷ b ∷ c ∷ d ∷ e ∷ f ∷ []) g h six (la, (lb, (lc, (ld, (le, (lf, last)))))) lg lh =
     ap shown_name (words_again (64 * a + b) (64 * c + d) (64 * e + f) (64 * g + h) (word_small a b la lb) (word_small c d lc ld) (word_small e f le lf) (word_small g h lg lh))
     ∙ rw (high_code a b lb, low_code a b lb, high_code c d ld, low_code c d ld, high_code e f lf, low_code e f lf)
@@ -279,7 +279,7 @@ record HasExtension (text codes : List ℕ) : Type 0 where
   low : h < 64
   shows : shown_codes (g ∷ h ∷ []) ≡ text
 
-has_extension : (text codes : List ℕ) → 0 < length text → length text ≤ 2 → ShowAll text codes → HasExtension text (padded 2 codes)
+has_extension : (text codes : List ℕ) → 0 < length text → length text ≤ 2 → ShowAll text codes → HasExtension text (with_end_zeros 2 codes)
 has_extension [] codes some few all = absurd (omega (arith, some))
 has_extension (c ∷ []) [] some few all = absurd all
 has_extension (c ∷ []) (g ∷ []) some few all = record { g = g; h = 0; are = refl; some = all.0.some; high = all.0.small; low = omega arith; shows = rw all.0.is refl }
@@ -290,36 +290,36 @@ has_extension (c ∷ d ∷ []) (g ∷ h ∷ []) some few all = record { g = g; h
 has_extension (c ∷ d ∷ []) (g ∷ h ∷ i ∷ codes) some few all = absurd all.1.1
 has_extension (c ∷ d ∷ e ∷ text) codes some few all = absurd (omega (arith, few))
 
-padded_length : (size : ℕ) (codes : List ℕ) → length (padded size codes) ≡ size
+padded_length : (size : ℕ) (codes : List ℕ) → length (with_end_zeros size codes) ≡ size
 padded_length zero codes = refl
 padded_length (suc size) [] = omega (arith, padded_length size [])
 padded_length (suc size) (code ∷ codes) = omega (arith, padded_length size codes)
 
 -- the name of a stem's codes and two of an extension is shown as both
-both_show : (stem codes two : List ℕ) (g h : ℕ) → HasCodes 6 stem codes → two ≡ g ∷ h ∷ [] → g < 64 → h < 64 → shown (name_of (paired (padded 6 codes ++ two))) ≡ stem ++ shown_extension (64 * g + h)
+both_show : (stem codes two : List ℕ) (g h : ℕ) → HasCodes 6 stem codes → two ≡ g ∷ h ∷ [] → g < 64 → h < 64 → name_text (name_of (words_of_codes (with_end_zeros 6 codes ++ two))) ≡ stem ++ shown_extension (64 * g + h)
 both_show stem codes two g h has are high low =
-    ap (λ t. shown (name_of (paired (padded 6 codes ++ t)))) are
-    ∙ name_shows (padded 6 codes) g h (padded_length 6 codes) (padded_codes 6 stem codes has.all) high low
+    ap (λ t. name_text (name_of (words_of_codes (with_end_zeros 6 codes ++ t)))) are
+    ∙ name_shows (with_end_zeros 6 codes) g h (padded_length 6 codes) (padded_codes 6 stem codes has.all) high low
     ∙ ap (λ t. t ++ shown_extension (64 * g + h)) (show_padded 6 stem codes has.all has.few)
 
 -- the name of these codes is shown as the text
 names_text : (stem text codes : List ℕ) (extension : Option (List ℕ)) (name : ℕ) → HasCodes 6 stem codes → stem ++ dotted extension ≡ text
-    → spelled (Some codes) (extension_codes extension) ≡ Some name → shown name ≡ text
+    → name_of_codes (Some codes) (extension_codes extension) ≡ Some name → name_text name ≡ text
 names_text stem text codes None name has parts is =
-    ap shown (sym (taken (name_of (paired (padded 6 codes ++ 0 ∷ 0 ∷ []))) name is)) ∙ both_show stem codes (0 ∷ 0 ∷ []) 0 0 has refl (omega arith) (omega arith) ∙ parts
+    ap name_text (sym (taken (name_of (words_of_codes (with_end_zeros 6 codes ++ 0 ∷ 0 ∷ []))) name is)) ∙ both_show stem codes (0 ∷ 0 ∷ []) 0 0 has refl (omega arith) (omega arith) ∙ parts
 names_text stem text codes (Some behind) name has parts is = of_codes (codes_within 2 behind) (has_codes 2 behind) is
   where
-    of_codes : (own : Option (List ℕ)) → ((codes : List ℕ) → own ≡ Some codes → HasCodes 2 behind codes) → spelled (Some codes) own ≡ Some name → shown name ≡ text
+    of_codes : (own : Option (List ℕ)) → ((codes : List ℕ) → own ≡ Some codes → HasCodes 2 behind codes) → name_of_codes (Some codes) own ≡ Some name → name_text name ≡ text
     of_codes None has_own is = cc
     of_codes (Some others) has_own is =
         let own = has_own others refl in
         let e = has_extension behind others own.some own.few own.all in
-        ap shown (sym (taken (name_of (paired (padded 6 codes ++ padded 2 others))) name is)) ∙ both_show stem codes (padded 2 others) e.g e.h has e.are e.high e.low
+        ap name_text (sym (taken (name_of (words_of_codes (with_end_zeros 6 codes ++ with_end_zeros 2 others))) name is)) ∙ both_show stem codes (with_end_zeros 2 others) e.g e.h has e.are e.high e.low
         ∙ ap (λ t. stem ++ t) (extension_shows e.g e.h e.some e.high e.low ∙ ap (λ t. 46 ∷ t) e.shows) ∙ parts
 
-pub name_as_typed : (text : List ℕ) (name : ℕ) → parsed_name text ≡ Some name → shown name ≡ text
+pub name_as_typed : (text : List ℕ) (name : ℕ) → parsed_name text ≡ Some name → name_text name ≡ text
 name_as_typed text name is = of_stem (codes_within 6 (before_dot text)) (has_codes 6 (before_dot text)) is
   where
-    of_stem : (stem : Option (List ℕ)) → ((codes : List ℕ) → stem ≡ Some codes → HasCodes 6 (before_dot text) codes) → spelled stem (extension_codes (after_dot text)) ≡ Some name → shown name ≡ text
+    of_stem : (stem : Option (List ℕ)) → ((codes : List ℕ) → stem ≡ Some codes → HasCodes 6 (before_dot text) codes) → name_of_codes stem (extension_codes (after_dot text)) ≡ Some name → name_text name ≡ text
     of_stem None has is = cc
     of_stem (Some codes) has is = names_text (before_dot text) text codes (after_dot text) name (has codes refl) (two_parts text) is

@@ -5,7 +5,7 @@ use Rattle.std.specs.List.{list_all, position, position_or_len}
 use Rattle.std.proofs.lemmas.List.Recursion.{is_position_or_len}
 use Rattle.std.specs.Str.{bytes_eq}
 use Rattle.std.proofs.lemmas.Bool.Decides.{eqb_tells, leb_tells}
-use Rattle.script8.specs.Lines.{command_of, onto_first, parts_of, words_of, form_of, whole, name_bytes, named, store_of, is_name, listed, lists_names, assembled, assemble_of, bare_entry, entry_with_word, at_console, console_with_words, command_says, says}
+use Rattle.script8.specs.Lines.{command_of, onto_first, parts_of, words_of, form_of, whole, name_bytes, line_of_name, store_of, is_name, parts_of_list, lists_names, assemble_entry, assemble_of, bare_entry, entry_with_word, at_console, console_with_words, command_says, says}
 use Rattle.script8.specs.CutSteps.{part_of, is_mark}
 use Rattle.script8.specs.declared.entries.Entry.{Entry}
 use Rattle.script8.specs.declared.faults.SessionFault.{SessionFault}
@@ -101,13 +101,13 @@ too_many most size none some few = omega (arith, none, some, few)
 
 -- a list of no name at most is none
 pub no_names : (most : ℕ) (list : List ℕ) → most ≡ 0 → false ≡ lists_names most list
-no_names most list none = elim (leb_tells (length (listed list)) most) [ inl h ↦ absurd (too_many most _ none (some_part 44 list) h.1) | inr h ↦ rw h.0 (and_false (list_all is_name (listed list))) ]
+no_names most list none = elim (leb_tells (length (parts_of_list list)) most) [ inl h ↦ absurd (too_many most _ none (some_part 44 list) h.1) | inr h ↦ rw h.0 (and_false (list_all is_name (parts_of_list list))) ]
 
 -- an `ASSEMBLE` with two `<` is none
 pub many_targets : (word rest behind to from : List ℕ) (is_one is_two : Bool) → parts_of 60 word ≡ to ∷ (if is_one then [] else parts_of 60 rest) → is_one ≡ false
     → parts_of 60 rest ≡ from ∷ (if is_two then [] else parts_of 60 behind) → is_two ≡ false → Err BadLine ≡ whole (assemble_of word)
 many_targets word rest behind to from is_one is_two one some two more =
-    sym (ap (λ parts. whole (assembled parts)) (one ∙ ap (λ b. to ∷ (if b then [] else parts_of 60 rest)) some
+    sym (ap (λ parts. whole (assemble_entry parts)) (one ∙ ap (λ b. to ∷ (if b then [] else parts_of 60 rest)) some
     ∙ ap (λ w. to ∷ w) (two ∙ ap (λ b. from ∷ (if b then [] else parts_of 60 behind)) more ∙ ap (λ w. from ∷ w) (cut 60 behind))))
 
 -- four words or more are none of the forms
@@ -128,7 +128,7 @@ whole_err : (said : Option Entry) (why : SessionFault) → whole said ≡ Err wh
 whole_err None why is = cc
 whole_err (Some said) why is = cc
 
-named_err : (entry : List ℕ → Entry) (word : List ℕ) (why : SessionFault) → named entry (name_bytes word) ≡ Err why → why ≡ BadLine
+named_err : (entry : List ℕ → Entry) (word : List ℕ) (why : SessionFault) → line_of_name entry (name_bytes word) ≡ Err why → why ≡ BadLine
 named_err entry [] why is = cc
 named_err entry (b ∷ bs) why is = cc
 

@@ -3,8 +3,8 @@ use Rattle.std.proofs.Common.{◌≡◌, ◌≤◌, ℕ, arith, refl, ap, ◌∙
 use Rattle.std.specs.Prelude.{codes, ◌==◌, ◌&&◌, nat_le}
 use Rattle.std.specs.List.{list_all}
 use Rattle.std.proofs.lemmas.Bool.Decides.{eqb_tells, leb_tells}
-use Rattle.script8.specs.Lines.{says, command_says, command_of, form_of, parts_of, onto_first, whole, is_name, listed, lists_names, assembled, target_and_sources}
-use Rattle.script8.specs.Written.{IsPlain, ArePlain, joined, AssembleAsWritten}
+use Rattle.script8.specs.Lines.{says, command_says, command_of, form_of, parts_of, onto_first, whole, is_name, parts_of_list, lists_names, assemble_entry, target_and_sources}
+use Rattle.script8.specs.Written.{IsPlain, ArePlain, with_commas, AssembleAsWritten}
 use Rattle.script8.specs.declared.entries.Entry.TheVariants as entry
 use Rattle.script8.specs.declared.entries.JobEntry.TheVariants as job
 
@@ -46,11 +46,11 @@ no_target [] plain = tt
 no_target (b ∷ bs) (one, two, three, four, plain) = (four, no_target bs plain)
 
 -- nor have they, with commas between
-none_joined : (mark : ℕ) → (44 == mark) ≡ false → ((name : List ℕ) → IsPlain name → HasNo mark name) → (name : List ℕ) (others : List (List ℕ)) → ArePlain (name ∷ others) → HasNo mark (joined name others)
+none_joined : (mark : ℕ) → (44 == mark) ≡ false → ((name : List ℕ) → IsPlain name → HasNo mark name) → (name : List ℕ) (others : List (List ℕ)) → ArePlain (name ∷ others) → HasNo mark (with_commas name others)
 none_joined mark comma none name [] (some, plain, rest) = none name plain
 none_joined mark comma none name (other ∷ others) (some, plain, rest) = no_behind mark name _ (none name plain) (comma, none_joined mark comma none other others rest)
 
-listed_joined : (name : List ℕ) (others : List (List ℕ)) → ArePlain (name ∷ others) → listed (joined name others) ≡ name ∷ others
+listed_joined : (name : List ℕ) (others : List (List ℕ)) → ArePlain (name ∷ others) → parts_of_list (with_commas name others) ≡ name ∷ others
 listed_joined name [] (some, plain, rest) = parts_alone 44 name (no_comma name plain)
 listed_joined name (other ∷ others) (some, plain, rest) = parts_before 44 name _ (no_comma name plain) ∙ ap (λ names. name ∷ names) (listed_joined other others rest)
 
@@ -61,7 +61,7 @@ all_names (name ∷ names) (some, plain, rest) = rw some (all_names names rest)
 few_names : (size most : ℕ) → size ≤ most → nat_le size most ≡ true
 few_names size most few = elim (leb_tells size most) [ inl h ↦ h.0 | inr h ↦ absurd (omega (arith, few, h.1)) ]
 
-names_listed : (most : ℕ) (name : List ℕ) (others : List (List ℕ)) → ArePlain (name ∷ others) → length (name ∷ others) ≤ most → lists_names most (joined name others) ≡ true
+names_listed : (most : ℕ) (name : List ℕ) (others : List (List ℕ)) → ArePlain (name ∷ others) → length (name ∷ others) ≤ most → lists_names most (with_commas name others) ≡ true
 names_listed most name others plain few =
     ap (λ names. list_all is_name names && nat_le (length names) most) (listed_joined name others plain)
     ∙ ap (λ b. b && nat_le (length (name ∷ others)) most) (all_names (name ∷ others) plain) ∙ few_names _ most few
@@ -71,19 +71,19 @@ command_same [] free = refl
 command_same (b ∷ []) (one, free) = rw one refl
 command_same (b ∷ c ∷ bs) (one, free) = ap (λ t. b ∷ t) (command_same (c ∷ bs) free)
 
-chosen : (to source : List ℕ) (others : List (List ℕ)) → ArePlain (to ∷ source ∷ others) → length others ≤ 7 → target_and_sources to (joined source others) ≡ Some (entry.Jobs (job.Assemble to (source ∷ others)))
+chosen : (to source : List ℕ) (others : List (List ℕ)) → ArePlain (to ∷ source ∷ others) → length others ≤ 7 → target_and_sources to (with_commas source others) ≡ Some (entry.Jobs (job.Assemble to (source ∷ others)))
 chosen to source others (some, plain, rest) few =
-    ap (λ b. if b && lists_names 8 (joined source others) then Some (entry.Jobs (job.Assemble to (listed (joined source others)))) else None) (names_listed 1 to [] (some, plain, tt) (omega arith))
-    ∙ ap (λ b. if b then Some (entry.Jobs (job.Assemble to (listed (joined source others)))) else None) (names_listed 8 source others rest (omega (arith, few)))
+    ap (λ b. if b && lists_names 8 (with_commas source others) then Some (entry.Jobs (job.Assemble to (parts_of_list (with_commas source others)))) else None) (names_listed 1 to [] (some, plain, tt) (omega arith))
+    ∙ ap (λ b. if b then Some (entry.Jobs (job.Assemble to (parts_of_list (with_commas source others)))) else None) (names_listed 8 source others rest (omega (arith, few)))
     ∙ ap (λ names. Some (entry.Jobs (job.Assemble to names))) (listed_joined source others rest)
 
 pub assemble_as_written : AssembleAsWritten
 unfolding says
 assemble_as_written to source others (some, plain, rest) few =
-    let word = to ++ 60 ∷ joined source others in
+    let word = to ++ 60 ∷ with_commas source others in
     let returns = no_behind 13 to _ (no_return to plain) (refl, none_joined 13 refl no_return source others rest) in
     let blanks = no_behind 32 to _ (no_blank to plain) (refl, none_joined 32 refl no_blank source others rest) in
     ap command_says (command_same (codes "ASSEMBLE " ++ word) (refl, (refl, (refl, (refl, (refl, (refl, (refl, (refl, (refl, returns))))))))))
     ∙ ap (λ words. form_of (codes "ASSEMBLE" ∷ words)) (parts_alone 32 word blanks)
-    ∙ ap (λ parts. whole (assembled parts)) (parts_before 60 to _ (no_target to plain) ∙ ap (λ parts. to ∷ parts) (parts_alone 60 (joined source others) (none_joined 60 refl no_target source others rest)))
+    ∙ ap (λ parts. whole (assemble_entry parts)) (parts_before 60 to _ (no_target to plain) ∙ ap (λ parts. to ∷ parts) (parts_alone 60 (with_commas source others) (none_joined 60 refl no_target source others rest)))
     ∙ ap whole (chosen to source others (some, plain, rest) few)

@@ -15,13 +15,13 @@ part_of mark [] = []
 part_of mark (b ∷ bs) = if b == mark then [] else b ∷ part_of mark bs
 
 -- a text after bytes of a line, or after none, with an LF at its end
-abbrev pub ended_behind : Bool → List ℕ → List ℕ
-ended_behind begun [] = if begun then 0o12 ∷ [] else []
-ended_behind begun (b ∷ bs) = if b == 0o12 then b ∷ ended_behind false bs else b ∷ ended_behind true bs
+abbrev pub with_line_end_after : Bool → List ℕ → List ℕ
+with_line_end_after begun [] = if begun then 0o12 ∷ [] else []
+with_line_end_after begun (b ∷ bs) = if b == 0o12 then b ∷ with_line_end_after false bs else b ∷ with_line_end_after true bs
 
 -- a text with an LF at its end
-abbrev pub ended : List ℕ → List ℕ
-ended text = ended_behind false text
+abbrev pub with_line_end : List ℕ → List ℕ
+with_line_end text = with_line_end_after false text
 
 -- the lines of a text that goes on begin with these, and those of the rest come after them, whatever follows
 pub record HasPrefix (text : List ℕ) (prefix : List (List ℕ)) (rest : List ℕ) : Type 0 where
@@ -33,7 +33,7 @@ pub record Cuts (text : List ℕ) (is_end : Bool) (count bytes : ℕ) : Type 0 w
   pub prefix : List (List ℕ)
   pub within : bytes ≤ length text
   pub size : length prefix ≡ count
-  pub content : text_of prefix ≡ ended (take bytes text)
+  pub content : text_of prefix ≡ with_line_end (take bytes text)
   pub script : lines_of text ≡ prefix ++ lines_of (drop bytes text)
   pub on : is_end ≡ false → HasPrefix text prefix (drop bytes text)
 

@@ -14,7 +14,7 @@ use Rattle.os8_dir.specs.declared.faults.DirFault.TheVariants as directory
 use Rattle.os8_dir.specs.declared.file_faults.FileFault.{FileFault}
 use Rattle.os8_dir.specs.declared.file_faults.FileFault.TheVariants.{NotFound, NoRoom, DirectoryFull, Busy, BadName, TooLong, TentativeOpen, Device, Stopped, NothingWritten}
 use Rattle.os8_dir.specs.declared.file_faults.FileFault.TheVariants as file
-use Rattle.script8.specs.Shown.{shown}
+use Rattle.script8.specs.Shown.{name_text}
 use Rattle.script8.specs.declared.faults.SessionFault.{SessionFault}
 use Rattle.script8.specs.declared.faults.SessionFault.TheVariants.{BadLine, NoJob, TooManyJobs, File, Asm, Tape, BadText, Reader, Writer, Memory, TooManyBreaks}
 
@@ -76,7 +76,7 @@ abbrev pub file_fault_text : FileFault → List ℕ
 file_fault_text NotFound = codes "? 4.1 NOT FOUND"
 file_fault_text (NoRoom blocks) = codes "? 4.2 NO ROOM " ++ decimal blocks
 file_fault_text DirectoryFull = codes "? 4.3 DIRECTORY FULL"
-file_fault_text (Busy name) = codes "? 4.4 BUSY " ++ shown name
+file_fault_text (Busy name) = codes "? 4.4 BUSY " ++ name_text name
 file_fault_text BadName = codes "? 4.5 BAD NAME"
 file_fault_text TooLong = codes "? 4.6 TOO LONG"
 file_fault_text TentativeOpen = codes "? 4.7 TENTATIVE OPEN"

@@ -136,9 +136,9 @@ name_bytes [] = Err BadLine
 name_bytes (b ∷ bs) = Ok (b ∷ bs)
 
 -- an entry of a name, as `DELETE` and `LOAD`
-abbrev pub named : (List ℕ → Entry) → Result (List ℕ) SessionFault → Result Line SessionFault
-named entry (Err fault) = Err fault
-named entry (Ok name) = Ok (Whole (entry name))
+abbrev pub line_of_name : (List ℕ → Entry) → Result (List ℕ) SessionFault → Result Line SessionFault
+line_of_name entry (Err fault) = Err fault
+line_of_name entry (Ok name) = Ok (Whole (entry name))
 
 -- `STORE` of a name and of so many lines, at most 999,999
 abbrev pub store_of : Result (List ℕ) SessionFault → Option ℕ → Result Line SessionFault
@@ -152,28 +152,28 @@ is_name [] = false
 is_name (b ∷ bs) = true
 
 -- what stands between the commas of a list
-abbrev pub listed : List ℕ → List (List ℕ)
-listed list = parts_of 0o54 list
+abbrev pub parts_of_list : List ℕ → List (List ℕ)
+parts_of_list list = parts_of 0o54 list
 
 -- a list of names, of so many at most
 abbrev pub lists_names : ℕ → List ℕ → Bool
-lists_names most list = list_all is_name (listed list) && nat_le (length (listed list)) most
+lists_names most list = list_all is_name (parts_of_list list) && nat_le (length (parts_of_list list)) most
 
 -- `ASSEMBLE` of one target and of 1 to 8 sources, which are between commas
 abbrev pub target_and_sources : List ℕ → List ℕ → Option Entry
 target_and_sources to from =
-    if lists_names 1 to && lists_names 8 from then Some (entry.Jobs (job.Assemble to (listed from))) else None
+    if lists_names 1 to && lists_names 8 from then Some (entry.Jobs (job.Assemble to (parts_of_list from))) else None
 
 -- the parts of an `ASSEMBLE`: a target and its sources
-abbrev pub assembled : List (List ℕ) → Option Entry
-assembled [] = None
-assembled (to ∷ []) = None
-assembled (to ∷ from ∷ []) = target_and_sources to from
-assembled (to ∷ from ∷ other ∷ others) = None
+abbrev pub assemble_entry : List (List ℕ) → Option Entry
+assemble_entry [] = None
+assemble_entry (to ∷ []) = None
+assemble_entry (to ∷ from ∷ []) = target_and_sources to from
+assemble_entry (to ∷ from ∷ other ∷ others) = None
 
 -- `ASSEMBLE` of what stands around one `<`
 abbrev pub assemble_of : List ℕ → Option Entry
-assemble_of word = assembled (parts_of 60 word)
+assemble_of word = assemble_entry (parts_of 60 word)
 
 -- what a command of one word says
 abbrev pub bare : List ℕ → Result Line SessionFault
@@ -189,8 +189,8 @@ load name = entry.Jobs (job.Load name)
 -- what a command of two words says
 abbrev pub with_word : List ℕ → List ℕ → Result Line SessionFault
 with_word verb word =
-    if bytes_eq verb (codes "DELETE") then named delete (name_bytes word) else
-    (if bytes_eq verb (codes "LOAD") then named load (name_bytes word) else
+    if bytes_eq verb (codes "DELETE") then line_of_name delete (name_bytes word) else
+    (if bytes_eq verb (codes "LOAD") then line_of_name load (name_bytes word) else
     (if bytes_eq verb (codes "ASSEMBLE") then whole (assemble_of word)
     else whole (entry_with_word verb word)))
 

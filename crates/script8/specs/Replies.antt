@@ -3,7 +3,7 @@ use Rattle.std.specs.Prelude.{ℕ, ◌/◌, codes, decimal, Bool, true, false, O
 use Rattle.std.specs.List.{flat_map}
 use Rattle.word12.specs.Octal.{octal_digit, octal4, octal5}
 use Rattle.script8.specs.Faults.{fault_text}
-use Rattle.script8.specs.Shown.{shown}
+use Rattle.script8.specs.Shown.{name_text}
 use Rattle.script8.specs.declared.entries.Entry.{Entry}
 use Rattle.script8.specs.declared.entries.Entry.TheVariants as entry
 use Rattle.script8.specs.declared.entries.JobEntry.{JobEntry}
@@ -17,13 +17,13 @@ use Rattle.script8.specs.declared.replies.Report.{Report}
 use Rattle.script8.specs.declared.replies.Report.TheVariants.{Direct, Registers, Printed}
 use Rattle.script8.specs.declared.replies.LineReply.{LineReply}
 use Rattle.script8.specs.declared.replies.LineReply.TheVariants.{Stored, Deleted, Job, Working, Assembled, Loaded, Squeezed, Finished, Started, Steps, Key, Done, Switches, Core, Break}
-use Rattle.script8.specs.declared.replies.Why.{Why}
-use Rattle.script8.specs.declared.replies.Why.TheVariants.{Halt, Unassigned, Limit}
-use Rattle.script8.specs.declared.replies.Why.TheVariants as why
+use Rattle.script8.specs.declared.replies.StepEnd.{StepEnd}
+use Rattle.script8.specs.declared.replies.StepEnd.TheVariants.{Halt, Unassigned, Limit}
+use Rattle.script8.specs.declared.replies.StepEnd.TheVariants as why
 
 -- the line of a file with its blocks
 abbrev pub file_line : ℕ × ℕ → List ℕ
-file_line (name, blocks) = shown name ++ 0o40 ∷ decimal blocks ++ 0o12 ∷ []
+file_line (name, blocks) = name_text name ++ 0o40 ∷ decimal blocks ++ 0o12 ∷ []
 
 -- the lines of some files
 abbrev pub file_lines : List (ℕ × ℕ) → List ℕ
@@ -50,7 +50,7 @@ abbrev pub character_text : ℕ → List ℕ
 character_text character =
     octal_digit (character / 64) ∷ octal_digit (character / 8) ∷ octal_digit character ∷ []
 
-abbrev pub why_text : Why → List ℕ
+abbrev pub why_text : StepEnd → List ℕ
 why_text Halt = codes "HALT"
 why_text Unassigned = codes "UNASSIGNED"
 why_text why.Break = codes "BREAK"
@@ -62,7 +62,7 @@ setting_text false = codes "OFF"
 
 -- the name of a file, and its blocks
 abbrev pub file_text : ℕ → ℕ → List ℕ
-file_text name blocks = shown name ++ 0o40 ∷ decimal blocks
+file_text name blocks = name_text name ++ 0o40 ∷ decimal blocks
 
 -- the end of an assembling job
 abbrev pub assembled_text : ℕ → ℕ → ℕ → List ℕ
@@ -71,11 +71,11 @@ assembled_text job name blocks = job_text job (codes " ASSEMBLED " ++ file_text 
 -- the text of a reply of one line
 abbrev pub line_reply_text : LineReply → List ℕ
 line_reply_text (Stored name blocks) = codes "STORED " ++ file_text name blocks
-line_reply_text (Deleted name) = codes "DELETED " ++ shown name
+line_reply_text (Deleted name) = codes "DELETED " ++ name_text name
 line_reply_text (Job job) = job_text job []
 line_reply_text (Working job) = codes "WORKING " ++ decimal job
 line_reply_text (Assembled job name blocks) = assembled_text job name blocks
-line_reply_text (Loaded job name) = job_text job (codes " LOADED " ++ shown name)
+line_reply_text (Loaded job name) = job_text job (codes " LOADED " ++ name_text name)
 line_reply_text (Squeezed job) = job_text job (codes " SQUEEZED")
 line_reply_text Finished = codes "FINISHED"
 line_reply_text (Started cell) = codes "STARTED " ++ octal5 cell

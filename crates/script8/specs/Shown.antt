@@ -23,5 +23,5 @@ shown_name (a ∷ b ∷ c ∷ extension ∷ []) = shown_words (a ∷ b ∷ c ∷
 shown_name words = []
 
 -- the characters of a name
-unfoldable pub shown : ℕ → List ℕ
-shown name = shown_name (words_of_name name)
+unfoldable pub name_text : ℕ → List ℕ
+name_text name = shown_name (words_of_name name)

@@ -17,13 +17,13 @@ ArePlain [] = Unit {0}
 ArePlain (name ∷ names) = (is_name name ≡ true) × IsPlain name × ArePlain names
 
 -- a name and further ones, with commas between
-abbrev pub joined : List ℕ → List (List ℕ) → List ℕ
-joined name [] = name
-joined name (other ∷ others) = name ++ 0o54 ∷ joined other others
+abbrev pub with_commas : List ℕ → List (List ℕ) → List ℕ
+with_commas name [] = name
+with_commas name (other ∷ others) = name ++ 0o54 ∷ with_commas other others
 
 -- A target and 1 to 8 sources are read as they are written.
 abbrev pub AssembleAsWritten : Type 0
 AssembleAsWritten =
     (to source : List ℕ) (others : List (List ℕ)) → ArePlain (to ∷ source ∷ others) → length others ≤ 7
-    → says (codes "ASSEMBLE " ++ (to ++ 0o74 ∷ joined source others))
+    → says (codes "ASSEMBLE " ++ (to ++ 0o74 ∷ with_commas source others))
     ≡ Ok (Whole (entry.Jobs (job.Assemble to (source ∷ others))))

@@ -1,7 +1,7 @@
 //! The operand of `ASSEMBLE`: a target and its sources.
 ghost use Rattle.std.specs.Prelude.{◌≡◌, ◌≤◌, ◌&&◌, ◌⊎◌, ◌++◌, OnOk, IfOk, nat_le, length, Ok, Err};
 ghost use Rattle.std.specs.List.{list_all};
-ghost use Rattle.script8.specs.Lines.{Parses, whole, assemble_of, lists_names, listed, is_name};
+ghost use Rattle.script8.specs.Lines.{Parses, whole, assemble_of, lists_names, parts_of_list, is_name};
 ghost use Rattle.script8.specs.declared.entries.Entry.TheVariants as entry;
 ghost use Rattle.script8.specs.declared.entries.JobEntry.TheVariants as job;
 ghost use Rattle.script8.specs.declared.faults.SessionFault.TheVariants.{Memory};
@@ -45,7 +45,7 @@ fn are_names(list: &[u8], most: usize) -> bool
 
 /// The `ASSEMBLE` of a target and of the sources of a list.
 fn target_and_sources(alloc: Global, to: &[u8], from: &[u8]) -> Result<Line, SessionFault>
-    ensures { (result ≡ Ok (Whole (entry.Jobs (job.Assemble to.now (listed from.now)))))
+    ensures { (result ≡ Ok (Whole (entry.Jobs (job.Assemble to.now (parts_of_list from.now)))))
         ⊎ (result ≡ Err Memory) }
 {
     let to = Vec::from_slice(alloc, to)?;
@@ -59,7 +59,7 @@ fn target_and_sources(alloc: Global, to: &[u8], from: &[u8]) -> Result<Line, Ses
 
 /// Puts the names of a list after others.
 fn put_names(alloc: Global, list: &[u8], names: &mut Vec<Bytes>) -> Result<(), AllocError>
-    ensures { OnOk result (names.new.items ≡ names.old.items ++ listed list.now) }
+    ensures { OnOk result (names.new.items ≡ names.old.items ++ parts_of_list list.now) }
 {
     let (name, is_last, others) = first_part(list, b',');
     names.push(Bytes::new(Vec::from_slice(alloc, name)?))?;

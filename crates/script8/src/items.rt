@@ -1,6 +1,6 @@
 //! The items of a script, one after another.
 ghost use Rattle.std.specs.Prelude.{◌≡◌, if◌then◌else◌, ◌∷◌, ◌++◌, ◌-◌, ◌<◌, ◌≤◌, ℕ, List, [], length, drop, Ok, Err, IfOk, true, false};
-ghost use Rattle.script8.specs.CutSteps.{Cuts, Cut, FirstLineSays, ended};
+ghost use Rattle.script8.specs.CutSteps.{Cuts, Cut, FirstLineSays, with_line_end};
 ghost use Rattle.script8.specs.Items.{BeginsWith, WaitsForLines, ended_lines};
 ghost use Rattle.script8.specs.declared.faults.SessionFault.TheVariants.{BadLine};
 ghost use Rattle.script8.specs.declared.items.Item.TheVariants.{Refused};
@@ -183,7 +183,7 @@ const BLOCK: usize = 64;
 /// A line without the LF that may stand at its end.
 fn without_end(line: &[u8]) -> &[u8]
     requires { 0 < length line.now }
-    ensures { ended line.now ≡ result.now ++ 0o12 ∷ [] }
+    ensures { with_line_end line.now ≡ result.now ++ 0o12 ∷ [] }
 {
     match line.strip_suffix(b"\n".as_slice()) {
         Some(prefix) => prefix,
@@ -193,7 +193,7 @@ fn without_end(line: &[u8]) -> &[u8]
 
 /// A text, with an LF at its end.
 fn ended_text(alloc: Global, text: &[u8]) -> Result<Bytes, AllocError>
-    ensures { IfOk result (λ own. own ≡ ended text.now) }
+    ensures { IfOk result (λ own. own ≡ with_line_end text.now) }
 {
     let mut items = Vec::with_capacity(alloc, text.len().saturating_add(1))?;
     items.extend_from_slice(text)?;
@@ -205,7 +205,7 @@ fn ended_text(alloc: Global, text: &[u8]) -> Result<Bytes, AllocError>
 
 /// Whether a text ends in the midst of a line.
 fn needs_end(text: &[u8]) -> bool
-    ensures { ended text.now ≡ text.now ++ (if result then 0o12 ∷ [] else []) }
+    ensures { with_line_end text.now ≡ text.now ++ (if result then 0o12 ∷ [] else []) }
 {
     if text.is_empty() {
         return false;

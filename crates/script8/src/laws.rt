@@ -5,13 +5,13 @@ ghost use Rattle.word12.specs.declared.sizes.TheConstants.{CORE};
 ghost use Rattle.os8_dir.specs.Names.{parsed_name};
 ghost use Rattle.script8.specs.Lines.{number_of, cell_of, character_of};
 ghost use Rattle.script8.specs.Replies.{character_text};
-ghost use Rattle.script8.specs.Shown.{shown};
+ghost use Rattle.script8.specs.Shown.{name_text};
 ghost use Rattle.script8.specs.Written.{AssembleAsWritten};
 
 /// A name is shown as it was typed.
 #[tactic(auto, using(crate::proofs::LawLemmas::name_as_typed))]
 pub fn name_as_typed()
-    ensures { (text : List ℕ) (name : ℕ) → parsed_name text ≡ Some name → shown name ≡ text }
+    ensures { (text : List ℕ) (name : ℕ) → parsed_name text ≡ Some name → name_text name ≡ text }
 {}
 
 /// A number of at most seven digits that is shown is read as that number.

@@ -35,4 +35,4 @@ pub use operands::are_steps;
 pub use parsing::parse_line;
 pub use readings::read_all;
 pub use refusals::put_directory_fault;
-pub use replies::{LineReply, Reply, Report, Why};
+pub use replies::{LineReply, Reply, Report, StepEnd};

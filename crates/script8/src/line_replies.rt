@@ -5,7 +5,7 @@ ghost use Rattle.word12.specs.Octal.{octal5};
 ghost use Rattle.script8.specs.Replies.{line_reply_text, assembled_text, file_text, why_text, setting_text, character_text, job_text};
 
 use crate::text_lines::{put, put_name, put_number};
-use crate::{LineReply, Why};
+use crate::{LineReply, StepEnd};
 use arrayvec::ArrayVec;
 use os8_dir::Name;
 use word12::Cell;
@@ -100,16 +100,16 @@ fn put_file(line: &mut ArrayVec<u8, 80>, name: Name, blocks: usize)
 }
 
 /// Puts why steps ended, between blanks.
-fn put_why(line: &mut ArrayVec<u8, 80>, why: Why)
+fn put_why(line: &mut ArrayVec<u8, 80>, why: StepEnd)
     requires { array_vec_len line.old ≤ 40 }
     ensures text { line.new.items ≡ line.old.items ++ 0o40 ∷ why_text why ++ 0o40 ∷ [] }
     ensures short { array_vec_len line.new ≤ array_vec_len line.old + 12 }
 {
     match why {
-        Why::Halt => put(line, b" HALT "),
-        Why::Unassigned => put(line, b" UNASSIGNED "),
-        Why::Break => put(line, b" BREAK "),
-        Why::Limit => put(line, b" LIMIT "),
+        StepEnd::Halt => put(line, b" HALT "),
+        StepEnd::Unassigned => put(line, b" UNASSIGNED "),
+        StepEnd::Break => put(line, b" BREAK "),
+        StepEnd::Limit => put(line, b" LIMIT "),
     }
 }
 

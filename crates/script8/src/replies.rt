@@ -55,7 +55,7 @@ pub enum LineReply {
     /// So many steps were made, why they ended, and the cell of the instruction field and the program counter then.
     Steps {
         steps: u32,
-        why: Why,
+        why: StepEnd,
         cell: Cell,
     },
 
@@ -96,7 +96,7 @@ pub enum Report {
 
 /// Why the processor's steps of an entry ended, the first of these that holds.
 #[derive(Clone, Copy)]
-pub enum Why {
+pub enum StepEnd {
     /// It halted, or stood stopped.
     Halt,
 

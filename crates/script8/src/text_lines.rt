@@ -2,7 +2,7 @@
 ghost use Rattle.std.specs.Prelude.{◌≡◌, ◌+◌, ◌≤◌, ◌<◌, ◌++◌, [], ◌∷◌, decimal, length};
 ghost use Rattle.arrayvec.specs.ArrayVec.{array_vec_len};
 ghost use Rattle.os8_dir.specs.Names.{words_of_name};
-ghost use Rattle.script8.specs.Shown.{shown, shown_code, shown_words};
+ghost use Rattle.script8.specs.Shown.{name_text, shown_code, shown_words};
 
 use arrayvec::ArrayVec;
 use os8_dir::Name;
@@ -31,10 +31,10 @@ pub fn put_number(line: &mut ArrayVec<u8, 80>, number: u64)
 }
 
 /// Puts the characters of a name, as it is shown.
-#[tactic(auto, unfolding(crate::specs::Shown::shown))]
+#[tactic(auto, unfolding(crate::specs::Shown::name_text))]
 pub fn put_name(line: &mut ArrayVec<u8, 80>, name: Name)
     requires { array_vec_len line.old ≤ 40 }
-    ensures text { line.new.items ≡ line.old.items ++ shown name }
+    ensures text { line.new.items ≡ line.old.items ++ name_text name }
     ensures short { array_vec_len line.new ≤ array_vec_len line.old + 9 }
 {
     let [a, b, c, extension] = name.words();

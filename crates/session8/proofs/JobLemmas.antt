@@ -1,13 +1,13 @@
 -- What the entries of jobs come to.
 use Rattle.std.proofs.Common.{Result, ◌≡◌, ◌≢◌, ◌⊎◌, inl, inr, arith, ℕ, zero, suc, Bool, true, false, List, [], ◌∷◌, ◌++◌, get_or, slice_set, length, ◌<◌, ◌≤◌, true≢false, IsErrOf, Option, Some, None, Ok, Err, refl, ap, sym, subst, ◌∙◌}
 use Rattle.os8_dir.specs.Names.{parsed_name}
-use Rattle.os8_files.specs.Mounted.{Mounted}
+use Rattle.os8_files.specs.Mounted.{MountState}
 use Rattle.os8_dir.specs.declared.file_faults.FileFault.TheVariants as file
 use Rattle.jobs8.specs.Calls as calls
 use Rattle.jobs8.specs.Calls.{LeavesJobs, NumberTurnsOver, Outlives, TakesTurn, TurnsOver, StartsOver, StartsAssembling, StartsLoading, StartsSqueezing}
 use Rattle.jobs8.specs.Jobs.{Job, Work, Assembling, Loading, Squeezing, IsLowest, IsTaken, job_of, with_job, lowest_job, turns_left}
 use Rattle.jobs8.specs.Settled.{plain_jobs, state_over}
-use Rattle.jobs8.specs.Starts.{Begun, AssembleStarts, LoadStarts, SqueezeStarts}
+use Rattle.jobs8.specs.Starts.{StartResult, AssembleStarts, LoadStarts, SqueezeStarts}
 use Rattle.jobs8.specs.State as jobs
 use Rattle.jobs8.specs.Turns as turns
 use Rattle.jobs8.specs.Turns.{Turns, JobTurn, WorkTurn}
@@ -26,7 +26,7 @@ use Rattle.script8.specs.declared.replies.LineReply.TheVariants as line
 use Rattle.session8.specs.Files.{name_before, parsed_names}
 use Rattle.session8.specs.Refusals.{MayRefuse, after_refusal, jobs_without}
 use Rattle.session8.specs.Failing.{JobsStopFor}
-use Rattle.session8.specs.Session.{Seen, state_of, NoCallFailed, IsReply, TellsBlockCalls}
+use Rattle.session8.specs.Session.{SessionView, state_of, NoCallFailed, IsReply, TellsBlockCalls}
 use Rattle.session8.specs.SessionSteps.{DoesEntry, job_reply}
 use Rattle.session8.specs.State.{State}
 use Rattle.session8.specs.System.{Answer, MayReply, MayAnswer}
@@ -39,7 +39,7 @@ bool_cases true = inl refl
 bool_cases false = inr refl
 
 -- what is seen where the volume is another, the jobs, and core
-abbrev pub over_work : Seen → Mounted → List (Option Job) → List ℕ → Seen
+abbrev pub over_work : SessionView → MountState → List (Option Job) → List ℕ → SessionView
 over_work s v js core = record { volume = v; jobs = js; console = with_core s.console core }
 
 -- ## Turns that end a job, or are not taken
@@ -143,11 +143,11 @@ err_is job.Memory other is = absurd (other refl)
 -- ## Turns
 
 -- a turn over what is seen, whose jobs are those of the table
-abbrev turned_on : Seen → List (Option kept.Job) → ℕ → turns.Answer → Mounted → List ℕ → List (Option kept.Job) → Type 0
+abbrev turned_on : SessionView → List (Option kept.Job) → ℕ → turns.Answer → MountState → List ℕ → List (Option kept.Job) → Type 0
 turned_on s js number answer v core js' = TakesTurn s.volume s.console.machine.core js number answer v core js'
 
 -- the turn over the state of the machine
-turns_on : (s : Seen) (js : List (Option kept.Job)) (number : ℕ) (answer : turns.Answer) (after : jobs.State) → s.jobs ≡ plain_jobs js → Turns (state_over s.volume s.console.machine.core (plain_jobs js)) number answer after → Turns (job_state (state_of s)) number answer after
+turns_on : (s : SessionView) (js : List (Option kept.Job)) (number : ℕ) (answer : turns.Answer) (after : jobs.State) → s.jobs ≡ plain_jobs js → Turns (state_over s.volume s.console.machine.core (plain_jobs js)) number answer after → Turns (job_state (state_of s)) number answer after
 turns_on s js number answer after is turn = subst (λ (l : List (Option Job)). Turns (state_over s.volume s.console.machine.core l) number answer after) (sym is) turn
 
 abbrev ok_turn : Turned → turns.Answer
@@ -156,31 +156,31 @@ ok_turn turned = Ok turned
 abbrev refused_turn : JobFault → turns.Answer
 refused_turn why = Err why
 
-still : (s : Seen) (v : Mounted) → calls.NoCallFailed s.volume v → v.stopped ≡ false → IsSteady s.volume v
+still : (s : SessionView) (v : MountState) → calls.NoCallFailed s.volume v → v.stopped ≡ false → IsSteady s.volume v
 still s v quiet running = record { stopped = running ∙ sym quiet.running; reads = quiet.reads; writes = quiet.writes }
 
 -- an answer to a turn of a number with this job
-abbrev DoesTurn : Seen → Mounted → List ℕ → List (Option kept.Job) → ℕ → Answer → Type 0
+abbrev DoesTurn : SessionView → MountState → List ℕ → List (Option kept.Job) → ℕ → Answer → Type 0
 DoesTurn s v core js' number answer = DoesEntry (entry.Jobs (order.Turn number)) s answer (over_work s v (plain_jobs js') core)
 
 ok_not_err : (turned : Turned) (why : JobFault) → ok_turn turned ≡ Err why → ⊥
 ok_not_err turned why is = cc
 
-pub turn_done : (s : Seen) (v : Mounted) (core : List ℕ) (js js' : List (Option kept.Job)) (number : ℕ) (turned : Turned) → s.jobs ≡ plain_jobs js → turned_on s js number (Ok turned) v core js' → DoesTurn s v core js' number (Ok (Line (turn_reply number turned)))
+pub turn_done : (s : SessionView) (v : MountState) (core : List ℕ) (js js' : List (Option kept.Job)) (number : ℕ) (turned : Turned) → s.jobs ≡ plain_jobs js → turned_on s js number (Ok turned) v core js' → DoesTurn s v core js' number (Ok (Line (turn_reply number turned)))
 turn_done s v core js js' number turned is has = of_job (job_of number (plain_jobs js)) has.volume
   where
     of_job : (it : Option Job) → NumberTurnsOver it s.volume (Ok turned) v → DoesTurn s v core js' number (Ok (Line (turn_reply number turned)))
     of_job None over = absurd (ok_not_err turned _ over.0)
     of_job (Some it) over = replied _ _ _ _ over.tells.running (still s v over.tells (over.running over.tells)) (turned, refl, (_, turns_on s js number _ _ is (has.step over.tells), refl))
 
-turn_undone : (s : Seen) (v : Mounted) (core : List ℕ) (js js' : List (Option kept.Job)) (number : ℕ) → s.jobs ≡ plain_jobs js → turned_on s js number (Err job.Memory) v core js' → TurnsOver s.volume (Err job.Memory) v → DoesTurn s v core js' number (Err fault.Memory)
+turn_undone : (s : SessionView) (v : MountState) (core : List ℕ) (js js' : List (Option kept.Job)) (number : ℕ) → s.jobs ≡ plain_jobs js → turned_on s js number (Err job.Memory) v core js' → TurnsOver s.volume (Err job.Memory) v → DoesTurn s v core js' number (Err fault.Memory)
 turn_undone s v core js js' number is has over = undone _ _ _ (λ halted. absurd (true≢false (sym halted ∙ over.tells.running))) gone.0 (still s v over.tells (over.running over.tells)) (ap (with_work (state_of s)) gone.1)
   where
     gone : ((it : Job) × (job_of number s.jobs ≡ Some it)) × (state_over v core (plain_jobs js') ≡ job_state (state_of s))
     gone = lacks _ _ number (turns_on s js number _ _ is (has.step over.tells))
 
 -- what the state is where the blocks are the same, a job is taken away, and core is the same
-state_without : (s : Seen) (v : Mounted) (core : List ℕ) (js js' : List (Option kept.Job)) (number : ℕ) → s.jobs ≡ plain_jobs js → v.blocks ≡ s.volume.blocks → plain_jobs js' ≡ with_job number None (plain_jobs js) → core ≡ s.console.machine.core
+state_without : (s : SessionView) (v : MountState) (core : List ℕ) (js js' : List (Option kept.Job)) (number : ℕ) → s.jobs ≡ plain_jobs js → v.blocks ≡ s.volume.blocks → plain_jobs js' ≡ with_job number None (plain_jobs js) → core ≡ s.console.machine.core
     → state_of (over_work s v (plain_jobs js') core) ≡ after_refusal (state_of s) (entry.Jobs (order.Turn number))
 state_without s v core js js' number is blocks left same =
     ap (λ b. at b (plain_jobs js') core) blocks
@@ -191,7 +191,7 @@ state_without s v core js js' number is blocks left same =
     at blocks jobs core = state_of (record { volume = record v { blocks = blocks }; jobs = jobs; console = with_core s.console core })
 
 -- a turn that is refused ends its job, whatever it tells of the block calls
-turn_ended : (s : Seen) (v : Mounted) (core : List ℕ) (js js' : List (Option kept.Job)) (number : ℕ) (why : JobFault) → why ≢ job.Memory → s.jobs ≡ plain_jobs js → turned_on s js number (Err why) v core js'
+turn_ended : (s : SessionView) (v : MountState) (core : List ℕ) (js js' : List (Option kept.Job)) (number : ℕ) (why : JobFault) → why ≢ job.Memory → s.jobs ≡ plain_jobs js → turned_on s js number (Err why) v core js'
     → s.volume.failed_reads ≤ v.failed_reads → s.volume.failed_writes ≤ v.failed_writes → (s.volume.failed_writes < v.failed_writes → Outlives s.volume.blocks v.blocks) → (calls.NoCallFailed s.volume v → v.stopped ≡ false)
     → (s.volume.stopped ≡ false → TellsBlockCalls (entry.Jobs (order.Turn number)) s (Err (fault_of_job why)) (over_work s v (plain_jobs js') core))
     → (s.volume.stopped ≡ true → JobsStopFor (state_of s) (order.Turn number) (fault_of_job why) × (state_of (over_work s v (plain_jobs js') core) ≡ after_refusal (state_of s) (entry.Jobs (order.Turn number))))
@@ -211,31 +211,31 @@ turn_ended s v core js js' number why other is has reads writes files running te
 }
 
 -- no block call failed, and none before
-turn_quiet : (s : Seen) (v : Mounted) (core : List ℕ) (js js' : List (Option kept.Job)) (number : ℕ) (why : JobFault) → why ≢ job.Memory → s.jobs ≡ plain_jobs js → turned_on s js number (Err why) v core js' → TurnsOver s.volume (Err why) v → calls.NoCallFailed s.volume v
+turn_quiet : (s : SessionView) (v : MountState) (core : List ℕ) (js js' : List (Option kept.Job)) (number : ℕ) (why : JobFault) → why ≢ job.Memory → s.jobs ≡ plain_jobs js → turned_on s js number (Err why) v core js' → TurnsOver s.volume (Err why) v → calls.NoCallFailed s.volume v
     → (calls.NoCallFailed s.volume v → TellsBlockCalls (entry.Jobs (order.Turn number)) s (Err (fault_of_job why)) (over_work s v (plain_jobs js') core)) → DoesTurn s v core js' number (Err (fault_of_job why))
 turn_quiet s v core js js' number why other is has over quiet tells =
     turn_ended s v core js js' number why other is has over.reads over.writes over.files over.running (λ running. tells quiet) (λ halted. absurd (true≢false (sym halted ∙ quiet.running)))
 
 -- there is no job of the number
-turn_of_none : (s : Seen) (v : Mounted) (core : List ℕ) (js js' : List (Option kept.Job)) (number : ℕ) (why : JobFault) → s.jobs ≡ plain_jobs js → turned_on s js number (Err why) v core js' → job_of number (plain_jobs js) ≡ None → why ≡ job.NoJob → v ≡ s.volume
+turn_of_none : (s : SessionView) (v : MountState) (core : List ℕ) (js js' : List (Option kept.Job)) (number : ℕ) (why : JobFault) → s.jobs ≡ plain_jobs js → turned_on s js number (Err why) v core js' → job_of number (plain_jobs js) ≡ None → why ≡ job.NoJob → v ≡ s.volume
     → DoesTurn s v core js' number (Err (fault_of_job why))
 turn_of_none s v core js js' number why is has none no_job same =
     subst (λ f. DoesTurn s v core js' number (Err (fault_of_job f))) (sym no_job) (turn_ended s v core js js' number job.NoJob (λ is. cc) is (subst (λ f. turned_on s js number (Err f) v core js') no_job has)
-    (omega (arith, reads)) (omega (arith, writes)) (λ more. absurd (omega (arith, more, writes))) (λ quiet. ap (λ (m : Mounted). m.stopped) same ∙ quiet.running)
+    (omega (arith, reads)) (omega (arith, writes)) (λ more. absurd (omega (arith, more, writes))) (λ quiet. ap (λ (m : MountState). m.stopped) same ∙ quiet.running)
     (λ running. record { running = running; reads = reads; writes = writes })
-    (λ halted. (ap (job_of number) is ∙ none, state_without s v core js js' number is (ap (λ (m : Mounted). m.blocks) same) (left why no_job has.left) (has.same_core why refl))))
+    (λ halted. (ap (job_of number) is ∙ none, state_without s v core js js' number is (ap (λ (m : MountState). m.blocks) same) (left why no_job has.left) (has.same_core why refl))))
   where
     reads : v.failed_reads ≡ s.volume.failed_reads
-    reads = ap (λ (m : Mounted). m.failed_reads) same
+    reads = ap (λ (m : MountState). m.failed_reads) same
 
     writes : v.failed_writes ≡ s.volume.failed_writes
-    writes = ap (λ (m : Mounted). m.failed_writes) same
+    writes = ap (λ (m : MountState). m.failed_writes) same
 
     left : (f : JobFault) → f ≡ job.NoJob → LeavesJobs number (Err f) (plain_jobs js) (plain_jobs js') → plain_jobs js' ≡ with_job number None (plain_jobs js)
     left f is leaves = subst (λ x. LeavesJobs number (Err x) (plain_jobs js) (plain_jobs js')) is leaves
 
 -- a turn of a job that is not answered by what it has done
-pub turn_refused : (s : Seen) (v : Mounted) (core : List ℕ) (js js' : List (Option kept.Job)) (number : ℕ) (why : JobFault) → s.jobs ≡ plain_jobs js → turned_on s js number (Err why) v core js' → DoesTurn s v core js' number (Err (fault_of_job why))
+pub turn_refused : (s : SessionView) (v : MountState) (core : List ℕ) (js js' : List (Option kept.Job)) (number : ℕ) (why : JobFault) → s.jobs ≡ plain_jobs js → turned_on s js number (Err why) v core js' → DoesTurn s v core js' number (Err (fault_of_job why))
 turn_refused s v core js js' number why is has = of_job (job_of number (plain_jobs js)) refl has.volume
   where
     there : (it : Job) → job_of number (plain_jobs js) ≡ Some it → (job : Job) × (job_of number s.jobs ≡ Some job)
@@ -275,7 +275,7 @@ turn_refused s v core js js' number why is has = of_job (job_of number (plain_jo
     of_job (Some it) at over = of_it it at why has over
 
 -- a turn of the lowest job leaves fewer turns, where memory suffices
-pub turn_fewer : ((js : List (Option Job)) (number : ℕ) → lowest_job js ≡ Some number → IsLowest (IsTaken js) (length js) number) → (v v' : Mounted) (core core' : List ℕ) (js js' : List (Option kept.Job)) (number : ℕ) (answer : turns.Answer)
+pub turn_fewer : ((js : List (Option Job)) (number : ℕ) → lowest_job js ≡ Some number → IsLowest (IsTaken js) (length js) number) → (v v' : MountState) (core core' : List ℕ) (js js' : List (Option kept.Job)) (number : ℕ) (answer : turns.Answer)
     → (answer ≡ Err job.Memory → ⊥) → lowest_job (plain_jobs js) ≡ Some number → TakesTurn v core js number answer v' core' js' → turns_left (plain_jobs js') < turns_left (plain_jobs js)
 turn_fewer law v v' core core' js js' number answer other low has = let taken = (law (plain_jobs js) number low).it in has.fewer taken.0 other taken.1
 
@@ -293,7 +293,7 @@ not_lacking r (job.Tape why) other is same = cc
 -- ## Starts
 
 -- a refusal, behind which the volume is as steady as before
-pub declined : (e : Entry) (s new : Seen) (why : JobFault) → why ≢ job.Memory → s.volume.stopped ≡ false → (NoCallFailed s new → TellsBlockCalls e s (Err (fault_of_job why)) new) → IsSteady s.volume new.volume → MayRefuse (state_of s) e (fault_of_job why) → state_of new ≡ after_refusal (state_of s) e → DoesEntry e s (Err (fault_of_job why)) new
+pub declined : (e : Entry) (s new : SessionView) (why : JobFault) → why ≢ job.Memory → s.volume.stopped ≡ false → (NoCallFailed s new → TellsBlockCalls e s (Err (fault_of_job why)) new) → IsSteady s.volume new.volume → MayRefuse (state_of s) e (fault_of_job why) → state_of new ≡ after_refusal (state_of s) e → DoesEntry e s (Err (fault_of_job why)) new
 declined e s new why other running tells still may after = record {
   step = λ quiet. refused_step e (state_of s) (state_of new) why other may after;
   later = record { reads = omega (arith, still.reads); writes = omega (arith, still.writes) };
@@ -307,32 +307,32 @@ declined e s new why other running tells still may after = record {
 }
 
 -- a start changes nothing of the volume but its holds
-start_steady : (old new : Mounted) → new ≡ record old { holds = new.holds } → IsSteady old new
+start_steady : (old new : MountState) → new ≡ record old { holds = new.holds } → IsSteady old new
 start_steady old new is = record {
-  stopped = ap (λ (m : Mounted). m.stopped) is;
-  reads = ap (λ (m : Mounted). m.failed_reads) is;
-  writes = ap (λ (m : Mounted). m.failed_writes) is;
+  stopped = ap (λ (m : MountState). m.stopped) is;
+  reads = ap (λ (m : MountState). m.failed_reads) is;
+  writes = ap (λ (m : MountState). m.failed_writes) is;
 }
 
 -- where a write had failed before, nothing is begun
-pub start_stopped : (it : JobEntry) (s new : Seen) (why : JobFault) → JobsStopFor (state_of s) it (fault.File file.Stopped) → state_of new ≡ after_refusal (state_of s) (entry.Jobs it) → s.volume.stopped ≡ true → why ≡ job.File file.Stopped → new.volume ≡ s.volume → DoesEntry (entry.Jobs it) s (Err (fault_of_job why)) new
+pub start_stopped : (it : JobEntry) (s new : SessionView) (why : JobFault) → JobsStopFor (state_of s) it (fault.File file.Stopped) → state_of new ≡ after_refusal (state_of s) (entry.Jobs it) → s.volume.stopped ≡ true → why ≡ job.File file.Stopped → new.volume ≡ s.volume → DoesEntry (entry.Jobs it) s (Err (fault_of_job why)) new
 start_stopped it s new why for after halted is same = subst (λ w. DoesEntry (entry.Jobs it) s (Err (fault_of_job w)) new) (sym is) (stopped _ s new (for, after) halted (behind_same _ _ same))
 
 pub never_number : {A E : Type 0} (number : A) (why : E) → Ok number ≡ Err why → ⊥
 never_number number why is = cc
 
-abbrev begun_not : JobFault → Begun
+abbrev begun_not : JobFault → StartResult
 begun_not why = Err why
 
 same_fault : (one two : JobFault) → begun_not one ≡ Err two → one ≡ two
 same_fault one two is = ap fault_in is
   where
-    fault_in : Begun → JobFault
+    fault_in : StartResult → JobFault
     fault_in (Ok number) = job.NoJob
     fault_in (Err why) = why
 
 -- a job is begun
-pub start_begun : (e : Entry) (s : Seen) (v : Mounted) (js js' : List (Option kept.Job)) (number : ℕ) → StartsOver s.volume js (Ok number) v js' → (s.volume.stopped ≡ false → MayReply (state_of s) e (Line (line.Job number)) (state_of (over_with s v (plain_jobs js'))))
+pub start_begun : (e : Entry) (s : SessionView) (v : MountState) (js js' : List (Option kept.Job)) (number : ℕ) → StartsOver s.volume js (Ok number) v js' → (s.volume.stopped ≡ false → MayReply (state_of s) e (Line (line.Job number)) (state_of (over_with s v (plain_jobs js'))))
     → DoesEntry e s (Ok (Line (line.Job number))) (over_with s v (plain_jobs js'))
 start_begun e s v js js' number over done = elim (bool_cases s.volume.stopped) [
   | inl halted ↦ absurd (never_number number _ (over.stopped halted).0)
@@ -340,10 +340,10 @@ start_begun e s v js js' number over done = elim (bool_cases s.volume.stopped) [
 ]
 
 -- no job is begun
-pub start_refused : (it : JobEntry) (s : Seen) (v : Mounted) (js js' : List (Option kept.Job)) (why : JobFault) → job_of_turn it ≡ None → JobsStopFor (state_of s) it (fault.File file.Stopped) → s.jobs ≡ plain_jobs js → StartsOver s.volume js (Err why) v js' → (s.volume.stopped ≡ false → DoesEntry (entry.Jobs it) s (Err (fault_of_job why)) (over_with s v (plain_jobs js')))
+pub start_refused : (it : JobEntry) (s : SessionView) (v : MountState) (js js' : List (Option kept.Job)) (why : JobFault) → job_of_turn it ≡ None → JobsStopFor (state_of s) it (fault.File file.Stopped) → s.jobs ≡ plain_jobs js → StartsOver s.volume js (Err why) v js' → (s.volume.stopped ≡ false → DoesEntry (entry.Jobs it) s (Err (fault_of_job why)) (over_with s v (plain_jobs js')))
     → DoesEntry (entry.Jobs it) s (Err (fault_of_job why)) (over_with s v (plain_jobs js'))
 start_refused it s v js js' why none for is over does = elim (bool_cases s.volume.stopped) [
-  | inl halted ↦ start_stopped it _ _ why for (ap (λ (m : Mounted). state_of (over_with s m (plain_jobs js'))) (over.stopped halted).1 ∙ ap (λ (l : List (Option Job)). state_of (over_with s s.volume l)) (ap plain_jobs (over.stopped halted).2 ∙ sym is) ∙ sym after) halted (same_fault _ _ (over.stopped halted).0) (over.stopped halted).1
+  | inl halted ↦ start_stopped it _ _ why for (ap (λ (m : MountState). state_of (over_with s m (plain_jobs js'))) (over.stopped halted).1 ∙ ap (λ (l : List (Option Job)). state_of (over_with s s.volume l)) (ap plain_jobs (over.stopped halted).2 ∙ sym is) ∙ sym after) halted (same_fault _ _ (over.stopped halted).0) (over.stopped halted).1
   | inr running ↦ does running
 ]
   where
@@ -352,10 +352,10 @@ start_refused it s v js js' why none for is over does = elim (bool_cases s.volum
 
 -- ## Loading
 
-load_on : (s : Seen) (js : List (Option kept.Job)) (name : ℕ) (answer : Begun) (after : jobs.State) → s.jobs ≡ plain_jobs js → LoadStarts (state_over s.volume s.console.machine.core (plain_jobs js)) name answer after → LoadStarts (job_state (state_of s)) name answer after
+load_on : (s : SessionView) (js : List (Option kept.Job)) (name : ℕ) (answer : StartResult) (after : jobs.State) → s.jobs ≡ plain_jobs js → LoadStarts (state_over s.volume s.console.machine.core (plain_jobs js)) name answer after → LoadStarts (job_state (state_of s)) name answer after
 load_on s js name answer after is starts = subst (λ (l : List (Option Job)). LoadStarts (state_over s.volume s.console.machine.core l) name answer after) (sym is) starts
 
-pub load_answered : (s : Seen) (v : Mounted) (js js' : List (Option kept.Job)) (bytes : List ℕ) (name : ℕ) (begun : Result ℕ JobFault) → parsed_name bytes ≡ Some name → s.jobs ≡ plain_jobs js → StartsLoading s.volume js name begun v js'
+pub load_answered : (s : SessionView) (v : MountState) (js js' : List (Option kept.Job)) (bytes : List ℕ) (name : ℕ) (begun : Result ℕ JobFault) → parsed_name bytes ≡ Some name → s.jobs ≡ plain_jobs js → StartsLoading s.volume js name begun v js'
     → DoesEntry (entry.Jobs (order.Load bytes)) s (job_reply begun) (over_with s v (plain_jobs js'))
 load_answered s v js js' bytes name (Ok number) named is has =
     start_begun _ s v js js' number has.over (λ running. (name, named, (_, load_on s js name (Ok number) _ is (has.step running s.console.machine.core), refl)))
@@ -409,10 +409,10 @@ parsed_not (first ∷ prefix) bytes others none = rw (parsed_not prefix bytes ot
     before None = refl
     before (Some n) = refl
 
-assemble_on : (s : Seen) (js : List (Option kept.Job)) (target : ℕ) (from : List ℕ) (answer : Begun) (after : jobs.State) → s.jobs ≡ plain_jobs js → AssembleStarts (state_over s.volume s.console.machine.core (plain_jobs js)) target from answer after → AssembleStarts (job_state (state_of s)) target from answer after
+assemble_on : (s : SessionView) (js : List (Option kept.Job)) (target : ℕ) (from : List ℕ) (answer : StartResult) (after : jobs.State) → s.jobs ≡ plain_jobs js → AssembleStarts (state_over s.volume s.console.machine.core (plain_jobs js)) target from answer after → AssembleStarts (job_state (state_of s)) target from answer after
 assemble_on s js target from answer after is starts = subst (λ (l : List (Option Job)). AssembleStarts (state_over s.volume s.console.machine.core l) target from answer after) (sym is) starts
 
-pub assemble_answered : (s : Seen) (v : Mounted) (js js' : List (Option kept.Job)) (to : List ℕ) (from : List (List ℕ)) (target : ℕ) (sources : List ℕ) (begun : Result ℕ JobFault) → parsed_name to ≡ Some target → parsed_names from ≡ Some sources → s.jobs ≡ plain_jobs js
+pub assemble_answered : (s : SessionView) (v : MountState) (js js' : List (Option kept.Job)) (to : List ℕ) (from : List (List ℕ)) (target : ℕ) (sources : List ℕ) (begun : Result ℕ JobFault) → parsed_name to ≡ Some target → parsed_names from ≡ Some sources → s.jobs ≡ plain_jobs js
     → StartsAssembling s.volume js target sources begun v js' → DoesEntry (entry.Jobs (order.Assemble to from)) s (job_reply begun) (over_with s v (plain_jobs js'))
 assemble_answered s v js js' to from target sources (Ok number) named are is has =
     start_begun _ s v js js' number has.over (λ running. (target, sources, named, are, (_, assemble_on s js target sources (Ok number) _ is (has.step running s.console.machine.core), refl)))
@@ -441,10 +441,10 @@ assemble_answered s v js js' to from target sources (Err why) named are is has =
 
 -- ## Squeezing
 
-squeeze_on : (s : Seen) (js : List (Option kept.Job)) (answer : Begun) (after : jobs.State) → s.jobs ≡ plain_jobs js → SqueezeStarts (state_over s.volume s.console.machine.core (plain_jobs js)) answer after → SqueezeStarts (job_state (state_of s)) answer after
+squeeze_on : (s : SessionView) (js : List (Option kept.Job)) (answer : StartResult) (after : jobs.State) → s.jobs ≡ plain_jobs js → SqueezeStarts (state_over s.volume s.console.machine.core (plain_jobs js)) answer after → SqueezeStarts (job_state (state_of s)) answer after
 squeeze_on s js answer after is starts = subst (λ (l : List (Option Job)). SqueezeStarts (state_over s.volume s.console.machine.core l) answer after) (sym is) starts
 
-pub squeeze_answered : (s : Seen) (v : Mounted) (js js' : List (Option kept.Job)) (begun : Result ℕ JobFault) → s.jobs ≡ plain_jobs js → StartsSqueezing s.volume js begun v js' → DoesEntry (entry.Jobs order.Squeeze) s (job_reply begun) (over_with s v (plain_jobs js'))
+pub squeeze_answered : (s : SessionView) (v : MountState) (js js' : List (Option kept.Job)) (begun : Result ℕ JobFault) → s.jobs ≡ plain_jobs js → StartsSqueezing s.volume js begun v js' → DoesEntry (entry.Jobs order.Squeeze) s (job_reply begun) (over_with s v (plain_jobs js'))
 squeeze_answered s v js js' (Ok number) is has = start_begun _ s v js js' number has.over (λ running. (_, squeeze_on s js (Ok number) _ is (has.step running s.console.machine.core), refl))
 squeeze_answered s v js js' (Err why) is has = start_refused order.Squeeze s v js js' why refl tt is has.over (λ running. by_fault running why (squeeze_on s js (Err why) _ is (has.step running s.console.machine.core)))
   where

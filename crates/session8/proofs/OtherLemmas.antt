@@ -1,12 +1,12 @@
 -- What entries come to in states that are the same but for their squeezing jobs.
 use Rattle.std.proofs.Common.{◌≡◌, ◌∙◌, inl, inr, ℕ, zero, suc, Bool, true, false, true≢false, Option, Some, None, List, [], ◌∷◌, ◌++◌, ◌-◌, get_or, Ok, Err, refl, ap, sym, subst}
 use Rattle.std.specs.FinMap.{insert, remove}
-use Rattle.char_pack.specs.Texts.{stored}
+use Rattle.char_pack.specs.Texts.{words_of_text}
 use Rattle.os8_dir.specs.Entries.{contains}
 use Rattle.os8_dir.specs.Names.{parsed_name}
 use Rattle.os8_dir.specs.declared.file_faults.FileFault.{FileFault}
 use Rattle.os8_dir.specs.declared.file_faults.FileFault.TheVariants as file
-use Rattle.jobs8.specs.Jobs.{Job, Work, Assembling, Loading, Squeezing, assembling, loading, job_of, with_job, least_free, held_by, held_by_work, disturbed, disturbed_job}
+use Rattle.jobs8.specs.Jobs.{Job, Work, Assembling, Loading, Squeezing, assembling, loading, job_of, with_job, least_free, names_of_jobs, held_by_work, with_disturbance, disturbed_job}
 use Rattle.jobs8.specs.Starts.{AssembleStarts, LoadStarts, IsBusy, new_assembling, new_loading, new_squeezing}
 use Rattle.jobs8.specs.State as jobs
 use Rattle.jobs8.specs.State.{HasPut, PutRefused, plain_file}
@@ -31,7 +31,7 @@ use Rattle.script8.specs.declared.replies.Report.TheVariants as report
 use Rattle.script8.specs.declared.replies.LineReply.TheVariants as line
 use Rattle.session8.specs.Files.{HasDeleted, DeleteRefused}
 use Rattle.session8.specs.Refusals.{NamesFiles, MayRefuse, FilesMayRefuse, JobsMayRefuse, MayLack, after_refusal, jobs_without}
-use Rattle.session8.specs.Same.{lasting_job, lasting_jobs, lasting_work, unsqueezed, IsAlike, IsApart, JobIsApart, speaks_of_room}
+use Rattle.session8.specs.Same.{lasting_job, lasting_jobs, lasting_work, without_squeezes, IsAlike, IsApart, JobIsApart, speaks_of_room}
 use Rattle.session8.specs.State.{State}
 use Rattle.session8.specs.System.{Answer, MayReply, FilesMayReply, JobsMayReply, ConsoleMayReply, MayAnswer}
 use Rattle.session8.specs.Work.{DoesWork, job_state, with_work, fault_of_job}
@@ -57,12 +57,12 @@ lasting_of zero js = refl
 lasting_of (suc place) js = lasting_at place js
 
 -- squeezing jobs hold no name
-held_before : (w : Work) (left : ℕ) (js : Jobs) → held_by (lasting_jobs js) ≡ held_by js → held_by (lasting_work w left ∷ lasting_jobs js) ≡ held_by_work w ++ held_by js
+held_before : (w : Work) (left : ℕ) (js : Jobs) → names_of_jobs (lasting_jobs js) ≡ names_of_jobs js → names_of_jobs (lasting_work w left ∷ lasting_jobs js) ≡ held_by_work w ++ names_of_jobs js
 held_before (Assembling to from) left js same = ap (λ l. from ++ l) same
 held_before (Loading from) left js same = ap (λ l. from ∷ l) same
 held_before (Squeezing clean) left js same = same
 
-lasting_holds : (js : Jobs) → held_by (lasting_jobs js) ≡ held_by js
+lasting_holds : (js : Jobs) → names_of_jobs (lasting_jobs js) ≡ names_of_jobs js
 lasting_holds [] = refl
 lasting_holds (None ∷ js) = lasting_holds js
 lasting_holds (Some it ∷ js) = held_before it.work it.left js (lasting_holds js)
@@ -73,21 +73,21 @@ disturbed_job_lasts (Assembling to from) left = refl
 disturbed_job_lasts (Loading from) left = refl
 disturbed_job_lasts (Squeezing clean) left = refl
 
-lasting_disturbed : (js : Jobs) → lasting_jobs (disturbed js) ≡ lasting_jobs js
+lasting_disturbed : (js : Jobs) → lasting_jobs (with_disturbance js) ≡ lasting_jobs js
 lasting_disturbed [] = refl
 lasting_disturbed (None ∷ js) = ap (λ (l : Jobs). None ∷ l) (lasting_disturbed js)
-lasting_disturbed (Some it ∷ js) = ap (λ (o : Option Job). o ∷ lasting_jobs (disturbed js)) (disturbed_job_lasts it.work it.left) ∙ ap (λ (l : Jobs). lasting_work it.work it.left ∷ l) (lasting_disturbed js)
+lasting_disturbed (Some it ∷ js) = ap (λ (o : Option Job). o ∷ lasting_jobs (with_disturbance js)) (disturbed_job_lasts it.work it.left) ∙ ap (λ (l : Jobs). lasting_work it.work it.left ∷ l) (lasting_disturbed js)
 
-same_holds : (one two : Jobs) → AreAlike one two → held_by one ≡ held_by two
-same_holds one two same = sym (lasting_holds one) ∙ ap held_by same ∙ lasting_holds two
+same_holds : (one two : Jobs) → AreAlike one two → names_of_jobs one ≡ names_of_jobs two
+same_holds one two same = sym (lasting_holds one) ∙ ap names_of_jobs same ∙ lasting_holds two
 
 same_put : (number : ℕ) (j : Option Job) (one two : Jobs) → AreAlike one two → AreAlike (with_job number j one) (with_job number j two)
 same_put number j one two same = lasting_put number j one ∙ ap (with_job number (lasting_job j)) same ∙ sym (lasting_put number j two)
 
-same_disturbed : (one two : Jobs) → AreAlike one two → AreAlike (disturbed one) (disturbed two)
+same_disturbed : (one two : Jobs) → AreAlike one two → AreAlike (with_disturbance one) (with_disturbance two)
 same_disturbed one two same = lasting_disturbed one ∙ same ∙ sym (lasting_disturbed two)
 
-same_held : (one two : Jobs) (name : ℕ) (is : Bool) → AreAlike one two → contains (held_by one) name ≡ is → contains (held_by two) name ≡ is
+same_held : (one two : Jobs) (name : ℕ) (is : Bool) → AreAlike one two → contains (names_of_jobs one) name ≡ is → contains (names_of_jobs two) name ≡ is
 same_held one two name is same held = sym (ap (λ l. contains l name) (same_holds one two same)) ∙ held
 
 same_job : (one two : Jobs) (number : ℕ) → AreAlike one two → lasting_job (job_of number one) ≡ job_of number one → lasting_job (job_of number two) ≡ job_of number two → job_of number one ≡ job_of number two
@@ -108,7 +108,7 @@ same_work : (base after : jobs.State) (u t : Bool) (first second : Jobs) → Are
 same_work base after u t first second same is = ap plain is ∙ ap (λ (l : Jobs). record base { tight = false; jobs = l }) same
 
 worked : (one one' : State) (t : Bool) (js : Jobs) (after other : jobs.State) → plain after ≡ plain other → one' ≡ with_work one after → IsAlike one' (with_work (over one t js) other)
-worked one one' t js after other same is = ap unsqueezed is ∙ ap (with_work one) same
+worked one one' t js after other same is = ap without_squeezes is ∙ ap (with_work one) same
 
 -- two states may answer the same, and the second goes on to one that is the same but for its squeezing jobs
 abbrev Follows : State → Entry → Answer → State → Type 0
@@ -204,9 +204,9 @@ is_of_room (Err why) = speaks_of_room (Err (fault_of_job why))
 has_put : (one : State) (t : Bool) (js : Jobs) (name : ℕ) (words : List ℕ) (first second : Jobs) (after : jobs.State) → AreAlike one.jobs js → AreAlike first second → HasPut (job_state one) name words first after
     → (other : jobs.State) × HasPut (job_state (over one t js)) name words second other × (plain after ≡ plain other)
 has_put one t js name words first second after same jobs put = (
-  record (job_state one) { files = insert one.files name (plain_file (job_state one) words); tight = t; jobs = disturbed second },
+  record (job_state one) { files = insert one.files name (plain_file (job_state one) words); tight = t; jobs = with_disturbance second },
   record { free = same_held one.jobs js name false same put.free; tight = λ none tight. tight; others = refl },
-  same_work (record (job_state one) { files = insert one.files name (plain_file (job_state one) words) }) after after.tight t (disturbed first) (disturbed second) (same_disturbed first second jobs) put.others,
+  same_work (record (job_state one) { files = insert one.files name (plain_file (job_state one) words) }) after after.tight t (with_disturbance first) (with_disturbance second) (same_disturbed first second jobs) put.others,
 )
 
 turn_follows : (one : State) (t : Bool) (js : Jobs) (number : ℕ) (it : Option Job) (answer : turns.Answer) (after : jobs.State) → AreAlike one.jobs js → lasting_job it ≡ it → is_of_room answer ≡ false → JobTurn (job_state one) number it answer after → TurnFollows one (over one t js) number it answer after
@@ -281,17 +281,17 @@ begins one one' t js number it after same begun is =
     worked one one' t js after (record (job_state (over one t js)) { jobs = with_job number (Some it) js }) (same_work (job_state one) after one.tight t (with_job number (Some it) one.jobs) (with_job number (Some it) js) (same_put number (Some it) one.jobs js same) begun) is
 
 deleted : (one one' : State) (t : Bool) (js : Jobs) (name : ℕ) → AreAlike one.jobs js → DoesWork (HasDeleted name) one one' → (two' : State) × DoesWork (HasDeleted name) (over one t js) two' × IsAlike one' two'
-deleted one one' t js name same step = (with_work (over one t js) left, (left, has, refl), worked one one' t js step.0 left (same_work (record (job_state one) { files = remove one.files name }) step.0 step.0.tight t (disturbed one.jobs) (disturbed js) (same_disturbed one.jobs js same) step.1.others) step.2)
+deleted one one' t js name same step = (with_work (over one t js) left, (left, has, refl), worked one one' t js step.0 left (same_work (record (job_state one) { files = remove one.files name }) step.0 step.0.tight t (with_disturbance one.jobs) (with_disturbance js) (same_disturbed one.jobs js same) step.1.others) step.2)
   where
     left : jobs.State
-    left = record (job_state one) { files = remove one.files name; tight = t; jobs = disturbed js }
+    left = record (job_state one) { files = remove one.files name; tight = t; jobs = with_disturbance js }
 
     has : HasDeleted name (job_state (over one t js)) left
     has = record { file = step.1.file; there = step.1.there; free = same_held one.jobs js name false same step.1.free; others = refl }
 
 stores : (one one' : State) (t : Bool) (js : Jobs) (name text : List ℕ) (other blocks : ℕ) → AreAlike one.jobs js → FilesMayReply one (filing.Store name text) (Line (line.Stored other blocks)) one' → Follows (over one t js) (entry.Files (filing.Store name text)) (Ok (Line (line.Stored other blocks))) one'
 stores one one' t js name text other blocks same step =
-    let put = has_put one t js other (stored text) one.jobs js step.2.0 same same step.2.1.1 in
+    let put = has_put one t js other (words_of_text text) one.jobs js step.2.0 same same step.2.1.1 in
     (with_work (over one t js) put.0, (step.0, step.1, (put.0, (step.2.1.0, put.1), refl)), worked one one' t js step.2.0 put.0 put.2 step.2.2)
 
 deletes : (one one' : State) (t : Bool) (js : Jobs) (name : List ℕ) (other : ℕ) → AreAlike one.jobs js → FilesMayReply one (filing.Delete name) (Line (line.Deleted other)) one' → Follows (over one t js) (entry.Files (filing.Delete name)) (Ok (Line (line.Deleted other))) one'
@@ -323,7 +323,7 @@ reply_of_files one one' t js (filing.Store name text) reply same step =
     stored_alone one one' name text (λ (r : Reply). Follows (over one t js) (entry.Files (filing.Store name text)) (Ok r) one') (λ other blocks step. stores one one' t js name text other blocks same step) reply step
 reply_of_files one one' t js (filing.Delete name) reply same step =
     deleted_alone one one' name (λ (r : Reply). Follows (over one t js) (entry.Files (filing.Delete name)) (Ok r) one') (λ other step. deletes one one' t js name other same step) reply step
-reply_of_files one one' t js filing.Direct (Report (report.Direct lengths free)) same step = (over one t js, (step.0, step.1, refl), ap unsqueezed step.2 ∙ alike one t js (sym same))
+reply_of_files one one' t js filing.Direct (Report (report.Direct lengths free)) same step = (over one t js, (step.0, step.1, refl), ap without_squeezes step.2 ∙ alike one t js (sym same))
 reply_of_files one one' t js filing.Direct (Report (report.Registers text)) same step = absurd step
 reply_of_files one one' t js filing.Direct (Report (report.Printed characters)) same step = absurd step
 reply_of_files one one' t js filing.Direct (Line said) same step = absurd step
@@ -358,17 +358,17 @@ load_may : (one : State) (t : Bool) (js : Jobs) (name : List ℕ) (why : Session
 load_may one t js name why free may = (may.0, may.1, (may.2.0, may.2.1, load_refused one t js may.0 may.2.0 free may.2.2))
 
 refusal_of_files : (one : State) (t : Bool) (js : Jobs) (it : FileEntry) (why : SessionFault) → AreAlike one.jobs js → speaks_of_room (Err why) ≡ false → FilesMayRefuse one it why → FilesMayRefuse (over one t js) it why
-refusal_of_files one t js (filing.Store name text) (fault.File file.NotFound) same room may = (may.0, may.1, may.2, put_refused one t js may.0 (stored text) file.NotFound same room may.3)
-refusal_of_files one t js (filing.Store name text) (fault.File (file.NoRoom n)) same room may = (may.0, may.1, may.2, put_refused one t js may.0 (stored text) (file.NoRoom n) same room may.3)
-refusal_of_files one t js (filing.Store name text) (fault.File file.DirectoryFull) same room may = (may.0, may.1, may.2, put_refused one t js may.0 (stored text) file.DirectoryFull same room may.3)
-refusal_of_files one t js (filing.Store name text) (fault.File (file.Busy n)) same room may = (may.0, may.1, may.2, put_refused one t js may.0 (stored text) (file.Busy n) same room may.3)
+refusal_of_files one t js (filing.Store name text) (fault.File file.NotFound) same room may = (may.0, may.1, may.2, put_refused one t js may.0 (words_of_text text) file.NotFound same room may.3)
+refusal_of_files one t js (filing.Store name text) (fault.File (file.NoRoom n)) same room may = (may.0, may.1, may.2, put_refused one t js may.0 (words_of_text text) (file.NoRoom n) same room may.3)
+refusal_of_files one t js (filing.Store name text) (fault.File file.DirectoryFull) same room may = (may.0, may.1, may.2, put_refused one t js may.0 (words_of_text text) file.DirectoryFull same room may.3)
+refusal_of_files one t js (filing.Store name text) (fault.File (file.Busy n)) same room may = (may.0, may.1, may.2, put_refused one t js may.0 (words_of_text text) (file.Busy n) same room may.3)
 refusal_of_files one t js (filing.Store name text) (fault.File file.BadName) same room may = may
-refusal_of_files one t js (filing.Store name text) (fault.File file.TooLong) same room may = (may.0, may.1, may.2, put_refused one t js may.0 (stored text) file.TooLong same room may.3)
-refusal_of_files one t js (filing.Store name text) (fault.File file.TentativeOpen) same room may = (may.0, may.1, may.2, put_refused one t js may.0 (stored text) file.TentativeOpen same room may.3)
-refusal_of_files one t js (filing.Store name text) (fault.File file.Device) same room may = (may.0, may.1, may.2, put_refused one t js may.0 (stored text) file.Device same room may.3)
-refusal_of_files one t js (filing.Store name text) (fault.File file.Stopped) same room may = (may.0, may.1, may.2, put_refused one t js may.0 (stored text) file.Stopped same room may.3)
-refusal_of_files one t js (filing.Store name text) (fault.File file.Memory) same room may = (may.0, may.1, may.2, put_refused one t js may.0 (stored text) file.Memory same room may.3)
-refusal_of_files one t js (filing.Store name text) (fault.File file.NothingWritten) same room may = (may.0, may.1, may.2, put_refused one t js may.0 (stored text) file.NothingWritten same room may.3)
+refusal_of_files one t js (filing.Store name text) (fault.File file.TooLong) same room may = (may.0, may.1, may.2, put_refused one t js may.0 (words_of_text text) file.TooLong same room may.3)
+refusal_of_files one t js (filing.Store name text) (fault.File file.TentativeOpen) same room may = (may.0, may.1, may.2, put_refused one t js may.0 (words_of_text text) file.TentativeOpen same room may.3)
+refusal_of_files one t js (filing.Store name text) (fault.File file.Device) same room may = (may.0, may.1, may.2, put_refused one t js may.0 (words_of_text text) file.Device same room may.3)
+refusal_of_files one t js (filing.Store name text) (fault.File file.Stopped) same room may = (may.0, may.1, may.2, put_refused one t js may.0 (words_of_text text) file.Stopped same room may.3)
+refusal_of_files one t js (filing.Store name text) (fault.File file.Memory) same room may = (may.0, may.1, may.2, put_refused one t js may.0 (words_of_text text) file.Memory same room may.3)
+refusal_of_files one t js (filing.Store name text) (fault.File file.NothingWritten) same room may = (may.0, may.1, may.2, put_refused one t js may.0 (words_of_text text) file.NothingWritten same room may.3)
 refusal_of_files one t js (filing.Store name text) fault.BadLine same room may = absurd may
 refusal_of_files one t js (filing.Store name text) fault.NoJob same room may = absurd may
 refusal_of_files one t js (filing.Store name text) fault.TooManyJobs same room may = absurd may
@@ -489,11 +489,11 @@ lacks one t js (entry.Console it) same apart lack = lack
 
 refusal : (one one' : State) (t : Bool) (js : Jobs) (e : Entry) (why : SessionFault) → AreAlike one.jobs js → IsApart e one (over one t js) → speaks_of_room (Err why) ≡ false
     → MayRefuse one e why × (one' ≡ after_refusal one e) → (two' : State) × (MayRefuse (over one t js) e why × (two' ≡ after_refusal (over one t js) e)) × IsAlike one' two'
-refusal one one' t js e why same apart room step = (after_refusal (over one t js) e, (refuses one t js e why same apart room step.0, refl), ap unsqueezed step.1 ∙ refused_alike one t js e same)
+refusal one one' t js e why same apart room step = (after_refusal (over one t js) e, (refuses one t js e why same apart room step.0, refl), ap without_squeezes step.1 ∙ refused_alike one t js e same)
 
 entry_follows : (one one' : State) (t : Bool) (js : Jobs) (e : Entry) (answer : Answer) → AreAlike one.jobs js → IsApart e one (over one t js) → speaks_of_room answer ≡ false → MayAnswer one e answer one' → Follows (over one t js) e answer one'
 entry_follows one one' t js e (Ok reply) same apart room step = replies one one' t js e reply same apart step
-entry_follows one one' t js e (Err fault.Memory) same apart room step = (over one t js, (lacks one t js e same apart step.0, refl), ap unsqueezed step.1 ∙ alike one t js (sym same))
+entry_follows one one' t js e (Err fault.Memory) same apart room step = (over one t js, (lacks one t js e same apart step.0, refl), ap without_squeezes step.1 ∙ alike one t js (sym same))
 entry_follows one one' t js e (Err fault.BadLine) same apart room step = refusal one one' t js e fault.BadLine same apart room step
 entry_follows one one' t js e (Err fault.NoJob) same apart room step = refusal one one' t js e fault.NoJob same apart room step
 entry_follows one one' t js e (Err fault.TooManyJobs) same apart room step = refusal one one' t js e fault.TooManyJobs same apart room step

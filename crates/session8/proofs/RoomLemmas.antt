@@ -1,6 +1,6 @@
 -- What refusals for want of room tell of the store's blocks.
 use Rattle.std.proofs.Common.{◌≡◌, ℕ, Bool, true, false, List, Err, refl, sym, subst}
-use Rattle.os8_files.specs.Mounted.{Mounted}
+use Rattle.os8_files.specs.Mounted.{MountState}
 use Rattle.os8_files.specs.Puts.{PutsFile, TellsRoom}
 use Rattle.os8_dir.specs.declared.file_faults.FileFault.{FileFault}
 use Rattle.os8_dir.specs.declared.file_faults.FileFault.TheVariants as file
@@ -16,7 +16,7 @@ use Rattle.session8.specs.Work.{fault_of_job}
 -- ## A text is stored
 
 -- what the service refuses tells of room
-put_tells : (old new : Mounted) (name : ℕ) (words : List ℕ) (why : FileFault) → PutsFile old name words (Err why) new → TellsRoom old.blocks name words why
+put_tells : (old new : MountState) (name : ℕ) (words : List ℕ) (why : FileFault) → PutsFile old name words (Err why) new → TellsRoom old.blocks name words why
 put_tells old new name words (file.NoRoom most) is = is.3
 put_tells old new name words file.DirectoryFull is = is.4
 put_tells old new name words file.NotFound is = tt
@@ -42,7 +42,7 @@ of_file has file.Stopped is = is
 of_file has file.Memory is = tt
 of_file has file.NothingWritten is = is
 
-pub store_room : (old new : Mounted) (name : ℕ) (words text : List ℕ) (why : FileFault) → words ≡ text → PutsFile old name words (Err why) new → IfFile (TellsRoom old.blocks name text) (Err (fault_of_file why))
+pub store_room : (old new : MountState) (name : ℕ) (words text : List ℕ) (why : FileFault) → words ≡ text → PutsFile old name words (Err why) new → IfFile (TellsRoom old.blocks name text) (Err (fault_of_file why))
 store_room old new name words text why is has = of_file (TellsRoom old.blocks name text) why (subst (λ l. TellsRoom old.blocks name l why) is (put_tells old new name words why has))
 
 -- a text that is refused before it is put tells nothing of room

@@ -1,9 +1,9 @@
 -- What the operator does at the console (Small Computer Handbook; breaks, runs of many steps and the characters that are kept are
 -- this project's profile).
 use Rattle.std.specs.Prelude.{◌≡◌, ◌≤◌, ◌++◌, ℕ, true, false, slice_index, Bool, List, []}
-use Rattle.cpu8.specs.Go.{IsGo, after, printed_by, is_break}
+use Rattle.cpu8.specs.Go.{IsGo, after, characters_of, is_break}
 use Rattle.cpu8.specs.State as cpu
-use Rattle.cpu8.specs.State.{started, switches_set, deposited, key_struck, printer_done, next_cell}
+use Rattle.cpu8.specs.State.{after_start, switches_set, after_deposit, key_struck, printer_done, next_cell}
 use Rattle.cpu8.specs.declared.outcomes.Why as end
 use Rattle.cpu8.specs.declared.outcomes.Why.TheVariants as ended
 use Rattle.debug8.specs.Breaks.{break_set, break_cleared, count_breaks}
@@ -15,8 +15,8 @@ use Rattle.script8.specs.declared.replies.Reply.{Reply}
 use Rattle.script8.specs.declared.replies.Reply.TheVariants.{Line, Report}
 use Rattle.script8.specs.declared.replies.Report.TheVariants as report
 use Rattle.script8.specs.declared.replies.LineReply.TheVariants as line
-use Rattle.script8.specs.declared.replies.Why.{Why}
-use Rattle.script8.specs.declared.replies.Why.TheVariants.{Halt, Unassigned, Break, Limit}
+use Rattle.script8.specs.declared.replies.StepEnd.{StepEnd}
+use Rattle.script8.specs.declared.replies.StepEnd.TheVariants.{Halt, Unassigned, Break, Limit}
 use Rattle.session8.specs.State.{Console}
 
 -- STEP, GO and RUN are within the limits where they ask for 1 to 1,000,000 steps; of no other entry is there a limit
@@ -36,7 +36,7 @@ TakesMemory console.Printed = Unit {0}
 TakesMemory entry = ⊥
 
 -- why steps ended, as a reply says it
-abbrev pub why_of : end.Why → Why
+abbrev pub why_of : end.Why → StepEnd
 why_of ended.Halt = Halt
 why_of ended.Unassigned = Unassigned
 why_of ended.Break = Break
@@ -45,24 +45,24 @@ why_of ended.Limit = Limit
 -- The processor went on from a state by so many steps, of at most n: the least number after which there is a reason to stop. What
 -- they printed is kept; the cell is that of the next instruction.
 pub record HasGone (old : Console) (quick : Bool) (breaks : List Bool) (from : cpu.State)
-    (n steps : ℕ) (why : Why) (cell : ℕ) (new : Console) : Type 0 where
+    (n steps : ℕ) (why : StepEnd) (cell : ℕ) (new : Console) : Type 0 where
   pub reason : end.Why
   pub go : IsGo quick breaks from n steps reason
   pub why_is : why ≡ why_of reason
   pub cell_is : cell ≡ next_cell new.machine
   pub others : new
-      ≡ record old { machine = after quick steps from; printed = old.printed ++ printed_by quick steps from }
+      ≡ record old { machine = after quick steps from; printed = old.printed ++ characters_of quick steps from }
 
 -- What the console replies to an entry, and how it then stands.
 abbrev pub ConsoleReplies : Console → ConsoleEntry → Reply → Console → Type 0
 ConsoleReplies old (console.Start cell) (Line (line.Started at)) new =
-    (at ≡ cell) × (new ≡ record old { machine = started old.machine cell })
+    (at ≡ cell) × (new ≡ record old { machine = after_start old.machine cell })
 ConsoleReplies old (console.Step n) (Line (line.Steps steps why at)) new =
     HasGone old false [] old.machine n steps why at new
 ConsoleReplies old (console.Go n) (Line (line.Steps steps why at)) new =
     HasGone old false old.breaks old.machine n steps why at new
 ConsoleReplies old (console.Run cell n) (Line (line.Steps steps why at)) new =
-    HasGone old true old.breaks (started old.machine cell) n steps why at new
+    HasGone old true old.breaks (after_start old.machine cell) n steps why at new
 ConsoleReplies old (console.Key character) (Line (line.Key struck)) new =
     (struck ≡ character) × (new ≡ record old { machine = key_struck old.machine character })
 ConsoleReplies old console.Done (Line line.Done) new = new ≡ record old { machine = printer_done old.machine }
@@ -71,7 +71,7 @@ ConsoleReplies old (console.Switches word) (Line (line.Switches set)) new =
 ConsoleReplies old (console.Examine cell) (Line (line.Core at word)) new =
     (at ≡ cell) × (word ≡ slice_index old.machine.core cell) × (new ≡ old)
 ConsoleReplies old (console.Deposit cell word) (Line (line.Core at given)) new =
-    (at ≡ cell) × (given ≡ word) × (new ≡ record old { machine = deposited old.machine cell word })
+    (at ≡ cell) × (given ≡ word) × (new ≡ record old { machine = after_deposit old.machine cell word })
 ConsoleReplies old (console.Break cell true) (Line (line.Break at is_on)) new =
     (at ≡ cell) × (is_on ≡ true) × (count_breaks new.breaks ≤ 64)
     × (new ≡ record old { breaks = break_set old.breaks cell })

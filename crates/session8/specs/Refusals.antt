@@ -1,6 +1,6 @@
 -- What the system machine refuses, and why.
 use Rattle.std.specs.Prelude.{◌≡◌, ◌⊎◌, ◌<◌, ℕ, true, false, Option, Some, None, Err, List, length}
-use Rattle.char_pack.specs.Texts.{is_storable, stored}
+use Rattle.char_pack.specs.Texts.{is_storable, words_of_text}
 use Rattle.os8_dir.specs.Names.{parsed_name}
 use Rattle.os8_dir.specs.declared.file_faults.FileFault.TheVariants as file
 use Rattle.jobs8.specs.Jobs.{Job, job_of, with_job, least_free}
@@ -42,7 +42,7 @@ FilesMayRefuse old (files.Store name text) BadText =
     (n : ℕ) × (parsed_name name ≡ Some n) × (is_storable text ≡ false)
 FilesMayRefuse old (files.Store name text) (File why) =
     (n : ℕ) × (parsed_name name ≡ Some n) × (is_storable text ≡ true)
-    × PutRefused (job_state old) n (stored text) why
+    × PutRefused (job_state old) n (words_of_text text) why
 FilesMayRefuse old (files.Delete name) (File file.BadName) = parsed_name name ≡ None
 FilesMayRefuse old (files.Delete name) (File why) =
     (n : ℕ) × (parsed_name name ≡ Some n) × DeleteRefused (job_state old) n why

@@ -1,7 +1,7 @@
 -- What a refusal for want of room says of the store's blocks. To the system machine a volume is a map of files, and of those blocks
 -- it gives bounds alone.
 use Rattle.std.specs.Prelude.{◌≡◌, ℕ, Some, List, Ok, Err}
-use Rattle.char_pack.specs.Texts.{stored}
+use Rattle.char_pack.specs.Texts.{words_of_text}
 use Rattle.os8_dir.specs.Names.{parsed_name}
 use Rattle.os8_files.specs.Puts.{TellsRoom}
 use Rattle.os8_dir.specs.declared.file_faults.FileFault.{FileFault}
@@ -12,7 +12,7 @@ use Rattle.script8.specs.declared.entries.Entry.TheVariants as entry
 use Rattle.script8.specs.declared.entries.FileEntry.TheVariants as files
 use Rattle.script8.specs.declared.entries.JobEntry.TheVariants as job
 use Rattle.script8.specs.declared.faults.SessionFault.TheVariants.{File}
-use Rattle.session8.specs.Session.{Seen}
+use Rattle.session8.specs.Session.{SessionView}
 use Rattle.session8.specs.System.{Answer}
 
 -- an answer that is a fault of files has this
@@ -23,15 +23,15 @@ IfFile has (Err fault) = Unit {0}
 
 -- Where a text is stored, and where a turn puts a target, NO ROOM gives the blocks of the store's largest empty. DIRECTORY FULL says
 -- that the list of its entries would be too long with the file.
-abbrev pub StoreTellsRoom : List ℕ → List ℕ → Seen → Answer → Type 0
+abbrev pub StoreTellsRoom : List ℕ → List ℕ → SessionView → Answer → Type 0
 StoreTellsRoom bytes text old answer =
     (name : ℕ) → parsed_name bytes ≡ Some name
-    → IfFile (TellsRoom old.volume.blocks name (stored text)) answer
+    → IfFile (TellsRoom old.volume.blocks name (words_of_text text)) answer
 
-abbrev pub TurnTellsRoom : ℕ → Seen → Answer → Type 0
+abbrev pub TurnTellsRoom : ℕ → SessionView → Answer → Type 0
 TurnTellsRoom number old answer = IfFile (NumberTellsRoom (job_of number old.jobs) old.volume) answer
 
-abbrev pub EntryTellsRoom : Entry → Seen → Answer → Type 0
+abbrev pub EntryTellsRoom : Entry → SessionView → Answer → Type 0
 EntryTellsRoom (entry.Files (files.Store name text)) old answer = StoreTellsRoom name text old answer
 EntryTellsRoom (entry.Jobs (job.Turn number)) old answer = TurnTellsRoom number old answer
 EntryTellsRoom entry old answer = Unit {0}

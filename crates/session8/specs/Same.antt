@@ -25,12 +25,12 @@ abbrev pub lasting_jobs : List (Option Job) → List (Option Job)
 lasting_jobs jobs = map lasting_job jobs
 
 -- the state without its squeezing jobs, in which nothing is said of free blocks below files
-abbrev pub unsqueezed : State → State
-unsqueezed s = record s { tight = false; jobs = lasting_jobs s.jobs }
+abbrev pub without_squeezes : State → State
+without_squeezes s = record s { tight = false; jobs = lasting_jobs s.jobs }
 
 -- Two states are the same but for their squeezing jobs, and for what is known of free blocks below files.
 abbrev pub IsAlike : State → State → Type 0
-IsAlike one two = unsqueezed one ≡ unsqueezed two
+IsAlike one two = without_squeezes one ≡ without_squeezes two
 
 -- the number has no job that squeezes
 abbrev pub IsLasting : ℕ → State → Type 0

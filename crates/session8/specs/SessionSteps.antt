@@ -1,6 +1,6 @@
 -- The result of doing an entry, for private clauses.
 use Rattle.script8.specs.declared.entries.Entry.{Entry}
-use Rattle.session8.specs.Session.{Seen, state_of, NoCallFailed, IsLater, IsSame, TellsBlockCalls, IsReply, IsSteadied}
+use Rattle.session8.specs.Session.{SessionView, state_of, NoCallFailed, IsLater, IsSame, TellsBlockCalls, IsReply, IsSteadied}
 use Rattle.session8.specs.Interleaving.{EntryReads, EntryPlaces}
 use Rattle.std.specs.Prelude.{◌≡◌, ◌<◌, true, false, OnOk, Ok, Err, Bool, Result, ℕ}
 use Rattle.jobs8.specs.Calls.{Outlives}
@@ -17,7 +17,7 @@ use Rattle.session8.specs.System.{Answer, MayAnswer}
 -- ## Places
 
 -- what an entry leaves alone
-pub record LeavesAlone (entry : Entry) (old new : Seen) : Type 0 where
+pub record LeavesAlone (entry : Entry) (old new : SessionView) : Type 0 where
   pub reads : EntryReads entry old new
   pub places : EntryPlaces entry old new
 
@@ -25,7 +25,7 @@ pub record LeavesAlone (entry : Entry) (old new : Seen) : Type 0 where
 
 -- The result of doing an entry: a step of the system machine where no block call fails, or where there is a reply, and nothing
 -- for want of memory. It is also what is refused where one fails, or a write has failed before.
-pub record DoesEntry (entry : Entry) (old : Seen) (answer : Answer) (new : Seen) : Type 0 where
+pub record DoesEntry (entry : Entry) (old : SessionView) (answer : Answer) (new : SessionView) : Type 0 where
   pub step : NoCallFailed old new → MayAnswer (state_of old) entry answer (state_of new)
   pub later : IsLater old new
   pub files : old.volume.stopped ≡ false → old.volume.failed_writes < new.volume.failed_writes

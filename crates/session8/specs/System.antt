@@ -1,7 +1,7 @@
 -- The system machine: its steps and its runs.
 use Rattle.std.specs.Prelude.{◌≡◌, ◌≢◌, ℕ, ◌+◌, Bool, true, false, Some, List, [], ◌∷◌, Result, Ok, Err}
 use Rattle.os8_dir.specs.Names.{parsed_name}
-use Rattle.os8_files.specs.Service.{lengths_of, used_of}
+use Rattle.os8_files.specs.Service.{lengths_of, blocks_in_use}
 use Rattle.jobs8.specs.Starts.{AssembleStarts, LoadStarts, SqueezeStarts}
 use Rattle.jobs8.specs.Turns.{Turns}
 use Rattle.jobs8.specs.declared.turned.Turned.{Turned}
@@ -35,7 +35,7 @@ FilesMayReply old (files.Store name text) (Line (Stored other blocks)) new =
 FilesMayReply old (files.Delete name) (Line (Deleted other)) new =
     (parsed_name name ≡ Some other) × DoesWork (HasDeleted other) old new
 FilesMayReply old files.Direct (Report (Direct lengths free)) new =
-    (lengths ≡ lengths_of old.files) × (free + used_of old.files ≡ old.capacity) × (new ≡ old)
+    (lengths ≡ lengths_of old.files) × (free + blocks_in_use old.files ≡ old.capacity) × (new ≡ old)
 FilesMayReply old entry reply new = ⊥
 
 -- What it may do and reply to an entry of jobs.

@@ -2,7 +2,7 @@
 ghost use Rattle.std.specs.Prelude.{◌≡◌, ◌≤◌, [], true, false, IfOk};
 ghost use Rattle.word12.specs.declared.sizes.TheConstants.{CORE};
 ghost use Rattle.core_load.specs.Core.{zeros};
-ghost use Rattle.cpu8.specs.State.{stopped, next_cell};
+ghost use Rattle.cpu8.specs.State.{new_machine, next_cell};
 ghost use Rattle.debug8.specs.Breaks.{no_breaks};
 ghost use Rattle.jobs8.specs.Calls.{TakesTurn};
 ghost use Rattle.jobs8.specs.Settled.{IsSettled};
@@ -18,7 +18,7 @@ use cpu8::{Gone, Machine};
 use debug8::{DebugFault, Debugger};
 use jobs8::{JobFault, Jobs, Turned};
 use os8_files::FileService;
-use script8::{Bytes, ConsoleEntry, LineReply, Reply, Report, Why};
+use script8::{Bytes, ConsoleEntry, LineReply, Reply, Report, StepEnd};
 use std::alloc::Global;
 use std::marker::Model;
 use volume_image::BlockStore;
@@ -44,7 +44,7 @@ impl Console {
     /// A console with a stopped processor whose core is 0, no breaks, and nothing printed.
     pub(crate) fn new(alloc: Global) -> Result<Console, DebugFault>
         ensures { IfOk result (λ c. c
-            ≡ record { machine = stopped (zeros CORE); breaks = no_breaks CORE; printed = [] }) }
+            ≡ record { machine = new_machine (zeros CORE); breaks = no_breaks CORE; printed = [] }) }
     {
         let Ok(core) = Core::new(alloc) else {
             return Err(DebugFault::Memory);
@@ -67,14 +67,14 @@ impl Console {
             ConsoleEntry::Go(steps) => self.go(*steps),
             ConsoleEntry::Run { cell, steps } => self.run(*cell, *steps),
             ConsoleEntry::Key(character) => Ok(self.key(*character)),
-            ConsoleEntry::Done => Ok(self.done()),
+            ConsoleEntry::Done => Ok(self.done_reply()),
             ConsoleEntry::Switches(word) => Ok(self.switches(*word)),
             ConsoleEntry::Examine(cell) => Ok(self.examine(*cell)),
             ConsoleEntry::Deposit { cell, word } => Ok(self.deposit(*cell, *word)),
             ConsoleEntry::Break { cell, is_on: true } => self.set_break(*cell),
             ConsoleEntry::Break { cell, is_on: false } => Ok(self.clear_break(*cell)),
             ConsoleEntry::Registers => self.registers(alloc),
-            ConsoleEntry::Printed => self.printed(alloc),
+            ConsoleEntry::Printed => self.printed_reply(alloc),
         }
     }
 
@@ -149,10 +149,10 @@ impl Console {
         Reply::Line(LineReply::Key(character))
     }
 
-    fn done(&mut self) -> Reply
+    fn done_reply(&mut self) -> Reply
         ensures { ConsoleReplies self.old entry.Done result self.new }
     {
-        self.machine.done();
+        self.machine.end_character();
         Reply::Line(LineReply::Done)
     }
 
@@ -198,7 +198,7 @@ impl Console {
         Ok(Reply::Report(Report::Registers(Bytes::new(text.into_bytes()))))
     }
 
-    fn printed(&self, alloc: Global) -> Result<Reply, DebugFault>
+    fn printed_reply(&self, alloc: Global) -> Result<Reply, DebugFault>
         ensures { ConsoleDoes entry.Printed self.now result self.now }
     {
         let characters = self.printed.to_vec(alloc)?;
@@ -207,13 +207,13 @@ impl Console {
 }
 
 /// Why steps ended, as a reply says it.
-fn why_of(why: cpu8::Why) -> Why
+fn why_of(why: cpu8::Why) -> StepEnd
     ensures { result ≡ why_of why }
 {
     match why {
-        cpu8::Why::Halt => Why::Halt,
-        cpu8::Why::Unassigned => Why::Unassigned,
-        cpu8::Why::Break => Why::Break,
-        cpu8::Why::Limit => Why::Limit,
+        cpu8::Why::Halt => StepEnd::Halt,
+        cpu8::Why::Unassigned => StepEnd::Unassigned,
+        cpu8::Why::Break => StepEnd::Break,
+        cpu8::Why::Limit => StepEnd::Limit,
     }
 }

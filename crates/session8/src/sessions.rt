@@ -12,7 +12,7 @@ ghost use Rattle.session8.specs.Interleaving.{EntryReads, EntryPlaces};
 ghost use Rattle.session8.specs.Room.{EntryTellsRoom};
 ghost use Rattle.session8.specs.Session.{state_of, NoCallFailed, IsLater, IsSame, IsReply, IsSteadied, TellsBlockCalls};
 ghost use Rattle.core_load.specs.Core.{zeros};
-ghost use Rattle.cpu8.specs.State.{stopped};
+ghost use Rattle.cpu8.specs.State.{new_machine};
 ghost use Rattle.debug8.specs.Breaks.{no_breaks};
 ghost use Rattle.script8.specs.declared.entries.Entry.TheVariants as entry;
 ghost use Rattle.script8.specs.declared.faults.SessionFault.TheVariants.{Memory};
@@ -46,9 +46,9 @@ pub struct Session<S: BlockStore> {
 impl<S: BlockStore> Model for Session<S> {
     ghost use Rattle.std.specs.Prelude.{◌≤◌, vec_capacity};
     ghost use Rattle.jobs8.specs.Settled.{IsSettled, plain_jobs};
-    ghost use Rattle.session8.specs.Session.{Seen};
+    ghost use Rattle.session8.specs.Session.{SessionView};
 
-    ghost Value = { Seen };
+    ghost Value = { SessionView };
 
     ghost view = { λ s. record { volume = s.files; jobs = plain_jobs s.jobs; console = s.console } };
 
@@ -71,7 +71,7 @@ impl<S: BlockStore> Session<S> {
         ensures fresh { IfOk result (λ s. (s.volume.stopped ≡ false) × (s.volume.holds ≡ [])
             × (s.volume.tentative ≡ None) × (s.jobs ≡ no_jobs)) }
         ensures console { IfOk result (λ s. s.console
-            ≡ record { machine = stopped (zeros CORE); breaks = no_breaks CORE; printed = [] }) }
+            ≡ record { machine = new_machine (zeros CORE); breaks = no_breaks CORE; printed = [] }) }
         ensures reads { IfOk result (λ s. (s.volume.reads ≤ S.reads store + 12)
             × (s.volume.failed_reads ≡ S.failed_reads store)
             × (s.volume.failed_writes ≡ S.failed_writes store)) }
@@ -201,7 +201,7 @@ impl<S: BlockStore> Session<S> {
 fn parts(alloc: Global) -> Result<(Vec<u8>, Console), DebugFault>
     ensures line { IfOk result (λ parts. 80 ≤ vec_capacity parts.0) }
     ensures console { IfOk result (λ parts. parts.1
-        ≡ record { machine = stopped (zeros CORE); breaks = no_breaks CORE; printed = [] }) }
+        ≡ record { machine = new_machine (zeros CORE); breaks = no_breaks CORE; printed = [] }) }
 {
     let line = Vec::with_capacity(alloc, LINE)?;
     let console = Console::new(alloc)?;

@@ -1,6 +1,6 @@
 //! Sessions over stores of which one block call fails: each read, and each write, in turn.
 
-use crate::items::{do_items, expanded, tells_device};
+use crate::items::{do_items, expand_text, tells_device};
 use os8_dir::{DirFault, Directory, Name};
 use session8::Session;
 use std::alloc::Global;
@@ -17,7 +17,7 @@ fn fuse(alloc: Global, read: u32, write: u32) -> Option<FuseVolume> {
 
 /// Does items of a script over a store until a block call fails or so many are done. It gives how many were, 0 where the mount was
 /// refused, and the image after that. The replies to the last one are in `out`.
-fn done_on(
+fn run_items(
     alloc: Global,
     store: FuseVolume,
     script: &[u8],
@@ -35,9 +35,9 @@ fn done_on(
 }
 
 /// The image after the first items of a script, where no block call fails.
-fn image_behind(alloc: Global, script: &[u8], count: usize) -> Option<Vec<u8>> {
+fn image_after(alloc: Global, script: &[u8], count: usize) -> Option<Vec<u8>> {
     let mut out = Vec::new(alloc);
-    done_on(alloc, fuse(alloc, NONE, NONE)?, script, count, &mut out).1
+    run_items(alloc, fuse(alloc, NONE, NONE)?, script, count, &mut out).1
 }
 
 /// The directory of an image.
@@ -85,11 +85,11 @@ const LONG: &[u8] =
 /// has the image that was there before. It gives nothing where no read failed.
 fn read_lost(alloc: Global, script: &[u8], number: u32) -> Option<bool> {
     let mut out = Vec::new(alloc);
-    let (done, image) = done_on(alloc, fuse(alloc, number, NONE)?, script, 99, &mut out);
+    let (done, image) = run_items(alloc, fuse(alloc, number, NONE)?, script, 99, &mut out);
     if done > 0 && !tells_device(&out) {
         return None;
     }
-    let before = image_behind(alloc, script, done.saturating_sub(1))?;
+    let before = image_after(alloc, script, done.saturating_sub(1))?;
     Some(image? == before && (done == 0 || out.starts_with(b"JOB ")))
 }
 
@@ -113,12 +113,12 @@ fn stand_in(old: &[u8], new: &[u8], before: &Directory, behind: &Directory) -> b
 /// Whether a session whose write of a number fails leaves what it may of the files; nothing where no write failed.
 fn write_lost(alloc: Global, script: &[u8], number: u32) -> Option<bool> {
     let mut out = Vec::new(alloc);
-    let (done, image) = done_on(alloc, fuse(alloc, NONE, number)?, script, 99, &mut out);
+    let (done, image) = run_items(alloc, fuse(alloc, NONE, number)?, script, 99, &mut out);
     if !tells_device(&out) {
         return None;
     }
-    let old = image_behind(alloc, script, done.saturating_sub(1))?;
-    let next = image_behind(alloc, script, done)?;
+    let old = image_after(alloc, script, done.saturating_sub(1))?;
+    let next = image_after(alloc, script, done)?;
     let before = directory_of(alloc, &old).ok()?;
     let behind = directory_of(alloc, &next).ok()?;
     let new = image?;
@@ -129,7 +129,7 @@ fn write_lost(alloc: Global, script: &[u8], number: u32) -> Option<bool> {
 
 /// How many calls of a script were let fail, one in each run of it, until none did; 1000 more where one left what it may not.
 fn failed_calls(alloc: Global, script: &[u8], writes: bool) -> u32 {
-    let bytes = expanded(alloc, script);
+    let bytes = expand_text(alloc, script);
     for number in 0..NONE {
         let lost = if writes {
             write_lost(alloc, &bytes, number)
@@ -162,7 +162,7 @@ fn remounted(
     script: &[u8],
     out: &mut Vec<u8>,
 ) -> Option<usize> {
-    let (_, image) = done_on(alloc, fuse(alloc, read, write)?, script, 1, out);
+    let (_, image) = run_items(alloc, fuse(alloc, read, write)?, script, 1, out);
     match directory_of(alloc, &image?) {
         Ok(directory) => Some(directory.free()),
         Err(DirFault::BadCount(1)) => Some(1000),

@@ -6,7 +6,7 @@ use volume_image::BlockStore;
 
 /// The bytes of a script. In it `#` stands for 388 times the character before it, which with it takes more than a block, and `@`
 /// for 180 words of a source.
-pub(crate) fn expanded(alloc: Global, text: &[u8]) -> Vec<u8> {
+pub(crate) fn expand_text(alloc: Global, text: &[u8]) -> Vec<u8> {
     let mut bytes = Vec::new(alloc);
     let mut last = b' ';
     for byte in text {

@@ -1,6 +1,6 @@
 //! The block calls that sessions make, and a run of very many entries.
 
-use crate::items::{do_items, expanded};
+use crate::items::{do_items, expand_text};
 use script8::{Entry, JobEntry};
 use session8::Session;
 use std::alloc::{AllocError, Global};
@@ -41,7 +41,7 @@ fn put_count(alloc: Global, script: &[u8], most: usize, text: &mut String) {
 #[test]
 fn reads_and_writes(rt: HostRuntime) {
     for (script, wanted) in COUNTS {
-        let items = expanded(rt.alloc(), script);
+        let items = expand_text(rt.alloc(), script);
         let mut text = String::new(rt.alloc());
         for most in 0..wanted.split(' ').count().saturating_sub(1) {
             put_count(rt.alloc(), &items, most, &mut text);

@@ -34,10 +34,10 @@ struct Behind {
 fn main(rt: HostRuntime) -> ExitCode {
     let mut script = [0u8; MOST];
     let behind = match env::args(&rt) {
-        Ok(words) => asked(words.count()),
+        Ok(words) => name_count(words.count()),
         Err(_) => return ExitCode::from(3),
     };
-    let Ok(length) = filled(&mut rt.reader(), &mut script) else {
+    let Ok(length) = fill_buffer(&mut rt.reader(), &mut script) else {
         return ExitCode::FAILURE;
     };
     let Ok(mut out) = Vec::with_capacity(rt.alloc(), MOST) else {
@@ -55,7 +55,7 @@ fn main(rt: HostRuntime) -> ExitCode {
 }
 
 /// What the program is asked for by so many words, its name among them.
-fn asked(words: usize) -> Behind {
+fn name_count(words: usize) -> Behind {
     Behind {
         spoils: words > 2,
         stops: words == 2 || words == 4,
@@ -63,7 +63,7 @@ fn asked(words: usize) -> Behind {
 }
 
 /// Reads into a buffer until there is no more, or it is full; how many bytes were read.
-fn filled<R: Read>(reader: &mut R, buffer: &mut [u8]) -> io::Result<usize> {
+fn fill_buffer<R: Read>(reader: &mut R, buffer: &mut [u8]) -> io::Result<usize> {
     let mut length = 0usize;
     for _ in 0..buffer.len() {
         let (_, rest) = buffer.split_at_mut(length.min(buffer.len()));
@@ -77,13 +77,13 @@ fn filled<R: Read>(reader: &mut R, buffer: &mut [u8]) -> io::Result<usize> {
 
 /// A session over a fresh volume; where memory ran out, another one.
 pub(crate) fn fresh(alloc: Global) -> Option<Session<MemoryVolume>> {
-    match mounted(alloc) {
+    match mount_session(alloc) {
         Some(session) => Some(session),
-        None => mounted(alloc),
+        None => mount_session(alloc),
     }
 }
 
-fn mounted(alloc: Global) -> Option<Session<MemoryVolume>> {
+fn mount_session(alloc: Global) -> Option<Session<MemoryVolume>> {
     match Session::mount(alloc, MemoryVolume::create(alloc, 20).ok()?) {
         Ok(session) => Some(session),
         Err(_) => None,
@@ -102,7 +102,7 @@ fn run(
     let mut status = 0;
     let mut start = 0;
     for _ in 0..script.len() {
-        match refused(alloc, &mut own, script, start, out) {
+        match refused_item(alloc, &mut own, script, start, out) {
             None => break,
             Some((place, bytes)) => {
                 let (prefix, rest) = script.split_at(place.min(script.len()));
@@ -124,7 +124,7 @@ fn run(
 }
 
 /// Runs the items of a script from a place on until one is refused: the place of that, and how many bytes it has.
-fn refused(
+fn refused_item(
     alloc: Global,
     session: &mut Session<MemoryVolume>,
     script: &[u8],

@@ -9,12 +9,12 @@ use Rattle.pal_lex.specs.declared.phrases.Body.{Body}
 use Rattle.pal_lex.specs.declared.phrases.Body.TheVariants.{Nothing, Origin, Define, Decimal, Octal, Pause, Field, Reference, Word}
 use Rattle.pal_lex.specs.declared.phrases.Operation.{Operation}
 use Rattle.pal_lex.specs.declared.phrases.Statement.{Statement}
-use Rattle.pal_asm.specs.Expressions.{Known, value_of}
+use Rattle.pal_asm.specs.Expressions.{Meanings, value_of}
 use Rattle.pal_asm.specs.Places.{Source, is_word, place_at, values}
 use Rattle.pal_asm.specs.Words.{offset_of, offset_to, with_offset, body_word, cell_at, with_pair, word_values, pairs_by, pairs_of}
 use Rattle.pal_asm.specs.Faults.{first_of, at_line, first_order, no_offset, out_of_reach, terms_fault, word_fault, words_fault, no_end, no_word, fault_of}
-use Rattle.assemble8.specs.Sources.{newest_first}
-use Rattle.assemble8.specs.Laws.{FineTermsHaveValue}
+use Rattle.host_sources.specs.Sources.{newest_first}
+use Rattle.host_sources.specs.Laws.{FineTermsHaveValue}
 use Rattle.source_listing.specs.Rows.{Row, is_newest_word, ends_word}
 use Rattle.source_listing.specs.Listings.{rows_of}
 use Rattle.source_listing.specs.References.{spot_by}
@@ -38,7 +38,7 @@ reached place operation indirect address v is fine = by_offset (offset_of place 
         absurd_some e = absurd cc
 
 -- a word with no fault has a word, and nothing else has one
-has_its_word : FineTermsHaveValue → (names : Known) (place : ℕ) (body : Body) → word_fault names place body ≡ None → (is_word body ≡ true → (w : ℕ) × (body_word names place body ≡ Some w)) × (is_word body ≡ false → body_word names place body ≡ None)
+has_its_word : FineTermsHaveValue → (names : Meanings) (place : ℕ) (body : Body) → word_fault names place body ≡ None → (is_word body ≡ true → (w : ℕ) × (body_word names place body ≡ Some w)) × (is_word body ≡ false → body_word names place body ≡ None)
 has_its_word valued names place Nothing e = (λ t. absurd cc, λ f. refl)
 has_its_word valued names place (Origin x) e = (λ t. absurd cc, λ f. refl)
 has_its_word valued names place (Define name x) e = (λ t. absurd cc, λ f. refl)
@@ -60,7 +60,7 @@ with_pair_by true pairs cell made spot has =
     ap (λ m. length (with_pair pairs cell m)) some.1 ∙ length-append pairs ((cell, some.0) ∷ [])
 with_pair_by false pairs cell made spot has = ap (λ m. length (with_pair pairs cell m)) (has.1 refl) ∙ omega arith
 
-newest_pairs : FineTermsHaveValue → (last : Known) (spot : Spot) (ends : Bool) (s : Result Statement LexFault) (older : Source) → words_fault last (if ends then s ∷ older else older) ≡ None
+newest_pairs : FineTermsHaveValue → (last : Meanings) (spot : Spot) (ends : Bool) (s : Result Statement LexFault) (older : Source) → words_fault last (if ends then s ∷ older else older) ≡ None
     → (words_fault last older ≡ None)
     × (length (pairs_by last (if ends then s ∷ older else older)) ≡ length (pairs_by last older) + length (if ends && is_newest_word (if ends then s ∷ older else older) then spot ∷ [] else []))
 newest_pairs valued last spot true (Ok s) older none =
@@ -72,11 +72,11 @@ newest_pairs valued last spot true (Ok s) older none =
 newest_pairs valued last spot true (Err f) older none = (none, omega arith)
 newest_pairs valued last spot false s older none = (none, omega arith)
 
-nothing_paired : (last : Known) → pairs_by last (statements []) ≡ []
+nothing_paired : (last : Meanings) → pairs_by last (statements []) ≡ []
 unfolding statements
 nothing_paired last = refl
 
-as_many : FineTermsHaveValue → (last : Known) (spot : ℕ → Spot) (text : List ℕ) → words_fault last (statements text) ≡ None → length (end_spots spot text) ≡ length (pairs_by last (statements text))
+as_many : FineTermsHaveValue → (last : Meanings) (spot : ℕ → Spot) (text : List ℕ) → words_fault last (statements text) ≡ None → length (end_spots spot text) ≡ length (pairs_by last (statements text))
 as_many valued last spot [] none = sym (ap length (nothing_paired last))
 as_many valued last spot (b ∷ older) none =
     let here = spot (length older) in

@@ -9,7 +9,7 @@ use Rattle.pal_lex.specs.Reading.{with_tokens}
 use Rattle.pal_lex.specs.declared.phrases.Statement.{Statement}
 use Rattle.pal_lex.specs.declared.pieces.Token.{Token}
 use Rattle.pal_asm.specs.Places.{is_word}
-use Rattle.assemble8.specs.Sources.{texts_of, newest_first, counts_of}
+use Rattle.host_sources.specs.Sources.{texts_of, newest_first, counts_of}
 use Rattle.source_listing.specs.Rows.{Row, is_newest_word, ends_word, word_ends, first_end, two_ends, rows, own_ends, later_ends, all_rows, word_text}
 use Rattle.source_listing.specs.Laws.{in_front, lines, all_lines, row_lines, LinesAreListed}
 

@@ -5,9 +5,9 @@ use Rattle.std.proofs.lemmas.Bool.Decides.{nat_tests}
 use Rattle.std.specs.Borrow.{Bor}
 use Rattle.char_pack.specs.Texts.{host_text}
 use Rattle.pal_lex.specs.Text.{text_from, text_of}
-use Rattle.pal_lex.specs.Joins.{before_pause, continued, join_of}
-use Rattle.assemble8.specs.Sources.{texts_of, newest_first, counts_by, counts_of}
-use Rattle.assemble8.specs.Places.{further, place_in, bytes_of, line_behind, before_place}
+use Rattle.pal_lex.specs.Joins.{before_pause, text_with_next, join_of}
+use Rattle.host_sources.specs.Sources.{texts_of, newest_first, counts_by, counts_of}
+use Rattle.host_sources.specs.Places.{further, place_in, bytes_of, next_line, before_place}
 use Rattle.source_listing.specs.Rows.{Row, ends_word, word_ends, first_end, two_ends, rows, own_ends, later_ends, all_rows}
 use Rattle.source_listing.specs.References.{spot_by, mentions}
 use Rattle.source_listing.specs.SpotSteps.{byte_spots, all_spots, no_spot}
@@ -185,7 +185,7 @@ all_stand number (source ∷ next ∷ others) ends size = by_pause (before_pause
         → ((l : List Bool) → length l ≡ length (join_of (texts_of (next ∷ others)))
         → word_spots (all_rows (next ∷ others) (counts_of (texts_of (next ∷ others))) l) (row_spots (number + 1) (next ∷ others))
         ≡ picked l (all_spots (number + 1) (next ∷ others) (counts_of (texts_of (next ∷ others)))))
-        → length ends ≡ length (continued (text_of (host_text source.now)) prefix (join_of (texts_of (next ∷ others))))
+        → length ends ≡ length (text_with_next (text_of (host_text source.now)) prefix (join_of (texts_of (next ∷ others))))
         → word_spots (all_rows (source ∷ next ∷ others) (counts_by prefix (counts_of (texts_of (next ∷ others)))) ends) (row_spots number (source ∷ next ∷ others))
         ≡ picked ends (all_spots number (source ∷ next ∷ others) (counts_by prefix (counts_of (texts_of (next ∷ others)))))
     by_pause None is later size =
@@ -240,36 +240,36 @@ same_spots f g (b ∷ older) same =
 -- ## The spot of a byte
 
 spot_behind : ℕ → List ℕ → Spot
-spot_behind number text = record { source = number; line = line_behind text }
+spot_behind number text = record { source = number; line = next_line text }
 
 spot_by_tests : (cr lf : Bool) (number b : ℕ) (before source : List ℕ) → nat_eq b 10 ≡ lf
-    → ((n : ℕ) → n < length (host_text source) → get_or (byte_spots number (line_behind before) source) n no_spot ≡ spot_behind number (text_from before (take n (host_text source))))
+    → ((n : ℕ) → n < length (host_text source) → get_or (byte_spots number (next_line before) source) n no_spot ≡ spot_behind number (text_from before (take n (host_text source))))
     → ((n : ℕ) → n < length (host_text source)
-    → get_or (byte_spots number (line_behind (10 ∷ 13 ∷ before)) source) n no_spot ≡ spot_behind number (text_from (10 ∷ 13 ∷ before) (take n (host_text source))))
-    → ((n : ℕ) → n < length (host_text source) → get_or (byte_spots number (line_behind (b ∷ before)) source) n no_spot ≡ spot_behind number (text_from (b ∷ before) (take n (host_text source))))
+    → get_or (byte_spots number (next_line (10 ∷ 13 ∷ before)) source) n no_spot ≡ spot_behind number (text_from (10 ∷ 13 ∷ before) (take n (host_text source))))
+    → ((n : ℕ) → n < length (host_text source) → get_or (byte_spots number (next_line (b ∷ before)) source) n no_spot ≡ spot_behind number (text_from (b ∷ before) (take n (host_text source))))
     → (at : ℕ) → at < length ((if cr then [] else (if lf then 13 ∷ 10 ∷ [] else b ∷ [])) ++ host_text source)
     → get_or
-    (if cr then byte_spots number (line_behind before) source
-    else (if lf then record { source = number; line = line_behind before } ∷ record { source = number; line = line_behind before } ∷ byte_spots number (line_behind before + 1) source
-    else record { source = number; line = line_behind before } ∷ byte_spots number (line_behind before) source)) at no_spot
+    (if cr then byte_spots number (next_line before) source
+    else (if lf then record { source = number; line = next_line before } ∷ record { source = number; line = next_line before } ∷ byte_spots number (next_line before + 1) source
+    else record { source = number; line = next_line before } ∷ byte_spots number (next_line before) source)) at no_spot
     ≡ spot_behind number (text_from before (take at ((if cr then [] else (if lf then 13 ∷ 10 ∷ [] else b ∷ [])) ++ host_text source)))
 unfolding spot_behind
 spot_by_tests true lf number b before source is same next other at inside = same at inside
 spot_by_tests false true number b before source is same next other zero inside = refl
 spot_by_tests false true number b before source is same next other (suc zero) inside =
-    let line : line_behind before ≡ 0 + line_behind before = omega arith in
+    let line : next_line before ≡ 0 + next_line before = omega arith in
     ap (λ n. record { source = number; line = n }) line
 spot_by_tests false true number b before source is same next other (suc (suc n)) inside =
-    let line : line_behind before + 1 ≡ 1 + (0 + line_behind before) = omega arith in
+    let line : next_line before + 1 ≡ 1 + (0 + next_line before) = omega arith in
     ap (λ l. get_or (byte_spots number l source) n no_spot) line ∙ next n (omega (arith, inside))
 spot_by_tests false false number b before source is same next other zero inside = refl
 spot_by_tests false false number b before source is same next other (suc n) inside =
-    let zero_more : line_behind before ≡ 0 + line_behind before = omega arith in
-    let line : line_behind before ≡ line_behind (b ∷ before) = zero_more ∙ sym (ap (λ (t : Bool). (if t then 1 else 0) + line_behind before) is) in
+    let zero_more : next_line before ≡ 0 + next_line before = omega arith in
+    let line : next_line before ≡ next_line (b ∷ before) = zero_more ∙ sym (ap (λ (t : Bool). (if t then 1 else 0) + next_line before) is) in
     ap (λ l. get_or (byte_spots number l source) n no_spot) line ∙ other n (omega (arith, inside))
 
 byte_spot : (number : ℕ) (before source : List ℕ) (at : ℕ) → at < length (host_text source)
-    → get_or (byte_spots number (line_behind before) source) at no_spot ≡ spot_behind number (text_from before (take at (host_text source)))
+    → get_or (byte_spots number (next_line before) source) at no_spot ≡ spot_behind number (text_from before (take at (host_text source)))
 byte_spot number before [] at inside = absurd (omega (arith, inside))
 byte_spot number before (b ∷ source) at inside =
     spot_by_tests (nat_eq b 13) (nat_eq b 10) number b before source refl (byte_spot number before source) (byte_spot number (10 ∷ 13 ∷ before) source)
@@ -283,7 +283,7 @@ lt_false a b e = grind (arith, nat_tests)
 
 -- the spot at a place in sources, of which the first has this number
 spot_of : ℕ → List (Bor (List ℕ)) → ℕ × ℕ → Spot
-spot_of number sources at = record { source = at.0 + number; line = line_behind (before_place sources at) }
+spot_of number sources at = record { source = at.0 + number; line = next_line (before_place sources at) }
 
 first_spot : (number : ℕ) (source : Bor (List ℕ)) (others : List (Bor (List ℕ))) (later : List Spot) (at : ℕ) → at < length (host_text source.now)
     → get_or (byte_spots number 1 source.now ++ later) at no_spot ≡ spot_of number (source ∷ others) (0, at)
@@ -292,7 +292,7 @@ first_spot number source others later at inside =
     let all = length-byte_spots number 1 source.now in
     let same : number ≡ 0 + number = omega arith in
     get_or_append_left (byte_spots number 1 source.now) later no_spot at (omega (arith, inside, all)) ∙ byte_spot number [] source.now at inside
-    ∙ ap (λ n. record { source = n; line = line_behind (text_of (take at (host_text source.now))) }) same
+    ∙ ap (λ n. record { source = n; line = next_line (text_of (take at (host_text source.now))) }) same
 
 cut_spot : (number n : ℕ) (source : Bor (List ℕ)) (others : List (Bor (List ℕ))) (later : List Spot) (at : ℕ) → n ≤ length (host_text source.now) → at < n
     → get_or (take n (byte_spots number 1 source.now) ++ later) at no_spot ≡ spot_of number (source ∷ others) (0, at)
@@ -302,15 +302,15 @@ cut_spot number n source others later at inside below =
     let mine = length-take-le n (byte_spots number 1 source.now) (omega (arith, inside, all)) in
     let same : number ≡ 0 + number = omega arith in
     get_or_append_left (take n (byte_spots number 1 source.now)) later no_spot at (omega (arith, below, mine)) ∙ get_or-take n (byte_spots number 1 source.now) at no_spot below
-    ∙ byte_spot number [] source.now at (omega (arith, below, inside)) ∙ ap (λ m. record { source = m; line = line_behind (text_of (take at (host_text source.now))) }) same
+    ∙ byte_spot number [] source.now at (omega (arith, below, inside)) ∙ ap (λ m. record { source = m; line = next_line (text_of (take at (host_text source.now))) }) same
 
 further_spot : (number : ℕ) (source : Bor (List ℕ)) (others : List (Bor (List ℕ))) (at : ℕ × ℕ) → spot_of (number + 1) others at ≡ spot_of number (source ∷ others) (at.0 + 1, at.1)
 unfolding spot_of
 further_spot number source others at =
     let one : at.0 + (number + 1) ≡ at.0 + 1 + number = omega arith in
     let next : suc at.0 ≡ at.0 + 1 = omega arith in
-    ap (λ n. record { source = n; line = line_behind (before_place others at) }) one
-    ∙ ap (λ m. record { source = at.0 + 1 + number; line = line_behind (text_of (take at.1 (host_text (bytes_of (source ∷ others) m)))) }) next
+    ap (λ n. record { source = n; line = next_line (before_place others at) }) one
+    ∙ ap (λ m. record { source = at.0 + 1 + number; line = next_line (text_of (take at.1 (host_text (bytes_of (source ∷ others) m)))) }) next
 
 all_spot : (number : ℕ) (sources : List (Bor (List ℕ))) (at : ℕ) → at < length (join_of (texts_of sources))
     → get_or (all_spots number sources (counts_of (texts_of sources))) at no_spot ≡ spot_of number sources (place_in (counts_of (texts_of sources)) at)
@@ -321,7 +321,7 @@ all_spot number (source ∷ next ∷ others) at inside = by_pause (before_pause 
     by_pause : (prefix : Option (List ℕ)) → before_pause (text_of (host_text source.now)) ≡ prefix
         → ((n : ℕ) → n < length (join_of (texts_of (next ∷ others)))
         → get_or (all_spots (number + 1) (next ∷ others) (counts_of (texts_of (next ∷ others)))) n no_spot ≡ spot_of (number + 1) (next ∷ others) (place_in (counts_of (texts_of (next ∷ others))) n))
-        → at < length (continued (text_of (host_text source.now)) prefix (join_of (texts_of (next ∷ others))))
+        → at < length (text_with_next (text_of (host_text source.now)) prefix (join_of (texts_of (next ∷ others))))
         → get_or (all_spots number (source ∷ next ∷ others) (counts_by prefix (counts_of (texts_of (next ∷ others))))) at no_spot
         ≡ spot_of number (source ∷ next ∷ others) (place_in (counts_by prefix (counts_of (texts_of (next ∷ others)))) at)
     by_pause None is later inside =
@@ -363,7 +363,7 @@ enough_spots number (source ∷ next ∷ others) = by_pause (before_pause (text_
   where
     by_pause : (prefix : Option (List ℕ)) → before_pause (text_of (host_text source.now)) ≡ prefix
         → length (join_of (texts_of (next ∷ others))) ≤ length (all_spots (number + 1) (next ∷ others) (counts_of (texts_of (next ∷ others))))
-        → length (continued (text_of (host_text source.now)) prefix (join_of (texts_of (next ∷ others)))) ≤ length (all_spots number (source ∷ next ∷ others) (counts_by prefix (counts_of (texts_of (next ∷ others)))))
+        → length (text_with_next (text_of (host_text source.now)) prefix (join_of (texts_of (next ∷ others)))) ≤ length (all_spots number (source ∷ next ∷ others) (counts_by prefix (counts_of (texts_of (next ∷ others)))))
     by_pause None is later =
         let text = length_from (host_text source.now) [] in
         let all = length-byte_spots number 1 source.now in

@@ -3,13 +3,13 @@ use Rattle.std.proofs.Common.{◌≡◌, ℕ, ◌+◌, ◌≤◌, if◌then◌el
 use Rattle.std.proofs.lemmas.List.{length-take-le}
 use Rattle.std.specs.Borrow.{Bor}
 use Rattle.pal_lex.specs.Text.{ends_statement, stretch, line_after, text_from, text_of}
-use Rattle.pal_lex.specs.Statements.{statements, judged, radix_after}
+use Rattle.pal_lex.specs.Statements.{statements, judge_statement, radix_after}
 use Rattle.pal_lex.specs.declared.faults.LexFault.{LexFault}
 use Rattle.pal_lex.specs.declared.phrases.Statement.{Statement}
 use Rattle.pal_asm.specs.declared.faults.Code.{Code}
 use Rattle.pal_asm.specs.Faults.{first_of, at_line, first_order}
-use Rattle.assemble8.specs.Answers.{IsAssemblyOf}
-use Rattle.assemble8.specs.declared.assembling.Assembly.{Assembly}
+use Rattle.host_sources.specs.Answers.{IsAssemblyOf}
+use Rattle.host_sources.specs.declared.assembling.Assembly.{Assembly}
 
 pub length_from : (bytes text : List ℕ) → length (text_from text bytes) ≡ length bytes + length text
 length_from [] text = omega arith
@@ -19,7 +19,7 @@ pub length_taken : (bytes : List ℕ) (n : ℕ) → n ≤ length bytes → lengt
 length_taken bytes n inside = length_from (take n bytes) [] ∙ ap (λ k. k + 0) (length-take-le n bytes inside) ∙ omega arith
 
 abbrev pub newest : List ℕ → ℕ → Result Statement LexFault
-newest text b = judged (line_after text) (nat_eq b 36) (stretch text) (radix_after (statements text))
+newest text b = judge_statement (line_after text) (nat_eq b 36) (stretch text) (radix_after (statements text))
 
 pub one_more : (b : ℕ) (text : List ℕ) → statements (b ∷ text) ≡ (if ends_statement text b then newest text b ∷ statements text else statements text)
 unfolding statements

@@ -3,7 +3,7 @@ use Rattle.std.specs.Prelude.{◌≡◌, ℕ, ◌+◌, nat_eq, if◌then◌else�
 use Rattle.std.specs.Borrow.{Bor}
 use Rattle.pal_asm.specs.Words.{pairs_of}
 use Rattle.pal_asm.specs.Faults.{fault_of}
-use Rattle.assemble8.specs.Sources.{newest_first}
+use Rattle.host_sources.specs.Sources.{newest_first}
 use Rattle.source_listing.specs.Rows.{Row, ends_word}
 use Rattle.source_listing.specs.Listings.{rows_of}
 use Rattle.source_listing.specs.References.{spot_by}

@@ -5,9 +5,9 @@ use Rattle.pal_lex.specs.Statements.{statements}
 use Rattle.pal_asm.specs.Places.{values}
 use Rattle.pal_asm.specs.Words.{pairs_of}
 use Rattle.pal_asm.specs.Faults.{fault_of}
-use Rattle.assemble8.specs.Sources.{texts_of, newest_first, counts_of}
+use Rattle.host_sources.specs.Sources.{texts_of, newest_first, counts_of}
 use Rattle.source_listing.specs.Rows.{Row, word_ends, all_rows, rows_text}
-use Rattle.assemble8.specs.Symbols.{symbols_of}
+use Rattle.host_sources.specs.Symbols.{symbols_of}
 use Rattle.source_listing.specs.Symbols.{table_text}
 use Rattle.source_listing.specs.References.{spot_by, mentions, AreByName, cross_text}
 use Rattle.source_listing.specs.declared.references.Mention.{Mention}

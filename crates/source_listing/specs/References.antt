@@ -11,9 +11,9 @@ use Rattle.pal_lex.specs.declared.pieces.Term.TheVariants.{Name, Number, Here}
 use Rattle.pal_lex.specs.declared.phrases.Part.{Part}
 use Rattle.pal_lex.specs.declared.phrases.Body.{Body}
 use Rattle.pal_lex.specs.declared.phrases.Body.TheVariants.{Nothing, Origin, Define, Decimal, Octal, Pause, Field, Reference, Word}
-use Rattle.pal_asm.specs.Expressions.{Known}
+use Rattle.pal_asm.specs.Expressions.{Meanings}
 use Rattle.pal_asm.specs.Places.{Source}
-use Rattle.assemble8.specs.Places.{place_at_byte}
+use Rattle.host_sources.specs.Places.{place_at_byte}
 use Rattle.source_listing.specs.Symbols.{symbol_text}
 use Rattle.source_listing.specs.declared.spots.Spot.{Spot}
 use Rattle.source_listing.specs.declared.references.Mention.{Mention}
@@ -60,14 +60,14 @@ abbrev pub names_ended : List ℕ → ℕ → List ℕ
 names_ended older b = if ends_statement older b then newest_names (statements (b ∷ older)) else []
 
 -- names at a source and line, but for the permanent ones
-abbrev pub mentioned : Spot → List ℕ → List Mention
-mentioned spot [] = []
-mentioned spot (name ∷ names) = (if is_some (permanent name) then [] else record { name = name; spot = spot } ∷ []) ++ mentioned spot names
+abbrev pub mentions_at : Spot → List ℕ → List Mention
+mentions_at spot [] = []
+mentions_at spot (name ∷ names) = (if is_some (permanent name) then [] else record { name = name; spot = spot } ∷ []) ++ mentions_at spot names
 
 -- the names in the statements of a text, in its order, each where its statement ends
 abbrev pub mentions : (ℕ → Spot) → List ℕ → List Mention
 mentions spot [] = []
-mentions spot (b ∷ older) = mentions spot older ++ mentioned (spot (length older)) (names_ended older b)
+mentions spot (b ∷ older) = mentions spot older ++ mentions_at (spot (length older)) (names_ended older b)
 
 -- ## Their text
 
@@ -76,14 +76,14 @@ abbrev pub spot_text : Bool → Spot → List ℕ
 spot_text several spot = (if several then decimal spot.source ++ codes ":" else []) ++ decimal spot.line
 
 -- a name with its value and the first of its lines
-abbrev pub opening_text : Bool → Known → Mention → List ℕ
+abbrev pub opening_text : Bool → Meanings → Mention → List ℕ
 opening_text several last mention = symbol_text (mention.name, unwrap_or (last mention.name) 0) ++ codes "  " ++ spot_text several mention.spot
 
 abbrev pub is_same_spot : Spot → Spot → Bool
 is_same_spot a b = nat_eq a.source b.source && nat_eq a.line b.line
 
 -- a mention after another one, if there is one: the name begins a line, or goes on there with a further one
-abbrev pub mention_text : Bool → Known → Option Mention → Mention → List ℕ
+abbrev pub mention_text : Bool → Meanings → Option Mention → Mention → List ℕ
 mention_text several last None mention = opening_text several last mention
 mention_text several last (Some before) mention =
     if nat_eq before.name mention.name then (if is_same_spot before.spot mention.spot then [] else codes " " ++ spot_text several mention.spot)
@@ -94,7 +94,7 @@ ending_text None = []
 ending_text (Some before) = codes "\n"
 
 -- mentions that stand by their names: each name once, with its value and the lines at which it is named, each once
-abbrev pub cross_text : Bool → Known → Option Mention → List Mention → List ℕ
+abbrev pub cross_text : Bool → Meanings → Option Mention → List Mention → List ℕ
 cross_text several last before [] = ending_text before
 cross_text several last before (mention ∷ others) = mention_text several last before mention ++ cross_text several last (Some mention) others
 

@@ -2,8 +2,8 @@
 use Rattle.std.specs.Prelude.{ℕ, ◌%◌, is_some, if◌then◌else◌, codes, List, [], ◌∷◌, ◌++◌}
 use Rattle.word12.specs.Octal.{octal4}
 use Rattle.pal_sym.specs.Permanent.{permanent}
-use Rattle.assemble8.specs.Spelling.{name_text}
-use Rattle.assemble8.specs.Symbols.{Entries}
+use Rattle.host_sources.specs.Spelling.{name_text}
+use Rattle.host_sources.specs.Symbols.{Entries}
 
 -- a name with its value in four octal digits
 abbrev pub symbol_text : ℕ × ℕ → List ℕ

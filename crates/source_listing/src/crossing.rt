@@ -1,12 +1,12 @@
 //! The cross reference of a listing.
 ghost use Rattle.std.specs.Prelude.{◌≡◌, ◌++◌, None, unwrap_or, OnOk};
-ghost use Rattle.assemble8.specs.Symbols.{known};
+ghost use Rattle.host_sources.specs.Symbols.{meaning_in};
 ghost use Rattle.source_listing.specs.References.{spot_text, opening_text, is_same_spot, mention_text, ending_text, cross_text};
 
 use crate::references::Mention;
 use crate::spots::Spot;
 use crate::tables::put_symbol;
-use assemble8::{put_number, value_by_number};
+use host_sources::{put_number, value_by_number};
 use std::alloc::AllocError;
 use std::collections::BTreeMap;
 
@@ -17,7 +17,7 @@ pub(crate) fn put_cross(
     symbols: &BTreeMap<u64, u16>,
     mentions: &[Mention],
 ) -> Result<(), AllocError>
-    ensures { OnOk result (text.new.items ≡ text.old.items ++ cross_text several (known symbols.now) None
+    ensures { OnOk result (text.new.items ≡ text.old.items ++ cross_text several (meaning_in symbols.now) None
         mentions.now) }
 {
     let mut before = None;
@@ -52,7 +52,7 @@ fn put_mention(
     before: Option<Mention>,
     mention: Mention,
 ) -> Result<(), AllocError>
-    ensures { OnOk result (text.new.items ≡ text.old.items ++ mention_text several (known symbols.now)
+    ensures { OnOk result (text.new.items ≡ text.old.items ++ mention_text several (meaning_in symbols.now)
         before mention) }
 {
     match before {
@@ -85,7 +85,7 @@ fn put_opening(
     symbols: &BTreeMap<u64, u16>,
     mention: Mention,
 ) -> Result<(), AllocError>
-    ensures { OnOk result (text.new.items ≡ text.old.items ++ opening_text several (known symbols.now)
+    ensures { OnOk result (text.new.items ≡ text.old.items ++ opening_text several (meaning_in symbols.now)
         mention) }
 {
     let value = value_by_number(symbols, mention.name).unwrap_or(0);

@@ -2,8 +2,8 @@
 
 ghost use Rattle.source_listing.specs.Laws.{WordsAreListed, LinesAreListed, WordsStand};
 
-use assemble8::laws::fine_terms_have_value;
-pub use assemble8::laws::symbols_have_last_values;
+use host_sources::laws::fine_terms_have_value;
+pub use host_sources::laws::symbols_have_last_values;
 
 /// The words that stand at the lines of a listing are those of the sources, in their order and no others.
 pub fn words_are_listed()

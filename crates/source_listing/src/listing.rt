@@ -1,7 +1,7 @@
 //! Sources to a listing.
 ghost use Rattle.std.specs.Prelude.{◌≡◌, ◌++◌, ℕ, List, IfOk, IfErr, OnOk};
-ghost use Rattle.assemble8.specs.Answers.{IsAssembled, IsAssemblyOf, IsTold};
-ghost use Rattle.assemble8.specs.declared.faults.SourceFault.TheVariants.{Memory};
+ghost use Rattle.host_sources.specs.Answers.{IsAssembled, IsAssemblyOf, IsTold};
+ghost use Rattle.host_sources.specs.declared.faults.SourceFault.TheVariants.{Memory};
 ghost use Rattle.source_listing.specs.Listings.{lines_text, mentions_of, AreSymbols, IsListed};
 ghost use Rattle.source_listing.specs.References.{AreByName};
 
@@ -11,7 +11,7 @@ use crate::rows::put_rows;
 use crate::spots::all_spots;
 use crate::tables::put_table;
 use crate::word_ends::word_ends;
-use assemble8::{Assembly, SourceFault, assembly_of, names_of};
+use host_sources::{Assembly, SourceFault, assembly_of, names_of};
 use bin_tape::tape_of;
 use pal_asm::laws::has_words;
 use std::alloc::Global;

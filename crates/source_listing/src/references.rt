@@ -4,14 +4,14 @@ ghost use Rattle.pal_lex.specs.Text.{text_of};
 ghost use Rattle.pal_lex.specs.Statements.{statements};
 ghost use Rattle.pal_lex.specs.Reading.{HasRead};
 ghost use Rattle.pal_asm.specs.Faults.{first_order};
-ghost use Rattle.source_listing.specs.References.{term_names, part_names, body_names, names_ended, mentioned, mentions, AreByName};
+ghost use Rattle.source_listing.specs.References.{term_names, part_names, body_names, names_ended, mentions_at, mentions, AreByName};
 ghost use Rattle.source_listing.specs.SpotSteps.{no_spot};
-ghost use Rattle.assemble8.specs.declared.faults.SourceFault.TheVariants.{Memory};
+ghost use Rattle.host_sources.specs.declared.faults.SourceFault.TheVariants.{Memory};
 
 use crate::spots::{Spot, spot_at};
 use crate::tables::is_permanent;
-use assemble8::laws::fine_by_bytes;
-use assemble8::{SourceFault, statement_ended};
+use host_sources::laws::fine_by_bytes;
+use host_sources::{SourceFault, statement_ended};
 use pal_lex::{Body, Lexer, Name, Part, Statement, Term};
 use std::alloc::{AllocError, Global};
 
@@ -55,7 +55,7 @@ fn take_byte(
 ) -> Result<(), SourceFault>
     ensures takes { (text : List ℕ) → HasRead lexer.old 0 text → lexer.old.may_pause ≡ false
         → first_order (statements (byte ∷ text)) ≡ None
-        → OnOk result ((found.new.items ≡ found.old.items ++ mentioned spot (names_ended text byte))
+        → OnOk result ((found.new.items ≡ found.old.items ++ mentions_at spot (names_ended text byte))
         × HasRead lexer.new 0 (byte ∷ text)) }
     ensures setting { lexer.new.may_pause ≡ lexer.old.may_pause }
     ensures fault { IfErr result (λ fault. fault ≡ Memory) }
@@ -75,7 +75,7 @@ fn put_statement(
     statement: &Statement,
     spot: Spot,
 ) -> Result<(), AllocError>
-    ensures { OnOk result (found.new.items ≡ found.old.items ++ mentioned spot
+    ensures { OnOk result (found.new.items ≡ found.old.items ++ mentions_at spot
         (statement.now.tags ++ body_names statement.now.body)) }
 {
     put_names(found, statement.tags.names(), spot)?;
@@ -85,7 +85,7 @@ fn put_statement(
 
 /// Puts names.
 fn put_names(found: &mut Vec<Mention>, names: &[Name], spot: Spot) -> Result<(), AllocError>
-    ensures { OnOk result (found.new.items ≡ found.old.items ++ mentioned spot names.now) }
+    ensures { OnOk result (found.new.items ≡ found.old.items ++ mentions_at spot names.now) }
 {
     let mut rest = names;
     while let [name, others @ ..] = rest {
@@ -97,7 +97,7 @@ fn put_names(found: &mut Vec<Mention>, names: &[Name], spot: Spot) -> Result<(),
 
 /// Puts the names in a body.
 fn put_body(found: &mut Vec<Mention>, body: &Body, spot: Spot) -> Result<(), AllocError>
-    ensures { OnOk result (found.new.items ≡ found.old.items ++ mentioned spot (body_names body.now)) }
+    ensures { OnOk result (found.new.items ≡ found.old.items ++ mentions_at spot (body_names body.now)) }
 {
     match body {
         Body::Nothing | Body::Decimal | Body::Octal | Body::Pause => Ok(()),
@@ -117,7 +117,7 @@ fn put_body(found: &mut Vec<Mention>, body: &Body, spot: Spot) -> Result<(), All
 
 /// Puts the names in an expression.
 fn put_parts(found: &mut Vec<Mention>, parts: &[Part], spot: Spot) -> Result<(), AllocError>
-    ensures { OnOk result (found.new.items ≡ found.old.items ++ mentioned spot (part_names parts.now)) }
+    ensures { OnOk result (found.new.items ≡ found.old.items ++ mentions_at spot (part_names parts.now)) }
 {
     let mut rest = parts;
     while let [part, others @ ..] = rest {
@@ -129,7 +129,7 @@ fn put_parts(found: &mut Vec<Mention>, parts: &[Part], spot: Spot) -> Result<(),
 
 /// Puts the name that a term is, if it is one.
 fn put_term(found: &mut Vec<Mention>, term: Term, spot: Spot) -> Result<(), AllocError>
-    ensures { OnOk result (found.new.items ≡ found.old.items ++ mentioned spot (term_names term)) }
+    ensures { OnOk result (found.new.items ≡ found.old.items ++ mentions_at spot (term_names term)) }
 {
     match term {
         Term::Name(name) => put_name(found, name.number(), spot),
@@ -139,7 +139,7 @@ fn put_term(found: &mut Vec<Mention>, term: Term, spot: Spot) -> Result<(), Allo
 
 /// Puts a name, if it is no permanent one.
 fn put_name(found: &mut Vec<Mention>, name: u64, spot: Spot) -> Result<(), AllocError>
-    ensures { OnOk result (found.new.items ≡ found.old.items ++ mentioned spot (name ∷ [])) }
+    ensures { OnOk result (found.new.items ≡ found.old.items ++ mentions_at spot (name ∷ [])) }
 {
     if is_permanent(name) {
         return Ok(());

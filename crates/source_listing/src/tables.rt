@@ -3,7 +3,7 @@ ghost use Rattle.std.specs.Prelude.{◌≡◌, ◌++◌, is_some, OnOk};
 ghost use Rattle.pal_sym.specs.Permanent.{permanent};
 ghost use Rattle.source_listing.specs.Symbols.{symbol_text, entry_text, table_text};
 
-use assemble8::name_text;
+use host_sources::name_text;
 use pal_sym::{SymbolName, Symbols};
 use std::alloc::AllocError;
 use std::collections::BTreeMap;
@@ -35,7 +35,7 @@ fn put_entry(text: &mut Vec<u8>, name: u64, value: u16) -> Result<(), AllocError
 pub(crate) fn is_permanent(name: u64) -> bool
     ensures { result ≡ is_some (permanent name) }
 {
-    Symbols::permanent(SymbolName::numbered(name)).is_some()
+    Symbols::permanent(SymbolName::name_of_number(name)).is_some()
 }
 
 /// Puts a name with its value.

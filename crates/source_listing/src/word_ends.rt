@@ -6,10 +6,10 @@ ghost use Rattle.pal_lex.specs.Reading.{HasRead};
 ghost use Rattle.pal_asm.specs.Places.{is_word};
 ghost use Rattle.pal_asm.specs.Faults.{first_order};
 ghost use Rattle.source_listing.specs.Rows.{word_ends, ends_word};
-ghost use Rattle.assemble8.specs.declared.faults.SourceFault.TheVariants.{Memory};
+ghost use Rattle.host_sources.specs.declared.faults.SourceFault.TheVariants.{Memory};
 
-use assemble8::laws::fine_by_bytes;
-use assemble8::{SourceFault, statement_ended};
+use host_sources::laws::fine_by_bytes;
+use host_sources::{SourceFault, statement_ended};
 use pal_lex::{Body, Lexer};
 use std::alloc::{AllocError, Global};
 

@@ -47,7 +47,7 @@ pub(crate) fn path_of<R: Files<File = File> + AllocGlobal>(
 }
 
 /// A file of a path that is opened and locked, and whether it is; the path leads to it then.
-pub(crate) fn held_at<R: Files<File = File>>(
+pub(crate) fn hold_path<R: Files<File = File>>(
     rt: &R,
     path: &str,
 ) -> Result<(File, bool), HostFault> {
@@ -55,7 +55,7 @@ pub(crate) fn held_at<R: Files<File = File>>(
         return Err(HostFault::Unwritable);
     }
     for _ in 0..TRIES {
-        let file = answer(opened(rt, path))?;
+        let file = answer(open_file(rt, path))?;
         let has_lock = has_taken_lock(&file)?;
         if leads_to(rt, path, &file) {
             return Ok((file, has_lock));
@@ -72,7 +72,7 @@ fn is_pipe<R: Files<File = File>>(rt: &R, path: &str) -> bool {
     }
 }
 
-fn opened<R: Files<File = File>>(rt: &R, path: &str) -> io::Result<File> {
+fn open_file<R: Files<File = File>>(rt: &R, path: &str) -> io::Result<File> {
     apart(OpenOptions::new().read(true).write(true).open(rt, path)?)
 }
 
@@ -211,7 +211,7 @@ pub(crate) fn create_new<R: Files<File = File>>(rt: &R, name: &str) -> io::Resul
 }
 
 /// A new empty file of a path that no file has, which is locked.
-pub(crate) fn claimed<R: Files<File = File>>(rt: &R, path: &str) -> Result<File, HostFault> {
+pub(crate) fn claim_path<R: Files<File = File>>(rt: &R, path: &str) -> Result<File, HostFault> {
     let empty = answer(create_new(rt, path))?;
     let _has_lock = has_taken_lock(&empty)?;
     if !leads_to(rt, path, &empty) {
@@ -221,7 +221,7 @@ pub(crate) fn claimed<R: Files<File = File>>(rt: &R, path: &str) -> Result<File,
 }
 
 /// Gives a file the owner and the permissions of an older one.
-pub(crate) fn taken_over<R: Files<File = File>>(
+pub(crate) fn take_owner<R: Files<File = File>>(
     rt: &R,
     file: &File,
     name: &str,
@@ -323,7 +323,7 @@ pub(crate) fn link_fault(error: &io::Error) -> LinkFault {
 }
 
 /// Writes bytes to standard output, all of them.
-pub(crate) fn printed<R: Print>(rt: &R, bytes: &[u8]) -> Result<(), PrintFault> {
+pub(crate) fn print_bytes<R: Print>(rt: &R, bytes: &[u8]) -> Result<(), PrintFault> {
     match rt.write_all(bytes) {
         Ok(()) => Ok(()),
         Err(error) => match error.kind() {

@@ -4,8 +4,8 @@ ghost use Rattle.std.specs.Prelude.{◌≤◌, ◌+◌, length, IfOk};
 
 use crate::besides::Besides;
 use crate::files::{
-    answer, claimed, cut_at, has_taken_lock, held_at, held_bytes, leads_to, link_fault,
-    made_beside, put_at, remove_besides, rename_fault, stands_alone, taken_over,
+    answer, claim_path, cut_at, has_taken_lock, hold_path, held_bytes, leads_to, link_fault,
+    made_beside, put_at, remove_besides, rename_fault, stands_alone, take_owner,
 };
 use hosts::{HostFault, LinkFault, RenameFault};
 use std::alloc::Global;
@@ -22,23 +22,23 @@ struct Beside {
 /// The file that is held, and the one that is made beside its path or beside another.
 #[derive(Drop)]
 pub(crate) struct Opened {
-    held: Option<File>,
+    file: Option<File>,
     held_path: Option<String>,
     beside: Option<File>,
     place: Option<Beside>,
 
     /// A new file that has its path, and still its name beside that; or an empty one that has the path until another takes it.
-    named: Option<File>,
+    new_file: Option<File>,
 }
 
 impl Opened {
     pub(crate) fn new() -> Opened {
         Opened {
-            held: None,
+            file: None,
             held_path: None,
             beside: None,
             place: None,
-            named: None,
+            new_file: None,
         }
     }
 
@@ -71,14 +71,14 @@ impl Opened {
     ) -> Result<bool, HostFault> {
         let _names = self.place(alloc, path)?;
         let own = String::from_str(alloc, path)?;
-        let (file, has_lock) = held_at(rt, path)?;
-        self.held = Some(file);
+        let (file, has_lock) = hold_path(rt, path)?;
+        self.file = Some(file);
         self.held_path = Some(own);
         Ok(has_lock)
     }
 
     pub(crate) fn drop_seconds<R: Files<File = File>>(&mut self, rt: &R) -> Result<(), HostFault> {
-        match (&self.held, &mut self.place) {
+        match (&self.file, &mut self.place) {
             (Some(file), Some(place)) => remove_besides(rt, file, &mut place.names),
             _ => Err(HostFault::Absent),
         }
@@ -87,21 +87,21 @@ impl Opened {
     pub(crate) fn look(&self, alloc: Global, most: usize) -> Result<Vec<u8>, HostFault>
         ensures { IfOk result (λ bytes. length bytes.items ≤ most + 1) }
     {
-        match &self.held {
+        match &self.file {
             Some(file) => held_bytes(alloc, file, most),
             None => Err(HostFault::Absent),
         }
     }
 
     pub(crate) fn is_alone(&self) -> Result<bool, HostFault> {
-        match &self.held {
+        match &self.file {
             Some(file) => stands_alone(file),
             None => Err(HostFault::Absent),
         }
     }
 
     pub(crate) fn leads<R: Files<File = File>>(&self, rt: &R, path: &str) -> bool {
-        match &self.held {
+        match &self.file {
             Some(file) => leads_to(rt, path, file),
             None => false,
         }
@@ -119,8 +119,8 @@ impl Opened {
     }
 
     pub(crate) fn own_beside<R: Files<File = File>>(&self, rt: &R) -> Result<(), HostFault> {
-        match (&self.beside, &self.held) {
-            (Some(file), Some(older)) => answer(taken_over(rt, file, self.name_beside(), older)),
+        match (&self.beside, &self.file) {
+            (Some(file), Some(older)) => answer(take_owner(rt, file, self.name_beside(), older)),
             _ => Err(HostFault::Absent),
         }
     }
@@ -152,7 +152,7 @@ impl Opened {
     pub(crate) fn drop_beside<R: Files<File = File>>(&mut self, rt: &R) -> Result<(), HostFault> {
         let done = answer(fs::remove_file(rt, self.name_beside()));
         self.beside = None;
-        self.named = None;
+        self.new_file = None;
         done
     }
 
@@ -166,9 +166,9 @@ impl Opened {
         }
         let file = self.beside.take();
         if is_path(&self.held_path, path) {
-            self.held = file;
+            self.file = file;
         }
-        self.named = None;
+        self.new_file = None;
         Ok(())
     }
 
@@ -180,7 +180,7 @@ impl Opened {
         if let Err(error) = fs::hard_link(rt, self.name_beside(), path) {
             return Err(link_fault(&error));
         }
-        self.named = self.beside.take();
+        self.new_file = self.beside.take();
         Ok(())
     }
 
@@ -189,8 +189,8 @@ impl Opened {
         rt: &R,
         path: &str,
     ) -> Result<(), HostFault> {
-        let empty = claimed(rt, path)?;
-        self.named = Some(empty);
+        let empty = claim_path(rt, path)?;
+        self.new_file = Some(empty);
         Ok(())
     }
 
@@ -199,19 +199,19 @@ impl Opened {
         rt: &R,
         path: &str,
     ) -> Result<(), HostFault> {
-        self.named = None;
+        self.new_file = None;
         answer(fs::remove_file(rt, path))
     }
 
     pub(crate) fn write_over(&mut self, at: usize, bytes: &[u8]) -> Result<(), HostFault> {
-        match &mut self.held {
+        match &mut self.file {
             Some(file) => answer(put_at(file, at, bytes)),
             None => Err(HostFault::Absent),
         }
     }
 
     pub(crate) fn finish_over(&mut self, size: usize) -> Result<(), HostFault> {
-        match &mut self.held {
+        match &mut self.file {
             Some(file) => answer(cut_at(file, size)),
             None => Err(HostFault::Absent),
         }

@@ -49,7 +49,7 @@ use std::time::{Clock, Instant};
 pub struct System<'a, R> {
     rt: &'a R,
     files: Opened,
-    begun: Option<Instant>,
+    start: Option<Instant>,
     log: Record,
 }
 
@@ -60,7 +60,7 @@ impl<'a, R: Files<File = File>> System<'a, R> {
         System {
             rt,
             files: Opened::new(),
-            begun: None,
+            start: None,
             log: Record::new(),
         }
     }
@@ -268,7 +268,7 @@ impl<'a, R: Env + Files<File = File> + Input + Print + Eprint + Clock + AllocGlo
     }
 
     fn print(&mut self, bytes: &[u8]) -> Result<(), PrintFault> {
-        let done = files::printed(self.rt, bytes);
+        let done = files::print_bytes(self.rt, bytes);
         match &done {
             Ok(()) => self.log.note(&[PRINT, 1, 0], &[], bytes),
             Err(PrintFault::Abandoned) => self.log.note(&[PRINT, 0, 1], &[], bytes),
@@ -294,7 +294,7 @@ impl<'a, R: Env + Files<File = File> + Input + Print + Eprint + Clock + AllocGlo
     }
 
     fn seconds(&mut self) -> u64 {
-        let passed = files::seconds_since(self.rt, &mut self.begun);
+        let passed = files::seconds_since(self.rt, &mut self.start);
         self.log.note(&[SECONDS, 1, 0], &[], &[]);
         passed
     }

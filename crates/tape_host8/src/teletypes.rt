@@ -10,7 +10,7 @@ use script8::SessionFault;
 use std::fs::Files;
 use std::io::Input;
 use task8::TeletypeForm;
-use terminal8::{Form, Input as Keys, TerminalFault, Why, run};
+use terminal8::{Form, Input as Keys, TerminalFault, TerminalEnd, run};
 use word12::{Cell, Word};
 
 /// Loads a tape or a core image into a new machine, and runs it at the Teletype.
@@ -88,17 +88,17 @@ fn usual_start<R: Eprint + AllocGlobal>(
 }
 
 /// Prints on standard error why a machine goes no further: a HLT and the end of the keys are ends of a program's own.
-fn tell_end<R: Eprint + AllocGlobal>(rt: &R, machine: &Machine, why: Why) -> Result<(), Ending> {
+fn tell_end<R: Eprint + AllocGlobal>(rt: &R, machine: &Machine, why: TerminalEnd) -> Result<(), Ending> {
     let cell = machine.next_cell();
     let line = match why {
-        Why::Halt => ProgramLine::Halted(cell, machine.ac(), machine.l()),
-        Why::Keys => ProgramLine::KeysEnd(cell),
-        Why::Unassigned => ProgramLine::Unassigned(cell, machine.core().get(cell)),
-        Why::Limit => ProgramLine::Limit(cell),
+        TerminalEnd::Halt => ProgramLine::Halted(cell, machine.ac(), machine.l()),
+        TerminalEnd::Keys => ProgramLine::KeysEnd(cell),
+        TerminalEnd::Unassigned => ProgramLine::Unassigned(cell, machine.core().get(cell)),
+        TerminalEnd::Limit => ProgramLine::Limit(cell),
     };
     tell_line(rt, &line)?;
     match why {
-        Why::Halt | Why::Keys => Ok(()),
-        Why::Unassigned | Why::Limit => Err(Ending::Failure),
+        TerminalEnd::Halt | TerminalEnd::Keys => Ok(()),
+        TerminalEnd::Unassigned | TerminalEnd::Limit => Err(Ending::Failure),
     }
 }

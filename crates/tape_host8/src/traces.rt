@@ -15,10 +15,10 @@ use terminal8::{Form, Terminal, keys_of};
 use trace8::{TraceFault, trace};
 
 /// How many steps are printed where nothing else is said.
-const TRACED: u64 = 1_000;
+const TRACE_STEPS: u64 = 1_000;
 
 /// How many are counted: some three seconds of the machine.
-const PROFILED: u64 = 1_000_000;
+const PROFILE_STEPS: u64 = 1_000_000;
 
 /// The frames of a program, a machine that stands at its start, and its keys.
 #[derive(Drop)]
@@ -36,7 +36,7 @@ pub fn trace_tape<R: Files + Print + Eprint + AllocGlobal>(
     let start = start_of(rt, form)?;
     let given = given_cells(rt.alloc(), &start.frames)?;
     let mut terminal = Terminal::new(start.machine, &start.keys);
-    let most = form.steps.unwrap_or(TRACED);
+    let most = form.steps.unwrap_or(TRACE_STEPS);
     let mut output = Output::new(rt);
     match trace(rt.alloc(), &mut terminal, most, &given, &mut output) {
         Ok(ended) => print_bytes(rt, &end_of(rt, &terminal, ended)?),
@@ -54,7 +54,7 @@ pub fn profile_tape<R: Files + Print + Eprint + AllocGlobal>(
     let given = given_cells(rt.alloc(), &start.frames)?;
     let mut terminal = Terminal::new(start.machine, &start.keys);
     let mut counts = no_counts(rt.alloc())?;
-    let most = form.steps.unwrap_or(PROFILED);
+    let most = form.steps.unwrap_or(PROFILE_STEPS);
     let ended = count_fetches(&mut terminal, most, &mut counts);
     print_bytes(rt, &profile_text(rt.alloc(), &counts, &given)?)?;
     print_bytes(rt, &end_of(rt, &terminal, ended)?)

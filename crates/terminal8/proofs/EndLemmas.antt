@@ -7,15 +7,15 @@ use Rattle.cpu8.specs.Laws.{runs_on}
 use Rattle.cpu8.specs.declared.outcomes.Stepped.{Stepped}
 use Rattle.cpu8.specs.declared.outcomes.Stepped.TheVariants.{Stopped, Interrupted, Ran, Halted, Unassigned}
 use Rattle.terminal8.specs.Keys.{fresh, keys_from, keys_of}
-use Rattle.terminal8.specs.KeySteps.{behind}
-use Rattle.terminal8.specs.Terminal.{Terminal, seated, later, last_did, printed_by, shown, has_halted, GoesOn, Ends, IsRun}
+use Rattle.terminal8.specs.KeySteps.{keyboard_after}
+use Rattle.terminal8.specs.Terminal.{Terminal, new_terminal, later, last_did, characters_of, visible_characters, has_halted, GoesOn, Ends, IsRun}
 use Rattle.terminal8.specs.Run.{MayFollow, RunsProgram}
 use Rattle.terminal8.specs.Laws.{terminal_of, IsWholeRun}
 use Rattle.terminal8.specs.declared.inputs.Input.TheVariants.{Ending}
 use Rattle.terminal8.specs.declared.keyboards.Form.{Form}
 use Rattle.terminal8.specs.declared.outcomes.Ended.{Ended}
-use Rattle.terminal8.specs.declared.outcomes.Why.{Why}
-use Rattle.terminal8.specs.declared.outcomes.Why.TheVariants as why
+use Rattle.terminal8.specs.declared.outcomes.TerminalEnd.{TerminalEnd}
+use Rattle.terminal8.specs.declared.outcomes.TerminalEnd.TheVariants as why
 use Rattle.terminal8.proofs.KeyLemmas.{keys_more}
 
 -- ## Known bytes
@@ -24,21 +24,21 @@ pub whole-run : (form : Form) (n : ℕ) (old new : State) (bytes left : List ℕ
     → RunsProgram form Ending n old new (Some bytes) (Some left) w w' (Ok ended) → IsWholeRun (terminal_of form old bytes) n new w w' ended
 whole-run form n old new bytes left w w' ended h =
     let m = h.0.made in
-    let k = behind (fresh form) m.bytes in
+    let k = keyboard_after (fresh form) m.bytes in
     let rest : List ℕ = m.ahead ++ left in
     let more : List (Option ℕ) = map (λ (key : ℕ). Some key) (keys_from k rest) in
     let may : MayFollow h.0.is_over more = λ over.
     ap (λ a. map (λ (key : ℕ). Some key) (keys_from k (a ++ left))) (m.at_end over).1
     ∙ ap (λ l. map (λ (key : ℕ). Some key) (keys_from k l)) (m.at_end over).2 in
-    let same : terminal_of form old bytes ≡ seated old (h.0.looks ++ more) =
+    let same : terminal_of form old bytes ≡ new_terminal old (h.0.looks ++ more) =
     ap (λ bs. terminal_of form old bs) (m.taken ∙ append_assoc m.bytes m.ahead left)
-    ∙ ap (λ ks. seated old (map (λ (key : ℕ). Some key) ks)) (keys_more (fresh form) m.bytes rest)
-    ∙ ap (λ l. seated old l) (map-append (λ (key : ℕ). Some key) (keys_of form m.bytes) (keys_from k rest))
-    ∙ ap (λ l. seated old (l ++ more)) (sym m.finds) in
+    ∙ ap (λ ks. new_terminal old (map (λ (key : ℕ). Some key) ks)) (keys_more (fresh form) m.bytes rest)
+    ∙ ap (λ l. new_terminal old l) (map-append (λ (key : ℕ). Some key) (keys_of form m.bytes) (keys_from k rest))
+    ∙ ap (λ l. new_terminal old (l ++ more)) (sym m.finds) in
     record {
       run = subst (λ t. IsRun t n ended.steps ended.why) (sym same) (h.0.run more may);
       machine = ap (λ t. (later ended.steps t).machine) same ∙ m.machine more may;
-      printed = subst (λ t. Appends w w' (shown (printed_by ended.steps t))) (sym same) (h.1 more may);
+      printed = subst (λ t. Appends w w' (visible_characters (characters_of ended.steps t))) (sym same) (h.1 more may);
     }
 
 -- ## One end
@@ -57,13 +57,13 @@ unassigned-halted : (did : Stepped) (word : ℕ) → did ≡ Unassigned word →
 unassigned-halted did word is h = true≢false (sym h ∙ ap (λ d. has_halted d) is)
 
 -- behind fewer steps there is no end
-goes-past : (t : Terminal) (n steps : ℕ) (y : Why) → Ends t n steps y → GoesOn t steps → steps < n → ⊥
+goes-past : (t : Terminal) (n steps : ℕ) (y : TerminalEnd) → Ends t n steps y → GoesOn t steps → steps < n → ⊥
 goes-past t n steps why.Halt ends goes below = halted-not (last_did steps t) ends goes.runs
 goes-past t n steps why.Unassigned ends goes below = unassigned-not (last_did steps t) ends.0 ends.1 goes.runs
 goes-past t n steps why.Keys ends goes below = true≢false (sym ends.2 ∙ goes.fed)
 goes-past t n steps why.Limit ends goes below = absurd (omega (arith, ends.0, below))
 
-same-why : (t : Terminal) (n steps : ℕ) (x y : Why) → Ends t n steps x → Ends t n steps y → x ≡ y
+same-why : (t : Terminal) (n steps : ℕ) (x y : TerminalEnd) → Ends t n steps x → Ends t n steps y → x ≡ y
 same-why t n steps why.Halt why.Halt a b = refl
 same-why t n steps why.Halt why.Unassigned a b = absurd (unassigned-halted (last_did steps t) b.0 b.1 a)
 same-why t n steps why.Halt why.Keys a b = absurd (halted-not (last_did steps t) a b.1)
@@ -81,15 +81,15 @@ same-why t n steps why.Limit why.Unassigned a b = absurd (unassigned-not (last_d
 same-why t n steps why.Limit why.Keys a b = absurd (omega (arith, a.0, b.0))
 same-why t n steps why.Limit why.Limit a b = refl
 
-not-fewer : (t : Terminal) (n a b : ℕ) (x y : Why) → IsRun t n a x → IsRun t n b y → a < b → ⊥
+not-fewer : (t : Terminal) (n a b : ℕ) (x y : TerminalEnd) → IsRun t n a x → IsRun t n b y → a < b → ⊥
 not-fewer t n a b x y r q below = goes-past t n a x r.ends (q.goes_on a below) (omega (arith, below, q.within))
 
-pub same-steps : (t : Terminal) (n a b : ℕ) (x y : Why) → IsRun t n a x → IsRun t n b y → a ≡ b
+pub same-steps : (t : Terminal) (n a b : ℕ) (x y : TerminalEnd) → IsRun t n a x → IsRun t n b y → a ≡ b
 same-steps t n a b x y r q =
     let c : (a < b) → ⊥ = not-fewer t n a b x y r q in
     let d : (b < a) → ⊥ = not-fewer t n b a y x q r in
     omega (arith, c, d)
 
-pub same-end : (t : Terminal) (n a b : ℕ) (x y : Why) → IsRun t n a x → IsRun t n b y → x ≡ y
+pub same-end : (t : Terminal) (n a b : ℕ) (x y : TerminalEnd) → IsRun t n a x → IsRun t n b y → x ≡ y
 same-end t n a b x y r q =
     same-why t n b x y (subst (λ m. Ends t n m x) (same-steps t n a b x y r q) r.ends) q.ends

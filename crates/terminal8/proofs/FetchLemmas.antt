@@ -1,7 +1,7 @@
 -- Steps in which a program asks for no key, and how often they fetch the word of each cell.
 use Rattle.std.proofs.Common.{◌≡◌, ℕ, zero, suc, ◌+◌, ◌<◌, Bool, true, false, true≢false, ◌&&◌, ◌||◌, not, nat_le, nat_eq, if◌then◌else◌, List, None, add-one, refl, ap, sym, subst, ◌∙◌, arith}
 use Rattle.cpu8.specs.State.{State, next_cell}
-use Rattle.cpu8.specs.Step.{fetched}
+use Rattle.cpu8.specs.Step.{next_word}
 use Rattle.cpu8.specs.Go.{printing_step, after, answer}
 use Rattle.cpu8.specs.Unasked.{AreUnasked, IsUnasked, is_ksf}
 use Rattle.cpu8.specs.Fetches as cpu
@@ -9,7 +9,7 @@ use Rattle.cpu8.specs.Fetches.{is_fetch}
 use Rattle.cpu8.specs.declared.outcomes.Stepped.TheVariants.{Ran}
 use Rattle.terminal8.specs.Asks.{asks_for_key, is_undisturbed}
 use Rattle.terminal8.specs.Fetches.{AddsFetches, fetch_count, fetches}
-use Rattle.terminal8.specs.Terminal.{Terminal, looked, later, next, stepped}
+use Rattle.terminal8.specs.Terminal.{Terminal, after_look, later, next, after_step}
 use Rattle.terminal8.proofs.TerminalLemmas.{later-none, later-next}
 
 -- ## Asking
@@ -24,7 +24,7 @@ pub asks-not : (s : State) (since m : ℕ) → IsUnasked s m → (s.interrupts_o
     → asks_for_key (since + m) (after true m s) ≡ false
 asks-not s since m unasked sooner =
     let x = after true m s in
-    none-asked x.teletype.keyboard_flag (is_ksf (fetched x)) (is_undisturbed x) (x.interrupts_on && nat_le 30000 (since + m)) unasked.finds
+    none-asked x.teletype.keyboard_flag (is_ksf (next_word x)) (is_undisturbed x) (x.interrupts_on && nat_le 30000 (since + m)) unasked.finds
     (ap (λ on. on && nat_le 30000 (since + m)) unasked.interrupts ∙ sooner)
 
 -- ## Steps of a terminal at which no key is asked for
@@ -55,7 +55,7 @@ alone-none t =
 next-alone : (t : Terminal) (k : ℕ) → asks_for_key (t.since + k) (after true k t.machine) ≡ false → next (alone t k) ≡ alone t (k + 1)
 next-alone t k asks =
     let e : t.since + k + 1 ≡ t.since + (k + 1) = omega arith in
-    ap (λ (b : Bool). let x : Terminal = if b then looked (alone t k).machine t.looks else alone t k in
+    ap (λ (b : Bool). let x : Terminal = if b then after_look (alone t k).machine t.looks else alone t k in
     let y : Terminal = record x { machine = (printing_step true x.machine).0; since = x.since + 1 } in y) asks
     ∙ ap (λ (s : State). let y : Terminal = record t { machine = s; since = t.since + k + 1 } in y) (sym (after-next k t.machine))
     ∙ ap (λ (n : ℕ). let y : Terminal = record t { machine = after true (k + 1) t.machine; since = n } in y) e
@@ -68,10 +68,10 @@ later-alone (suc k) t asks =
     (later-next k t ∙ ap (λ x. next x) (later-alone k t (λ m below. asks m (omega (arith, below)))) ∙ next-alone t k (asks k (omega arith)))
 
 -- what such a step does
-pub stepped-alone : (k : ℕ) (t : Terminal) → AreNotAsked t (k + 1) → stepped (later k t) ≡ printing_step true (after true k t.machine)
+pub stepped-alone : (k : ℕ) (t : Terminal) → AreNotAsked t (k + 1) → after_step (later k t) ≡ printing_step true (after true k t.machine)
 stepped-alone k t asks =
-    ap (λ x. stepped x) (later-alone k t (λ m below. asks m (omega (arith, below))))
-    ∙ ap (λ (b : Bool). let x : Terminal = if b then looked (alone t k).machine t.looks else alone t k in printing_step true x.machine) (asks k (omega arith))
+    ap (λ x. after_step x) (later-alone k t (λ m below. asks m (omega (arith, below))))
+    ∙ ap (λ (b : Bool). let x : Terminal = if b then after_look (alone t k).machine t.looks else alone t k in printing_step true x.machine) (asks k (omega arith))
 
 -- ## Fetches
 
@@ -123,7 +123,7 @@ not-asked t k unasked sooner m below = asks-not t.machine t.since m (unasked m b
 fewer : (t : Terminal) (k m : ℕ) → AreNotAsked t k → m < k → AreNotAsked t (m + 1)
 fewer t k m asks below n more = asks n (omega (arith, below, more))
 
-pub answers-alone : (t : Terminal) (k : ℕ) → AreUnasked t.machine k → AreNotAsked t k → (m : ℕ) → m < k → (stepped (later m t)).1 ≡ Ran None
+pub answers-alone : (t : Terminal) (k : ℕ) → AreUnasked t.machine k → AreNotAsked t k → (m : ℕ) → m < k → (after_step (later m t)).1 ≡ Ran None
 answers-alone t k unasked asks m below = ap (λ r. r.1) (stepped-alone m t (fewer t k m asks below)) ∙ (unasked m below).answer
 
 pub asks-alone : (t : Terminal) (k : ℕ) → AreNotAsked t k → (m : ℕ) → m < k → asks_for_key (later m t).since (later m t).machine ≡ false

@@ -2,10 +2,10 @@
 use Rattle.std.proofs.Common.{◌≡◌, ℕ, Bool, true, false, true≢false, ◌&&◌, if◌then◌else◌, List, [], ◌∷◌, ◌++◌, map, Option, Some, None, option_to_list, append-nil, append_assoc, refl, ap, sym, subst, ◌∙◌, arith}
 use Rattle.std.proofs.lemmas.List.{map-append}
 use Rattle.cpu8.specs.State.{State, key_struck}
-use Rattle.terminal8.specs.Keys.{Keyboard, key_of_byte, behind_byte}
-use Rattle.terminal8.specs.KeySteps.{behind}
+use Rattle.terminal8.specs.Keys.{Keyboard, key_of_byte, after_byte}
+use Rattle.terminal8.specs.KeySteps.{keyboard_after}
 use Rattle.terminal8.specs.Asks.{asks_for_key, waits_for_key}
-use Rattle.terminal8.specs.Terminal.{Terminal, seated, looked, is_none_left}
+use Rattle.terminal8.specs.Terminal.{Terminal, new_terminal, after_look, is_none_left}
 use Rattle.terminal8.specs.Run.{keys_found, FindsKey}
 use Rattle.terminal8.specs.RunSteps.{Strikes, StrikesKeys, IsDry, Looks, Attends, is_ending}
 use Rattle.terminal8.specs.declared.inputs.Input.{Input}
@@ -20,15 +20,15 @@ pub keys-none : (k : Keyboard) (a : List ℕ) (r : Option (List ℕ)) → Strike
 keys-none k a r = record { bytes = []; strikes = strikes-none a r; keyboard = refl; keys_are = refl }
 
 pub keys-byte : (k k' new : Keyboard) (a a' a'' : List ℕ) (r r' r'' : Option (List ℕ)) (byte : ℕ) (key : Option ℕ) → StrikesKeys k k' a a' r r' []
-    → Strikes a' a'' r' r'' (byte ∷ []) → key ≡ key_of_byte k' byte → new ≡ behind_byte k' byte → StrikesKeys k new a a'' r r'' (option_to_list key)
+    → Strikes a' a'' r' r'' (byte ∷ []) → key ≡ key_of_byte k' byte → new ≡ after_byte k' byte → StrikesKeys k new a a'' r r'' (option_to_list key)
 keys-byte k k' new a a' a'' r r' r'' byte key t strikes key_is new_is = record {
   bytes = t.bytes ++ byte ∷ [];
   strikes = strikes-more a a' a'' r r' r'' t.bytes (byte ∷ []) t.strikes strikes;
-  keyboard = new_is ∙ ap (λ k. behind_byte k byte) t.keyboard ∙ sym (behind_more k t.bytes (byte ∷ []));
+  keyboard = new_is ∙ ap (λ k. after_byte k byte) t.keyboard ∙ sym (behind_more k t.bytes (byte ∷ []));
   keys_are =
       keys_more k t.bytes (byte ∷ [])
-      ∙ ap (λ keys. keys ++ (option_to_list (key_of_byte (behind k t.bytes) byte) ++ [])) t.keys_are
-      ∙ append-nil (option_to_list (key_of_byte (behind k t.bytes) byte))
+      ∙ ap (λ keys. keys ++ (option_to_list (key_of_byte (keyboard_after k t.bytes) byte) ++ [])) t.keys_are
+      ∙ append-nil (option_to_list (key_of_byte (keyboard_after k t.bytes) byte))
       ∙ ap (λ k. option_to_list (key_of_byte k byte)) (sym t.keyboard)
       ∙ ap (λ o. option_to_list o) (sym key_is);
 }
@@ -80,7 +80,7 @@ looks-over input k a over s r is = record {
   none_only = tt;
   over = λ h. h;
   at_end = λ h. h;
-  looks = λ more may. ap (λ m. looked s m) (may is) ∙ ap (λ m. seated s m) (sym (may is));
+  looks = λ more may. ap (λ m. after_look s m) (may is) ∙ ap (λ m. new_terminal s m) (sym (may is));
   left = is;
   same = λ _. refl;
 }
@@ -115,7 +115,7 @@ looks-dry Ending k k' a a' s r r' t dry = record {
   none_only = tt;
   over = λ _. refl;
   at_end = λ _ _. (refl, dry.0, dry.1);
-  looks = λ more may. ap (λ m. looked s m) (may refl) ∙ ap (λ m. seated s m) (sym (may refl));
+  looks = λ more may. ap (λ m. after_look s m) (may refl) ∙ ap (λ m. new_terminal s m) (sym (may refl));
   left = refl;
   same = λ _. refl;
 }
@@ -164,7 +164,7 @@ attends-not input k a over s since r asks = record {
   over = λ h. h;
   at_end = λ h. h;
   sooner = omega arith;
-  attends = λ more may. ap (λ (b : Bool). if b then looked s more else record { machine = s; looks = more; since = since }) asks;
+  attends = λ more may. ap (λ (b : Bool). if b then after_look s more else record { machine = s; looks = more; since = since }) asks;
   starves_is = λ more may. starves-not s more since asks;
   none_left = λ h. absurd (true≢false (sym h));
   idle = λ h. absurd (true≢false (sym h));
@@ -208,7 +208,7 @@ attends-looks input k k' a a' over over' s s' since since' r r' starved asks loo
   at_end = look.at_end;
   sooner = omega (arith, since_is);
   attends = λ more may.
-      ap (λ (b : Bool). if b then looked s (look.found ++ more) else record { machine = s; looks = look.found ++ more; since = since }) asks
+      ap (λ (b : Bool). if b then after_look s (look.found ++ more) else record { machine = s; looks = look.found ++ more; since = since }) asks
       ∙ look.looks more may
       ∙ ap (λ (n : ℕ). let x : Terminal = record { machine = s'; looks = more; since = n } in x) (sym since_is);
   starves_is = λ more may. starved-by input k k' a a' over over' over' s s' r r' more refl may look ∙ sym starved_is;

@@ -1,7 +1,7 @@
 -- A machine that goes round the loop in which it waits for a key.
 use Rattle.std.proofs.Common.{◌≡◌, ℕ, zero, suc, inl, inr, [], ◌++◌, true, refl, ap, ◌∙◌}
 use Rattle.cpu8.specs.State.{State}
-use Rattle.cpu8.specs.Go.{printing_step, after, character_of, printed_by}
+use Rattle.cpu8.specs.Go.{printing_step, after, character_of, characters_of}
 use Rattle.terminal8.specs.Laws.{IsInLoop}
 use Rattle.terminal8.proofs.WaitLemmas.{Waits, printing_step-ksf, printing_step-jmp}
 
@@ -18,8 +18,8 @@ loop-prints : (s now : State) → Waits s → IsInLoop s now → character_of (p
 loop-prints s now w (inl is) = ap (λ x. character_of (printing_step true x).1) is ∙ ap (λ r. character_of r.1) (printing_step-ksf s w)
 loop-prints s now w (inr is) = ap (λ x. character_of (printing_step true x).1) is ∙ ap (λ r. character_of r.1) (printing_step-jmp s w)
 
-pub prints-none : (s : State) → Waits s → (k : ℕ) → printed_by true k s ≡ []
-unfolding printed_by
+pub prints-none : (s : State) → Waits s → (k : ℕ) → characters_of true k s ≡ []
+unfolding characters_of
 prints-none s w zero = refl
 prints-none s w (suc k) =
     ap (λ cs. cs ++ character_of (printing_step true (after true k s)).1) (prints-none s w k)

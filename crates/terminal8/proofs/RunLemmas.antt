@@ -7,9 +7,9 @@ use Rattle.cpu8.specs.Laws.{runs_on}
 use Rattle.cpu8.specs.declared.outcomes.Stepped.{Stepped}
 use Rattle.cpu8.specs.declared.outcomes.Stepped.TheVariants.{Stopped, Interrupted, Ran, Halted, Unassigned}
 use Rattle.terminal8.specs.Keys.{Keyboard, fresh, keys_from, keys_of}
-use Rattle.terminal8.specs.KeySteps.{behind}
+use Rattle.terminal8.specs.KeySteps.{keyboard_after}
 use Rattle.terminal8.specs.Asks.{asks_for_key}
-use Rattle.terminal8.specs.Terminal.{Terminal, seated, looked, stepped, next, later, last_did, printed_by, shown, starves, has_halted, stop_of, GoesOn, Ends}
+use Rattle.terminal8.specs.Terminal.{Terminal, new_terminal, after_look, after_step, next, later, last_did, characters_of, visible_characters, starves, has_halted, stop_of, GoesOn, Ends}
 use Rattle.terminal8.specs.Run.{MayFollow, FindsKey, FindsNone, HaveEnded, HasMadeSteps, IsRunOf, IsCut, WritesPrinted, RunsProgram}
 use Rattle.terminal8.specs.RunSteps.{StrikesKeys, IsDry, IsNoneOnly, Passes, Holds, Attends, Misses, Prints, RunsInto}
 use Rattle.terminal8.specs.declared.inputs.Input.{Input}
@@ -17,8 +17,8 @@ use Rattle.terminal8.specs.declared.outcomes.TerminalFault.{TerminalFault}
 use Rattle.terminal8.specs.declared.outcomes.TerminalFault.TheVariants.{Reader, Writer}
 use Rattle.terminal8.specs.declared.keyboards.Form.{Form}
 use Rattle.terminal8.specs.declared.outcomes.Ended.{Ended}
-use Rattle.terminal8.specs.declared.outcomes.Why.{Why}
-use Rattle.terminal8.specs.declared.outcomes.Why.TheVariants as why
+use Rattle.terminal8.specs.declared.outcomes.TerminalEnd.{TerminalEnd}
+use Rattle.terminal8.specs.declared.outcomes.TerminalEnd.TheVariants as why
 use Rattle.terminal8.proofs.ByteLemmas.{consumes_more, consumes_none, passes-none, passes-more, passed}
 use Rattle.terminal8.proofs.KeyLemmas.{keys_more, behind_more}
 use Rattle.terminal8.proofs.LookLemmas.{finds-none, finds-more, finds-found, starves-not}
@@ -28,18 +28,18 @@ use Rattle.terminal8.proofs.TerminalLemmas.{later-none, later-next, did-none, di
 
 -- So many steps are made, in which these looks were made, and no end came before.
 pub record IsAt (old : State) (looks : List (Option ℕ)) (over : Bool) (steps : ℕ) (new : State) (since : ℕ) : Type 0 where
-  pub at : (more : List (Option ℕ)) → MayFollow over more → later steps (seated old (looks ++ more)) ≡ record { machine = new; looks = more; since = since }
-  pub goes_on : (more : List (Option ℕ)) → MayFollow over more → (m : ℕ) → m < steps → GoesOn (seated old (looks ++ more)) m
+  pub at : (more : List (Option ℕ)) → MayFollow over more → later steps (new_terminal old (looks ++ more)) ≡ record { machine = new; looks = more; since = since }
+  pub goes_on : (more : List (Option ℕ)) → MayFollow over more → (m : ℕ) → m < steps → GoesOn (new_terminal old (looks ++ more)) m
 
 -- the last of them is no end
 abbrev pub RunsOn : State → List (Option ℕ) → Bool → ℕ → Type 0
-RunsOn old looks over steps = (more : List (Option ℕ)) → MayFollow over more → runs_on (last_did steps (seated old (looks ++ more))) ≡ true
+RunsOn old looks over steps = (more : List (Option ℕ)) → MayFollow over more → runs_on (last_did steps (new_terminal old (looks ++ more))) ≡ true
 
 -- These looks found the keys of bytes that the reader gave.
 pub record IsTaken (form : Form) (input : Input) (k : Keyboard) (ahead : List ℕ) (over : Bool) (r r' : Option (List ℕ)) (looks : List (Option ℕ)) : Type 0 where
   pub bytes : List ℕ
   pub taken : Consumes r r' (bytes ++ ahead)
-  pub keyboard : k ≡ behind (fresh form) bytes
+  pub keyboard : k ≡ keyboard_after (fresh form) bytes
   pub finds : FindsKey input looks (keys_of form bytes)
   pub none_only : (before after : List (Option ℕ)) → before ++ None ∷ after ≡ looks → FindsNone form r before
   pub at_end : over ≡ true → HaveEnded input ahead r'
@@ -80,10 +80,10 @@ pub begun : (form : Form) (input : Input) (s : State) (r w : Option (List ℕ)) 
 begun form input s r w running = record {
   looks = [];
   is_at = record {
-    at = λ more _. later-none (seated s more);
+    at = λ more _. later-none (new_terminal s more);
     goes_on = λ more _ m below. absurd (omega (arith, below));
   };
-  runs = λ more _. ap (λ did. runs_on did) (did-none (seated s more)) ∙ ap (λ (b : Bool). runs_on (if b then Ran None else Stopped)) running;
+  runs = λ more _. ap (λ did. runs_on did) (did-none (new_terminal s more)) ∙ ap (λ (b : Bool). runs_on (if b then Ran None else Stopped)) running;
   taken = record {
     bytes = [];
     taken = consumes_none r;
@@ -92,14 +92,14 @@ begun form input s r w running = record {
     none_only = λ before after is. absurd (none-empty before after is);
     at_end = λ h. absurd (true≢false (sym h));
   };
-  prints = λ more _. subst (λ cs. Passes w w [] [] (shown cs)) (sym (printed-none (seated s more))) (passes-none w []);
+  prints = λ more _. subst (λ cs. Passes w w [] [] (visible_characters cs)) (sym (printed-none (new_terminal s more))) (passes-none w []);
 }
 
 -- ## The operator attends
 
 -- more looks were made
-joined : (old : State) (looks found more : List (Option ℕ)) → seated old ((looks ++ found) ++ more) ≡ seated old (looks ++ (found ++ more))
-joined old looks found more = ap (λ l. seated old l) (append_assoc looks found more)
+joined : (old : State) (looks found more : List (Option ℕ)) → new_terminal old ((looks ++ found) ++ more) ≡ new_terminal old (looks ++ (found ++ more))
+joined old looks found more = ap (λ l. new_terminal old l) (append_assoc looks found more)
 
 may-join : (over over' : Bool) (found more : List (Option ℕ)) → (over ≡ true → found ≡ []) → (over ≡ true → over' ≡ true) → MayFollow over' more
     → MayFollow over (found ++ more)
@@ -160,7 +160,7 @@ taken-more : (form : Form) (input : Input) (k k' : Keyboard) (a a' : List ℕ) (
 taken-more form input k k' a a' over over' r r' r'' looks found keys i s finds none end = record {
   bytes = i.bytes ++ s.bytes;
   taken = taken-all form input k k' a a' over r r' r'' looks keys i s;
-  keyboard = s.keyboard ∙ ap (λ k. behind k s.bytes) i.keyboard ∙ sym (behind_more (fresh form) i.bytes s.bytes);
+  keyboard = s.keyboard ∙ ap (λ k. keyboard_after k s.bytes) i.keyboard ∙ sym (behind_more (fresh form) i.bytes s.bytes);
   finds =
       subst (λ ks. FindsKey input (looks ++ found) ks) (keys-sum form input k k' a a' over r r' r'' looks keys i s)
       (finds-more input looks found (keys_of form i.bytes) keys i.finds finds);
@@ -181,7 +181,7 @@ step-at : (input : Input) (old s s' new : State) (k k' : Keyboard) (a a' : List 
 step-at input old s s' new k k' a a' over over' since since' r r' looks steps starved i runs at fed new_is = record {
   at = λ more may.
       let may' = may-join over over' at.found more at.stays at.over may in
-      later-next steps (seated old ((looks ++ at.found) ++ more))
+      later-next steps (new_terminal old ((looks ++ at.found) ++ more))
       ∙ ap (λ t. next (later steps t)) (joined old looks at.found more)
       ∙ ap (λ t. next t) (i.at (at.found ++ more) may')
       ∙ ap (λ (x : Terminal). let y : Terminal = record x { machine = (printing_step true x.machine).0; since = x.since + 1 } in y) (at.attends more may)
@@ -198,18 +198,18 @@ step-at input old s s' new k k' a a' over over' since since' r r' looks steps st
 -- what it did
 step-did : (input : Input) (old s s' : State) (k k' : Keyboard) (a a' : List ℕ) (over over' : Bool) (since since' : ℕ) (r r' : Option (List ℕ)) (looks : List (Option ℕ)) (steps : ℕ) (starved : Bool)
     → IsAt old looks over steps s since → (at : Attends input k k' a a' over over' s s' since since' r r' starved)
-    → (more : List (Option ℕ)) → MayFollow over' more → (stepped (later steps (seated old ((looks ++ at.found) ++ more)))).1 ≡ (printing_step true s').1
+    → (more : List (Option ℕ)) → MayFollow over' more → (after_step (later steps (new_terminal old ((looks ++ at.found) ++ more)))).1 ≡ (printing_step true s').1
 step-did input old s s' k k' a a' over over' since since' r r' looks steps starved i at more may =
     let may' = may-join over over' at.found more at.stays at.over may in
-    ap (λ t. (stepped (later steps t)).1) (joined old looks at.found more)
-    ∙ ap (λ t. (stepped t).1) (i.at (at.found ++ more) may')
+    ap (λ t. (after_step (later steps t)).1) (joined old looks at.found more)
+    ∙ ap (λ t. (after_step t).1) (i.at (at.found ++ more) may')
     ∙ ap (λ (x : Terminal). (printing_step true x.machine).1) (at.attends more may)
 
 step-last : (input : Input) (old s s' : State) (k k' : Keyboard) (a a' : List ℕ) (over over' : Bool) (since since' : ℕ) (r r' : Option (List ℕ)) (looks : List (Option ℕ)) (steps : ℕ) (starved : Bool)
     (did : Stepped) → IsAt old looks over steps s since → (at : Attends input k k' a a' over over' s s' since since' r r' starved) → did ≡ (printing_step true s').1
-    → (more : List (Option ℕ)) → MayFollow over' more → last_did (steps + 1) (seated old ((looks ++ at.found) ++ more)) ≡ did
+    → (more : List (Option ℕ)) → MayFollow over' more → last_did (steps + 1) (new_terminal old ((looks ++ at.found) ++ more)) ≡ did
 step-last input old s s' k k' a a' over over' since since' r r' looks steps starved did i at did_is more may =
-    did-next steps (seated old ((looks ++ at.found) ++ more))
+    did-next steps (new_terminal old ((looks ++ at.found) ++ more))
     ∙ step-did input old s s' k k' a a' over over' since since' r r' looks steps starved i at more may
     ∙ sym did_is
 
@@ -217,24 +217,24 @@ step-last input old s s' k k' a a' over over' since since' r r' looks steps star
 step-prints : (input : Input) (old s s' : State) (k k' : Keyboard) (a a' : List ℕ) (over over' : Bool) (since since' : ℕ) (r r' w w' w'' w''' : Option (List ℕ)) (p p' p'' : List ℕ)
     (looks : List (Option ℕ)) (steps : ℕ) (starved : Bool) (did : Stepped)
     → IsAt old looks over steps s since → Prints old looks over w w' p steps → (at : Attends input k k' a a' over over' s s' since since' r r' starved)
-    → Passes w' w'' p p' [] → did ≡ (printing_step true s').1 → Passes w'' w''' p' p'' (shown (character_of did))
+    → Passes w' w'' p p' [] → did ≡ (printing_step true s').1 → Passes w'' w''' p' p'' (visible_characters (character_of did))
     → Prints old (looks ++ at.found) over' w w''' p'' (steps + 1)
 step-prints input old s s' k k' a a' over over' since since' r r' w w' w'' w''' p p' p'' looks steps starved did i prints at none did_is some more may =
-    let t = seated old ((looks ++ at.found) ++ more) in
+    let t = new_terminal old ((looks ++ at.found) ++ more) in
     let did_all = did_is ∙ sym (step-did input old s s' k k' a a' over over' since since' r r' looks steps starved i at more may) in
-    let before : Passes w w' [] p (shown (printed_by steps t)) =
-    subst (λ t. Passes w w' [] p (shown (printed_by steps t))) (sym (joined old looks at.found more))
+    let before : Passes w w' [] p (visible_characters (characters_of steps t)) =
+    subst (λ t. Passes w w' [] p (visible_characters (characters_of steps t))) (sym (joined old looks at.found more))
     (prints (at.found ++ more) (may-join over over' at.found more at.stays at.over may)) in
     subst (λ cs. Passes w w''' [] p'' cs)
-    (ap (λ d. shown (printed_by steps t) ++ shown (character_of d)) did_all
-    ∙ sym (shown-more (printed_by steps t) (character_of (stepped (later steps t)).1))
-    ∙ ap (λ cs. shown cs) (sym (printed-next steps t)))
-    (passes-more w w' w''' [] p p'' (shown (printed_by steps t)) (shown (character_of did)) before
-    (passes-more w' w'' w''' p p' p'' [] (shown (character_of did)) none some))
+    (ap (λ d. visible_characters (characters_of steps t) ++ visible_characters (character_of d)) did_all
+    ∙ sym (shown-more (characters_of steps t) (character_of (after_step (later steps t)).1))
+    ∙ ap (λ cs. visible_characters cs) (sym (printed-next steps t)))
+    (passes-more w w' w''' [] p p'' (visible_characters (characters_of steps t)) (visible_characters (character_of did)) before
+    (passes-more w' w'' w''' p p' p'' [] (visible_characters (character_of did)) none some))
 
 -- ## Whether it was an end
 
-none-some : (why : Why) → Some why ≡ None → ⊥
+none-some : (why : TerminalEnd) → Some why ≡ None → ⊥
 none-some w h = true≢false (ap (λ o. is-some o) h)
 
 goes-by : (did : Stepped) → stop_of did ≡ None → runs_on did ≡ true
@@ -244,27 +244,27 @@ goes-by Stopped h = absurd (none-some why.Halt h)
 goes-by Interrupted h = refl
 goes-by (Ran printed) h = refl
 
-why-is : (a b : Why) → Some a ≡ Some b → a ≡ b
+why-is : (a b : TerminalEnd) → Some a ≡ Some b → a ≡ b
 why-is a b h = ap (λ o. unwrap_or o a) h
 
-ends-by : (t : Terminal) (n steps : ℕ) (did : Stepped) (w : Why) → last_did steps t ≡ did → stop_of did ≡ Some w → Ends t n steps w
+ends-by : (t : Terminal) (n steps : ℕ) (did : Stepped) (w : TerminalEnd) → last_did steps t ≡ did → stop_of did ≡ Some w → Ends t n steps w
 ends-by t n steps Halted w last is = subst (λ x. Ends t n steps x) (why-is why.Halt w is) (ap (λ d. has_halted d) last)
 ends-by t n steps Stopped w last is = subst (λ x. Ends t n steps x) (why-is why.Halt w is) (ap (λ d. has_halted d) last)
 ends-by t n steps (Unassigned word) w last is = subst (λ x. Ends t n steps x) (why-is why.Unassigned w is) (word, last)
 ends-by t n steps Interrupted w last is = absurd (none-some w (sym is))
 ends-by t n steps (Ran printed) w last is = absurd (none-some w (sym is))
 
-is-keys : Why → Bool
+is-keys : TerminalEnd → Bool
 is-keys why.Halt = false
 is-keys why.Unassigned = false
 is-keys why.Keys = true
 is-keys why.Limit = false
 
-no-keys : (y : Why) → is-keys y ≡ false → y ≡ why.Keys → ⊥
+no-keys : (y : TerminalEnd) → is-keys y ≡ false → y ≡ why.Keys → ⊥
 unfolding is-keys
 no-keys y other is = true≢false (ap (λ x. is-keys x) (sym is) ∙ other)
 
-stop-keys : (did : Stepped) (y : Why) → stop_of did ≡ Some y → is-keys y ≡ false
+stop-keys : (did : Stepped) (y : TerminalEnd) → stop_of did ≡ Some y → is-keys y ≡ false
 unfolding is-keys
 stop-keys Halted y is = ap (λ x. is-keys x) (sym (why-is why.Halt y is))
 stop-keys Stopped y is = ap (λ x. is-keys x) (sym (why-is why.Halt y is))
@@ -286,7 +286,7 @@ limit-keys = refl
 pub running-next : (form : Form) (input : Input) (old s s' new : State) (k k' : Keyboard) (a a' : List ℕ) (over over' : Bool) (since since' : ℕ)
     (r r' r'' w w' w'' w''' : Option (List ℕ)) (p p' p'' : List ℕ) (steps : ℕ) (did : Stepped)
     → IsRunning form input old s k a over since r r' w w' p steps → Attends input k k' a a' over over' s s' since since' r' r'' false
-    → Passes w' w'' p p' [] → new ≡ (printing_step true s').0 → did ≡ (printing_step true s').1 → Passes w'' w''' p' p'' (shown (character_of did)) → stop_of did ≡ None
+    → Passes w' w'' p p' [] → new ≡ (printing_step true s').0 → did ≡ (printing_step true s').1 → Passes w'' w''' p' p'' (visible_characters (character_of did)) → stop_of did ≡ None
     → IsRunning form input old new k' a' over' (since' + 1) r r'' w w''' p'' (steps + 1)
 running-next form input old s s' new k k' a a' over over' since since' r r' r'' w w' w'' w''' p p' p'' steps did i at none new_is did_is some goes = record {
   looks = i.looks ++ at.found;
@@ -303,9 +303,9 @@ quiet-at : (old s : State) (looks : List (Option ℕ)) (over : Bool) (steps sinc
     → asks_for_key since s ≡ false → IsAt old looks over (steps + 1) (printing_step true s).0 (since + 1)
 quiet-at old s looks over steps since i runs asks = record {
   at = λ more may.
-      later-next steps (seated old (looks ++ more))
+      later-next steps (new_terminal old (looks ++ more))
       ∙ ap (λ t. next t) (i.at more may)
-      ∙ ap (λ (b : Bool). let x : Terminal = if b then looked s more else record { machine = s; looks = more; since = since } in
+      ∙ ap (λ (b : Bool). let x : Terminal = if b then after_look s more else record { machine = s; looks = more; since = since } in
       let y : Terminal = record x { machine = (printing_step true x.machine).0; since = x.since + 1 } in y) asks;
   goes_on = λ more may. below_more _ _ (i.goes_on more may) (record {
     runs = runs more may;
@@ -314,18 +314,18 @@ quiet-at old s looks over steps since i runs asks = record {
 }
 
 quiet-did : (old s : State) (looks : List (Option ℕ)) (over : Bool) (steps since : ℕ) → IsAt old looks over steps s since → asks_for_key since s ≡ false
-    → (more : List (Option ℕ)) → MayFollow over more → (stepped (later steps (seated old (looks ++ more)))).1 ≡ (printing_step true s).1
+    → (more : List (Option ℕ)) → MayFollow over more → (after_step (later steps (new_terminal old (looks ++ more)))).1 ≡ (printing_step true s).1
 quiet-did old s looks over steps since i asks more may =
-    ap (λ t. (stepped t).1) (i.at more may)
-    ∙ ap (λ (b : Bool). let x : Terminal = if b then looked s more else record { machine = s; looks = more; since = since } in (printing_step true x.machine).1) asks
+    ap (λ t. (after_step t).1) (i.at more may)
+    ∙ ap (λ (b : Bool). let x : Terminal = if b then after_look s more else record { machine = s; looks = more; since = since } in (printing_step true x.machine).1) asks
 
 quiet-prints : (old s : State) (looks : List (Option ℕ)) (over : Bool) (steps since : ℕ) (w w' : Option (List ℕ)) (p : List ℕ) → IsAt old looks over steps s since
     → asks_for_key since s ≡ false → (printing_step true s).1 ≡ Ran None → Prints old looks over w w' p steps → Prints old looks over w w' p (steps + 1)
 quiet-prints old s looks over steps since w w' p i asks ran prints more may =
-    let t = seated old (looks ++ more) in
-    subst (λ cs. Passes w w' [] p (shown cs))
-    (sym (append-nil (printed_by steps t))
-    ∙ ap (λ d. printed_by steps t ++ character_of d) (sym (quiet-did old s looks over steps since i asks more may ∙ ran))
+    let t = new_terminal old (looks ++ more) in
+    subst (λ cs. Passes w w' [] p (visible_characters cs))
+    (sym (append-nil (characters_of steps t))
+    ∙ ap (λ d. characters_of steps t ++ character_of d) (sym (quiet-did old s looks over steps since i asks more may ∙ ran))
     ∙ sym (printed-next steps t))
     (prints more may)
 
@@ -336,7 +336,7 @@ quiet-next form input old s k a over since r r' w w' p steps i asks ran = record
   looks = i.looks;
   is_at = quiet-at old s i.looks over steps since i.is_at i.runs asks;
   runs = λ more may.
-      ap (λ d. runs_on d) (did-next steps (seated old (i.looks ++ more)) ∙ quiet-did old s i.looks over steps since i.is_at asks more may ∙ ran);
+      ap (λ d. runs_on d) (did-next steps (new_terminal old (i.looks ++ more)) ∙ quiet-did old s i.looks over steps since i.is_at asks more may ∙ ran);
   taken = i.taken;
   prints = quiet-prints old s i.looks over steps since w w' p i.is_at asks ran i.prints;
 }
@@ -395,9 +395,9 @@ has-made form input old new k a over since r r' looks steps i t = record {
   looks_left = λ more may. ap (λ x. x.looks) (i.at more may);
 }
 
-abbrev has-run : (form : Form) (input : Input) (n : ℕ) (old new : State) (k : Keyboard) (a : List ℕ) (over : Bool) (since : ℕ) (r r' : Option (List ℕ)) (looks : List (Option ℕ)) (steps : ℕ) (y : Why)
+abbrev has-run : (form : Form) (input : Input) (n : ℕ) (old new : State) (k : Keyboard) (a : List ℕ) (over : Bool) (since : ℕ) (r r' : Option (List ℕ)) (looks : List (Option ℕ)) (steps : ℕ) (y : TerminalEnd)
     → IsAt old looks over steps new since → IsTaken form input k a over r r' looks → steps ≤ n
-    → ((more : List (Option ℕ)) → MayFollow over more → Ends (seated old (looks ++ more)) n steps y) → (y ≡ why.Keys → over ≡ true)
+    → ((more : List (Option ℕ)) → MayFollow over more → Ends (new_terminal old (looks ++ more)) n steps y) → (y ≡ why.Keys → over ≡ true)
     → IsRunOf form input n old new r r' (record { steps = steps; why = y })
 has-run form input n old new k a over since r r' looks steps y i t within ends none = record {
   looks = looks;
@@ -423,16 +423,16 @@ pub stopped-run : (form : Form) (input : Input) (n : ℕ) (s : State) (r w : Opt
     → RunsInto form input n s s r r w w p (Ok (record { steps = 0; why = why.Halt }))
 stopped-run form input n s r w p none stopped = (
   has-run form input n s s (fresh form) [] false 0 r r [] 0 why.Halt
-      (record { at = λ more _. later-none (seated s more); goes_on = λ more _ m below. absurd (omega (arith, below)) })
+      (record { at = λ more _. later-none (new_terminal s more); goes_on = λ more _ m below. absurd (omega (arith, below)) })
       (record { bytes = []; taken = consumes_none r; keyboard = refl; finds = finds-none input; none_only = λ before after is. absurd (none-empty before after is); at_end = λ h. absurd (true≢false (sym h)) })
       (omega arith)
       (λ more may.
-      ap (λ did. has_halted did) (did-none (seated s more))
+      ap (λ did. has_halted did) (did-none (new_terminal s more))
       ∙ ap (λ (b : Bool). has_halted (if b then Ran None else Stopped)) stopped)
       (λ is. absurd (no-keys why.Halt halt-keys is)),
   λ more _.
-      subst (λ (q : List ℕ). Passes w w [] q (shown (printed_by 0 (seated s more)))) (sym none)
-      (subst (λ cs. Passes w w [] [] (shown cs)) (sym (printed-none (seated s more))) (passes-none w [])),
+      subst (λ (q : List ℕ). Passes w w [] q (visible_characters (characters_of 0 (new_terminal s more)))) (sym none)
+      (subst (λ cs. Passes w w [] [] (visible_characters cs)) (sym (printed-none (new_terminal s more))) (passes-none w [])),
 )
 
 -- all steps are made
@@ -460,7 +460,7 @@ moved-prints : (old : State) (over over' : Bool) (looks found : List (Option ℕ
 moved-prints old over over' looks found w w' w'' p p' steps prints none goes held =
     subst (λ (l : List (Option ℕ)). Prints old l over' w w'' p' steps) (sym (append-nil looks) ∙ ap (λ l. looks ++ l) (sym none))
     (λ more may.
-    let printed = shown (printed_by steps (seated old (looks ++ more))) in
+    let printed = visible_characters (characters_of steps (new_terminal old (looks ++ more))) in
     subst (λ cs. Passes w w'' [] p' cs) (append-nil printed) (passes-more w w' w'' [] p p' printed [] (prints more (λ h. may (goes h))) held))
 
 -- the keys have ended for a machine that waits for one
@@ -488,9 +488,9 @@ starved-run form input n old s s' k k' a a' over over' since since' r r' r'' w w
 
 -- a step ends the run
 pub ended-run : (form : Form) (input : Input) (n : ℕ) (old s s' new : State) (k k' : Keyboard) (a a' : List ℕ) (over over' : Bool) (since since' : ℕ)
-    (r r' r'' w w' w'' w''' : Option (List ℕ)) (p p' p'' : List ℕ) (steps : ℕ) (did : Stepped) (y : Why)
+    (r r' r'' w w' w'' w''' : Option (List ℕ)) (p p' p'' : List ℕ) (steps : ℕ) (did : Stepped) (y : TerminalEnd)
     → IsRunning form input old s k a over since r r' w w' p steps → steps < n → Attends input k k' a a' over over' s s' since since' r' r'' false
-    → Passes w' w'' p p' [] → new ≡ (printing_step true s').0 → did ≡ (printing_step true s').1 → Passes w'' w''' p' p'' (shown (character_of did)) → stop_of did ≡ Some y
+    → Passes w' w'' p p' [] → new ≡ (printing_step true s').0 → did ≡ (printing_step true s').1 → Passes w'' w''' p' p'' (visible_characters (character_of did)) → stop_of did ≡ Some y
     → RunsInto form input n old new r r'' w w''' p'' (Ok (record { steps = steps + 1; why = y }))
 ended-run form input n old s s' new k k' a a' over over' since since' r r' r'' w w' w'' w''' p p' p'' steps did y i below at none new_is did_is some is = (
   has-run form input n old new k' a' over' (since' + 1) r r'' (i.looks ++ at.found) (steps + 1) y
@@ -498,7 +498,7 @@ ended-run form input n old s s' new k k' a a' over over' since since' r r' r'' w
       (taken-next form input k k' a a' over over' s s' since since' r r' r'' i.looks false i.taken at)
       (omega (arith, below))
       (λ more may.
-      ends-by (seated old ((i.looks ++ at.found) ++ more)) n (steps + 1) did y
+      ends-by (new_terminal old ((i.looks ++ at.found) ++ more)) n (steps + 1) did y
       (step-last input old s s' k k' a a' over over' since since' r' r'' i.looks steps false did i.is_at at did_is more may) is)
       (λ keys. absurd (no-keys y (stop-keys did y is) keys)),
   step-prints input old s s' k k' a a' over over' since since' r' r'' w w' w'' w''' p p' p'' i.looks steps false did i.is_at i.prints at none did_is some,
@@ -546,7 +546,7 @@ missed-run form input n old s new k k' a a' over since r r' r'' w w' w'' p p' st
 flushed-prints : (old : State) (looks : List (Option ℕ)) (over : Bool) (w w' w'' : Option (List ℕ)) (p p' : List ℕ) (steps : ℕ) → Prints old looks over w w' p steps
     → Passes w' w'' p p' [] → p' ≡ [] → WritesPrinted old looks over w w'' steps
 flushed-prints old looks over w w' w'' p p' steps prints held none more may =
-    let printed = shown (printed_by steps (seated old (looks ++ more))) in
+    let printed = visible_characters (characters_of steps (new_terminal old (looks ++ more))) in
     passed w w'' p' printed (subst (λ cs. Passes w w'' [] p' cs) (append-nil printed) (passes-more w w' w'' [] p p' printed [] (prints more may) held)) none
 
 pub flushed-run : (form : Form) (input : Input) (n : ℕ) (old new : State) (r r' w w' w'' : Option (List ℕ)) (p p' : List ℕ) (ran : Result Ended TerminalFault)

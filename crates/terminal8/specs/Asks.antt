@@ -2,8 +2,8 @@
 -- The printer is quick: it ends its character before the next step.
 use Rattle.std.specs.Prelude.{ℕ, ◌+◌, ◌/◌, ◌%◌, Bool, ◌&&◌, ◌||◌, not, nat_eq, nat_le, slice_index}
 use Rattle.cpu8.specs.State.{State, place, printer_done, grants_interrupt}
-use Rattle.cpu8.specs.Reference.{advanced, direct_address}
-use Rattle.cpu8.specs.Step.{fetched}
+use Rattle.cpu8.specs.Reference.{after_fetch, direct_address}
+use Rattle.cpu8.specs.Step.{next_word}
 pub use Rattle.cpu8.specs.Unasked.{is_ksf}
 
 -- the next step is this instruction, and no interrupt
@@ -12,7 +12,7 @@ is_undisturbed s = s.running && not (grants_interrupt (printer_done s))
 
 -- the next step asks whether a key was struck
 abbrev pub tests_keyboard : State → Bool
-tests_keyboard s = is_ksf (fetched s) && is_undisturbed s
+tests_keyboard s = is_ksf (next_word s) && is_undisturbed s
 
 -- A program asks for a key where none is in the keyboard's buffer unread, and one of these holds. The next step is a KSF; or
 -- interrupts are on, and the steps since it last asked take a tenth of a second or more.
@@ -26,12 +26,12 @@ abbrev pub is_direct_jmp : ℕ → Bool
 is_direct_jmp word = nat_eq (word / 0o400) 0o12
 
 -- the word after that of the next instruction
-abbrev pub word_behind : State → ℕ
-word_behind s = slice_index s.core (place s.instruction_field ((s.pc + 1) % 0o10000))
+abbrev pub word_after : State → ℕ
+word_after s = slice_index s.core (place s.instruction_field ((s.pc + 1) % 0o10000))
 
 -- there is a JMP back to the next instruction
 abbrev pub jumps_back : State → Bool
-jumps_back s = is_direct_jmp (word_behind s) && nat_eq (direct_address (advanced s) (word_behind s)) s.pc
+jumps_back s = is_direct_jmp (word_after s) && nat_eq (direct_address (after_fetch s) (word_after s)) s.pc
 
 -- nothing changes by itself: the printer is idle, no field waits for a jump, no interrupt for an instruction, and none is
 -- requested where interrupts are on
@@ -43,4 +43,4 @@ is_at_rest s =
 -- The machine waits for a key in KSF (6031) and JMP .-1, with the keyboard flag clear and nothing else to come.
 abbrev pub waits_for_key : State → Bool
 waits_for_key s =
-    s.running && (not s.teletype.keyboard_flag && (nat_eq (fetched s) 0o6031 && (jumps_back s && is_at_rest s)))
+    s.running && (not s.teletype.keyboard_flag && (nat_eq (next_word s) 0o6031 && (jumps_back s && is_at_rest s)))

@@ -3,11 +3,11 @@ use Rattle.std.specs.Prelude.{◌≡◌, ℕ, zero, suc, ◌+◌, ◌<◌, Bool,
 use Rattle.word12.specs.declared.sizes.TheConstants.{CORE}
 use Rattle.cpu8.specs.State.{next_cell}
 use Rattle.cpu8.specs.Fetches.{is_fetch}
-use Rattle.terminal8.specs.Terminal.{Terminal, later, stepped}
+use Rattle.terminal8.specs.Terminal.{Terminal, later, after_step}
 
 -- whether the step that a terminal makes next fetches the word of a cell
 abbrev pub fetches : Terminal → ℕ → Bool
-fetches t cell = is_fetch (stepped t).1 && nat_eq (next_cell t.machine) cell
+fetches t cell = is_fetch (after_step t).1 && nat_eq (next_cell t.machine) cell
 
 -- how often so many steps fetch it
 unfoldable pub fetch_count : ℕ → Terminal → ℕ → ℕ

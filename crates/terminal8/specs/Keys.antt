@@ -30,13 +30,13 @@ abbrev pub key_of_byte : Keyboard → ℕ → Option ℕ
 key_of_byte k byte = key_by_form k.form k.behind_return byte
 
 -- the keyboard once a byte was struck
-abbrev pub behind_byte : Keyboard → ℕ → Keyboard
-behind_byte k byte = record k { behind_return = nat_eq byte 0o15 }
+abbrev pub after_byte : Keyboard → ℕ → Keyboard
+after_byte k byte = record k { behind_return = nat_eq byte 0o15 }
 
 -- the keys of the next bytes
 abbrev pub keys_from : Keyboard → List ℕ → List ℕ
 keys_from k [] = []
-keys_from k (byte ∷ bytes) = option_to_list (key_of_byte k byte) ++ keys_from (behind_byte k byte) bytes
+keys_from k (byte ∷ bytes) = option_to_list (key_of_byte k byte) ++ keys_from (after_byte k byte) bytes
 
 -- the keys of the bytes of the host, from the first on
 abbrev pub keys_of : Form → List ℕ → List ℕ

@@ -2,32 +2,32 @@
 use Rattle.std.specs.Prelude.{◌≡◌, ◌⊎◌, ℕ, zero, suc, ◌+◌, ◌%◌, true, false, List, ◌∷◌, map, Option, Some, None, slice_index}
 use Rattle.std.specs.Io.KnownBytes.{Appends}
 use Rattle.cpu8.specs.State.{State, place}
-use Rattle.cpu8.specs.Reference.{advanced}
+use Rattle.cpu8.specs.Reference.{after_fetch}
 use Rattle.terminal8.specs.Asks.{waits_for_key}
 use Rattle.terminal8.specs.Keys.{keys_of}
-use Rattle.terminal8.specs.Terminal.{Terminal, seated, later, printed_by, shown, IsRun}
+use Rattle.terminal8.specs.Terminal.{Terminal, new_terminal, later, characters_of, visible_characters, IsRun}
 use Rattle.terminal8.specs.declared.keyboards.Form.{Form}
 use Rattle.terminal8.specs.declared.outcomes.Ended.{Ended}
 
 -- a machine is as before, or has gone on by one instruction that changed nothing but PC
 abbrev pub IsInLoop : State → State → Type 0
-IsInLoop s now = (now ≡ s) ⊎ (now ≡ advanced s)
+IsInLoop s now = (now ≡ s) ⊎ (now ≡ after_fetch s)
 
 -- ## Whole runs
 
 -- a terminal at which these keys are struck, one at each look
-abbrev pub struck_at : State → List ℕ → Terminal
-struck_at s keys = seated s (map (λ key. Some key) keys)
+abbrev pub terminal_with_keys : State → List ℕ → Terminal
+terminal_with_keys s keys = new_terminal s (map (λ key. Some key) keys)
 
 -- a terminal at which the keys of these bytes are struck
 abbrev pub terminal_of : Form → State → List ℕ → Terminal
-terminal_of form s bytes = struck_at s (keys_of form bytes)
+terminal_of form s bytes = terminal_with_keys s (keys_of form bytes)
 
 -- A run of at most n steps of a terminal, the machine that it leaves, and what a writer got.
 pub record IsWholeRun (t : Terminal) (n : ℕ) (new : State) (writer writer' : Option (List ℕ)) (ended : Ended) : Type 0 where
   pub run : IsRun t n ended.steps ended.why
   pub machine : (later ended.steps t).machine ≡ new
-  pub printed : Appends writer writer' (shown (printed_by ended.steps t))
+  pub printed : Appends writer writer' (visible_characters (characters_of ended.steps t))
 
 -- ## Reading a key
 

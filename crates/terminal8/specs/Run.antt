@@ -3,14 +3,14 @@ use Rattle.std.specs.Prelude.{◌≡◌, ℕ, ◌<◌, ◌≤◌, Bool, true, Li
 use Rattle.std.specs.Io.KnownBytes.{Consumes, Appends, IsAtEnd}
 use Rattle.cpu8.specs.State.{State}
 use Rattle.terminal8.specs.Keys.{keys_of}
-use Rattle.terminal8.specs.Terminal.{seated, later, printed_by, shown, GoesOn, IsRun}
+use Rattle.terminal8.specs.Terminal.{new_terminal, later, characters_of, visible_characters, GoesOn, IsRun}
 use Rattle.terminal8.specs.declared.inputs.Input.{Input}
 use Rattle.terminal8.specs.declared.inputs.Input.TheVariants.{Ending, Live}
 use Rattle.terminal8.specs.declared.keyboards.Form.{Form}
 use Rattle.terminal8.specs.declared.outcomes.Ended.{Ended}
 use Rattle.terminal8.specs.declared.outcomes.TerminalFault.{TerminalFault}
 use Rattle.terminal8.specs.declared.outcomes.TerminalFault.TheVariants.{Reader, Writer}
-use Rattle.terminal8.specs.declared.outcomes.Why.TheVariants as why
+use Rattle.terminal8.specs.declared.outcomes.TerminalEnd.TheVariants as why
 
 -- ## Keys and looks
 
@@ -51,15 +51,15 @@ pub record HasMadeSteps (form : Form) (input : Input) (old new : State) (reader 
   pub finds : FindsKey input looks (keys_of form bytes)
   pub none_only : (before after : List (Option ℕ)) → before ++ None ∷ after ≡ looks → FindsNone form reader before
   pub at_end : is_over ≡ true → HaveEnded input ahead reader'
-  pub machine : (more : List (Option ℕ)) → MayFollow is_over more → (later steps (seated old (looks ++ more))).machine ≡ new
-  pub looks_left : (more : List (Option ℕ)) → MayFollow is_over more → (later steps (seated old (looks ++ more))).looks ≡ more
+  pub machine : (more : List (Option ℕ)) → MayFollow is_over more → (later steps (new_terminal old (looks ++ more))).machine ≡ new
+  pub looks_left : (more : List (Option ℕ)) → MayFollow is_over more → (later steps (new_terminal old (looks ++ more))).looks ≡ more
 
 -- a run of at most n steps: it ends at the first end that comes
 pub record IsRunOf (form : Form) (input : Input) (n : ℕ) (old new : State) (reader reader' : Option (List ℕ)) (ended : Ended) : Type 0 where
   pub looks : List (Option ℕ)
   pub is_over : Bool
   pub made : HasMadeSteps form input old new reader reader' looks is_over ended.steps
-  pub run : (more : List (Option ℕ)) → MayFollow is_over more → IsRun (seated old (looks ++ more)) n ended.steps ended.why
+  pub run : (more : List (Option ℕ)) → MayFollow is_over more → IsRun (new_terminal old (looks ++ more)) n ended.steps ended.why
   pub none_left : ended.why ≡ why.Keys → is_over ≡ true
 
 -- A run that a fault cuts short after so many steps.
@@ -69,12 +69,12 @@ pub record IsCut (form : Form) (input : Input) (n : ℕ) (old new : State) (read
   pub steps : ℕ
   pub made : HasMadeSteps form input old new reader reader' looks is_over steps
   pub within : steps ≤ n
-  pub goes_on : (more : List (Option ℕ)) → MayFollow is_over more → (k : ℕ) → k < steps → GoesOn (seated old (looks ++ more)) k
+  pub goes_on : (more : List (Option ℕ)) → MayFollow is_over more → (k : ℕ) → k < steps → GoesOn (new_terminal old (looks ++ more)) k
 
 -- the writer got what so many steps print
 abbrev pub WritesPrinted : State → List (Option ℕ) → Bool → Option (List ℕ) → Option (List ℕ) → ℕ → Type 0
 WritesPrinted s looks is_over writer writer' steps =
-    (more : List (Option ℕ)) → MayFollow is_over more → Appends writer writer' (shown (printed_by steps (seated s (looks ++ more))))
+    (more : List (Option ℕ)) → MayFollow is_over more → Appends writer writer' (visible_characters (characters_of steps (new_terminal s (looks ++ more))))
 
 -- What a run of at most n steps answers. Where the reader fails the writer got what was printed so far.
 abbrev pub RunsProgram : Form → Input → ℕ → State → State → Option (List ℕ) → Option (List ℕ) → Option (List ℕ) → Option (List ℕ) → Result Ended TerminalFault → Type 0

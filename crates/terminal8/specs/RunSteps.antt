@@ -3,8 +3,8 @@ use Rattle.std.specs.Prelude.{◌≡◌, ℕ, ◌≤◌, Bool, true, false, List
 use Rattle.std.specs.Io.KnownBytes.{Consumes, Appends, IsAtEnd}
 use Rattle.cpu8.specs.State.{State}
 use Rattle.terminal8.specs.Keys.{Keyboard, keys_from}
-use Rattle.terminal8.specs.KeySteps.{behind}
-use Rattle.terminal8.specs.Terminal.{seated, looked, attended, is_none_left, printed_by, shown, starves}
+use Rattle.terminal8.specs.KeySteps.{keyboard_after}
+use Rattle.terminal8.specs.Terminal.{new_terminal, after_look, after_attention, is_none_left, characters_of, visible_characters, starves}
 use Rattle.terminal8.specs.Run.{MayFollow, FindsKey, HaveEnded, IsCut, IsRunOf}
 use Rattle.terminal8.specs.declared.inputs.Input.{Input}
 use Rattle.terminal8.specs.declared.inputs.Input.TheVariants.{Ending, Live}
@@ -50,7 +50,7 @@ ReadsByte ahead ahead' reader reader' (Err fault) = Strikes ahead ahead' reader 
 pub record StrikesKeys (k k' : Keyboard) (ahead ahead' : List ℕ) (reader reader' : Option (List ℕ)) (keys : List ℕ) : Type 0 where
   pub bytes : List ℕ
   pub strikes : Strikes ahead ahead' reader reader' bytes
-  pub keyboard : k' ≡ behind k bytes
+  pub keyboard : k' ≡ keyboard_after k bytes
   pub keys_are : keys_from k bytes ≡ keys
 
 -- what striking bytes up to the next key gives
@@ -95,7 +95,7 @@ pub record Looks (input : Input) (k k' : Keyboard) (ahead ahead' : List ℕ) (is
   pub none_only : IsNoneOnly found keys ahead' reader'
   pub over : is_over ≡ true → is_over' ≡ true
   pub at_end : (is_over ≡ true → HaveEnded input ahead reader) → is_over' ≡ true → HaveEnded input ahead' reader'
-  pub looks : (more : List (Option ℕ)) → MayFollow is_over' more → looked s (found ++ more) ≡ seated s' more
+  pub looks : (more : List (Option ℕ)) → MayFollow is_over' more → after_look s (found ++ more) ≡ new_terminal s' more
   pub left : is_over' ≡ is_none_left found
   pub same : is_over' ≡ true → s' ≡ s
 
@@ -112,7 +112,7 @@ pub record Attends (input : Input) (k k' : Keyboard) (ahead ahead' : List ℕ) (
   pub at_end : (is_over ≡ true → HaveEnded input ahead reader) → is_over' ≡ true → HaveEnded input ahead' reader'
   pub sooner : since' ≤ since
   pub attends : (more : List (Option ℕ)) → MayFollow is_over' more
-      → attended (record { machine = s; looks = found ++ more; since = since }) ≡ record { machine = s'; looks = more; since = since' }
+      → after_attention (record { machine = s; looks = found ++ more; since = since }) ≡ record { machine = s'; looks = more; since = since' }
   pub starves_is : (more : List (Option ℕ)) → MayFollow is_over' more → starves (record { machine = s; looks = found ++ more; since = since }) ≡ starved
   pub none_left : starved ≡ true → is_over' ≡ true
   pub idle : starved ≡ true → (s' ≡ s) × (found ≡ [])
@@ -126,7 +126,7 @@ Misses k k' ahead ahead' is_over reader reader' = (is_over ≡ false) × Strikes
 -- what so many steps printed went to the writer, and the rest is on the paper
 abbrev pub Prints : State → List (Option ℕ) → Bool → Option (List ℕ) → Option (List ℕ) → List ℕ → ℕ → Type 0
 Prints s looks is_over writer writer' paper steps =
-    (more : List (Option ℕ)) → MayFollow is_over more → Passes writer writer' [] paper (shown (printed_by steps (seated s (looks ++ more))))
+    (more : List (Option ℕ)) → MayFollow is_over more → Passes writer writer' [] paper (visible_characters (characters_of steps (new_terminal s (looks ++ more))))
 
 -- the answer of a run whose last printed characters may still be on the paper
 abbrev pub RunsInto : Form → Input → ℕ → State → State → Option (List ℕ) → Option (List ℕ) → Option (List ℕ) → Option (List ℕ) → List ℕ → Result Ended TerminalFault → Type 0

@@ -7,8 +7,8 @@ use Rattle.cpu8.specs.Laws.{runs_on}
 use Rattle.cpu8.specs.declared.outcomes.Stepped.{Stepped}
 use Rattle.cpu8.specs.declared.outcomes.Stepped.TheVariants.{Stopped, Interrupted, Ran, Halted, Unassigned}
 use Rattle.terminal8.specs.Asks.{asks_for_key, waits_for_key}
-use Rattle.terminal8.specs.declared.outcomes.Why.{Why}
-use Rattle.terminal8.specs.declared.outcomes.Why.TheVariants as why
+use Rattle.terminal8.specs.declared.outcomes.TerminalEnd.{TerminalEnd}
+use Rattle.terminal8.specs.declared.outcomes.TerminalEnd.TheVariants as why
 
 -- A machine, what the operator's next looks at the keys find, each a key or none yet, and the steps since the program last asked
 -- for one. After the last look the keys have ended.
@@ -18,26 +18,26 @@ pub record Terminal : Type 0 where
   pub since : ℕ
 
 -- an operator sits down at a machine, whose looks will find this
-abbrev pub seated : State → List (Option ℕ) → Terminal
-seated s looks = record { machine = s; looks = looks; since = 0 }
+abbrev pub new_terminal : State → List (Option ℕ) → Terminal
+new_terminal s looks = record { machine = s; looks = looks; since = 0 }
 
 -- the operator looks for the next key, and strikes it if there is one
-abbrev pub looked : State → List (Option ℕ) → Terminal
-looked s [] = seated s []
-looked s (None ∷ looks) = seated s looks
-looked s (Some key ∷ looks) = seated (key_struck s key) looks
+abbrev pub after_look : State → List (Option ℕ) → Terminal
+after_look s [] = new_terminal s []
+after_look s (None ∷ looks) = new_terminal s looks
+after_look s (Some key ∷ looks) = new_terminal (key_struck s key) looks
 
 -- and does so where the program asks for one
-abbrev pub attended : Terminal → Terminal
-attended t = if asks_for_key t.since t.machine then looked t.machine t.looks else t
+abbrev pub after_attention : Terminal → Terminal
+after_attention t = if asks_for_key t.since t.machine then after_look t.machine t.looks else t
 
 -- then the machine makes a step
-abbrev pub stepped : Terminal → State × Stepped
-stepped t = printing_step true (attended t).machine
+abbrev pub after_step : Terminal → State × Stepped
+after_step t = printing_step true (after_attention t).machine
 
 -- what stands after that step
 abbrev pub next : Terminal → Terminal
-next t = record (attended t) { machine = (stepped t).0; since = (attended t).since + 1 }
+next t = record (after_attention t) { machine = (after_step t).0; since = (after_attention t).since + 1 }
 
 -- the terminal after so many steps
 unfoldable pub later : ℕ → Terminal → Terminal
@@ -47,12 +47,12 @@ later (suc k) t = next (later k t)
 -- what the last of so many steps did; before the first, what a machine that runs or stands stopped counts as having done
 unfoldable pub last_did : ℕ → Terminal → Stepped
 last_did zero t = if t.machine.running then Ran None else Stopped
-last_did (suc k) t = (stepped (later k t)).1
+last_did (suc k) t = (after_step (later k t)).1
 
 -- the characters that so many steps print
-unfoldable pub printed_by : ℕ → Terminal → List ℕ
-printed_by zero t = []
-printed_by (suc k) t = printed_by k t ++ character_of (stepped (later k t)).1
+unfoldable pub characters_of : ℕ → Terminal → List ℕ
+characters_of zero t = []
+characters_of (suc k) t = characters_of k t ++ character_of (after_step (later k t)).1
 
 abbrev pub is_none_left : List (Option ℕ) → Bool
 is_none_left [] = true
@@ -76,7 +76,7 @@ has_halted Interrupted = false
 has_halted (Ran printed) = false
 
 -- why a run ends after a step, if it does
-abbrev pub stop_of : Stepped → Option Why
+abbrev pub stop_of : Stepped → Option TerminalEnd
 stop_of Halted = Some why.Halt
 stop_of (Unassigned word) = Some why.Unassigned
 stop_of Stopped = Some why.Halt
@@ -85,14 +85,14 @@ stop_of (Ran printed) = None
 
 -- Why a run of at most n steps ends after so many of them. The last one was a HLT, or the machine stands stopped. Or it met an
 -- unassigned word; or the keys have ended and the machine waits for one; or all n are made.
-abbrev pub Ends : Terminal → ℕ → ℕ → Why → Type 0
+abbrev pub Ends : Terminal → ℕ → ℕ → TerminalEnd → Type 0
 Ends t n steps why.Halt = has_halted (last_did steps t) ≡ true
 Ends t n steps why.Unassigned = (word : ℕ) × (last_did steps t ≡ Unassigned word)
 Ends t n steps why.Keys = (steps < n) × (runs_on (last_did steps t) ≡ true) × (starves (later steps t) ≡ true)
 Ends t n steps why.Limit = (steps ≡ n) × (runs_on (last_did steps t) ≡ true)
 
 -- A run of at most n steps ends at the first end that comes.
-pub record IsRun (t : Terminal) (n steps : ℕ) (why : Why) : Type 0 where
+pub record IsRun (t : Terminal) (n steps : ℕ) (why : TerminalEnd) : Type 0 where
   pub within : steps ≤ n
   pub goes_on : (k : ℕ) → k < steps → GoesOn t k
   pub ends : Ends t n steps why
@@ -100,7 +100,7 @@ pub record IsRun (t : Terminal) (n steps : ℕ) (why : Why) : Type 0 where
 -- ## What is shown of what is printed
 
 -- a character loses its top bit, and NUL is left out
-abbrev pub shown : List ℕ → List ℕ
-shown [] = []
-shown (character ∷ characters) =
-    if nat_eq (character % 0o200) 0 then shown characters else character % 0o200 ∷ shown characters
+abbrev pub visible_characters : List ℕ → List ℕ
+visible_characters [] = []
+visible_characters (character ∷ characters) =
+    if nat_eq (character % 0o200) 0 then visible_characters characters else character % 0o200 ∷ visible_characters characters

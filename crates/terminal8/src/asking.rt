@@ -2,7 +2,7 @@
 
 ghost use Rattle.std.specs.Prelude.{◌≡◌, ℕ, ◌+◌, ◌<◌, ◌≤◌, ◌&&◌, nat_le, false};
 ghost use Rattle.terminal8.specs.Asks.{is_ksf, is_undisturbed, tests_keyboard, asks_for_key, jumps_back, is_at_rest, waits_for_key};
-ghost use Rattle.cpu8.specs.Step.{fetched};
+ghost use Rattle.cpu8.specs.Step.{next_word};
 
 use cpu8::Machine;
 use word12::{Cell, PAGE, Word};
@@ -38,7 +38,7 @@ pub fn waits_for_key(machine: &Machine) -> bool
 {
     machine.is_running()
         && !machine.keyboard_flag()
-        && fetched(machine).get() == KSF
+        && next_word(machine).get() == KSF
         && jumps_back(machine)
         && is_at_rest(machine)
 }
@@ -47,12 +47,12 @@ pub fn waits_for_key(machine: &Machine) -> bool
 fn tests_keyboard(machine: &Machine) -> bool
     ensures { result ≡ tests_keyboard machine.now }
 {
-    is_ksf(fetched(machine)) && is_undisturbed(machine)
+    is_ksf(next_word(machine)) && is_undisturbed(machine)
 }
 
 /// The word of the next instruction.
-fn fetched(machine: &Machine) -> Word
-    ensures value { result ≡ fetched machine.now }
+fn next_word(machine: &Machine) -> Word
+    ensures value { result ≡ next_word machine.now }
     ensures range { result < 0o10000 }
 {
     machine.core().get(machine.next_cell())

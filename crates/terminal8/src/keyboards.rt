@@ -1,7 +1,7 @@
 //! The bytes of the host, as keys of the Teletype.
 
 ghost use Rattle.std.specs.Prelude.{◌≡◌, ◌++◌, IfOk, OnOk, option_to_list};
-ghost use Rattle.terminal8.specs.Keys.{fresh, text_key, key_of_byte, behind_byte, keys_of};
+ghost use Rattle.terminal8.specs.Keys.{fresh, text_key, key_of_byte, after_byte, keys_of};
 
 use std::alloc::{AllocError, Global};
 use std::marker::Model;
@@ -47,7 +47,7 @@ impl Keyboard {
     /// Strikes the next byte: the key that it is, of eight bits, if it is one.
     pub fn strike(&mut self, byte: u8) -> Option<u8>
         ensures key { result ≡ key_of_byte self.old byte }
-        ensures behind { self.new ≡ behind_byte self.old byte }
+        ensures behind { self.new ≡ after_byte self.old byte }
     {
         let behind_return = self.behind_return;
         self.behind_return = byte == CR;

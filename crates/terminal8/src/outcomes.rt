@@ -6,12 +6,12 @@ pub struct Ended {
     /// How many steps were made.
     pub steps: u64,
     /// Why no more were made.
-    pub why: Why,
+    pub why: TerminalEnd,
 }
 
 /// Why a machine goes no further at a terminal.
 #[derive(Clone, Copy, PartialEq, Eq, Debug)]
-pub enum Why {
+pub enum TerminalEnd {
     /// The last step was a HLT, or the machine stood stopped.
     Halt,
     /// The last step met a word that is unassigned.

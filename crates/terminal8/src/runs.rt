@@ -4,7 +4,7 @@ ghost use Rattle.std.specs.Prelude.{◌≡◌, ℕ, ◌+◌, ◌<◌, ◌≤◌,
 ghost use Rattle.cpu8.specs.Go.{after, answer, printing_step, character_of};
 ghost use Rattle.cpu8.specs.declared.outcomes.Stepped.TheVariants.{Ran};
 ghost use Rattle.terminal8.specs.Asks.{asks_for_key};
-ghost use Rattle.terminal8.specs.Terminal.{shown, stop_of};
+ghost use Rattle.terminal8.specs.Terminal.{visible_characters, stop_of};
 ghost use Rattle.terminal8.specs.Run.{RunsProgram};
 ghost use Rattle.terminal8.specs.RunSteps.{Passes, RunsInto};
 ghost use Rattle.terminal8.specs.declared.outcomes.TerminalFault.TheVariants as fault;
@@ -13,7 +13,7 @@ use crate::asking::steps_before_look;
 use crate::inputs::Input;
 use crate::keyboards::Form;
 use crate::operators::Operator;
-use crate::outcomes::{Ended, TerminalFault, Why};
+use crate::outcomes::{Ended, TerminalFault, TerminalEnd};
 use crate::writing::Paper;
 use cpu8::{Machine, Stepped};
 use std::io::{Read, Write};
@@ -67,7 +67,7 @@ fn run_steps<R: Read, W: Write>(
     if !machine.is_running() {
         return Ok(Ended {
             steps: 0,
-            why: Why::Halt,
+            why: TerminalEnd::Halt,
         });
     }
     let mut operator = Operator::new(form, input);
@@ -76,7 +76,7 @@ fn run_steps<R: Read, W: Write>(
         if operator.attend(machine, paper, reader, writer)? {
             return Ok(Ended {
                 steps: made,
-                why: Why::Keys,
+                why: TerminalEnd::Keys,
             });
         }
         let did = step(machine, paper, writer)?;
@@ -91,7 +91,7 @@ fn run_steps<R: Read, W: Write>(
     }
     Ok(Ended {
         steps: n,
-        why: Why::Limit,
+        why: TerminalEnd::Limit,
     })
 }
 
@@ -105,7 +105,7 @@ fn step<W: Write>(
     ensures state { machine.new ≡ (printing_step true machine.old).0 }
     ensures ok { IfOk result (λ did. (did ≡ (printing_step true machine.old).1)
         × Passes (W.contents writer.old) (W.contents writer.new) paper.old paper.new
-        (shown (character_of did))) }
+        (visible_characters (character_of did))) }
     ensures err { IfErr result (λ e. e ≡ fault.Writer) }
 {
     let did = take_turn(machine);
@@ -120,7 +120,7 @@ fn take_turn(machine: &mut Machine) -> Stepped
     ensures answer { result ≡ (printing_step true machine.old).1 }
 {
     if machine.is_busy() {
-        machine.done();
+        machine.end_character();
     }
     machine.step()
 }
@@ -140,12 +140,12 @@ fn go_on(machine: &mut Machine, n: u64, since: u64) -> u64
 
 /// Why a run ends after a step that did this, if it does. The step was a HLT, or the machine stood stopped, or the step met a
 /// word that is unassigned.
-pub fn stop_of(did: Stepped) -> Option<Why>
+pub fn stop_of(did: Stepped) -> Option<TerminalEnd>
     ensures { result ≡ stop_of did }
 {
     match did {
-        Stepped::Halted | Stepped::Stopped => Some(Why::Halt),
-        Stepped::Unassigned(_) => Some(Why::Unassigned),
+        Stepped::Halted | Stepped::Stopped => Some(TerminalEnd::Halt),
+        Stepped::Unassigned(_) => Some(TerminalEnd::Unassigned),
         _ => None,
     }
 }

@@ -6,8 +6,8 @@ ghost use Rattle.cpu8.specs.Fetches.{HaveRoom};
 ghost use Rattle.cpu8.specs.declared.outcomes.Stepped.TheVariants.{Ran};
 ghost use Rattle.terminal8.specs.Asks.{asks_for_key};
 ghost use Rattle.terminal8.specs.Fetches.{AddsFetches};
-ghost use Rattle.terminal8.specs.Terminal.{attended, later, next, starves, stepped};
-ghost use Rattle.terminal8.specs.Laws.{struck_at};
+ghost use Rattle.terminal8.specs.Terminal.{after_attention, later, next, starves, after_step};
+ghost use Rattle.terminal8.specs.Laws.{terminal_with_keys};
 
 use crate::asking::{asks_for_key, steps_before_look, waits_for_key};
 use cpu8::{Machine, Stepped};
@@ -39,7 +39,7 @@ impl<'k> Model for Terminal<'k> {
 impl<'k> Terminal<'k> {
     /// An operator who will strike these keys, of eight bits, sits down at a machine.
     pub fn new(machine: Machine, keys: &'k [u8]) -> Terminal<'k>
-        ensures { result ≡ struck_at machine keys.now }
+        ensures { result ≡ terminal_with_keys machine keys.now }
     {
         Terminal {
             machine,
@@ -69,11 +69,11 @@ impl<'k> Terminal<'k> {
     pub fn step(&mut self) -> Stepped
         requires { self.old.since + 1 < 2 ^ 64 }
         ensures state { self.new ≡ next self.old }
-        ensures answer { result ≡ (stepped self.old).1 }
+        ensures answer { result ≡ (after_step self.old).1 }
     {
         self.attend();
         if self.machine.is_busy() {
-            self.machine.done();
+            self.machine.end_character();
         }
         self.since += 1;
         self.machine.step()
@@ -89,7 +89,7 @@ impl<'k> Terminal<'k> {
         requires room { HaveRoom n counts.old }
         ensures within { result ≤ n }
         ensures state { self.new ≡ later result self.old }
-        ensures answers { (k : ℕ) → k < result → (stepped (later k self.old)).1 ≡ Ran None }
+        ensures answers { (k : ℕ) → k < result → (after_step (later k self.old)).1 ≡ Ran None }
         ensures asks { (k : ℕ) → k < result
             → asks_for_key (later k self.old).since (later k self.old).machine ≡ false }
         ensures counts { AddsFetches result self.old counts.old counts.new }
@@ -103,7 +103,7 @@ impl<'k> Terminal<'k> {
     /// Strikes the next key where the program asks for one.
     #[inline]
     fn attend(&mut self)
-        ensures { self.new ≡ attended self.old }
+        ensures { self.new ≡ after_attention self.old }
     {
         if !asks_for_key(self.since, &self.machine) {
             return;

@@ -3,7 +3,7 @@
 ghost use Rattle.std.specs.Prelude.{◌≡◌, ◌∷◌, [], OnOk, IfErr};
 ghost use Rattle.std.specs.Io.KnownBytes.{Appends};
 ghost use Rattle.cpu8.specs.Go.{character_of};
-ghost use Rattle.terminal8.specs.Terminal.{shown};
+ghost use Rattle.terminal8.specs.Terminal.{visible_characters};
 ghost use Rattle.terminal8.specs.RunSteps.{Passes};
 ghost use Rattle.terminal8.specs.declared.outcomes.TerminalFault.TheVariants as fault;
 
@@ -45,7 +45,7 @@ impl Paper {
         did: &Stepped,
     ) -> Result<(), TerminalFault>
         ensures ok { OnOk result (Passes (W.contents writer.old) (W.contents writer.new) self.old self.new
-            (shown (character_of did.now))) }
+            (visible_characters (character_of did.now))) }
         ensures err { IfErr result (λ e. e ≡ fault.Writer) }
     {
         match did {
@@ -59,7 +59,7 @@ impl Paper {
     /// Prints a character without its top bit, but not NUL.
     fn put<W: Write>(&mut self, writer: &mut W, character: u8) -> Result<(), TerminalFault>
         ensures ok { OnOk result (Passes (W.contents writer.old) (W.contents writer.new) self.old self.new
-            (shown (character ∷ []))) }
+            (visible_characters (character ∷ []))) }
         ensures err { IfErr result (λ e. e ≡ fault.Writer) }
     {
         let byte = character % 0o200;

@@ -2,18 +2,18 @@
 use Rattle.std.proofs.Common.{◌≡◌, ◌≢◌, inl, inr, ℕ, ◌+◌, ◌/◌, ◌%◌, ◌<◌, Bool, true, false, nat_eq, nat_lt, lit<, arith, if◌then◌else◌, Option, Some, None, List, [], ◌∷◌, slice_index, slice_set, get_or-set_other, refl, ap, sym, subst, ◌∙◌}
 use Rattle.std.proofs.lemmas.Bool.{lt-ltb}
 use Rattle.std.proofs.lemmas.Bool.Decides.{eqb_tells}
-use Rattle.tty8.specs.Teletype.{TeletypeState, finished, struck}
+use Rattle.tty8.specs.Teletype.{TeletypeState, with_character_ended, with_key}
 use Rattle.cpu8.specs.State.{State, place, printer_done, grants_interrupt}
 use Rattle.cpu8.specs.Decoding.{pulses_of, field_of, is_group_1, is_group_2}
-use Rattle.cpu8.specs.Reference.{effective_address, indexed, is_auto_index, operand_place, pointer_place, raised}
+use Rattle.cpu8.specs.Reference.{effective_address, core_with_index, is_auto_index, operand_place, pointer_place, next_operand}
 use Rattle.cpu8.specs.Operate.{is_group1_unassigned, operate_row}
 use Rattle.cpu8.specs.Transfer.{fields_row, interrupts_row, read_row, transfer_row}
-use Rattle.cpu8.specs.Step.{executed, fetched, step}
+use Rattle.cpu8.specs.Step.{after_instruction, next_word, step}
 use Rattle.cpu8.specs.declared.outcomes.Stepped.{Stepped}
 use Rattle.cpu8.specs.declared.outcomes.Stepped.TheVariants.{Stopped, Interrupted, Ran, Halted, Unassigned}
 use Rattle.flow8.specs.Flow.{IsAmong}
 use Rattle.terminal8.specs.Asks.{asks_for_key}
-use Rattle.terminal8.specs.Terminal.{Terminal, attended, looked, stepped}
+use Rattle.terminal8.specs.Terminal.{Terminal, after_attention, after_look, after_step}
 use Rattle.trace8.specs.Stores.{cells_of, changing_cells}
 
 either : {A : Type 0} (P : A → Type 0) (b : Bool) (x y : A) → P x → P y → P (if b then x else y)
@@ -111,13 +111,13 @@ abbrev IsTold : State → ℕ → ℕ → State × Stepped → Type 0
 IsTold s w cell r = slice_index r.0.core cell ≢ slice_index s.core cell → IsAmong cell (changing_cells s w r.1)
 
 -- an instruction that stores nothing but its pointer
-referred_told : (s : State) (w cell : ℕ) → slice_index (indexed s w) cell ≢ slice_index s.core cell
+referred_told : (s : State) (w cell : ℕ) → slice_index (core_with_index s w) cell ≢ slice_index s.core cell
     → IsAmong cell (cells_of (pointer_if (is_auto_index s w) (pointer_place s w)) None)
 referred_told s w cell changed =
     pointer_told (is_auto_index s w) s.core (pointer_place s w) ((slice_index s.core (pointer_place s w) + 1) % 0o10000) cell changed
 
 -- one that stores a word there
-to_told : (s : State) (w to word cell : ℕ) → slice_index (slice_set (indexed s w) to word) cell ≢ slice_index s.core cell
+to_told : (s : State) (w to word cell : ℕ) → slice_index (slice_set (core_with_index s w) to word) cell ≢ slice_index s.core cell
     → IsAmong cell (cells_of (pointer_if (is_auto_index s w) (pointer_place s w)) (Some to))
 to_told s w to word cell changed =
     stored_told (is_auto_index s w) s.core (pointer_place s w) ((slice_index s.core (pointer_place s w) + 1) % 0o10000) to word cell changed
@@ -125,14 +125,14 @@ to_told s w to word cell changed =
 low : (w operation : ℕ) → w / 0o1000 ≡ operation → operation < 6 → nat_lt w 0o6000 ≡ true
 low w operation is small = lt-ltb w 0o6000 (omega (arith, is, small))
 
-executed_told : (s : State) (w cell : ℕ) → IsTold s w cell (executed s w)
-unfolding executed
+executed_told : (s : State) (w cell : ℕ) → IsTold s w cell (after_instruction s w)
+unfolding after_instruction
 executed_told s w cell = elim (eqb_tells (w / 0o1000) 0) [
   | inl h ↦ let e = h.1 in rw (e, low w 0 e (lit< tt), e) (referred_told s w cell)
   | inr h0 ↦ elim (eqb_tells (w / 0o1000) 1) [
     | inl h ↦ let e = h.1 in rw (e, low w 1 e (lit< tt), e) (referred_told s w cell)
     | inr h1 ↦ elim (eqb_tells (w / 0o1000) 2) [
-      | inl h ↦ let e = h.1 in rw (e, low w 2 e (lit< tt), e) (to_told s w (operand_place s w) (raised s w) cell)
+      | inl h ↦ let e = h.1 in rw (e, low w 2 e (lit< tt), e) (to_told s w (operand_place s w) (next_operand s w) cell)
       | inr h2 ↦ elim (eqb_tells (w / 0o1000) 3) [
         | inl h ↦ let e = h.1 in rw (e, low w 3 e (lit< tt), e) (to_told s w (operand_place s w) s.ac cell)
         | inr h3 ↦ elim (eqb_tells (w / 0o1000) 4) [
@@ -158,12 +158,12 @@ executed_told s w cell = elim (eqb_tells (w / 0o1000) 0) [
 
 -- ## Steps
 
-step_told : (s : State) (cell : ℕ) → IsTold s (fetched s) cell (step s)
+step_told : (s : State) (cell : ℕ) → IsTold s (next_word s) cell (step s)
 unfolding step
 step_told s cell =
-    either (IsTold s (fetched s) cell) s.running _ _
-    (either (IsTold s (fetched s) cell) (grants_interrupt s) _ _
-    (λ changed. inl (changed_at s.core 0 s.pc cell changed)) (executed_told s (fetched s) cell))
+    either (IsTold s (next_word s) cell) s.running _ _
+    (either (IsTold s (next_word s) cell) (grants_interrupt s) _ _
+    (λ changed. inl (changed_at s.core 0 s.pc cell changed)) (executed_told s (next_word s) cell))
     (λ changed. absurd (changed refl))
 
 -- ## At a terminal
@@ -183,31 +183,31 @@ same_cells s x w (Unassigned word) = refl
 abbrev OnlyTeletype : State → State → Type 0
 OnlyTeletype s now = (x : TeletypeState) × (now ≡ with_teletype s x)
 
-looked_keeps : (s : State) (looks : List (Option ℕ)) → OnlyTeletype s (looked s looks).machine
+looked_keeps : (s : State) (looks : List (Option ℕ)) → OnlyTeletype s (after_look s looks).machine
 looked_keeps s [] = (s.teletype, refl)
 looked_keeps s (None ∷ looks) = (s.teletype, refl)
-looked_keeps s (Some key ∷ looks) = (struck s.teletype key, refl)
+looked_keeps s (Some key ∷ looks) = (with_key s.teletype key, refl)
 
-attended_keeps : (t : Terminal) → OnlyTeletype t.machine (attended t).machine
+attended_keeps : (t : Terminal) → OnlyTeletype t.machine (after_attention t).machine
 attended_keeps t =
     either (λ (u : Terminal). OnlyTeletype t.machine u.machine) (asks_for_key t.since t.machine) _ _ (looked_keeps t.machine t.looks) (t.machine.teletype, refl)
 
 finished_keeps : (s now : State) → OnlyTeletype s now → OnlyTeletype s (if now.teletype.busy then printer_done now else now)
 finished_keeps s now only =
-    either (λ (u : State). OnlyTeletype s u) now.teletype.busy _ _ (finished now.teletype, ap printer_done only.1 ∙ done) only
+    either (λ (u : State). OnlyTeletype s u) now.teletype.busy _ _ (with_character_ended now.teletype, ap printer_done only.1 ∙ done) only
   where
-    done : printer_done (with_teletype s only.0) ≡ with_teletype s (finished now.teletype)
-    done = ap (λ (u : State). with_teletype s (finished u.teletype)) (sym only.1)
+    done : printer_done (with_teletype s only.0) ≡ with_teletype s (with_character_ended now.teletype)
+    done = ap (λ (u : State). with_teletype s (with_character_ended u.teletype)) (sym only.1)
 
 only_told : (s now : State) (cell : ℕ) → OnlyTeletype s now → slice_index (step now).0.core cell ≢ slice_index s.core cell
-    → IsAmong cell (changing_cells s (fetched s) (step now).1)
+    → IsAmong cell (changing_cells s (next_word s) (step now).1)
 only_told s now cell only changed =
-    let told : IsAmong cell (changing_cells now (fetched now) (step now).1) =
+    let told : IsAmong cell (changing_cells now (next_word now) (step now).1) =
     step_told now cell (λ e. changed (e ∙ ap (λ (u : State). slice_index u.core cell) only.1)) in
     subst (λ cells. IsAmong cell cells)
-    (ap (λ (u : State). changing_cells u (fetched u) (step now).1) only.1 ∙ same_cells s only.0 (fetched s) (step now).1)
+    (ap (λ (u : State). changing_cells u (next_word u) (step now).1) only.1 ∙ same_cells s only.0 (next_word s) (step now).1)
     told
 
-pub changes_told : (t : Terminal) (cell : ℕ) → slice_index (stepped t).0.core cell ≢ slice_index t.machine.core cell
-    → IsAmong cell (changing_cells t.machine (fetched t.machine) (stepped t).1)
-changes_told t cell changed = only_told t.machine _ cell (finished_keeps t.machine (attended t).machine (attended_keeps t)) changed
+pub changes_told : (t : Terminal) (cell : ℕ) → slice_index (after_step t).0.core cell ≢ slice_index t.machine.core cell
+    → IsAmong cell (changing_cells t.machine (next_word t.machine) (after_step t).1)
+changes_told t cell changed = only_told t.machine _ cell (finished_keeps t.machine (after_attention t).machine (attended_keeps t)) changed

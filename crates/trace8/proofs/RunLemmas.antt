@@ -6,10 +6,10 @@ use Rattle.cpu8.specs.Laws.{runs_on}
 use Rattle.cpu8.specs.declared.outcomes.Stepped.{Stepped}
 use Rattle.cpu8.specs.declared.outcomes.Stepped.TheVariants.{Stopped, Interrupted, Ran, Halted, Unassigned}
 use Rattle.terminal8.specs.Asks.{asks_for_key}
-use Rattle.terminal8.specs.Terminal.{Terminal, has_halted, last_did, later, looked, next, starves, stepped, stop_of, Ends, GoesOn}
+use Rattle.terminal8.specs.Terminal.{Terminal, has_halted, last_did, later, after_look, next, starves, after_step, stop_of, Ends, GoesOn}
 use Rattle.terminal8.specs.declared.outcomes.Ended.{Ended}
-use Rattle.terminal8.specs.declared.outcomes.Why.{Why}
-use Rattle.terminal8.specs.declared.outcomes.Why.TheVariants as why
+use Rattle.terminal8.specs.declared.outcomes.TerminalEnd.{TerminalEnd}
+use Rattle.terminal8.specs.declared.outcomes.TerminalEnd.TheVariants as why
 use Rattle.trace8.specs.Trace.{next_line, trace_lines}
 use Rattle.trace8.specs.Tracing.{Traces}
 use Rattle.trace8.specs.TracingSteps.{AreLines, HandsOn, TracesInto}
@@ -31,16 +31,16 @@ did-none : (t : Terminal) → last_did 0 t ≡ (if t.machine.running then Ran No
 unfolding last_did
 did-none t = refl
 
-did-next : (k : ℕ) (t : Terminal) → last_did (k + 1) t ≡ (stepped (later k t)).1
+did-next : (k : ℕ) (t : Terminal) → last_did (k + 1) t ≡ (after_step (later k t)).1
 unfolding last_did
 did-next k t = rw add-one refl
 
-looked-since : (s : State) (looks : List (Option ℕ)) → (looked s looks).since ≡ 0
+looked-since : (s : State) (looks : List (Option ℕ)) → (after_look s looks).since ≡ 0
 looked-since s [] = refl
 looked-since s (None ∷ looks) = refl
 looked-since s (Some key ∷ looks) = refl
 
-attended-since : (b : Bool) (t : Terminal) → (if b then looked t.machine t.looks else t).since ≤ t.since
+attended-since : (b : Bool) (t : Terminal) → (if b then after_look t.machine t.looks else t).since ≤ t.since
 attended-since true t = rw (looked-since t.machine t.looks) (omega arith)
 attended-since false t = omega arith
 
@@ -49,7 +49,7 @@ next-since t = omega (arith, attended-since (asks_for_key t.since t.machine) t)
 
 -- ## Ends
 
-none-some : (y : Why) → Some y ≡ None → ⊥
+none-some : (y : TerminalEnd) → Some y ≡ None → ⊥
 none-some y h = cc
 
 goes-by : (did : Stepped) → stop_of did ≡ None → runs_on did ≡ true
@@ -59,10 +59,10 @@ goes-by Stopped h = absurd (none-some why.Halt h)
 goes-by Interrupted h = refl
 goes-by (Ran printed) h = refl
 
-why-is : (a b : Why) → Some a ≡ Some b → a ≡ b
+why-is : (a b : TerminalEnd) → Some a ≡ Some b → a ≡ b
 why-is a b h = ap (λ o. unwrap_or o a) h
 
-ends-by : (t : Terminal) (n steps : ℕ) (did : Stepped) (y : Why) → last_did steps t ≡ did → stop_of did ≡ Some y → Ends t n steps y
+ends-by : (t : Terminal) (n steps : ℕ) (did : Stepped) (y : TerminalEnd) → last_did steps t ≡ did → stop_of did ≡ Some y → Ends t n steps y
 ends-by t n steps Halted y last is = subst (λ x. Ends t n steps x) (why-is why.Halt y is) (ap (λ d. has_halted d) last)
 ends-by t n steps Stopped y last is = subst (λ x. Ends t n steps x) (why-is why.Halt y is) (ap (λ d. has_halted d) last)
 ends-by t n steps (Unassigned word) y last is = subst (λ x. Ends t n steps x) (why-is why.Unassigned y is) (word, last)
@@ -151,8 +151,8 @@ goes-further t t' made is goes runs fed =
 next-terminal : (t t' t'' : Terminal) (made : ℕ) → t' ≡ later made t → t'' ≡ next t' → t'' ≡ later (made + 1) t
 next-terminal t t' t'' made is step = step ∙ ap (λ x. next x) is ∙ sym (later-next made t)
 
-did-is : (t t' : Terminal) (made : ℕ) (did : Stepped) → t' ≡ later made t → did ≡ (stepped t').1 → last_did (made + 1) t ≡ did
-did-is t t' made did is done = did-next made t ∙ ap (λ x. (stepped x).1) (sym is) ∙ sym done
+did-is : (t t' : Terminal) (made : ℕ) (did : Stepped) → t' ≡ later made t → did ≡ (after_step t').1 → last_did (made + 1) t ≡ did
+did-is t t' made did is done = did-next made t ∙ ap (λ x. (after_step x).1) (sym is) ∙ sym done
 
 next-sooner : (t t' t'' : Terminal) (made : ℕ) → t'.since ≤ t.since + made → t'' ≡ next t' → t''.since ≤ t.since + (made + 1)
 next-sooner t t' t'' made sooner step =
@@ -160,7 +160,7 @@ next-sooner t t' t'' made sooner step =
     omega (arith, sooner, e, next-since t')
 
 pub step-traced : (tagged : ℕ → Bool) (t t' t'' : Terminal) (w w' w'' : Option (List ℕ)) (lines lines' lines'' : List ℕ) (made : ℕ) (did : Stepped)
-    → IsTracing tagged t t' w w' lines made → starves t' ≡ false → HandsOn lines lines' w' w'' → t'' ≡ next t' → did ≡ (stepped t').1
+    → IsTracing tagged t t' w w' lines made → starves t' ≡ false → HandsOn lines lines' w' w'' → t'' ≡ next t' → did ≡ (after_step t').1
     → lines'' ≡ lines' ++ next_line tagged t' → stop_of did ≡ None → IsTracing tagged t t'' w w'' lines'' (made + 1)
 step-traced tagged t t' t'' w w' w'' lines lines' lines'' made did i fed hands step done line goes = record {
   terminal = next-terminal t t' t'' made i.terminal step;
@@ -202,8 +202,8 @@ limit-trace tagged n t t' w w' lines made i all =
       lines_are = i.lines_are;
     })
 
-pub ended-trace : (tagged : ℕ → Bool) (n : ℕ) (t t' t'' : Terminal) (w w' w'' : Option (List ℕ)) (lines lines' lines'' : List ℕ) (made : ℕ) (did : Stepped) (y : Why)
-    → IsTracing tagged t t' w w' lines made → made < n → starves t' ≡ false → HandsOn lines lines' w' w'' → t'' ≡ next t' → did ≡ (stepped t').1
+pub ended-trace : (tagged : ℕ → Bool) (n : ℕ) (t t' t'' : Terminal) (w w' w'' : Option (List ℕ)) (lines lines' lines'' : List ℕ) (made : ℕ) (did : Stepped) (y : TerminalEnd)
+    → IsTracing tagged t t' w w' lines made → made < n → starves t' ≡ false → HandsOn lines lines' w' w'' → t'' ≡ next t' → did ≡ (after_step t').1
     → lines'' ≡ lines' ++ next_line tagged t' → stop_of did ≡ Some y → TracesInto tagged n t t'' w w'' lines'' (Ok (record { steps = made + 1; why = y }))
 ended-trace tagged n t t' t'' w w' w'' lines lines' lines'' made did y i below fed hands step done line is = record {
   run = record {

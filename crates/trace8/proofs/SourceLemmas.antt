@@ -5,13 +5,13 @@ use Rattle.std.proofs.lemmas.Bool.Decides.{eqb_tells}
 use Rattle.word12.specs.declared.sizes.TheConstants.{FIELD}
 use Rattle.word12.specs.Octal.{octal4}
 use Rattle.bin_tape.specs.Items.{Item, tape_map}
-use Rattle.flow8.specs.Exits.{referred, referred_cell}
-use Rattle.pal_list.specs.Looks.{is_tagged, plain}
-use Rattle.pal_list.specs.Patterns.{chosen, names, patterns}
-use Rattle.pal_list.specs.References.{is_reference, operation_name}
-use Rattle.pal_list.specs.Sources.{with_word, words_below}
-use Rattle.pal_list.specs.Statements.{instruction, is_named, reference}
-use Rattle.pal_list.specs.Tags.{is_given, is_referred, tag}
+use Rattle.flow8.specs.Exits.{address_of_reference, referred_cell}
+use Rattle.tape_source.specs.Looks.{is_tagged, plain}
+use Rattle.tape_source.specs.Patterns.{patterns_of, names, patterns}
+use Rattle.tape_source.specs.References.{is_reference, operation_name}
+use Rattle.tape_source.specs.Sources.{with_word, words_below}
+use Rattle.tape_source.specs.Statements.{instruction, is_named, reference}
+use Rattle.tape_source.specs.Tags.{is_given, is_referred, tag}
 
 same_number : (a : ℕ) → nat_eq a a ≡ true
 same_number a = elim (eqb_tells a a) [ inl same ↦ same.0 | inr other ↦ absurd (other.1 refl) ]
@@ -47,19 +47,19 @@ same_reference : (tagged tagged' : ℕ → Bool) (cell word : ℕ) → tagged (r
     → reference tag tagged cell word ≡ reference tag tagged' cell word
 same_reference tagged tagged' cell word same =
     ap (λ (b : Bool). operation_name (word / 0o1000) ∷ (if nat_eq (word / 0o400 % 2) 1 then codes "I" ∷ [] else [])
-    ++ (if b then tag (referred_cell cell word) else octal4 (referred (cell % FIELD) word)) ∷ []) same
+    ++ (if b then tag (referred_cell cell word) else octal4 (address_of_reference (cell % FIELD) word)) ∷ []) same
 
 same_instruction : (tagged tagged' : ℕ → Bool) (cell word : ℕ)
     → (is_reference (cell % FIELD) word ≡ true → tagged (referred_cell cell word) ≡ tagged' (referred_cell cell word))
     → instruction tagged cell word ≡ instruction tagged' cell word
 same_instruction tagged tagged' cell word same = elim (cases_Bool (is_reference (cell % FIELD) word)) [
   | inl refers_to ↦
-      ap (λ (b : Bool). if b then reference tag tagged cell word else (if is_named word then names (chosen word patterns) else octal4 word ∷ [])) refers_to
+      ap (λ (b : Bool). if b then reference tag tagged cell word else (if is_named word then names (patterns_of word patterns) else octal4 word ∷ [])) refers_to
       ∙ same_reference tagged tagged' cell word (same refers_to)
-      ∙ sym (ap (λ (b : Bool). if b then reference tag tagged' cell word else (if is_named word then names (chosen word patterns) else octal4 word ∷ [])) refers_to)
+      ∙ sym (ap (λ (b : Bool). if b then reference tag tagged' cell word else (if is_named word then names (patterns_of word patterns) else octal4 word ∷ [])) refers_to)
   | inr other ↦
-      ap (λ (b : Bool). if b then reference tag tagged cell word else (if is_named word then names (chosen word patterns) else octal4 word ∷ [])) other
-      ∙ sym (ap (λ (b : Bool). if b then reference tag tagged' cell word else (if is_named word then names (chosen word patterns) else octal4 word ∷ [])) other)
+      ap (λ (b : Bool). if b then reference tag tagged cell word else (if is_named word then names (patterns_of word patterns) else octal4 word ∷ [])) other
+      ∙ sym (ap (λ (b : Bool). if b then reference tag tagged' cell word else (if is_named word then names (patterns_of word patterns) else octal4 word ∷ [])) other)
 ]
 
 pub spelled : (items : List Item) (count cell word : ℕ) → cell < count → tape_map items cell ≡ Some word

@@ -2,17 +2,17 @@
 use Rattle.std.specs.Prelude.{ℕ, zero, suc, ◌%◌, Bool, ◌&&◌, nat_eq, nat_le, nat_lt, if◌then◌else◌, Some, None, List, [], ◌∷◌, ◌++◌, codes, slice_index}
 use Rattle.word12.specs.Octal.{octal_digit, octal4, octal5}
 use Rattle.cpu8.specs.State.{State, next_cell}
-use Rattle.cpu8.specs.Step.{fetched}
+use Rattle.cpu8.specs.Step.{next_word}
 use Rattle.cpu8.specs.declared.outcomes.Stepped.{Stepped}
 use Rattle.cpu8.specs.declared.outcomes.Stepped.TheVariants.{Stopped, Interrupted, Ran, Halted, Unassigned}
-use Rattle.pal_list.specs.Lines.{led}
-use Rattle.pal_list.specs.Statements.{instruction}
-use Rattle.terminal8.specs.Terminal.{Terminal, later, stepped}
+use Rattle.tape_source.specs.Lines.{led}
+use Rattle.tape_source.specs.Statements.{instruction}
+use Rattle.terminal8.specs.Terminal.{Terminal, later, after_step}
 use Rattle.trace8.specs.Stores.{changing_cells}
 
 -- the cell of the next instruction, its word, and the instruction as a source spells it where these cells are tagged
 abbrev pub instruction_text : (ℕ → Bool) → State → List ℕ
-instruction_text tagged s = octal5 (next_cell s) ++ 0o40 ∷ octal4 (fetched s) ++ led 9 (instruction tagged (next_cell s) (fetched s))
+instruction_text tagged s = octal5 (next_cell s) ++ 0o40 ∷ octal4 (next_word s) ++ led 9 (instruction tagged (next_cell s) (next_word s))
 
 -- what the step was: an interrupt, or an instruction
 abbrev pub step_text : (ℕ → Bool) → State → Stepped → List ℕ
@@ -50,11 +50,11 @@ printed_text (Unassigned word) = []
 -- The line of a step: what it was, AC and L after it, the cells whose words it changed, and the character that it printed.
 abbrev pub step_line : (ℕ → Bool) → State → Stepped → State → List ℕ
 step_line tagged s did s' =
-    step_text tagged s did ++ registers_text s' ++ changes_text s.core s'.core (changing_cells s (fetched s) did) ++ printed_text did ++ 10 ∷ []
+    step_text tagged s did ++ registers_text s' ++ changes_text s.core s'.core (changing_cells s (next_word s) did) ++ printed_text did ++ 10 ∷ []
 
 -- the line of the step that a terminal makes next
 unfoldable pub next_line : (ℕ → Bool) → Terminal → List ℕ
-next_line tagged t = step_line tagged t.machine (stepped t).1 (stepped t).0
+next_line tagged t = step_line tagged t.machine (after_step t).1 (after_step t).0
 
 -- The lines of so many steps: the last is that of the last step.
 unfoldable pub trace_lines : (ℕ → Bool) → ℕ → Terminal → List ℕ

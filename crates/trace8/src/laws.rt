@@ -3,13 +3,13 @@
 ghost use Rattle.std.specs.Prelude.{◌≡◌, ◌≢◌, ℕ, ◌+◌, ◌<◌, ◌++◌, Bool, List, Some, slice_index};
 ghost use Rattle.word12.specs.declared.sizes.TheConstants.{CORE};
 ghost use Rattle.bin_tape.specs.Items.{Item, tape_map};
-ghost use Rattle.cpu8.specs.Step.{fetched};
+ghost use Rattle.cpu8.specs.Step.{next_word};
 ghost use Rattle.flow8.specs.Flow.{IsAmong};
-ghost use Rattle.pal_list.specs.Looks.{is_tagged, plain};
-ghost use Rattle.pal_list.specs.Sources.{words_of_tape};
-ghost use Rattle.pal_list.specs.Statements.{instruction};
-ghost use Rattle.pal_list.specs.Tags.{is_given};
-ghost use Rattle.terminal8.specs.Terminal.{Terminal, later, stepped};
+ghost use Rattle.tape_source.specs.Looks.{is_tagged, plain};
+ghost use Rattle.tape_source.specs.Sources.{words_of_tape};
+ghost use Rattle.tape_source.specs.Statements.{instruction};
+ghost use Rattle.tape_source.specs.Tags.{is_given};
+ghost use Rattle.terminal8.specs.Terminal.{Terminal, later, after_step};
 ghost use Rattle.trace8.specs.Stores.{changing_cells};
 ghost use Rattle.trace8.specs.Trace.{trace_lines};
 
@@ -18,8 +18,8 @@ use terminal8::laws::later_steps;
 /// A cell whose word a step changes is among those whose changes its line shows.
 pub fn changes_are_told()
     ensures { (t : Terminal) (cell : ℕ)
-        → slice_index (stepped t).0.core cell ≢ slice_index t.machine.core cell
-        → IsAmong cell (changing_cells t.machine (fetched t.machine) (stepped t).1) }
+        → slice_index (after_step t).0.core cell ≢ slice_index t.machine.core cell
+        → IsAmong cell (changing_cells t.machine (next_word t.machine) (after_step t).1) }
 {}
 
 /// The lines of steps after others are those of the terminal that the others left.

@@ -2,14 +2,14 @@
 
 ghost use Rattle.std.specs.Prelude.{◌≡◌, ℕ, ◌++◌, ◌∷◌, OnOk, length};
 ghost use Rattle.word12.specs.declared.sizes.TheConstants.{CORE};
-ghost use Rattle.pal_list.specs.Tags.{flagged_in};
+ghost use Rattle.tape_source.specs.Tags.{is_flagged};
 ghost use Rattle.trace8.specs.Trace.{character_text, printed_text, registers_text};
-ghost use Rattle.trace8.specs.StoresSteps.{told_change, told_changes, told_instruction, told_line, told_step};
+ghost use Rattle.trace8.specs.StoresSteps.{change_line, change_lines, instruction_line, trace_line, step_report};
 
 use crate::stores::Before;
 use core_load::Core;
 use cpu8::{Machine, Stepped};
-use pal_list::put_instruction;
+use tape_source::put_instruction;
 use std::alloc::AllocError;
 use word12::{Cell, Word};
 
@@ -23,7 +23,7 @@ pub(crate) fn put_line(
 ) -> Result<(), AllocError>
     requires { length tags.now ≡ CORE }
     ensures { OnOk result (lines.new.items ≡ lines.old.items
-        ++ told_line (flagged_in tags.now) before.now did.now machine.now) }
+        ++ trace_line (is_flagged tags.now) before.now did.now machine.now) }
 {
     put_step(lines, tags, before, did)?;
     put_registers(lines, machine)?;
@@ -41,19 +41,19 @@ fn put_step(
 ) -> Result<(), AllocError>
     requires { length tags.now ≡ CORE }
     ensures { OnOk result (lines.new.items ≡ lines.old.items
-        ++ told_step (flagged_in tags.now) before.now did.now) }
+        ++ step_report (is_flagged tags.now) before.now did.now) }
 {
     match did {
         Stepped::Interrupted => put(lines, b"INTERRUPT"),
-        _ => put_told(lines, tags, before),
+        _ => put_row(lines, tags, before),
     }
 }
 
 /// Appends the cell of an instruction, its word, and the instruction as a source spells it.
-fn put_told(lines: &mut Vec<u8>, tags: &[bool], before: &Before) -> Result<(), AllocError>
+fn put_row(lines: &mut Vec<u8>, tags: &[bool], before: &Before) -> Result<(), AllocError>
     requires { length tags.now ≡ CORE }
     ensures { OnOk result (lines.new.items ≡ lines.old.items
-        ++ told_instruction (flagged_in tags.now) before.now) }
+        ++ instruction_line (is_flagged tags.now) before.now) }
 {
     let [field, a, b, c, d] = before.cell.octal5();
     let [e, f, g, h] = before.word.octal4();
@@ -80,7 +80,7 @@ fn put_changes(
     did: &Stepped,
     core: &Core,
 ) -> Result<(), AllocError>
-    ensures { OnOk result (lines.new.items ≡ lines.old.items ++ told_changes before.now did.now core.now) }
+    ensures { OnOk result (lines.new.items ≡ lines.old.items ++ change_lines before.now did.now core.now) }
 {
     match did {
         Stepped::Interrupted => put_change(lines, Some(Cell::of(0)), before.first_word, core),
@@ -92,11 +92,11 @@ fn put_changes(
 /// Appends the cells whose words an instruction changed.
 fn put_stores(lines: &mut Vec<u8>, before: &Before, core: &Core) -> Result<(), AllocError>
     ensures { OnOk result (lines.new.items ≡ lines.old.items
-        ++ (told_change before.now.pointer before.now.pointer_word core.now
-        ++ told_change before.now.stored before.now.stored_word core.now)) }
+        ++ (change_line before.now.pointer before.now.pointer_word core.now
+        ++ change_line before.now.stored_cell before.now.stored_word core.now)) }
 {
     put_change(lines, before.pointer, before.pointer_word, core)?;
-    put_change(lines, before.stored, before.stored_word, core)?;
+    put_change(lines, before.stored_cell, before.stored_word, core)?;
     Ok(())
 }
 
@@ -107,7 +107,7 @@ fn put_change(
     old: Word,
     core: &Core,
 ) -> Result<(), AllocError>
-    ensures { OnOk result (lines.new.items ≡ lines.old.items ++ told_change cell old core.now) }
+    ensures { OnOk result (lines.new.items ≡ lines.old.items ++ change_line cell old core.now) }
 {
     let Some(cell) = cell else {
         return Ok(());

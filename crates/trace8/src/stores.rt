@@ -22,7 +22,7 @@ pub(crate) struct Before {
     pub(crate) pointer: Option<Cell>,
     pub(crate) pointer_word: Word,
     /// Where the instruction stores, and the word there.
-    pub(crate) stored: Option<Cell>,
+    pub(crate) stored_cell: Option<Cell>,
     pub(crate) stored_word: Word,
     /// The word of cell 0 of field 0, where an interrupt stores.
     pub(crate) first_word: Word,
@@ -45,7 +45,7 @@ impl Before {
             pointer_word: word_at(core, &pointer),
             pointer,
             stored_word: word_at(core, &stored),
-            stored,
+            stored_cell: stored,
             first_word: core.get(Cell::of(0)),
         }
     }

@@ -3,8 +3,8 @@
 ghost use Rattle.std.specs.Prelude.{◌≡◌, ◌+◌, ◌^◌, ◌<◌, ◌++◌, [], length, IfErr, IfOk, OnOk};
 ghost use Rattle.std.specs.Io.KnownBytes.{Appends};
 ghost use Rattle.word12.specs.declared.sizes.TheConstants.{CORE};
-ghost use Rattle.pal_list.specs.Tags.{flagged_in};
-ghost use Rattle.terminal8.specs.Terminal.{next, stepped};
+ghost use Rattle.tape_source.specs.Tags.{is_flagged};
+ghost use Rattle.terminal8.specs.Terminal.{next, after_step};
 ghost use Rattle.trace8.specs.Trace.{next_line};
 ghost use Rattle.trace8.specs.Tracing.{Traces};
 ghost use Rattle.trace8.specs.TracingSteps.{HandsOn, TracesInto};
@@ -16,7 +16,7 @@ use crate::stores::Before;
 use cpu8::Stepped;
 use std::alloc::{AllocError, Global};
 use std::io::Write;
-use terminal8::{Ended, Terminal, Why, stop_of};
+use terminal8::{Ended, Terminal, TerminalEnd, stop_of};
 
 /// Makes steps of a terminal, at most n of them, and hands the line of each on to a writer, with these cells tagged. The k-th line is
 /// that of the k-th step (this project's profile). It ends as a run does: at a HLT, where the machine stands stopped, or at an
@@ -33,7 +33,7 @@ pub fn trace<W: Write>(
 ) -> Result<Ended, TraceFault>
     requires tags { length tags.now ≡ CORE }
     requires room { terminal.old.since + n < 2 ^ 64 }
-    ensures { Traces (flagged_in tags.now) n terminal.old terminal.new
+    ensures { Traces (is_flagged tags.now) n terminal.old terminal.new
         (W.contents writer.old) (W.contents writer.new) result }
 {
     let mut lines = Vec::with_capacity(alloc, HANDED_ON_AT_ONCE + LONGEST_LINE)?;
@@ -53,20 +53,20 @@ fn trace_steps<W: Write>(
     requires tags { length tags.now ≡ CORE }
     requires room { terminal.old.since + n < 2 ^ 64 }
     requires none { lines.old.items ≡ [] }
-    ensures { TracesInto (flagged_in tags.now) n terminal.old terminal.new
+    ensures { TracesInto (is_flagged tags.now) n terminal.old terminal.new
         (W.contents writer.old) (W.contents writer.new) lines.new.items result }
 {
     if !terminal.machine().is_running() {
         return Ok(Ended {
             steps: 0,
-            why: Why::Halt,
+            why: TerminalEnd::Halt,
         });
     }
     for made in 0..n {
         if terminal.starves() {
             return Ok(Ended {
                 steps: made,
-                why: Why::Keys,
+                why: TerminalEnd::Keys,
             });
         }
         hand_on(lines, writer)?;
@@ -80,7 +80,7 @@ fn trace_steps<W: Write>(
     }
     Ok(Ended {
         steps: n,
-        why: Why::Limit,
+        why: TerminalEnd::Limit,
     })
 }
 
@@ -93,9 +93,9 @@ fn trace_step(
     requires tags { length tags.now ≡ CORE }
     requires room { terminal.old.since + 1 < 2 ^ 64 }
     ensures terminal { terminal.new ≡ next terminal.old }
-    ensures did { IfOk result (λ did. did ≡ (stepped terminal.old).1) }
+    ensures did { IfOk result (λ did. did ≡ (after_step terminal.old).1) }
     ensures line { OnOk result (lines.new.items ≡ lines.old.items
-        ++ next_line (flagged_in tags.now) terminal.old) }
+        ++ next_line (is_flagged tags.now) terminal.old) }
 {
     let before = Before::of(terminal.machine());
     let did = terminal.step();

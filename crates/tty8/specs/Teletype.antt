@@ -19,16 +19,16 @@ abbrev pub idle : TeletypeState
 idle = record { buffer = 0; keyboard_flag = false; printer_flag = false; busy = false }
 
 -- both flags cleared and the printer not busy; the keyboard's buffer stays
-abbrev pub cleared : TeletypeState → TeletypeState
-cleared t = record idle { buffer = t.buffer }
+abbrev pub with_flags_clear : TeletypeState → TeletypeState
+with_flags_clear t = record idle { buffer = t.buffer }
 
 -- a key of this character is struck: the buffer takes it, also over one that was not read
-abbrev pub struck : TeletypeState → ℕ → TeletypeState
-struck t character = record t { buffer = character; keyboard_flag = true }
+abbrev pub with_key : TeletypeState → ℕ → TeletypeState
+with_key t character = record t { buffer = character; keyboard_flag = true }
 
 -- the printer ends its character, if it has one
-abbrev pub finished : TeletypeState → TeletypeState
-finished t = if t.busy then record t { printer_flag = true; busy = false } else t
+abbrev pub with_character_ended : TeletypeState → TeletypeState
+with_character_ended t = if t.busy then record t { printer_flag = true; busy = false } else t
 
 -- either flag requests an interrupt
 abbrev pub is_requesting : TeletypeState → Bool
@@ -60,8 +60,8 @@ abbrev pub printer_skips : TeletypeState → ℕ → Bool
 printer_skips t pulses = has pulses 1 && t.printer_flag
 
 -- pulse 4: AC bits 4 to 11 are printed at once, also where the printer is busy (this project's profile)
-abbrev pub printed_by : ℕ → ℕ → Option ℕ
-printed_by pulses ac = if has pulses 4 then Some (ac % 256) else None
+abbrev pub character_of_pulse : ℕ → ℕ → Option ℕ
+character_of_pulse pulses ac = if has pulses 4 then Some (ac % 256) else None
 
 -- pulse 2: the printer flag becomes 0
 abbrev pub printer_cleared : TeletypeState → ℕ → TeletypeState

@@ -1,5 +1,5 @@
 ghost use Rattle.std.specs.Prelude.{◌≡◌, ◌<◌};
-ghost use Rattle.tty8.specs.Teletype.{TeletypeState, idle, cleared, struck, finished, is_requesting, keyboard_skips, keyboard_ac, keyboard_pulsed, printer_skips, printed_by, printer_pulsed};
+ghost use Rattle.tty8.specs.Teletype.{TeletypeState, idle, with_flags_clear, with_key, with_character_ended, is_requesting, keyboard_skips, keyboard_ac, keyboard_pulsed, printer_skips, character_of_pulse, printer_pulsed};
 
 use std::marker::Model;
 use word12::Word;
@@ -62,7 +62,7 @@ impl Teletype {
     /// A key is struck, of this eight-bit character: it goes to the buffer, also over one that was not read, and sets
     /// the keyboard flag.
     pub fn key(&mut self, character: u8)
-        ensures { self.new ≡ struck self.old character }
+        ensures { self.new ≡ with_key self.old character }
     {
         self.buffer = character;
         self.keyboard_flag = true;
@@ -70,8 +70,8 @@ impl Teletype {
 
     /// The printer ends a character: where it is busy it no longer is, and the printer flag is set. Else nothing
     /// changes.
-    pub fn done(&mut self)
-        ensures { self.new ≡ finished self.old }
+    pub fn end_character(&mut self)
+        ensures { self.new ≡ with_character_ended self.old }
     {
         if self.busy {
             self.printer_flag = true;
@@ -81,7 +81,7 @@ impl Teletype {
 
     /// Both flags are cleared, and the printer is no longer busy. The keyboard's buffer stays.
     pub fn clear(&mut self)
-        ensures { self.new ≡ cleared self.old }
+        ensures { self.new ≡ with_flags_clear self.old }
     {
         let buffer = self.buffer;
         *self = Teletype::new();
@@ -130,7 +130,7 @@ impl Teletype {
     #[inline]
     pub fn printer(&mut self, pulses: u8, ac: Word) -> Option<u8>
         ensures state { self.new ≡ printer_pulsed self.old pulses }
-        ensures character { result ≡ printed_by pulses ac }
+        ensures character { result ≡ character_of_pulse pulses ac }
     {
         if pulses / 2 % 2 == 1 {
             self.printer_flag = false;

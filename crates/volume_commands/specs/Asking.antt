@@ -1,7 +1,7 @@
 -- Which files of a volume the words of a command line mean.
 use Rattle.std.specs.Prelude.{◌≡◌, Result, Ok, Err, List, ◌++◌, map}
 use Rattle.std.specs.Global.{Vec}
-use Rattle.archive8.specs.Asking.{Wanted, OfName, AtBlock, asked_for}
+use Rattle.archive8.specs.Asking.{Target, OfName, AtBlock, target_of}
 use Rattle.archive8.specs.declared.asking.Asked.{Asked}
 use Rattle.script8.specs.declared.faults.SessionFault.TheVariants.{Memory}
 use Rattle.outcome.specs.declared.endings.Ending.{Ending}
@@ -12,14 +12,14 @@ use Rattle.volume_commands.specs.Showing.{wanted_file}
 
 -- the file that is meant, unless memory is wanted for its name
 abbrev pub MeansFile : FileForm → Result Asked Ending → Type 0
-MeansFile form (Ok file) = asked_for file ≡ wanted_file form
+MeansFile form (Ok file) = target_of file ≡ wanted_file form
 MeansFile form (Err ending) = ending ≡ Fault Memory
 
 -- the files of some names, and then those of some first blocks
-abbrev pub wanted_files : DeleteForm → List Wanted
+abbrev pub wanted_files : DeleteForm → List Target
 wanted_files form = map (λ name. OfName name.bytes.items) form.names.items ++ map AtBlock form.places.items
 
 -- the files that are meant, unless memory is wanted for them
 abbrev pub MeansFiles : DeleteForm → Result (Vec Asked) Ending → Type 0
-MeansFiles form (Ok files) = map asked_for files.items ≡ wanted_files form
+MeansFiles form (Ok files) = map target_of files.items ≡ wanted_files form
 MeansFiles form (Err ending) = ending ≡ Fault Memory

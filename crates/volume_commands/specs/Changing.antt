@@ -1,7 +1,7 @@
 -- The commands that change the files of a volume by their names.
 use Rattle.std.specs.Prelude.{◌≡◌, ℕ, Result, Ok, Err, List, length}
 use Rattle.hosts.specs.Event.{Event}
-use Rattle.archive8.specs.Asking.{Wanted}
+use Rattle.archive8.specs.Asking.{Target}
 use Rattle.archive8.specs.Renaming.{RenamesFile}
 use Rattle.archive8.specs.Squeezing.{SqueezesFiles}
 use Rattle.archive8.specs.declared.faults.RenameFault.{RenameFault}
@@ -23,17 +23,17 @@ Changes answers image_of lines_of form = Then (Opens form) (λ image. Then (answ
 
 -- the files of the volume are moved together
 abbrev pub Squeezes : ImageForm → List Event → Result (Unit {0}) Ending → List Event → Type 0
-Squeezes = Changes (λ image. Answers (SqueezesFiles image) (length image)) (λ made. made.bytes.items) (λ made. program_line (line.Squeezed made.moved))
+Squeezes = Changes (λ image. Answers (SqueezesFiles image) (length image)) (λ made. made.bytes.items) (λ made. program_line (line.Squeezed made.move_count))
 
 abbrev pub RefusesName : RenameFault → ℕ → List Event → Ending → List Event → Type 0
 RefusesName (Archive fault) size old ending new = Refuses fault size old ending new
 RefusesName Exists size old ending new = (ending ≡ Line line.Exists) × (new ≡ old)
 
 -- the image in which a file has another name, or why it has not
-abbrev pub GivesName : Wanted → List ℕ → List ℕ → List Event → Result RenamedImage Ending → List Event → Type 0
+abbrev pub GivesName : Target → List ℕ → List ℕ → List Event → Result RenamedImage Ending → List Event → Type 0
 GivesName wanted other image old (Ok it) new = RenamesFile image wanted other (Ok it) × (new ≡ old)
 GivesName wanted other image old (Err ending) new = (fault : RenameFault) × RenamesFile image wanted other (Err fault) × RefusesName fault (length image) old ending new
 
 -- a file of the volume gets another name
-abbrev pub Renames : Wanted → List ℕ → ImageForm → List Event → Result (Unit {0}) Ending → List Event → Type 0
+abbrev pub Renames : Target → List ℕ → ImageForm → List Event → Result (Unit {0}) Ending → List Event → Type 0
 Renames wanted other = Changes (GivesName wanted other) (λ made. made.bytes.items) (λ made. program_line (line.Renamed made.old_name made.new_name))

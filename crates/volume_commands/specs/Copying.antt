@@ -6,7 +6,7 @@ use Rattle.disk8.specs.declared.layouts.Layout.{Layout}
 use Rattle.disk8.specs.declared.layouts.Layout.TheVariants.{First, Second, Dectape}
 use Rattle.script8.specs.declared.faults.SessionFault.{SessionFault}
 use Rattle.script8.specs.declared.faults.SessionFault.TheVariants.{BadLine, NoJob, TooManyJobs, File, Asm, Tape, BadText, Reader, Writer, Memory, TooManyBreaks}
-use Rattle.archive8.specs.Asking.{Wanted, asked_for}
+use Rattle.archive8.specs.Asking.{Target, target_of}
 use Rattle.archive8.specs.Copying.{CopiesFile}
 use Rattle.archive8.specs.declared.faults.ArchiveFault.{ArchiveFault}
 use Rattle.archive8.specs.declared.faults.ArchiveFault.TheVariants as archive
@@ -83,22 +83,22 @@ RefusesCopy form (From fault) from to old ending new = RefusesOne form.image.fil
 RefusesCopy form (To fault) from to old ending new = RefusesOne form.to.file.bytes.items fault to old ending new
 
 -- the image with the copy, or why there is none
-abbrev pub MakesCopy : CopyForm → Wanted → List ℕ → List ℕ → List Event → Result NewImage Ending → List Event → Type 0
+abbrev pub MakesCopy : CopyForm → Target → List ℕ → List ℕ → List Event → Result NewImage Ending → List Event → Type 0
 MakesCopy form wanted from to old (Ok it) new = CopiesFile from wanted to (new_name form) (Ok it) × (new ≡ old)
 MakesCopy form wanted from to old (Err ending) new =
     ((fault : CopyFault) × CopiesFile from wanted to (new_name form) (Err fault) × RefusesCopy form fault (length from) (length to) old ending new)
     ⊎ ((ending ≡ Fault Memory) × (new ≡ old))
 
 -- the file of an image is put on the volume in the one that is held
-abbrev pub CopiesInto : CopyForm → Wanted → Image → List ℕ → List Event → Result (Unit {0}) Ending → List Event → Type 0
+abbrev pub CopiesInto : CopyForm → Target → Image → List ℕ → List Event → Result (Unit {0}) Ending → List Event → Type 0
 CopiesInto form wanted image from = Then (MakesCopy form wanted from image.bytes.items) (λ made. Then (Purely (AreLines (stored_line made))) (λ line. Stores image made.bytes.items line.items))
 
 -- where both images are one, it is not read again; else the other one is only looked at
-abbrev pub CopiesFrom : Bool → CopyForm → Wanted → Image → List Event → Result (Unit {0}) Ending → List Event → Type 0
+abbrev pub CopiesFrom : Bool → CopyForm → Target → Image → List Event → Result (Unit {0}) Ending → List Event → Type 0
 CopiesFrom true form wanted image = CopiesInto form wanted image image.bytes.items
 CopiesFrom false form wanted image = Then (LooksAt form.image) (λ from. CopiesInto form wanted image from.items)
 
 -- The image file that gets the copy is held and read, and then the other one is read. The image with the copy is saved, and only then its
 -- line is printed.
 abbrev pub Copies : CopyForm → List Event → Result (Unit {0}) Ending → List Event → Type 0
-Copies form = Then (Purely (MeansFile form.file)) (λ file. Then (Opens form.to) (λ image. CopiesFrom (is_one_image form.image form.to) form (asked_for file) image))
+Copies form = Then (Purely (MeansFile form.file)) (λ file. Then (Opens form.to) (λ image. CopiesFrom (is_one_image form.image form.to) form (target_of file) image))

@@ -4,7 +4,7 @@ use Rattle.hosts.specs.Event.{Event, tell_call}
 use Rattle.script8.specs.Replies.{line_of, line_reply_text}
 use Rattle.script8.specs.declared.faults.SessionFault.TheVariants.{File, Memory}
 use Rattle.script8.specs.declared.replies.LineReply.TheVariants.{Deleted}
-use Rattle.archive8.specs.Asking.{Wanted, OfName, AtBlock, asked_for}
+use Rattle.archive8.specs.Asking.{Target, OfName, AtBlock, target_of}
 use Rattle.archive8.specs.Deleting.{DeletesFiles}
 use Rattle.archive8.specs.declared.deleting.DeletedImage.{DeletedImage}
 use Rattle.archive8.specs.declared.faults.DeleteFault.{DeleteFault}
@@ -21,26 +21,26 @@ use Rattle.volume_commands.specs.Asking.{MeansFiles}
 use Rattle.volume_commands.specs.Changing.{Changes}
 
 -- the note on a file that is refused
-abbrev pub refused_text : Wanted → List ℕ
+abbrev pub refused_text : Target → List ℕ
 refused_text (OfName name) = name_text NotDeleted name
 refused_text (AtBlock place) = block_text place
 
 -- the one at a place among several files, counted from 0; where one file alone is wanted nothing is said of it
-abbrev pub one_of_several : List Wanted → ℕ → Option Wanted
+abbrev pub one_of_several : List Target → ℕ → Option Target
 one_of_several wanted place = if nat_lt (length wanted) 2 then None else slice_get wanted place
 
 -- which file is refused is printed, where there are several
-abbrev pub TellsRefused : Option Wanted → List Event → List Event → Type 0
+abbrev pub TellsRefused : Option Target → List Event → List Event → Type 0
 TellsRefused None old new = new ≡ old
 TellsRefused (Some wanted) old new = (ok : Bool) × (new ≡ tell_call ok (refused_text wanted) ∷ old)
 
 -- why no file is taken out of an image of so many bytes
-abbrev pub RefusesFile : List Wanted → DeleteFault → ℕ → List Event → Ending → List Event → Type 0
+abbrev pub RefusesFile : List Target → DeleteFault → ℕ → List Event → Ending → List Event → Type 0
 RefusesFile wanted (Archive fault) size old ending new = Refuses fault size old ending new
 RefusesFile wanted (Name place fault) size old ending new = (ending ≡ Fault (File fault)) × TellsRefused (one_of_several wanted place) old new
 
 -- the image without the files, all of them, or why it has them all
-abbrev pub TakesOut : List Wanted → List ℕ → List Event → Result DeletedImage Ending → List Event → Type 0
+abbrev pub TakesOut : List Target → List ℕ → List Event → Result DeletedImage Ending → List Event → Type 0
 TakesOut wanted image old (Ok it) new = DeletesFiles image wanted (Ok it) × (new ≡ old)
 TakesOut wanted image old (Err ending) new =
     ((fault : DeleteFault) × DeletesFiles image wanted (Err fault) × RefusesFile wanted fault (length image) old ending new)
@@ -52,9 +52,9 @@ deleted_lines [] = []
 deleted_lines (name ∷ names) = line_of (line_reply_text (Deleted name)) ++ deleted_lines names
 
 -- these files are taken out of the volume, all or none
-abbrev pub DeletesAsked : List Wanted → ImageForm → List Event → Result (Unit {0}) Ending → List Event → Type 0
+abbrev pub DeletesAsked : List Target → ImageForm → List Event → Result (Unit {0}) Ending → List Event → Type 0
 DeletesAsked wanted = Changes (TakesOut wanted) (λ made. made.bytes.items) (λ made. deleted_lines made.names.items)
 
 -- the files of some names and of some first blocks are taken out of the volume, all or none
 abbrev pub Deletes : DeleteForm → List Event → Result (Unit {0}) Ending → List Event → Type 0
-Deletes form = Then (Purely (MeansFiles form)) (λ files. DeletesAsked (map asked_for files.items) form.image)
+Deletes form = Then (Purely (MeansFiles form)) (λ files. DeletesAsked (map target_of files.items) form.image)

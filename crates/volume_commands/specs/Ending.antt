@@ -4,7 +4,7 @@ use Rattle.hosts.specs.Event.{Event, tell_call}
 use Rattle.outcome.specs.Contents.{content_name}
 use Rattle.outcome.specs.Notes.{file_text}
 use Rattle.outcome.specs.Outcomes.{outcome_of}
-use Rattle.outcome.specs.Shown.{said}
+use Rattle.outcome.specs.Shown.{writing_of}
 use Rattle.outcome.specs.declared.contents.Content.{Content}
 use Rattle.outcome.specs.declared.notes.FileNote.{FileNote}
 use Rattle.outcome.specs.declared.outcomes.Outcome.{Outcome}
@@ -34,13 +34,13 @@ PrintsOutcome it old result new = (ok : Bool) × PrintsLine it.stream it.line.it
 -- where standard output doesn't take the line, the outcome of that is printed in its place
 abbrev pub EndsAfter : Bool → Outcome → Result (Unit {0}) Ending → List Event → List Event → ℕ → Type 0
 EndsAfter is_data outcome (Ok it) old new status = (new ≡ old) × (status ≡ outcome.status)
-EndsAfter is_data outcome (Err ending) old new status = (other : Outcome) × (said other ≡ outcome_of is_data (Err ending))
+EndsAfter is_data outcome (Err ending) old new status = (other : Outcome) × (writing_of other ≡ outcome_of is_data (Err ending))
     × (last : Result (Unit {0}) Ending) × PrintsOutcome other old last new × (status ≡ other.status)
 
 -- a command whose work came to this prints what the table of outcomes has for it, and ends with that status
 pub record EndsSo (is_data : Bool) (work : Result (Unit {0}) Ending) (old new : List Event) (status : ℕ) : Type 0 where
   pub outcome : Outcome
-  pub is : said outcome ≡ outcome_of is_data work
+  pub is : writing_of outcome ≡ outcome_of is_data work
   pub printed : Result (Unit {0}) Ending
   pub between : List Event
   pub prints : PrintsOutcome outcome old printed between

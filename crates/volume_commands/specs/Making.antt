@@ -4,7 +4,7 @@ use Rattle.std.specs.Global.{Vec}
 use Rattle.hosts.specs.Event.{Event}
 use Rattle.hosts.specs.Place.{about}
 use Rattle.hosts.specs.Saving.{Makes, AnyMomentOf}
-use Rattle.hosts.specs.Streams.{errors, failures, freed, has_links}
+use Rattle.hosts.specs.Streams.{errors, failures, path_of_name, has_links}
 use Rattle.hosts.specs.declared.faults.Durability.{Durability}
 use Rattle.hosts.specs.declared.faults.HostFault.{HostFault}
 use Rattle.hosts.specs.declared.faults.HostFault.TheVariants as host
@@ -48,18 +48,18 @@ ending_of_first host.Failed = NotWritten Image AsItWas
 -- system has further names.
 pub record HasMade (file : List ℕ) (old new : List Event) : Type 0 where
   pub durability : Durability
-  pub made : Makes (Ok durability) file (about (freed new) old) (about (freed new) new)
-  pub moments : AnyMomentOf (has_links new) file (about (freed new) old) (about (freed new) new)
+  pub made : Makes (Ok durability) file (about (path_of_name new) old) (about (path_of_name new) new)
+  pub moments : AnyMomentOf (has_links new) file (about (path_of_name new) old) (about (path_of_name new) new)
   pub sync : IsSyncTold durability (errors old) (errors new)
-  pub only : TouchesOnly (freed new) old new
+  pub only : TouchesOnly (path_of_name new) old new
 
 -- no file is made, since a call failed
 pub record HasNotMade (file : List ℕ) (fault : HostFault) (old new : List Event) : Type 0 where
-  pub unmade : Makes (Err fault) file (about (freed new) old) (about (freed new) new)
-  pub moments : AnyMomentOf (has_links new) file (about (freed new) old) (about (freed new) new)
+  pub unmade : Makes (Err fault) file (about (path_of_name new) old) (about (path_of_name new) new)
+  pub moments : AnyMomentOf (has_links new) file (about (path_of_name new) old) (about (path_of_name new) new)
   pub cause : failures old < failures new
   pub tells : errors new ≡ errors old
-  pub only : TouchesOnly (freed new) old new
+  pub only : TouchesOnly (path_of_name new) old new
 
 -- a file is made where there is none of its name, or else the command ends so by a fault
 abbrev pub MakesBy : (HostFault → Ending) → List ℕ → List Event → Result (Unit {0}) Ending → List Event → Type 0

@@ -5,9 +5,9 @@ use Rattle.hosts.specs.Event.{Event, tell_call}
 use Rattle.os8_dir.specs.declared.file_faults.FileFault.TheVariants.{NothingWritten}
 use Rattle.script8.specs.declared.faults.SessionFault.TheVariants.{Memory, File}
 use Rattle.archive8.specs.declared.faults.ArchiveFault.{ArchiveFault}
-use Rattle.many8.specs.Emptying.{is_among}
-use Rattle.many8.specs.Opened.{OpensVolume, files_on}
-use Rattle.many8.specs.declared.opened.VolumeFile.{VolumeFile}
+use Rattle.archive_many.specs.Emptying.{is_among}
+use Rattle.archive_many.specs.Opened.{OpensVolume, files_on}
+use Rattle.archive_many.specs.declared.opened.VolumeFile.{VolumeFile}
 use Rattle.outcome.specs.Notes.{name_text}
 use Rattle.outcome.specs.declared.notes.NameNote.TheVariants.{Empty}
 use Rattle.outcome.specs.declared.endings.Ending.{Ending}

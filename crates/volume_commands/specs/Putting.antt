@@ -16,8 +16,8 @@ use Rattle.archive8.specs.declared.faults.ArchiveFault.{ArchiveFault}
 use Rattle.archive8.specs.declared.faults.ArchiveFault.TheVariants as archive
 use Rattle.archive8.specs.declared.places.TextPlace.{TextPlace}
 use Rattle.archive8.specs.declared.putting.NewImage.{NewImage}
-use Rattle.many8.specs.Emptying.{is_among}
-use Rattle.many8.specs.Opened.{OpensVolume, files_on}
+use Rattle.archive_many.specs.Emptying.{is_among}
+use Rattle.archive_many.specs.Opened.{OpensVolume, files_on}
 use Rattle.outcome.specs.Endings.{ending_of_archive}
 use Rattle.outcome.specs.Notes.{bad_text, name_text}
 use Rattle.outcome.specs.declared.notes.NameNote.TheVariants.{TooLong, Empty}

@@ -2,7 +2,7 @@
 use Rattle.std.specs.Prelude.{Result, List, length, ℕ}
 use Rattle.std.specs.Global.{Vec}
 use Rattle.hosts.specs.Event.{Event}
-use Rattle.archive8.specs.Asking.{Wanted, OfName, AtBlock}
+use Rattle.archive8.specs.Asking.{Target, OfName, AtBlock}
 use Rattle.archive8.specs.declared.faults.ArchiveFault.{ArchiveFault}
 use Rattle.outcome.specs.declared.endings.Ending.{Ending}
 use Rattle.task8.specs.declared.forms.ImageForm.{ImageForm}
@@ -14,7 +14,7 @@ use Rattle.volume_commands.specs.Answers.{Answers}
 use Rattle.volume_commands.specs.Saving.{Prints}
 
 -- the file that is meant by an argument
-abbrev pub wanted_file : FileForm → Wanted
+abbrev pub wanted_file : FileForm → Target
 wanted_file (Name text) = OfName text.bytes.items
 wanted_file (At place) = AtBlock place
 

@@ -2,14 +2,14 @@
 use Rattle.std.specs.Prelude.{◌≡◌, ℕ, Result, Ok, Err, List, length}
 use Rattle.std.specs.Global.{Vec}
 use Rattle.hosts.specs.Event.{Event}
-use Rattle.char_pack.specs.Packing.{packed}
+use Rattle.char_pack.specs.Packing.{words_of_bytes}
 use Rattle.core_image.specs.Converted.{IsBinOf}
 use Rattle.core_image.specs.declared.faults.CoreFault.{CoreFault}
 use Rattle.archive8.specs.Getting.{Gets}
 use Rattle.char_pack.specs.declared.forms.GetForm.TheVariants.{Frames}
-use Rattle.many8.specs.Raw.{GetsBlocks}
-use Rattle.many8.specs.declared.faults.BlocksFault.{BlocksFault}
-use Rattle.many8.specs.declared.faults.BlocksFault.TheVariants.{Archive, NoBlocks}
+use Rattle.archive_many.specs.Raw.{GetsBlocks}
+use Rattle.archive_many.specs.declared.faults.BlocksFault.{BlocksFault}
+use Rattle.archive_many.specs.declared.faults.BlocksFault.TheVariants.{Archive, NoBlocks}
 use Rattle.report8.specs.Cores.{IsCoreFault}
 use Rattle.report8.specs.Program.{program_line}
 use Rattle.report8.specs.declared.programs.ProgramLine.TheVariants as line
@@ -41,7 +41,7 @@ ShowsBlocks form = Then (LooksAt form.image) (λ image. Then (GivesBlocks form i
 
 -- the BIN tape of a core image, and where its program starts
 abbrev pub GivesTape : List ℕ → Result (Vec ℕ × ℕ) Ending → Type 0
-GivesTape frames (Ok bin) = IsBinOf (packed frames) bin.0.items bin.1
+GivesTape frames (Ok bin) = IsBinOf (words_of_bytes frames) bin.0.items bin.1
 GivesTape frames (Err ending) = (fault : CoreFault) × (ending ≡ Line (line.Core fault)) × IsCoreFault frames fault
 
 -- a line is printed on standard error, which ends the command

@@ -1,6 +1,6 @@
 //! Which files of a volume the words of a command line mean.
 ghost use Rattle.std.specs.Prelude.{◌≡◌, [], ◌∷◌, ◌++◌, map, OnOk};
-ghost use Rattle.archive8.specs.Asking.{OfName, AtBlock, asked_for};
+ghost use Rattle.archive8.specs.Asking.{OfName, AtBlock, target_of};
 ghost use Rattle.volume_commands.specs.Asking.{MeansFile, MeansFiles};
 ghost use Rattle.volume_commands.specs.Showing.{wanted_file};
 
@@ -10,8 +10,8 @@ use std::alloc::{AllocError, Global};
 use task8::{DeleteForm, FileForm};
 
 /// The file that is meant by an argument.
-pub fn asked_of(file: FileForm) -> Asked
-    ensures { asked_for result ≡ wanted_file file }
+pub fn file_asked(file: FileForm) -> Asked
+    ensures { target_of result ≡ wanted_file file }
 {
     match file {
         FileForm::Name(name) => Asked::Name(name),
@@ -20,7 +20,7 @@ pub fn asked_of(file: FileForm) -> Asked
 }
 
 /// The file that is meant by an argument, which stays as it is.
-pub(crate) fn asked_by(alloc: Global, file: &FileForm) -> Result<Asked, Ending>
+pub(crate) fn copy_of_asked(alloc: Global, file: &FileForm) -> Result<Asked, Ending>
     ensures { MeansFile file.now result }
 {
     match file {
@@ -43,7 +43,7 @@ pub(crate) fn files_meant(alloc: Global, form: &DeleteForm) -> Result<Vec<Asked>
 }
 
 fn add_names(alloc: Global, names: &[String], files: &mut Vec<Asked>) -> Result<(), AllocError>
-    ensures { OnOk result (map asked_for files.new.items ≡ map asked_for files.old.items ++ map (λ name. OfName name.bytes.items) names.now) }
+    ensures { OnOk result (map target_of files.new.items ≡ map target_of files.old.items ++ map (λ name. OfName name.bytes.items) names.now) }
 {
     let mut rest = names;
     while let [name, others @ ..] = rest {
@@ -54,7 +54,7 @@ fn add_names(alloc: Global, names: &[String], files: &mut Vec<Asked>) -> Result<
 }
 
 fn add_name(alloc: Global, name: &str, files: &mut Vec<Asked>) -> Result<(), AllocError>
-    ensures { OnOk result (map asked_for files.new.items ≡ map asked_for files.old.items ++ OfName name.now ∷ []) }
+    ensures { OnOk result (map target_of files.new.items ≡ map target_of files.old.items ++ OfName name.now ∷ []) }
 {
     let text = String::from_str(alloc, name)?;
     files.push(Asked::Name(text))?;
@@ -62,7 +62,7 @@ fn add_name(alloc: Global, name: &str, files: &mut Vec<Asked>) -> Result<(), All
 }
 
 fn add_places(places: &[usize], files: &mut Vec<Asked>) -> Result<(), AllocError>
-    ensures { OnOk result (map asked_for files.new.items ≡ map asked_for files.old.items ++ map AtBlock places.now) }
+    ensures { OnOk result (map target_of files.new.items ≡ map target_of files.old.items ++ map AtBlock places.now) }
 {
     let mut rest = places;
     while let [place, others @ ..] = rest {
@@ -73,7 +73,7 @@ fn add_places(places: &[usize], files: &mut Vec<Asked>) -> Result<(), AllocError
 }
 
 fn add_place(place: usize, files: &mut Vec<Asked>) -> Result<(), AllocError>
-    ensures { OnOk result (map asked_for files.new.items ≡ map asked_for files.old.items ++ AtBlock place ∷ []) }
+    ensures { OnOk result (map target_of files.new.items ≡ map target_of files.old.items ++ AtBlock place ∷ []) }
 {
     files.push(Asked::At(place))?;
     Ok(())

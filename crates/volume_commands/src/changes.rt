@@ -1,7 +1,7 @@
 //! Changes of the files of a volume by their names alone. Each writes an image file once, and only once the whole new image stands in
 //! memory; where a name is refused nothing is written.
 ghost use Rattle.std.specs.Prelude.{length};
-ghost use Rattle.archive8.specs.Asking.{asked_for};
+ghost use Rattle.archive8.specs.Asking.{target_of};
 ghost use Rattle.archive8.specs.Squeezing.{SqueezesFiles};
 ghost use Rattle.volume_commands.specs.Answers.{Answers};
 ghost use Rattle.volume_commands.specs.Changing.{Squeezes, Renames, GivesName};
@@ -23,7 +23,7 @@ pub fn squeeze_files<H: Host>(host: &mut H, alloc: Global, form: &ImageForm) -> 
 {
     let image = Image::open(host, alloc, form)?;
     let new = squeezed_image(host, alloc, &image.bytes)?;
-    let line = program_line(alloc, &ProgramLine::Squeezed(new.moved))?;
+    let line = program_line(alloc, &ProgramLine::Squeezed(new.move_count))?;
     store(host, alloc, image, &new.bytes, &line)
 }
 
@@ -46,7 +46,7 @@ pub fn rename_file<H: Host>(
     file: &Asked,
     other: &str,
 ) -> Result<(), Ending>
-    ensures { Renames (asked_for file.now) other.now form.now (H.history host.old) result (H.history host.new) }
+    ensures { Renames (target_of file.now) other.now form.now (H.history host.old) result (H.history host.new) }
 {
     let image = Image::open(host, alloc, form)?;
     let new = renamed_image(host, alloc, &image.bytes, file, other)?;
@@ -61,7 +61,7 @@ fn renamed_image<H: Host>(
     asked: &Asked,
     other: &str,
 ) -> Result<RenamedImage, Ending>
-    ensures { GivesName (asked_for asked.now) other.now image.now (H.history host.old) result (H.history host.new) }
+    ensures { GivesName (target_of asked.now) other.now image.now (H.history host.old) result (H.history host.new) }
 {
     match rename(alloc, image, asked, other.as_bytes()) {
         Ok(new) => Ok(new),

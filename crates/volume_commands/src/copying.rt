@@ -1,11 +1,11 @@
 //! The command that copies a file of the volume in an image file to the volume in another, or under a new name in the same one.
 ghost use Rattle.std.specs.Prelude.{◌≡◌, false, option_copied};
-ghost use Rattle.archive8.specs.Asking.{asked_for};
+ghost use Rattle.archive8.specs.Asking.{target_of};
 ghost use Rattle.volume_commands.specs.Copying as spec;
 ghost use Rattle.volume_commands.specs.Copying.{Copies, CopiesFrom, CopiesInto, MakesCopy};
 ghost use Rattle.volume_commands.specs.CopySteps.{IsNotCopied, IsOneRefused};
 
-use crate::asking::asked_by;
+use crate::asking::copy_of_asked;
 use crate::images::Image;
 use crate::notes::{refuse_image, tell_note};
 use crate::printing::store;
@@ -23,7 +23,7 @@ use task8::{CopyForm, ImageForm};
 pub fn copy_file<H: Host>(host: &mut H, alloc: Global, form: &CopyForm) -> Result<(), Ending>
     ensures { Copies form.now (H.history host.old) result (H.history host.new) }
 {
-    let file = asked_by(alloc, &form.file)?;
+    let file = copy_of_asked(alloc, &form.file)?;
     let image = Image::open(host, alloc, &form.to)?;
     copy_to(host, alloc, form, &file, image)
 }
@@ -36,7 +36,7 @@ fn copy_to<H: Host>(
     file: &Asked,
     image: Image,
 ) -> Result<(), Ending>
-    ensures { CopiesFrom (spec.is_one_image form.now.image form.now.to) form.now (asked_for file.now) image (H.history host.old) result (H.history host.new) }
+    ensures { CopiesFrom (spec.is_one_image form.now.image form.now.to) form.now (target_of file.now) image (H.history host.old) result (H.history host.new) }
 {
     if is_one_image(&form.image, &form.to) {
         return copy_within(host, alloc, form, file, image);
@@ -52,7 +52,7 @@ fn copy_within<H: Host>(
     file: &Asked,
     image: Image,
 ) -> Result<(), Ending>
-    ensures { CopiesInto form.now (asked_for file.now) image image.bytes.items (H.history host.old) result (H.history host.new) }
+    ensures { CopiesInto form.now (target_of file.now) image image.bytes.items (H.history host.old) result (H.history host.new) }
 {
     let new = image_with(host, alloc, form, file, &image.bytes, &image)?;
     let line = line_of(alloc, &new)?;
@@ -67,7 +67,7 @@ fn copy_between<H: Host>(
     file: &Asked,
     image: Image,
 ) -> Result<(), Ending>
-    ensures { CopiesFrom false form.now (asked_for file.now) image (H.history host.old) result (H.history host.new) }
+    ensures { CopiesFrom false form.now (target_of file.now) image (H.history host.old) result (H.history host.new) }
 {
     let from = look_at(host, alloc, &form.image)?;
     let new = image_with(host, alloc, form, file, &from, &image)?;
@@ -84,7 +84,7 @@ fn image_with<H: Host>(
     from: &[u8],
     image: &Image,
 ) -> Result<NewImage, Ending>
-    ensures { MakesCopy form.now (asked_for file.now) from.now image.now.bytes.items (H.history host.old) result (H.history host.new) }
+    ensures { MakesCopy form.now (target_of file.now) from.now image.now.bytes.items (H.history host.old) result (H.history host.new) }
 {
     let name = new_name(form);
     match copy(alloc, from, file, &image.bytes, name) {

@@ -1,6 +1,6 @@
 //! The command that takes files out of the volume in an image file.
 ghost use Rattle.std.specs.Prelude.{◌≡◌, ◌++◌, map, OnOk, OnErr, IfErr, Some};
-ghost use Rattle.archive8.specs.Asking.{asked_for};
+ghost use Rattle.archive8.specs.Asking.{target_of};
 ghost use Rattle.script8.specs.declared.faults.SessionFault.TheVariants.{Memory};
 ghost use Rattle.outcome.specs.declared.endings.Ending.TheVariants.{Fault};
 ghost use Rattle.volume_commands.specs.Answers.{AreLines};
@@ -35,7 +35,7 @@ fn delete_asked<H: Host>(
     form: &ImageForm,
     files: &[Asked],
 ) -> Result<(), Ending>
-    ensures { DeletesAsked (map asked_for files.now) form.now (H.history host.old) result (H.history host.new) }
+    ensures { DeletesAsked (map target_of files.now) form.now (H.history host.old) result (H.history host.new) }
 {
     let image = Image::open(host, alloc, form)?;
     let new = image_without(host, alloc, &image.bytes, files)?;
@@ -50,7 +50,7 @@ fn image_without<H: Host>(
     image: &[u8],
     files: &[Asked],
 ) -> Result<DeletedImage, Ending>
-    ensures { TakesOut (map asked_for files.now) image.now (H.history host.old) result (H.history host.new) }
+    ensures { TakesOut (map target_of files.now) image.now (H.history host.old) result (H.history host.new) }
 {
     match delete(alloc, image, files) {
         Ok(new) => Ok(new),
@@ -66,7 +66,7 @@ fn refuse_file<H: Host>(
     size: usize,
     fault: DeleteFault,
 ) -> Ending
-    ensures { IsNotTaken (map asked_for files.now) fault size (H.history host.old) result (H.history host.new) }
+    ensures { IsNotTaken (map target_of files.now) fault size (H.history host.old) result (H.history host.new) }
 {
     match fault {
         DeleteFault::Archive(fault) => refuse_image(host, size, fault),
@@ -84,7 +84,7 @@ fn tell_refused<H: Host>(
     files: &[Asked],
     place: usize,
 ) -> Result<(), AllocError>
-    ensures told { OnOk result (TellsRefused (one_of_several (map asked_for files.now) place) (H.history host.old) (H.history host.new)) }
+    ensures told { OnOk result (TellsRefused (one_of_several (map target_of files.now) place) (H.history host.old) (H.history host.new)) }
     ensures wanted { OnErr result (H.history host.new ≡ H.history host.old) }
 {
     if files.len() < 2 {
@@ -98,7 +98,7 @@ fn tell_refused<H: Host>(
 
 /// Prints that a file is refused.
 fn tell_file<H: Host>(host: &mut H, alloc: Global, file: &Asked) -> Result<(), AllocError>
-    ensures told { OnOk result (TellsRefused (Some (asked_for file.now)) (H.history host.old) (H.history host.new)) }
+    ensures told { OnOk result (TellsRefused (Some (target_of file.now)) (H.history host.old) (H.history host.new)) }
     ensures wanted { OnErr result (H.history host.new ≡ H.history host.old) }
 {
     match file {

@@ -21,7 +21,7 @@ mod saving;
 mod showing;
 mod showing_parts;
 
-pub use asking::asked_of;
+pub use asking::file_asked;
 pub use changes::{rename_file, squeeze_files};
 pub use copying::copy_file;
 pub use creating::{create_image, create_tape};

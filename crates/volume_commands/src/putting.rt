@@ -11,7 +11,7 @@ use crate::notes::{refuse_image, tell_note};
 use crate::printing::store;
 use archive8::{ArchiveFault, NewImage, bad_text_at, put};
 use hosts::Host;
-use many8::{VolumeFile, empties, open};
+use archive_many::{VolumeFile, empties, open};
 use os8_dir::{FileFault, Name};
 use outcome::{Ending, NameNote, Note};
 use script8::{LineReply, Reply, SessionFault, put_reply};

@@ -1,6 +1,6 @@
 //! The commands that print what the volume in an image file has. No file changes.
 ghost use Rattle.std.specs.Prelude.{length};
-ghost use Rattle.archive8.specs.Asking.{asked_for};
+ghost use Rattle.archive8.specs.Asking.{target_of};
 ghost use Rattle.archive8.specs.Getting.{Gets};
 ghost use Rattle.archive8.specs.Listing.{ListsFiles};
 ghost use Rattle.archive8.specs.LongListing.{ListsLong};
@@ -8,7 +8,7 @@ ghost use Rattle.volume_commands.specs.Answers.{Answers};
 ghost use Rattle.volume_commands.specs.Showing.{Shows, wanted_file};
 
 use crate::answers::answer_of;
-use crate::asking::asked_of;
+use crate::asking::file_asked;
 use crate::printing::print;
 use crate::reading::look_at;
 use archive8::{Asked, GetForm, get, list, list_long};
@@ -59,20 +59,20 @@ pub fn get_file<H: Host>(
 ) -> Result<(), Ending>
     ensures { Shows (λ bytes. Gets bytes (wanted_file file) form) image.now (H.history host.old) result (H.history host.new) }
 {
-    let asked = asked_of(file);
+    let asked = file_asked(file);
     let bytes = look_at(host, alloc, image)?;
-    let given = given_of(host, alloc, &bytes, &asked, form)?;
+    let given = show_file(host, alloc, &bytes, &asked, form)?;
     print(host, &given)
 }
 
-pub(crate) fn given_of<H: Host>(
+pub(crate) fn show_file<H: Host>(
     host: &mut H,
     alloc: Global,
     image: &[u8],
     asked: &Asked,
     form: GetForm,
 ) -> Result<Vec<u8>, Ending>
-    ensures { Answers (Gets image.now (asked_for asked.now) form) (length image.now) (H.history host.old) result (H.history host.new) }
+    ensures { Answers (Gets image.now (target_of asked.now) form) (length image.now) (H.history host.old) result (H.history host.new) }
 {
     let answer = get(alloc, image, asked, form);
     answer_of(host, image.len(), answer)

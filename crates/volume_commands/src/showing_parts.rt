@@ -2,15 +2,15 @@
 ghost use Rattle.volume_commands.specs.ShowingParts.{GivesBlocks, GivesTape, PrintsTape, ShowsBlocks, ShowsTape};
 
 use crate::answers::program_line;
-use crate::asking::asked_of;
+use crate::asking::file_asked;
 use crate::ending::tell_line;
 use crate::notes::refuse_image;
 use crate::printing::print;
 use crate::reading::look_at;
-use crate::showing::given_of;
+use crate::showing::show_file;
 use archive8::GetForm;
 use hosts::Host;
-use many8::{BlocksFault, blocks_of};
+use archive_many::{BlocksFault, blocks_of};
 use outcome::Ending;
 use report8::{ProgramLine, core_tape};
 use std::alloc::Global;
@@ -52,9 +52,9 @@ pub fn get_bin<H: Host>(
 ) -> Result<(), Ending>
     ensures { ShowsTape file image.now (H.history host.old) result (H.history host.new) }
 {
-    let asked = asked_of(file);
+    let asked = file_asked(file);
     let bytes = look_at(host, alloc, image)?;
-    let frames = given_of(host, alloc, &bytes, &asked, GetForm::Frames)?;
+    let frames = show_file(host, alloc, &bytes, &asked, GetForm::Frames)?;
     let bin = tape_of(alloc, &frames)?;
     print_tape(host, alloc, bin)
 }

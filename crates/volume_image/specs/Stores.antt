@@ -8,13 +8,13 @@ pub record InMemory : Type 0 where
   pub writes : ℕ
 
 -- a store below, and how many reads and writes of it were asked for
-pub record Counted (S : Type 0) : Type 0 where
+pub record CountingStore (S : Type 0) : Type 0 where
   pub store : S
   pub reads : ℕ
   pub writes : ℕ
 
 -- a volume in memory of which a read and a write fail: how many pass until then, or none where no more is to fail
-pub record Fused : Type 0 where
+pub record FusedVolume : Type 0 where
   pub volume : InMemory
   pub reads_left : Option ℕ
   pub writes_left : Option ℕ

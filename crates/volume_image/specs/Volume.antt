@@ -23,5 +23,5 @@ pub record IsDamaged (old new : List (List ℕ)) (number : ℕ) : Type 0 where
   pub rest : new ≡ slice_set old number words
 
 -- one more, but a count that stands at its greatest value stays there
-abbrev pub counted : ℕ → ℕ
-counted n = if nat_lt n 18446744073709551615 then n + 1 else n
+abbrev pub next_count : ℕ → ℕ
+next_count n = if nat_lt n 18446744073709551615 then n + 1 else n

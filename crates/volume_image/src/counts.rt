@@ -1,5 +1,5 @@
 ghost use Rattle.std.specs.Prelude.{◌≡◌, ℕ, ◌+◌, ◌<◌, length, is_ok, if◌then◌else◌, OnOk, OnErr, Some, slice_get, slice_set};
-ghost use Rattle.volume_image.specs.Volume.{IsDamaged, counted};
+ghost use Rattle.volume_image.specs.Volume.{IsDamaged, next_count};
 
 use crate::memory::count_up;
 use crate::{Block, BlockStore, DeviceFault};
@@ -14,9 +14,9 @@ pub struct CountVolume<S: BlockStore> {
 }
 
 impl<S: BlockStore> Model for CountVolume<S> {
-    ghost use Rattle.volume_image.specs.Stores.{Counted};
+    ghost use Rattle.volume_image.specs.Stores.{CountingStore};
 
-    ghost Value = { Counted S };
+    ghost Value = { CountingStore S };
 
     ghost view = { λ count. record { store = count.store; reads = count.reads; writes = count.writes } };
 }
@@ -80,13 +80,13 @@ impl<S: BlockStore> BlockStore for CountVolume<S> {
         ensures ok { OnOk result (slice_get (S.contents self.old.store) number ≡ Some words.new) }
         ensures err { OnErr result (words.new ≡ words.old) }
         ensures same { S.contents self.new.store ≡ S.contents self.old.store }
-        ensures passed_on { S.reads self.new.store ≡ counted (S.reads self.old.store) }
+        ensures passed_on { S.reads self.new.store ≡ next_count (S.reads self.old.store) }
         ensures writes { S.writes self.new.store ≡ S.writes self.old.store }
         ensures failed_reads { S.failed_reads self.new.store ≡
             (if is_ok result then S.failed_reads self.old.store else S.failed_reads self.old.store + 1) }
         ensures failed_writes { S.failed_writes self.new.store ≡ S.failed_writes self.old.store }
         ensures counts { self.new ≡ record
-            self.old { store = self.new.store; reads = counted self.old.reads } }
+            self.old { store = self.new.store; reads = next_count self.old.reads } }
     {
         count_up(&mut self.reads);
         self.store.read(number, words)
@@ -99,12 +99,12 @@ impl<S: BlockStore> BlockStore for CountVolume<S> {
         ensures err { OnErr result
             (IsDamaged (S.contents self.old.store) (S.contents self.new.store) number) }
         ensures reads { S.reads self.new.store ≡ S.reads self.old.store }
-        ensures passed_on { S.writes self.new.store ≡ counted (S.writes self.old.store) }
+        ensures passed_on { S.writes self.new.store ≡ next_count (S.writes self.old.store) }
         ensures failed_reads { S.failed_reads self.new.store ≡ S.failed_reads self.old.store }
         ensures failed_writes { S.failed_writes self.new.store ≡
             (if is_ok result then S.failed_writes self.old.store else S.failed_writes self.old.store + 1) }
         ensures counts { self.new ≡ record
-            self.old { store = self.new.store; writes = counted self.old.writes } }
+            self.old { store = self.new.store; writes = next_count self.old.writes } }
     {
         count_up(&mut self.writes);
         self.store.write(number, words)

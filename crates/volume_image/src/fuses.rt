@@ -1,6 +1,6 @@
 ghost use Rattle.std.specs.Prelude.{◌≡◌, ◌+◌, ◌<◌, length, All, is_err, if◌then◌else◌, OnOk, OnErr, Some, Option, slice_get, slice_set};
-ghost use Rattle.volume_image.specs.Volume.{counted};
-ghost use Rattle.volume_image.specs.Fuse.{fails_next, left_after, IsSpoilt};
+ghost use Rattle.volume_image.specs.Volume.{next_count};
+ghost use Rattle.volume_image.specs.Fuse.{fails_next, calls_left, IsSpoilt};
 
 use crate::{Block, BlockStore, DeviceFault, MemoryVolume};
 use std::marker::Model;
@@ -19,9 +19,9 @@ pub struct FuseVolume {
 
 impl Model for FuseVolume {
     ghost use Rattle.std.specs.Prelude.{◌≡◌, true, None, if◌then◌else◌};
-    ghost use Rattle.volume_image.specs.Stores.{Fused};
+    ghost use Rattle.volume_image.specs.Stores.{FusedVolume};
 
-    ghost Value = { Fused };
+    ghost Value = { FusedVolume };
 
     ghost view = { λ fuse. record {
       volume = fuse.volume;
@@ -39,7 +39,7 @@ impl Model for FuseVolume {
 // Takes one call off, and says whether it is the one that fails.
 fn burn(left: &mut Option<u32>) -> bool
     ensures fails { result ≡ fails_next left.old }
-    ensures left { left.new ≡ left_after left.old }
+    ensures left { left.new ≡ calls_left left.old }
 {
     match *left {
         None => false,
@@ -111,8 +111,8 @@ impl BlockStore for FuseVolume {
         ensures ok { OnOk result (slice_get self.old.volume.blocks number ≡ Some words.new) }
         ensures err { OnErr result (words.new ≡ words.old) }
         ensures after { self.new ≡ record self.old {
-          volume = record self.old.volume { reads = counted self.old.volume.reads };
-          reads_left = left_after self.old.reads_left;
+          volume = record self.old.volume { reads = next_count self.old.volume.reads };
+          reads_left = calls_left self.old.reads_left;
           failed_reads = if is_err result then self.old.failed_reads + 1 else self.old.failed_reads;
         } }
     {
@@ -130,12 +130,12 @@ impl BlockStore for FuseVolume {
         ensures ok { OnOk result (self.new.volume ≡
             record self.old.volume {
               blocks = slice_set self.old.volume.blocks number words.now;
-              writes = counted self.old.volume.writes;
+              writes = next_count self.old.volume.writes;
             }) }
         ensures err { OnErr result (IsSpoilt self.old.volume self.new.volume number) }
         ensures after { self.new ≡ record self.old {
           volume = self.new.volume;
-          writes_left = left_after self.old.writes_left;
+          writes_left = calls_left self.old.writes_left;
           failed_writes = if is_err result then self.old.failed_writes + 1 else self.old.failed_writes;
         } }
     {

@@ -1,5 +1,5 @@
 ghost use Rattle.std.specs.Prelude.{◌≡◌, ◌*◌, ◌<◌, ◌≤◌, length, slice_get, slice_set, vec_capacity, Some, IsOk, IfOk, OnOk, OnErr, IsOkUnless};
-ghost use Rattle.volume_image.specs.Volume.{IsBlock, counted};
+ghost use Rattle.volume_image.specs.Volume.{IsBlock, next_count};
 ghost use Rattle.volume_image.specs.Image.{IsImageOf, ReadsImage, Creates};
 
 use crate::images::{blocks_of, first_bad_word, know_words, new_blocks, put_image};
@@ -110,7 +110,7 @@ impl MemoryVolume {
 
     // Counts a read.
     pub(crate) fn count_read(&mut self)
-        ensures { self.new ≡ record self.old { reads = counted self.old.reads } }
+        ensures { self.new ≡ record self.old { reads = next_count self.old.reads } }
     {
         count_up(&mut self.reads);
     }
@@ -135,7 +135,7 @@ impl BlockStore for MemoryVolume {
         requires { number < length self.old.blocks }
         ensures done { IsOk result }
         ensures words { slice_get self.old.blocks number ≡ Some words.new }
-        ensures counts { self.new ≡ record self.old { reads = counted self.old.reads } }
+        ensures counts { self.new ≡ record self.old { reads = next_count self.old.reads } }
     {
         count_up(&mut self.reads);
         *words = self.blocks[number];
@@ -148,7 +148,7 @@ impl BlockStore for MemoryVolume {
         ensures words { self.new ≡ record
             self.old {
               blocks = slice_set self.old.blocks number words.now;
-              writes = counted
+              writes = next_count
                   self.old.writes;
             } }
     {
@@ -161,7 +161,7 @@ impl BlockStore for MemoryVolume {
 
 // Adds one to a count, but one that stands at its greatest value stays there.
 pub(crate) fn count_up(count: &mut u64)
-    ensures { count.new ≡ counted count.old }
+    ensures { count.new ≡ next_count count.old }
 {
     if *count < u64::MAX {
         *count += 1;

@@ -1,5 +1,5 @@
 ghost use Rattle.std.specs.Prelude.{◌≡◌, ℕ, ◌+◌, ◌<◌, List, length, is_ok, if◌then◌else◌, OnOk, OnErr, Some, slice_get, slice_set};
-ghost use Rattle.volume_image.specs.Volume.{AreWords, IsVolume, IsDamaged, counted};
+ghost use Rattle.volume_image.specs.Volume.{AreWords, IsVolume, IsDamaged, next_count};
 
 use thiserror::Error;
 use word12::{BLOCK, Word};
@@ -41,7 +41,7 @@ pub trait BlockStore {
         ensures ok { OnOk result (slice_get (contents self.old) number ≡ Some words.new) }
         ensures err { OnErr result (words.new ≡ words.old) }
         ensures same { contents self.new ≡ contents self.old }
-        ensures reads { reads self.new ≡ counted (reads self.old) }
+        ensures reads { reads self.new ≡ next_count (reads self.old) }
         ensures writes { writes self.new ≡ writes self.old }
         ensures failed_reads { failed_reads self.new
             ≡ (if is_ok result then failed_reads self.old else failed_reads self.old + 1) }
@@ -53,7 +53,7 @@ pub trait BlockStore {
         ensures ok { OnOk result (contents self.new ≡ slice_set (contents self.old) number words.now) }
         ensures err { OnErr result (IsDamaged (contents self.old) (contents self.new) number) }
         ensures reads { reads self.new ≡ reads self.old }
-        ensures writes { writes self.new ≡ counted (writes self.old) }
+        ensures writes { writes self.new ≡ next_count (writes self.old) }
         ensures failed_reads { failed_reads self.new ≡ failed_reads self.old }
         ensures failed_writes { failed_writes
             self.new ≡ (if is_ok result then failed_writes self.old else failed_writes self.old + 1) };

@@ -11,10 +11,10 @@ use Rattle.file_kind.specs.Kinds.{IsKind}
 use Rattle.file_kind.specs.declared.kinds.FileKind.{FileKind}
 use Rattle.index_line.specs.Lines.{index_line}
 use Rattle.volume_image.specs.Image.{IsImageOf}
-use Rattle.os8_dir.specs.Entries.{Listed, IsTidy, size_of, total}
+use Rattle.os8_dir.specs.Entries.{DirectoryState, IsTidy, size_of, total}
 use Rattle.os8_dir.specs.Reading.{directory_of}
-use Rattle.os8_dir.specs.Found.{Placed, files_at}
-use Rattle.os8_dir.specs.Files.{joined, run}
+use Rattle.os8_dir.specs.Found.{FilePlace, files_at}
+use Rattle.os8_dir.specs.Files.{join_blocks, run}
 use Rattle.volume_index.specs.Indexing.{AreLinesOf, IsIndex, IsLineIf, block_bytes, entry_of, holds_wanted, is_chosen}
 use Rattle.volume_index.specs.Json.{lines_as}
 use Rattle.volume_index.specs.Years.{last_in}
@@ -33,7 +33,7 @@ lines-of-files style name number last image blocks place (Empty size ∷ es) tex
     (subst (AreLinesAt style name number last image blocks (place + size) es) (sym (are.4 ∙ ap (λ l. l ++ are.1) are.2)) are.3)
 
 -- an index, from what its steps came to
-pub index-whole : (style : IndexStyle) (name : List ℕ) (number : Option ℕ) (image text : List ℕ) (blocks after : List (List ℕ)) (d : Listed) (last first : ℕ) (entries : List DirEntry) (lines given : List ℕ)
+pub index-whole : (style : IndexStyle) (name : List ℕ) (number : Option ℕ) (image text : List ℕ) (blocks after : List (List ℕ)) (d : DirectoryState) (last first : ℕ) (entries : List DirEntry) (lines given : List ℕ)
     → IsImageOf image blocks → after ≡ blocks → directory_of blocks ≡ Ok d → IsTidy d.entries → last ≡ last_in style.year blocks → first ≡ d.first → entries ≡ d.entries
     → AreLinesAt style name number last image after first entries lines → given ≡ lines → text ≡ lines_as style.is_json given → IsIndex style name number image text
 index-whole style name number image text blocks after d last first entries lines given is_image is_after read neat is_last is_first is_entries are is_given is_text =
@@ -55,7 +55,7 @@ index-whole style name number image text blocks after d last first entries lines
 -- ## The line of an entry
 
 -- a file that doesn't hold the text that is wanted, or does
-line-if : (style : IndexStyle) (name : List ℕ) (number : Option ℕ) (last : ℕ) (image : List ℕ) (blocks : List (List ℕ)) (f : Placed) (kind : FileKind) (held : Bool) → is_chosen style.find.bytes.items f.name ≡ true
+line-if : (style : IndexStyle) (name : List ℕ) (number : Option ℕ) (last : ℕ) (image : List ℕ) (blocks : List (List ℕ)) (f : FilePlace) (kind : FileKind) (held : Bool) → is_chosen style.find.bytes.items f.name ≡ true
     → IsKind (frames (run blocks f.place f.size)) kind → held ≡ holds_wanted style.grep kind (run blocks f.place f.size)
     → IsLineIf (is_chosen style.find.bytes.items f.name) style name number last image blocks f (if held then index_line name (entry_of number f kind) last (block_bytes image f.place f.size) else [])
 line-if style name number last image blocks f kind held chosen is_kind is_held =
@@ -119,14 +119,14 @@ no-more style name number last image blocks place (entry ∷ rest) none = absurd
 
 -- ## Words
 
-joined-more : (bs : List (List ℕ)) (w : List ℕ) → joined (bs ++ w ∷ []) ≡ joined bs ++ w
+joined-more : (bs : List (List ℕ)) (w : List ℕ) → join_blocks (bs ++ w ∷ []) ≡ join_blocks bs ++ w
 joined-more [] w = append-nil w
-joined-more (b ∷ bs) w = ap (λ r. b ++ r) (joined-more bs w) ∙ sym (append_assoc b (joined bs) w)
+joined-more (b ∷ bs) w = ap (λ r. b ++ r) (joined-more bs w) ∙ sym (append_assoc b (join_blocks bs) w)
 
 -- one block more of a run
 pub run-more : (blocks : List (List ℕ)) (place k : ℕ) (words : List ℕ) → place + k < length blocks → slice_get blocks (place + k) ≡ Some words → run blocks place k ++ words ≡ run blocks place (k + 1)
 run-more blocks place k words inside is =
     ap (λ w. run blocks place k ++ w) (sym (get_or-drop place blocks k [] ∙ get_or_from_slice_get blocks (place + k) words [] is))
     ∙ sym (joined-more (take k (drop place blocks)) (get_or (drop place blocks) k []))
-    ∙ ap joined (sym (take-suc (drop place blocks) k [] (omega (arith, length-drop place blocks, inside))))
+    ∙ ap join_blocks (sym (take-suc (drop place blocks) k [] (omega (arith, length-drop place blocks, inside))))
     ∙ ap (λ n. run blocks place n) (sym (add-one k))

@@ -1,7 +1,7 @@
 -- The line ends of JSON objects.
 use Rattle.std.proofs.Common.{◌≡◌, ◌∙◌, ℕ, ◌+◌, nat_eq, Bool, true, false, ◌||◌, if◌then◌else◌, List, [], ◌∷◌, ◌++◌, refl, ap, arith, codes}
 use Rattle.std.proofs.lemmas.Bool.Decides.{nat_tests}
-use Rattle.volume_index.specs.Json.{escaped, json_from, next_column, opening, separator, shaped}
+use Rattle.volume_index.specs.Json.{with_escape, json_from, next_column, opening, separator, with_column_ends}
 use Rattle.volume_index.specs.Laws.{line_ends}
 
 joined-ends : (a b : List ℕ) → line_ends (a ++ b) ≡ line_ends a + line_ends b
@@ -30,17 +30,17 @@ separator-ends column =
 abbrev ends-of : Bool → ℕ
 ends-of b = if b then 1 else 0
 
-escaped-ends : (byte : ℕ) → nat_eq byte 10 ≡ false → line_ends (escaped byte) ≡ 0
+escaped-ends : (byte : ℕ) → nat_eq byte 10 ≡ false → line_ends (with_escape byte) ≡ 0
 escaped-ends byte other = by (nat_eq byte 34 || nat_eq byte 92)
   where
     by : (b : Bool) → line_ends (if b then 92 ∷ byte ∷ [] else byte ∷ []) ≡ 0
     by true = ap (λ (t : Bool). 0 + (ends-of t + 0)) other
     by false = ap (λ (t : Bool). ends-of t + 0) other
 
-shaped-ends : (column byte : ℕ) → line_ends (shaped column byte) ≡ ends-of (nat_eq byte 10)
+shaped-ends : (column byte : ℕ) → line_ends (with_column_ends column byte) ≡ ends-of (nat_eq byte 10)
 shaped-ends column byte = by (nat_eq byte 9) refl (nat_eq byte 10) refl
   where
-    by : (t : Bool) → nat_eq byte 9 ≡ t → (l : Bool) → nat_eq byte 10 ≡ l → line_ends (if t then separator column else if l then codes "\"}\n" else escaped byte) ≡ ends-of l
+    by : (t : Bool) → nat_eq byte 9 ≡ t → (l : Bool) → nat_eq byte 10 ≡ l → line_ends (if t then separator column else if l then codes "\"}\n" else with_escape byte) ≡ ends-of l
     by true tab true lf = absurd (grind (arith, nat_tests))
     by true tab false lf = separator-ends column
     by false tab true lf = refl
@@ -49,6 +49,6 @@ shaped-ends column byte = by (nat_eq byte 9) refl (nat_eq byte 10) refl
 pub same-ends : (column : ℕ) (bytes : List ℕ) → line_ends (json_from column bytes) ≡ line_ends bytes
 same-ends column [] = refl
 same-ends column (byte ∷ bytes) =
-    joined-ends (opening column ++ shaped column byte) (json_from (next_column column byte) bytes)
-    ∙ ap (λ n. n + line_ends (json_from (next_column column byte) bytes)) (joined-ends (opening column) (shaped column byte))
+    joined-ends (opening column ++ with_column_ends column byte) (json_from (next_column column byte) bytes)
+    ∙ ap (λ n. n + line_ends (json_from (next_column column byte) bytes)) (joined-ends (opening column) (with_column_ends column byte))
     ∙ omega (arith, opening-ends column, shaped-ends column byte, same-ends (next_column column byte) bytes)

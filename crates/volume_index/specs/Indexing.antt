@@ -8,8 +8,8 @@ use Rattle.file_kind.specs.Kinds.{IsKind}
 use Rattle.file_kind.specs.declared.kinds.FileKind.{FileKind}
 use Rattle.file_kind.specs.declared.kinds.FileKind.TheVariants.{Zeros, Core, Bin, Rim, Text, Unknown}
 use Rattle.volume_image.specs.Image.{IsImageOf}
-use Rattle.os8_dir.specs.Entries.{Listed}
-use Rattle.os8_dir.specs.Found.{Placed, files_at}
+use Rattle.os8_dir.specs.Entries.{DirectoryState}
+use Rattle.os8_dir.specs.Found.{FilePlace, files_at}
 use Rattle.os8_dir.specs.Files.{run}
 use Rattle.os8_dir.specs.Reading.{directory_of}
 use Rattle.index_line.specs.Lines.{index_line}
@@ -17,7 +17,7 @@ use Rattle.index_line.specs.declared.lines.IndexEntry.{IndexEntry}
 use Rattle.archive8.specs.declared.faults.ArchiveFault.{ArchiveFault}
 use Rattle.archive8.specs.Getting.{line_feeds}
 use Rattle.archive8.specs.Opening.{IsUnopened}
-use Rattle.many8.specs.Patterns.{is_choice, matches}
+use Rattle.archive_many.specs.Patterns.{is_choice, matches}
 use Rattle.volume_index.specs.Holding.{holds}
 use Rattle.volume_index.specs.Json.{lines_as}
 use Rattle.volume_index.specs.Years.{last_in}
@@ -26,7 +26,7 @@ use Rattle.volume_index.specs.declared.styles.IndexStyle.{IndexStyle}
 -- ## A file
 
 -- what an index says of a file of this kind, on a volume of this number; its date is its first information word
-abbrev pub entry_of : Option ℕ → Placed → FileKind → IndexEntry
+abbrev pub entry_of : Option ℕ → FilePlace → FileKind → IndexEntry
 entry_of number f kind =
     record { volume = number; first = f.place; length = f.size; name = f.name; date = slice_index f.info 0; kind = kind }
 
@@ -48,7 +48,7 @@ holds_wanted None kind words = true
 holds_wanted (Some wanted) kind words = is_text kind && holds wanted.bytes.items (line_feeds (text words))
 
 -- the line of a file, of which the kind is that of its frames; none where it doesn't hold the text that is wanted
-pub record IsLineOf (style : IndexStyle) (name : List ℕ) (number : Option ℕ) (last : ℕ) (image : List ℕ) (blocks : List (List ℕ)) (f : Placed) (line : List ℕ) : Type 0 where
+pub record IsLineOf (style : IndexStyle) (name : List ℕ) (number : Option ℕ) (last : ℕ) (image : List ℕ) (blocks : List (List ℕ)) (f : FilePlace) (line : List ℕ) : Type 0 where
   pub kind : FileKind
   pub is_kind : IsKind (frames (run blocks f.place f.size)) kind
   pub line_is : line ≡ (if holds_wanted style.grep kind (run blocks f.place f.size)
@@ -59,14 +59,14 @@ abbrev pub is_chosen : List ℕ → ℕ → Bool
 is_chosen word name = is_choice word && matches word name
 
 -- a file that isn't chosen has no line
-abbrev pub IsLineIf : Bool → IndexStyle → List ℕ → Option ℕ → ℕ → List ℕ → List (List ℕ) → Placed → List ℕ → Type 0
+abbrev pub IsLineIf : Bool → IndexStyle → List ℕ → Option ℕ → ℕ → List ℕ → List (List ℕ) → FilePlace → List ℕ → Type 0
 IsLineIf true style name number last image blocks f line = IsLineOf style name number last image blocks f line
 IsLineIf false style name number last image blocks f line = line ≡ []
 
 -- ## A volume
 
 -- the lines of files, in their order
-abbrev pub AreLinesOf : IndexStyle → List ℕ → Option ℕ → ℕ → List ℕ → List (List ℕ) → List Placed → List ℕ → Type 0
+abbrev pub AreLinesOf : IndexStyle → List ℕ → Option ℕ → ℕ → List ℕ → List (List ℕ) → List FilePlace → List ℕ → Type 0
 AreLinesOf style name number last image blocks [] lines = lines ≡ []
 AreLinesOf style name number last image blocks (f ∷ files) lines = (line : List ℕ) × (others : List ℕ)
     × IsLineIf (is_chosen style.find.bytes.items f.name) style name number last image blocks f line
@@ -77,7 +77,7 @@ AreLinesOf style name number last image blocks (f ∷ files) lines = (line : Lis
 pub record IsIndex (style : IndexStyle) (name : List ℕ) (number : Option ℕ) (image text : List ℕ) : Type 0 where
   pub blocks : List (List ℕ)
   pub is_image : IsImageOf image blocks
-  pub directory : Listed
+  pub directory : DirectoryState
   pub read : directory_of blocks ≡ Ok directory
   pub lines : List ℕ
   pub lines_are : AreLinesOf style name number (last_in style.year blocks) image blocks (files_at directory.first directory.entries) lines

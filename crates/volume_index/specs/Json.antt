@@ -17,12 +17,12 @@ abbrev pub opening : ℕ → List ℕ
 opening column = if nat_eq column 0 then codes "{\"image\":\"" else []
 
 -- a quotation mark and a backslash have a backslash before them
-abbrev pub escaped : ℕ → List ℕ
-escaped byte = if nat_eq byte 0o42 || nat_eq byte 0o134 then 0o134 ∷ byte ∷ [] else byte ∷ []
+abbrev pub with_escape : ℕ → List ℕ
+with_escape byte = if nat_eq byte 0o42 || nat_eq byte 0o134 then 0o134 ∷ byte ∷ [] else byte ∷ []
 
 -- a tab ends a column, and an LF the object and its line
-abbrev pub shaped : ℕ → ℕ → List ℕ
-shaped column byte = if nat_eq byte 0o11 then separator column else if nat_eq byte 0o12 then codes "\"}\n" else escaped byte
+abbrev pub with_column_ends : ℕ → ℕ → List ℕ
+with_column_ends column byte = if nat_eq byte 0o11 then separator column else if nat_eq byte 0o12 then codes "\"}\n" else with_escape byte
 
 -- the number of the column after a byte, 0 before a line
 abbrev pub next_column : ℕ → ℕ → ℕ
@@ -31,7 +31,7 @@ next_column column byte = if nat_eq byte 0o12 then 0 else if nat_eq byte 0o11 th
 -- lines, the first of which goes on in a column
 abbrev pub json_from : ℕ → List ℕ → List ℕ
 json_from column [] = []
-json_from column (byte ∷ bytes) = (opening column ++ shaped column byte) ++ json_from (next_column column byte) bytes
+json_from column (byte ∷ bytes) = (opening column ++ with_column_ends column byte) ++ json_from (next_column column byte) bytes
 
 -- each line as an object on a line of its own, if that is wanted
 abbrev pub lines_as : Bool → List ℕ → List ℕ

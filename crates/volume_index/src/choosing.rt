@@ -8,9 +8,9 @@ ghost use Rattle.volume_index.specs.Indexing as spec;
 use crate::holding::holds;
 use crate::kinds::is_text;
 use archive8::GetForm;
-use archive8::parts::given;
+use archive8::parts::content_of_words;
 use file_kind::FileKind;
-use many8::{ChoiceFault, VolumeFile, chosen};
+use archive_many::{ChoiceFault, VolumeFile, choose_files};
 use os8_dir::Name;
 use std::alloc::{AllocError, Global};
 use word12::Word;
@@ -30,7 +30,7 @@ pub(crate) fn is_chosen(
         place,
         blocks,
     };
-    match chosen(alloc, &[file], word) {
+    match choose_files(alloc, &[file], word) {
         Ok(_) => Ok(true),
         Err(ChoiceFault::Memory) => Err(AllocError),
         Err(ChoiceFault::BadName) => Ok(false),
@@ -62,7 +62,7 @@ pub(crate) fn holds_wanted(
 fn text_holds(alloc: Global, part: &[u8], words: &[Word]) -> Result<bool, AllocError>
     ensures { IfOk result (λ is. is ≡ holds part.now (line_feeds (text words.now))) }
 {
-    match given(alloc, words, GetForm::Text) {
+    match content_of_words(alloc, words, GetForm::Text) {
         Ok(text) => Ok(holds(part, &text)),
         Err(_) => Err(AllocError),
     }

@@ -1,6 +1,6 @@
 //! The lines of an index as JSON objects.
 ghost use Rattle.std.specs.Prelude.{◌≡◌, ◌≤◌, ◌++◌, IfOk, OnOk};
-ghost use Rattle.volume_index.specs.Json.{json_from, opening, shaped};
+ghost use Rattle.volume_index.specs.Json.{json_from, opening, with_column_ends};
 ghost use Rattle.volume_index.specs.Json as spec;
 
 use std::alloc::{AllocError, Global};
@@ -32,7 +32,7 @@ fn json_of(alloc: Global, lines: &[u8]) -> Result<Vec<u8>, AllocError>
 
 /// Appends what stands for a byte of a column, 0 before a line.
 fn put_byte(text: &mut Vec<u8>, column: u8, byte: u8) -> Result<(), AllocError>
-    ensures { OnOk result (text.new.items ≡ text.old.items ++ (opening column ++ shaped column byte)) }
+    ensures { OnOk result (text.new.items ≡ text.old.items ++ (opening column ++ with_column_ends column byte)) }
 {
     if column == 0 {
         text.extend_from_slice(b"{\"image\":\"")?;
@@ -41,7 +41,7 @@ fn put_byte(text: &mut Vec<u8>, column: u8, byte: u8) -> Result<(), AllocError>
 }
 
 fn put_shaped(text: &mut Vec<u8>, column: u8, byte: u8) -> Result<(), AllocError>
-    ensures { OnOk result (text.new.items ≡ text.old.items ++ shaped column byte) }
+    ensures { OnOk result (text.new.items ≡ text.old.items ++ with_column_ends column byte) }
 {
     if byte == b'\t' {
         return text.extend_from_slice(separator(column));

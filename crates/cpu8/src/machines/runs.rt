@@ -5,7 +5,7 @@ ghost use Rattle.word12.specs.declared.sizes.TheConstants.{CORE};
 ghost use Rattle.cpu8.specs.QuietSteps.{AreQuiet, AreUnbroken, IsUnbroken, is_quiet, is_settled};
 ghost use Rattle.cpu8.specs.Unasked.{AreUnasked};
 ghost use Rattle.cpu8.specs.Fetches.{AddsFetches, HaveRoom};
-ghost use Rattle.cpu8.specs.Go.{IsGo, after, break_ahead, character_of, printed_by, reason, printing_step};
+ghost use Rattle.cpu8.specs.Go.{IsGo, after, break_ahead, character_of, characters_of, reason, printing_step};
 
 use super::Machine;
 use crate::processors::quiet::{FEW, is_break};
@@ -22,7 +22,7 @@ impl Machine {
         requires room { vec_len printed.old + n ≤ vec_capacity printed.old }
         ensures steps { IsGo quick breaks.now self.old n result.steps result.why }
         ensures state { self.new ≡ after quick result.steps self.old }
-        ensures printed { printed.new.items ≡ printed.old.items ++ printed_by quick result.steps self.old }
+        ensures printed { printed.new.items ≡ printed.old.items ++ characters_of quick result.steps self.old }
         ensures capacity { vec_capacity printed.new ≡ vec_capacity printed.old }
     {
         if !self.processor.running {
@@ -266,7 +266,7 @@ impl Machine {
         ensures answer { result ≡ (printing_step quick self.old).1 }
     {
         if quick && self.processor.teletype.is_busy() {
-            self.done();
+            self.end_character();
         }
         self.step()
     }

@@ -3,12 +3,12 @@
 ghost use Rattle.std.specs.Prelude.{◌≡◌, ◌-◌, ◌<◌, if◌then◌else◌};
 ghost use Rattle.cpu8.specs.Decoding.{has_cla, has_cll, has_cma, has_cml};
 ghost use Rattle.cpu8.specs.Operate.{unassigned_row, is_group1_unassigned, group1_sum, group1_number, group1_done, group1_row, group2_skips, group2_ac, group2_row, operate_row};
-ghost use Rattle.cpu8.specs.Transfer.{skipped};
+ghost use Rattle.cpu8.specs.Transfer.{after_skip};
 
 use super::Processor;
 use crate::Stepped;
 use crate::decoding::{
-    CLA, CLL, CMA, CML, GROUP_2_OR_3, GROUP_3, HLT, OSR, RAL, RAR, REVERSED, SMA, SNL, SZA, TWICE,
+    CLA, CLL, CMA, CML, GROUP_2_OR_3, GROUP_3, HLT, OSR, RAL, RAR, REVERSE, SMA, SNL, SZA, TWICE,
     has, iac_of,
 };
 use crate::outcomes::RAN;
@@ -28,11 +28,11 @@ impl Processor {
         if !has(word, GROUP_3) {
             return self.group2(word);
         }
-        self.unassigned(word)
+        self.stop_at_unassigned(word)
     }
 
     /// The machine stops at an unassigned word.
-    fn unassigned(&mut self, word: Word) -> Stepped
+    fn stop_at_unassigned(&mut self, word: Word) -> Stepped
         ensures state { self.new ≡ (unassigned_row self.old word).0 }
         ensures answer { result ≡ (unassigned_row self.old word).1 }
     {
@@ -46,7 +46,7 @@ impl Processor {
         ensures answer { result ≡ (group1_row self.old word).1 }
     {
         if is_group1_unassigned(word) {
-            return self.unassigned(word);
+            return self.stop_at_unassigned(word);
         }
         self.operate_on_l_and_ac(word);
         RAN
@@ -81,7 +81,7 @@ impl Processor {
     /// PC is advanced by one, or by two where the instruction skips, and the waiting of ION is over.
     #[inline(always)]
     pub(super) fn skip(&mut self, skips: bool)
-        ensures { self.new ≡ skipped self.old skips }
+        ensures { self.new ≡ after_skip self.old skips }
     {
         self.advance();
         if skips {
@@ -117,14 +117,14 @@ fn group1_sum(word: Word, l: u8, ac: Word) -> u16
     ensures number { result ≡ group1_sum word l ac }
     ensures range { result < 0o20000 }
 {
-    let (l, ac) = cleared(word, u16::from(l), ac.get());
-    let (l, ac) = complemented(word, l, ac);
+    let (l, ac) = clear_registers(word, u16::from(l), ac.get());
+    let (l, ac) = complement_registers(word, l, ac);
     (0o10000 * l + ac + iac_of(word)) % 0o20000
 }
 
 /// L and AC after CLL and CLA.
 #[inline(always)]
-fn cleared(word: Word, l: u16, ac: u16) -> (u16, u16)
+fn clear_registers(word: Word, l: u16, ac: u16) -> (u16, u16)
     requires l { l < 2 }
     requires ac { ac < 0o10000 }
     ensures l { result.0 ≡ (if has_cll word then 0 else l) }
@@ -137,7 +137,7 @@ fn cleared(word: Word, l: u16, ac: u16) -> (u16, u16)
 
 /// L and AC after CML and CMA.
 #[inline(always)]
-fn complemented(word: Word, l: u16, ac: u16) -> (u16, u16)
+fn complement_registers(word: Word, l: u16, ac: u16) -> (u16, u16)
     requires l { l < 2 }
     requires ac { ac < 0o10000 }
     ensures l { result.0 ≡ (if has_cml word then 1 - l else l) }
@@ -157,7 +157,7 @@ fn group2_skips(word: Word, l: u8, ac: Word) -> bool
     let zero = has(word, SZA) && ac == Word::ZERO;
     let link = has(word, SNL) && l == 1;
     let is_met = negative || zero || link;
-    if has(word, REVERSED) { !is_met } else { is_met }
+    if has(word, REVERSE) { !is_met } else { is_met }
 }
 
 /// AC after a word of group 2.

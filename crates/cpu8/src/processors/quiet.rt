@@ -13,12 +13,12 @@
 ghost use Rattle.std.specs.Prelude.{◌≡◌, ◌<◌, ◌≤◌, ◌/◌, true, false, nat_eq, length};
 ghost use Rattle.word12.specs.declared.sizes.TheConstants.{CORE};
 ghost use Rattle.cpu8.specs.State.{next_cell, with_core};
-ghost use Rattle.cpu8.specs.Step.{fetched};
+ghost use Rattle.cpu8.specs.Step.{next_word};
 ghost use Rattle.cpu8.specs.Transfer.{read_row};
 ghost use Rattle.cpu8.specs.Go.{after, is_break};
 ghost use Rattle.cpu8.specs.Fetches.{AddsFetches, HaveRoom};
 ghost use Rattle.cpu8.specs.Unasked.{AreUnasked, finds_no_key, is_ksf};
-ghost use Rattle.cpu8.specs.QuietSteps.{AreMinded, AreQuiet, Does, DoesOrNot, GoesOrNot, DoneOrNot, is_quiet, is_settled, operates_on};
+ghost use Rattle.cpu8.specs.QuietSteps.{AreMinded, AreQuiet, Does, DoesOrNot, GoesOrNot, MakesOrNot, is_quiet, is_settled, operates_on};
 
 use super::Processor;
 use crate::decoding::{
@@ -170,7 +170,7 @@ impl Processor {
     /// Whether the next instruction is an IOT. The plain step makes it sooner than a run that may end before or after it.
     #[inline(always)]
     pub(crate) fn finds_transfer(&self, core: &Core) -> bool
-        ensures { result ≡ nat_eq (fetched (with_core self.now core.now) / 0o1000) 6 }
+        ensures { result ≡ nat_eq (next_word (with_core self.now core.now) / 0o1000) 6 }
     {
         core.get(self.next_cell()).get() / 0o1000 == 6
     }
@@ -178,7 +178,7 @@ impl Processor {
     /// Whether the next instruction prints: 6044 to 6047.
     #[inline(always)]
     pub(crate) fn finds_print(&self, core: &Core) -> bool
-        ensures { result ≡ nat_eq (fetched (with_core self.now core.now) / 4) 0o1411 }
+        ensures { result ≡ nat_eq (next_word (with_core self.now core.now) / 4) 0o1411 }
     {
         core.get(self.next_cell()).get() / 4 == 0o1411
     }
@@ -209,7 +209,7 @@ impl Processor {
         core: &mut Core,
         asks: bool,
     ) -> bool
-        ensures does { DoneOrNot TRANSFERS (with_core self.old core.old) (fetched (with_core self.old core.old))
+        ensures does { MakesOrNot TRANSFERS (with_core self.old core.old) (next_word (with_core self.old core.old))
             result (with_core self.new core.new) }
         ensures asks { asks ≡ true → result ≡ true → finds_no_key (with_core self.old core.old) ≡ false }
     {
@@ -232,7 +232,7 @@ impl Processor {
     }
 
     /// A reference to memory.
-    #[tactic(auto, unfolding(crate::specs::Step::executed))]
+    #[tactic(auto, unfolding(crate::specs::Step::after_instruction))]
     #[inline(always)]
     fn refer(&mut self, core: &mut Core, word: Word)
         requires { word < 0o6000 }
@@ -255,7 +255,7 @@ impl Processor {
     #[inline(always)]
     fn make_transfer<const TRANSFERS: bool>(&mut self, core: &Core, word: Word) -> bool
         requires { word / 0o200 ≡ 0o30 }
-        ensures { DoneOrNot TRANSFERS (with_core self.old core.now) word result (with_core self.new core.now) }
+        ensures { MakesOrNot TRANSFERS (with_core self.old core.now) word result (with_core self.new core.now) }
     {
         if !TRANSFERS {
             return each_for_itself! { self, transfer_quietly, core, word:
@@ -275,7 +275,7 @@ impl Processor {
     #[inline(always)]
     fn make_other_transfer<const TRANSFERS: bool>(&mut self, core: &Core, word: Word) -> bool
         requires { word / 0o1000 ≡ 6 }
-        ensures { DoneOrNot TRANSFERS (with_core self.old core.now) word result (with_core self.new core.now) }
+        ensures { MakesOrNot TRANSFERS (with_core self.old core.now) word result (with_core self.new core.now) }
     {
         if !TRANSFERS {
             return self.transfer_quietly(core, word);
@@ -284,7 +284,7 @@ impl Processor {
     }
 
     /// KSF, TSF, CDF, RDF, RIF, or pulse 1 of a device that is not there. Other IOTs are left.
-    #[tactic(auto, unfolding(crate::specs::Step::executed))]
+    #[tactic(auto, unfolding(crate::specs::Step::after_instruction))]
     #[inline(always)]
     fn transfer_quietly(&mut self, core: &Core, word: Word) -> bool
         requires { word / 0o1000 ≡ 6 }
@@ -306,7 +306,7 @@ impl Processor {
     }
 
     /// RDF or RIF, which change no more than AC and PC.
-    #[tactic(auto, unfolding(crate::specs::Step::executed))]
+    #[tactic(auto, unfolding(crate::specs::Step::after_instruction))]
     #[inline(always)]
     fn read_quietly(&mut self, core: &Core, word: Word) -> bool
         requires { word / 0o1000 ≡ 6 }
@@ -345,7 +345,7 @@ impl Processor {
     /// it changes is constant in the loop.
     #[inline(always)]
     fn end_by_transfer(&mut self, core: &Core) -> bool
-        ensures { GoesOrNot (with_core self.old core.now) (fetched (with_core self.old core.now)) result (with_core self.new core.now) }
+        ensures { GoesOrNot (with_core self.old core.now) (next_word (with_core self.old core.now)) result (with_core self.new core.now) }
     {
         let word = core.get(self.next_cell());
         if word.get() / 0o1000 != 6 {
@@ -355,7 +355,7 @@ impl Processor {
     }
 
     /// An IOT after which the machine is still quiet: it prints nothing, and is no ION while an interrupt is requested.
-    #[tactic(auto, unfolding(crate::specs::Step::executed))]
+    #[tactic(auto, unfolding(crate::specs::Step::after_instruction))]
     #[inline(always)]
     fn transfer_and_go_on(&mut self, core: &Core, word: Word) -> bool
         requires { word / 0o1000 ≡ 6 }
@@ -423,7 +423,7 @@ impl Processor {
     }
 
     /// An operate instruction that goes on.
-    #[tactic(auto, unfolding(crate::specs::Step::executed))]
+    #[tactic(auto, unfolding(crate::specs::Step::after_instruction))]
     #[inline(always)]
     fn operate_and_go_on(&mut self, core: &Core, word: Word)
         requires operates { 7 ≤ word / 0o1000 }

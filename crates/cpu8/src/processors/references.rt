@@ -3,7 +3,7 @@
 ghost use Rattle.std.specs.Prelude.{◌≡◌, ◌<◌, false};
 ghost use Rattle.word12.specs.declared.sizes.TheConstants.{CORE};
 ghost use Rattle.cpu8.specs.State.{with_core};
-ghost use Rattle.cpu8.specs.Reference.{direct_address, indexed, effective_address, operand_place, advanced, and_row, tad_row, isz_row, dca_row, jms_row, jmp_row};
+ghost use Rattle.cpu8.specs.Reference.{direct_address, core_with_index, effective_address, operand_place, after_fetch, and_row, tad_row, isz_row, dca_row, jms_row, jmp_row};
 
 use super::Processor;
 use crate::decoding::{CURRENT_PAGE, INDIRECT, has, offset_of};
@@ -29,7 +29,7 @@ impl Processor {
     #[inline(always)]
     fn effective_address(&self, core: &mut Core, word: Word) -> Word
         ensures value { result ≡ effective_address (with_core self.now core.old) word }
-        ensures core { core.new ≡ indexed (with_core self.now core.old) word }
+        ensures core { core.new ≡ core_with_index (with_core self.now core.old) word }
         ensures range { result < 0o10000 }
     {
         let address = self.direct_address(word);
@@ -51,7 +51,7 @@ impl Processor {
     #[inline(always)]
     fn operand_cell(&self, core: &mut Core, word: Word) -> Cell
         ensures value { result ≡ operand_place (with_core self.now core.old) word }
-        ensures core { core.new ≡ indexed (with_core self.now core.old) word }
+        ensures core { core.new ≡ core_with_index (with_core self.now core.old) word }
         ensures range { result < CORE }
     {
         let address = self.effective_address(core, word);
@@ -66,7 +66,7 @@ impl Processor {
     /// PC is advanced by one, and the waiting of ION is over.
     #[inline(always)]
     pub(super) fn advance(&mut self)
-        ensures { self.new ≡ advanced self.old }
+        ensures { self.new ≡ after_fetch self.old }
     {
         self.pc = self.pc.plus(Word::ONE);
         self.waiting = false;

@@ -15,7 +15,7 @@ use std::alloc::{AllocError, Global};
 use volume_image::BlockStore;
 
 /// What a change of a directory made; it fails only where memory runs out.
-pub(crate) fn changed(made: Result<Directory, DirFault>) -> Result<Directory, AllocError>
+pub(crate) fn changed_directory(made: Result<Directory, DirFault>) -> Result<Directory, AllocError>
     ensures { IfOk result (λ directory. made ≡ Ok directory) }
 {
     match made {
@@ -70,7 +70,7 @@ impl<S: BlockStore> FileService<S> {
         file_removed();
         files_made();
         entry_counts();
-        let directory = changed(self.directory.removed(alloc, name))?;
+        let directory = changed_directory(self.directory.without_file(alloc, name))?;
         if directory.entries().len() > directory.limit() {
             return Err(FileFault::DirectoryFull);
         }

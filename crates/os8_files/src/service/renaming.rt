@@ -6,7 +6,7 @@ ghost use Rattle.os8_dir.specs.Files.{files_of};
 ghost use Rattle.os8_files.specs.Calls.{IsReady, IsThere, IsFree};
 ghost use Rattle.os8_files.specs.Renames.{RenamesFile};
 
-use super::changes::changed;
+use super::changes::changed_directory;
 use super::writing::has_first_word;
 use crate::{FileFault, FileService};
 use os8_dir::Name;
@@ -60,7 +60,7 @@ impl<S: BlockStore> FileService<S> {
         files_found();
         files_made();
         file_renamed();
-        let directory = changed(self.directory.renamed(alloc, name, new_name))?;
+        let directory = changed_directory(self.directory.with_new_name(alloc, name, new_name))?;
         if directory.entries().len() > directory.limit() {
             return Err(FileFault::DirectoryFull);
         }

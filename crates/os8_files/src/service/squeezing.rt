@@ -6,7 +6,7 @@ ghost use Rattle.os8_files.specs.Failed.{lowest_or};
 ghost use Rattle.os8_files.specs.WriteSteps.{CopiesBlocks};
 ghost use Rattle.os8_dir.specs.Reading.{directory_of};
 
-use super::changes::changed;
+use super::changes::changed_directory;
 use crate::copying::{blank_run, read_run, write_run};
 use crate::{FileFault, FileService, Squeezed};
 use os8_dir::laws::{
@@ -56,7 +56,7 @@ impl<S: BlockStore> FileService<S> {
         files_made();
         entry_counts();
         file_moved_down();
-        let directory = changed(self.directory.moved_down(alloc, &name))?;
+        let directory = changed_directory(self.directory.moved_down(alloc, &name))?;
         if directory.entries().len() > directory.limit() {
             return Err(FileFault::DirectoryFull);
         }

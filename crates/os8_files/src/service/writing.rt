@@ -3,7 +3,7 @@ ghost use Rattle.std.specs.Prelude.{◌≡◌, ◌/◌, ◌<◌, ◌+◌, nat_lt
 ghost use Rattle.os8_files.specs.Calls.{Enters, WritesBlock, ClosesFile, IsOf};
 ghost use Rattle.os8_files.specs.Steps.{IsPlaced, PlacesFile};
 
-use super::changes::changed;
+use super::changes::changed_directory;
 use crate::begun::Begun;
 use crate::{FileFault, FileService, Tentative};
 use os8_dir::Name;
@@ -170,8 +170,8 @@ impl<S: BlockStore> FileService<S> {
         rooms();
         let placed = self
             .directory
-            .placed(alloc, &name, info, begun.place, begun.written);
-        let directory = changed(placed)?;
+            .with_new_file(alloc, &name, info, begun.place, begun.written);
+        let directory = changed_directory(placed)?;
         if directory.entries().len() > directory.limit() {
             return Err(FileFault::DirectoryFull);
         }

@@ -59,7 +59,7 @@ impl<S: BlockStore> Session<S> {
             → DoesEntry (entry.Files (filing.Store bytes text.now)) self.old result self.new }
         ensures leaves { (bytes : List ℕ) → parsed_name bytes ≡ Some name
             → LeavesAlone (entry.Files (filing.Store bytes text.now)) self.old self.new }
-        ensures room { IfFile (TellsRoom self.old.volume.blocks name (spec.stored text.now)) result }
+        ensures room { IfFile (TellsRoom self.old.volume.blocks name (spec.words_of_text text.now)) result }
     {
         block_reads();
         disturbed_jobs();
@@ -67,8 +67,8 @@ impl<S: BlockStore> Session<S> {
         held_names();
         kept_holds();
         settled_calls();
-        if self.files.stopped() || self.files.is_held(name) {
-            return Err(unstored(text, self.files.stopped(), name));
+        if self.files.is_stopped() || self.files.is_held(name) {
+            return Err(store_fault(text, self.files.is_stopped(), name));
         }
         match store(alloc, text) {
             Err(TextFault::BadText) => Err(SessionFault::BadText),
@@ -118,7 +118,7 @@ impl<S: BlockStore> Session<S> {
 }
 
 /// Why a text is not stored under a name where a write has failed, or else a job holds the name. It takes no memory.
-fn unstored(text: &[u8], stopped: bool, name: Name) -> SessionFault
+fn store_fault(text: &[u8], stopped: bool, name: Name) -> SessionFault
     ensures bad { spec.is_storable text.now ≡ false → result ≡ BadText }
     ensures stopped { spec.is_storable text.now ≡ true → stopped ≡ true → result ≡ File Stopped }
     ensures busy { spec.is_storable text.now ≡ true → stopped ≡ false → result ≡ File (Busy name) }

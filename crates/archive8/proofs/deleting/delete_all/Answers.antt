@@ -1,6 +1,6 @@
 use Rattle.std.proofs.Common.{arith}
 use Rattle.std.proofs.lemmas.Result.{err_from_is_err_and}
-use Rattle.archive8.specs.Asking.{asked_for}
+use Rattle.archive8.specs.Asking.{target_of}
 use Rattle.archive8.proofs.DeleteLemmas.{delete-step, refuse-step, refuse-here, delete-end, one-longer, ready-again, free-again}
 use Rattle.archive8.proofs.deleting.delete_all.Goals as goal
 
@@ -9,7 +9,7 @@ returns-in_err-name c =
     let p = err_from_is_err_and c.from_residual.result c.from_residual.ensures.1 in
     let so_far = c.loop-one.invariant in
     rw (p.1, p.2)
-    (refuse-here asked_for c.args.asked.now c.loop-one.one-index c.one-item.result c.args.files.now c.loop-one.files c.delete_one.new.files c.loop-one.names.items _
+    (refuse-here target_of c.args.asked.now c.loop-one.one-index c.one-item.result c.args.files.now c.loop-one.files c.delete_one.new.files c.loop-one.names.items _
     c.loop-one-test.true c.one-item.is so_far.count so_far.refused (c.in_err-name.ensures c.args.files.now.blocks c.requires.directory))
 
 pub loop-one-preserved : goal.loop-one-preserved
@@ -23,13 +23,13 @@ loop-one-preserved c =
       ready = ready-again c.loop-one.files c.delete_one.new.files name is.1;
       free = free-again c.loop-one.files c.delete_one.new.files name is.1 so_far.free;
       count = one-longer names c.keep.new.names.items name c.loop-one.one-index more so_far.count;
-      done = rw more (delete-step asked_for c.args.asked.now c.loop-one.one-index c.one-item.result c.args.files.now c.loop-one.files c.delete_one.new.files name names
+      done = rw more (delete-step target_of c.args.asked.now c.loop-one.one-index c.one-item.result c.args.files.now c.loop-one.files c.delete_one.new.files name names
           c.loop-one-test.true c.one-item.is is.0 is.1 so_far.done);
-      refused = refuse-step asked_for c.args.asked.now c.loop-one.one-index c.one-item.result c.args.files.now c.loop-one.files c.delete_one.new.files name
+      refused = refuse-step target_of c.args.asked.now c.loop-one.one-index c.one-item.result c.args.files.now c.loop-one.files c.delete_one.new.files name
           c.loop-one-test.true c.one-item.is is.0 is.1 so_far.refused;
     }
 
 pub returns : goal.returns
 returns c =
     let so_far = c.loop-one.invariant in
-    delete-end asked_for c.args.asked.now c.loop-one.one-index c.args.files.now c.loop-one.files c.loop-one.names.items (omega (arith, c.loop-one-test.false)) so_far.done
+    delete-end target_of c.args.asked.now c.loop-one.one-index c.args.files.now c.loop-one.files c.loop-one.names.items (omega (arith, c.loop-one-test.false)) so_far.done

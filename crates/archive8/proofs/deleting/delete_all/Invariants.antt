@@ -1,8 +1,8 @@
 use Rattle.std.proofs.Common.{◌≡◌, ◌+◌, ◌++◌, ℕ, List, [], drop, length, map}
-use Rattle.os8_files.specs.Mounted.{Mounted}
+use Rattle.os8_files.specs.Mounted.{MountState}
 use Rattle.os8_files.specs.Calls.{IsReady}
 use Rattle.os8_dir.specs.declared.file_faults.FileFault.{FileFault}
-use Rattle.archive8.specs.Asking.{asked_for, AreAsked}
+use Rattle.archive8.specs.Asking.{target_of, AreAsked}
 use Rattle.archive8.specs.Deleting.{AreDeleted, IsRefusedAt}
 use Rattle.archive8.proofs.DeleteLemmas.{DeletesSo}
 use Rattle.archive8.proofs.deleting.delete_all.Given as goal
@@ -13,8 +13,8 @@ invariant-loop-one l = record {
   ready : IsReady l.files;
   free : l.files.holds ≡ [];
   count : length l.names.items ≡ l.one-index;
-  done : (new : Mounted) (numbers : List ℕ) → AreAsked l.fn.files.blocks (map asked_for (drop l.one-index l.asked)) numbers → AreDeleted l.files numbers new
-      → DeletesSo l.fn.files (map asked_for l.asked) (l.names.items ++ numbers) new;
-  refused : (k : ℕ) (fault : FileFault) → IsRefusedAt l.fn.files.blocks l.files (map asked_for (drop l.one-index l.asked)) k fault
-      → IsRefusedAt l.fn.files.blocks l.fn.files (map asked_for l.asked) (l.one-index + k) fault;
+  done : (new : MountState) (numbers : List ℕ) → AreAsked l.fn.files.blocks (map target_of (drop l.one-index l.asked)) numbers → AreDeleted l.files numbers new
+      → DeletesSo l.fn.files (map target_of l.asked) (l.names.items ++ numbers) new;
+  refused : (k : ℕ) (fault : FileFault) → IsRefusedAt l.fn.files.blocks l.files (map target_of (drop l.one-index l.asked)) k fault
+      → IsRefusedAt l.fn.files.blocks l.fn.files (map target_of l.asked) (l.one-index + k) fault;
 }

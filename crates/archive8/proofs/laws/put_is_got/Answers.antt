@@ -4,7 +4,7 @@ use Rattle.char_pack.specs.declared.forms.GetForm.TheVariants.{Frames, Text, Tap
 use Rattle.archive8.specs.Asking.{OfName}
 use Rattle.archive8.specs.Getting.{IsTapeOf}
 use Rattle.archive8.specs.HostTexts.{file_text, text_words}
-use Rattle.archive8.specs.Laws.{filled_up}
+use Rattle.archive8.specs.Laws.{whole_blocks}
 use Rattle.archive8.proofs.LawLemmas.{other_stays, put_file}
 use Rattle.archive8.proofs.AgainLemmas.{got_again}
 use Rattle.archive8.proofs.ComeBackLemmas.{tape-zeros, lines-back, words-back}
@@ -19,7 +19,7 @@ returns c =
     let read = c.stored_text.ensures.characters in
     record {
       frames = λ image name bytes info new answer small puts gets.
-          got_again law longer none new.bytes.items (OfName name) (packed_blocks bytes) (filled_up bytes) Frames answer
+          got_again law longer none new.bytes.items (OfName name) (packed_blocks bytes) (whole_blocks bytes) Frames answer
           (put_file image name (packed_blocks bytes) info new puts.1) (sym (c.packed_bytes.ensures.blocks bytes small).reads_back) gets;
       tape = λ image name bytes tape info new answer small is puts gets.
           got_again law longer none new.bytes.items (OfName name) (packed_blocks bytes) tape Tape answer

@@ -1,7 +1,7 @@
 use Rattle.std.proofs.Common.{◌&&◌, if◌then◌else◌, ap, codes, false, refl, true, [], ◌∷◌, None, Some}
 use Rattle.clap.proofs.ValueTestLemmas.{Accepts-accepts}
 use Rattle.clap.specs.declared.builder.value_parser.ValueParser.TheVariants.{Unsigned}
-use Rattle.command8.specs.Plain.{given, in_place}
+use Rattle.command8.specs.Plain.{only_gives, in_place}
 use Rattle.command8.proofs.EnteredLemmas.{all_taken, taken}
 use Rattle.command8.proofs.laws.plain_words.Goals as goal
 
@@ -23,7 +23,7 @@ returns-clause-create_tape c = λ image. all_taken _ _ refl
 pub returns-clause-create : goal.returns-clause-create
 returns-clause-create c = λ image blocks fit.
     let uses = in_place (codes "IMAGE") image ∷ in_place (codes "BLOCKS") blocks ∷ [] in
-    taken (codes "create") uses (ap (λ b. if (b && true) && true then Some (given (codes "create") uses) else None) (Accepts-accepts false (Unsigned 8 4095) blocks fit))
+    taken (codes "create") uses (ap (λ b. if (b && true) && true then Some (only_gives (codes "create") uses) else None) (Accepts-accepts false (Unsigned 8 4095) blocks fit))
 
 pub returns-clause-list : goal.returns-clause-list
 returns-clause-list c = λ image text. all_taken _ _ refl

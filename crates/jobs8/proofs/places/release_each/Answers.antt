@@ -1,6 +1,6 @@
 use Rattle.std.proofs.Common.{◌∙◌, None, [], ◌∷◌, length, get_or, take, ap}
 use Rattle.std.proofs.Math.ListN.{length-set}
-use Rattle.os8_files.specs.Mounted.{Mounted}
+use Rattle.os8_files.specs.Mounted.{MountState}
 use Rattle.jobs8.specs.Steps.{without_holds}
 use Rattle.jobs8.proofs.EndLemmas.{cleared_more, at_place, none_left}
 use Rattle.jobs8.proofs.PlaceLemmas.{without_next}
@@ -16,7 +16,7 @@ loop-place-preserved g c =
       done = c.release_at.ensures.rest ∙ cleared_more c.loop-place.places old k c.loop-place-test.true i.done;
       gone =
           c.release_at.ensures.files
-          ∙ ap (λ (m : Mounted). record m { holds = without_holds (get_or c.loop-place.places k None ∷ []) m.holds }) i.gone
+          ∙ ap (λ (m : MountState). record m { holds = without_holds (get_or c.loop-place.places k None ∷ []) m.holds }) i.gone
           ∙ ap (λ h. record c.args.files.now { holds = h })
           (ap (λ o. without_holds (o ∷ []) (without_holds (take k old) c.args.files.now.holds)) (at_place c.loop-place.places old k c.loop-place-test.true i.done)
           ∙ without_next old k c.args.files.now.holds c.loop-place-test.true);

@@ -1,6 +1,6 @@
 use Rattle.std.proofs.Common.{◌∙◌, None, length, take, ap}
 use Rattle.std.proofs.Math.ListN.{length-set}
-use Rattle.os8_files.specs.Mounted.{Mounted}
+use Rattle.os8_files.specs.Mounted.{MountState}
 use Rattle.jobs8.specs.Steps.{without_job, without_jobs}
 use Rattle.jobs8.proofs.EndLemmas.{cleared_more, at_place, without_more, none_left}
 use Rattle.jobs8.proofs.table.let_all_go.Goals as goal
@@ -15,7 +15,7 @@ loop-place-preserved g c =
       done = c.take_at-job.ensures.rest ∙ cleared_more c.loop-place.places old k c.loop-place-test.true i.done;
       gone =
           c.let_go.ensures
-          ∙ ap (λ (m : Mounted). record m { holds = without_job c.take_at-job.result m.holds }) i.gone
+          ∙ ap (λ (m : MountState). record m { holds = without_job c.take_at-job.result m.holds }) i.gone
           ∙ ap (λ h. record c.args.files.now { holds = h })
           (ap (λ o. without_job o (without_jobs (take k old) c.args.files.now.holds)) (c.take_at-job.ensures.job ∙ at_place c.loop-place.places old k c.loop-place-test.true i.done)
           ∙ without_more old k c.args.files.now.holds c.loop-place-test.true);

@@ -2,7 +2,7 @@ use Rattle.std.proofs.Common.{[], Result, List, length, map}
 use Rattle.std.specs.Global.{Vec}
 use Rattle.hosts.specs.Event.{Event}
 use Rattle.outcome.specs.declared.endings.Ending.{Ending}
-use Rattle.many8.specs.declared.putting.NewFile.{NewFile}
+use Rattle.archive_many.specs.declared.putting.NewFile.{NewFile}
 use Rattle.many_commands.specs.PuttingMany.{ReadsEach}
 use Rattle.many_commands.specs.NameSteps.{KnowsNames}
 use Rattle.many_commands.proofs.host_files.read_files.Given as goal

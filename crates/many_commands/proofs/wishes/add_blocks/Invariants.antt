@@ -1,9 +1,9 @@
 use Rattle.std.proofs.Common.{◌≡◌, ◌++◌, length, map}
-use Rattle.many_commands.specs.Wishing.{asked_at}
+use Rattle.many_commands.specs.Wishing.{wish_of_block}
 use Rattle.many_commands.proofs.wishes.add_blocks.Given as goal
 
 abbrev pub invariant-loop-rest : goal.invariant-loop-rest
-invariant-loop-rest l = l.wishes.items ++ map (asked_at l.fn.files) l.rest ≡ l.fn.wishes.items ++ map (asked_at l.fn.files) l.fn.blocks
+invariant-loop-rest l = l.wishes.items ++ map (wish_of_block l.fn.files) l.rest ≡ l.fn.wishes.items ++ map (wish_of_block l.fn.files) l.fn.blocks
 
 abbrev pub decreases-loop-rest : goal.decreases-loop-rest
 decreases-loop-rest l = length l.rest

@@ -3,7 +3,7 @@ use Rattle.std.proofs.lemmas.Result.{err_from_is_err_and}
 use Rattle.std.proofs.Math.ListN.{length-set}
 use Rattle.std.proofs.lemmas.List.{get_or-drop, length-drop}
 use Rattle.std.proofs.lemmas.Option.{get_or_from_slice_get}
-use Rattle.volume_image.specs.Volume.{counted}
+use Rattle.volume_image.specs.Volume.{next_count}
 use Rattle.os8_files.specs.Calls.{counted_more}
 use Rattle.os8_files.proofs.RunLemmas.{read-more}
 use Rattle.os8_files.proofs.SegmentLemmas.{counted-few, counted_more-few}
@@ -19,7 +19,7 @@ loop-k-preserved g c =
       size = length-set c.loop-k.run c.loop-k.k c.read.new.words ∙ i.size;
       kept = read-more c.loop-k.run (drop c.args.place old) c.loop-k.k c.read.new.words (omega (arith, c.loop-k-test.true, i.size)) (omega (arith, c.loop-k-test.true, i.size, length-drop c.args.place old, c.requires)) i.kept at;
       contents = c.in_ok-read.ensures.same ∙ i.contents;
-      reads = c.in_ok-read.ensures.reads ∙ ap counted i.reads ∙ ap (λ n. counted_more n (g.S.BlockStore.reads c.args.store.now)) next;
+      reads = c.in_ok-read.ensures.reads ∙ ap next_count i.reads ∙ ap (λ n. counted_more n (g.S.BlockStore.reads c.args.store.now)) next;
       failed_reads = c.in_ok-read.ensures.failed_reads ∙ i.failed_reads;
       writes = c.in_ok-read.ensures.writes ∙ i.writes;
       failed_writes = c.in_ok-read.ensures.failed_writes ∙ i.failed_writes;
@@ -44,5 +44,5 @@ returns-in_err-read-clause-missed g c =
       number = c.loop-k.k + 1;
       some = omega arith;
       few = omega (arith, c.loop-k-test.true, i.size);
-      rise = c.in_err-read.ensures.reads ∙ ap counted i.reads ∙ ap (λ n. counted_more n (g.S.BlockStore.reads c.args.store.now)) next;
+      rise = c.in_err-read.ensures.reads ∙ ap next_count i.reads ∙ ap (λ n. counted_more n (g.S.BlockStore.reads c.args.store.now)) next;
     })

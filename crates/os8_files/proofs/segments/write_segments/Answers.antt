@@ -1,6 +1,6 @@
 use Rattle.std.proofs.Common.{◌+◌, arith, ap, sym, ◌∙◌, slice_set}
 use Rattle.std.proofs.lemmas.Result.{err_from_is_err_and}
-use Rattle.volume_image.specs.Volume.{counted}
+use Rattle.volume_image.specs.Volume.{next_count}
 use Rattle.os8_files.specs.WriteSteps.{with_segments}
 use Rattle.os8_files.proofs.WrittenLemmas.{keeps-high, segments-next}
 use Rattle.os8_files.proofs.CountLemmas.{stops-in-part, count-next}
@@ -20,7 +20,7 @@ returns-in_err-write_segment-clause-part g c =
     (omega (arith, c.loop-number-test.true, c.segment_count-number-end.ensures.value))
     (omega (arith, c.loop-number-test.true, c.segment_count-number-end.ensures.value, c.segment_count-number-end.ensures.six c.requires.fits))
     (omega (arith, c.loop-number-test.true, c.segment_count-number-end.ensures.value, c.segment_count-number-end.ensures.six c.requires.fits, c.blocks-blocks.ensures.volume.least)) c.loop-number.invariant.contents c.in_err-write_segment.ensures.err.rest
-    (c.in_err-write_segment.ensures.tried ∙ ap counted c.loop-number.invariant.writes))
+    (c.in_err-write_segment.ensures.tried ∙ ap next_count c.loop-number.invariant.writes))
 
 pub loop-number-preserved : goal.loop-number-preserved
 loop-number-preserved g c =

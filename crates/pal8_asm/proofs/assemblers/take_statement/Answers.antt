@@ -1,6 +1,6 @@
 use Rattle.std.proofs.Common.{◌∙◌, Ok, ap, length, subst, sym}
 use Rattle.pal8_asm.specs.Places.{truth_of, with_statement}
-use Rattle.pal8_asm.specs.Sources.{bracketed}
+use Rattle.pal8_asm.specs.Sources.{brackets_with}
 use Rattle.pal8_asm.specs.Steps.{IsTaken}
 use Rattle.pal8_asm.specs.Assembling.{standing}
 use Rattle.pal8_asm.proofs.TakingLemmas.{goes_on}
@@ -16,6 +16,6 @@ returns-in-Ok-pass_end-clause-takes c =
     (record { line = c.args.line; start = n }) c.in-Ok.body c.steps-steps.result.now c.args.string.now c.args.position c.in-Ok-take_body.next c.args.entries.now
     c.take_body.new.symbols c.take_body.new.entries)
     c.start_of.ensures (c.in-Ok-take_body.ensures {u = tt}).takes)
-    (sym (ap (λ n. bracketed (record { line = c.args.line; start = n }) c.args.end c.args.brackets.now
+    (sym (ap (λ n. brackets_with (record { line = c.args.line; start = n }) c.args.end c.args.brackets.now
     (truth_of c.in-Ok.body c.steps-steps.result.now (standing c.take_body.new.symbols c.in-Ok-take_body.next))) c.start_of.ensures)
     ∙ c.in-Ok-pass_end.ensures {u = tt})

@@ -4,7 +4,7 @@ use Rattle.pal_lex.specs.Joins.{join_of}
 use Rattle.pal_lex.specs.Statements.{statements}
 use Rattle.pal_asm.specs.Texts.{texts}
 use Rattle.pal_asm.specs.TextSteps.{HasPassedAll, IsFirstFault}
-use Rattle.pal_asm.specs.Passing.{IsBehind}
+use Rattle.pal_asm.specs.Passing.{StandsAfter}
 use Rattle.pal_asm.proofs.SourceLemmas.{first_at, joined_is, all_joined}
 use Rattle.pal_asm.proofs.texts.first_pass.Goals as goal
 
@@ -36,4 +36,4 @@ pub returns-clause-passed : goal.returns-clause-passed
 returns-clause-passed c =
     let i = c.loop-rest.invariant in
     subst (λ t. HasPassedAll t c.loop-rest.pass) (sym (all_joined c.loop-rest.rest.now i.before (join_of (texts c.args.sources.now)) c.in_default.len_below i.whole))
-    (length i.before, (i.begins.1.read, subst (λ w. IsBehind w c.loop-rest.pass.assembler (statements i.before)) i.begins.2 i.begins.1.at, i.begins.2))
+    (length i.before, (i.begins.1.read, subst (λ w. StandsAfter w c.loop-rest.pass.assembler (statements i.before)) i.begins.2 i.begins.1.at, i.begins.2))

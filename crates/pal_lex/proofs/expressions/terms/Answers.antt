@@ -9,4 +9,4 @@ returns-in_ok-push-in-Some c =
     subst (λ (x : Option (List Part)). IfOk c.continued.result (λ e. e ≡ x))
     (terms_first c.args.blanks c.args.tokens.now c.first-item.result c.in-Some.term c.new-parts.result.items c.push.new.self.items
     c.in-len1-up.len_at_least c.first-item.is c.in-Some.ensures c.new-parts.ensures.items c.in_ok-push-in-Some.ensures.ok)
-    c.continued.ensures
+    c.longer_expression.ensures

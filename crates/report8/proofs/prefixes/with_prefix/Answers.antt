@@ -1,6 +1,6 @@
 use Rattle.std.proofs.Common.{◌++◌, ◌∙◌, sym, append-nil, refl}
 use Rattle.std.proofs.lemmas.List.{at_drop_all}
-use Rattle.report8.specs.Prefixes.{prefixed_from}
+use Rattle.report8.specs.Prefixes.{with_prefix_from}
 use Rattle.report8.proofs.PrefixLemmas.{prefixed_next}
 use Rattle.report8.proofs.prefixes.with_prefix.Goals as goal
 
@@ -12,5 +12,5 @@ loop-byte-preserved c =
 pub returns : goal.returns
 returns c =
     sym (append-nil c.loop-byte.lines.items)
-    ∙ sym (at_drop_all (λ bs. c.loop-byte.lines.items ++ prefixed_from c.args.prefix.now c.loop-byte.begins bs) c.args.text.now c.loop-byte.byte-index c.loop-byte-test.false)
+    ∙ sym (at_drop_all (λ bs. c.loop-byte.lines.items ++ with_prefix_from c.args.prefix.now c.loop-byte.begins bs) c.args.text.now c.loop-byte.byte-index c.loop-byte-test.false)
     ∙ c.loop-byte.invariant

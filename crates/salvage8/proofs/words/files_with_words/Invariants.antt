@@ -1,5 +1,5 @@
 use Rattle.std.proofs.Common.{length}
-use Rattle.survey8.specs.Laws.{AreInside}
+use Rattle.archive_survey.specs.Laws.{AreInside}
 use Rattle.salvage8.proofs.WordLemmas.{GoOn}
 use Rattle.salvage8.proofs.words.files_with_words.Given as goal
 

@@ -1,7 +1,7 @@
 use Rattle.std.proofs.Common.{◌++◌, ◌∷◌, [], ◌∙◌, ap, sym, append_assoc}
 use Rattle.std.specs.Prelude.{codes, decimal}
 use Rattle.word12.specs.Octal.{octal4, octal5}
-use Rattle.script8.specs.Shown.{shown}
+use Rattle.script8.specs.Shown.{name_text}
 use Rattle.script8.specs.Replies.{why_text, setting_text}
 use Rattle.script8.proofs.LineTextLemmas.{two_pieces, three_pieces, job_pieces, blank_pieces}
 use Rattle.script8.proofs.line_replies.put_line_reply.Goals as goal
@@ -22,7 +22,7 @@ pub returns-in-Assembled-clause-text : goal.returns-in-Assembled-clause-text
 returns-in-Assembled-clause-text c = rw c.in-Assembled.is (c.put_assembled.ensures.text)
 
 pub returns-in-Loaded-clause-text : goal.returns-in-Loaded-clause-text
-returns-in-Loaded-clause-text c = rw c.in-Loaded.is (job_pieces _ _ _ (codes "JOB " ++ decimal c.in-Loaded.number) (codes " LOADED " ++ shown c.in-Loaded.name) c.put_job-in-Loaded.ensures.text (two_pieces _ _ _ (codes " LOADED ") (shown c.in-Loaded.name) c.put-in-Loaded.ensures.items c.put_name-in-Loaded.ensures.text))
+returns-in-Loaded-clause-text c = rw c.in-Loaded.is (job_pieces _ _ _ (codes "JOB " ++ decimal c.in-Loaded.number) (codes " LOADED " ++ name_text c.in-Loaded.name) c.put_job-in-Loaded.ensures.text (two_pieces _ _ _ (codes " LOADED ") (name_text c.in-Loaded.name) c.put-in-Loaded.ensures.items c.put_name-in-Loaded.ensures.text))
 
 pub returns-in-Squeezed-clause-text : goal.returns-in-Squeezed-clause-text
 returns-in-Squeezed-clause-text c = rw c.in-Squeezed.is (job_pieces _ _ _ (codes "JOB " ++ decimal c.in-Squeezed.job) (codes " SQUEEZED") c.put_job-in-Squeezed.ensures.text c.put-in-Squeezed.ensures.items)

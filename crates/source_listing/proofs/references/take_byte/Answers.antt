@@ -1,5 +1,5 @@
 use Rattle.std.proofs.Common.{◌++◌, ap, subst, ◌∙◌}
-use Rattle.assemble8.specs.Reading.{IsEnded}
+use Rattle.host_sources.specs.Reading.{IsEnded}
 use Rattle.source_listing.proofs.ReferenceLemmas.{named_none, named_some}
 use Rattle.source_listing.proofs.references.take_byte.Goals as goal
 

@@ -1,5 +1,5 @@
 use Rattle.std.proofs.Common.{subst, ◌∙◌}
-use Rattle.assemble8.specs.Reading.{IsEnded}
+use Rattle.host_sources.specs.Reading.{IsEnded}
 use Rattle.source_listing.proofs.RowLemmas.{ends_none, ends_some}
 use Rattle.source_listing.proofs.word_ends.ends_word.Goals as goal
 

@@ -1,9 +1,9 @@
 use Rattle.std.proofs.lemmas.Result.{err_from_is_err_and}
-use Rattle.pal_list.specs.Tags.{flagged_in}
+use Rattle.tape_source.specs.Tags.{is_flagged}
 use Rattle.trace8.proofs.RunLemmas.{no-trace}
 use Rattle.trace8.proofs.traces.trace.Goals as goal
 
 pub returns-in_err-lines : goal.returns-in_err-lines
 returns-in_err-lines g c =
     let p = err_from_is_err_and c.from_residual.result c.from_residual.ensures.1 in
-    rw (p.1) (no-trace (flagged_in c.args.tags.now) c.args.n c.args.terminal.now _ p.0)
+    rw (p.1) (no-trace (is_flagged c.args.tags.now) c.args.n c.args.terminal.now _ p.0)

@@ -1,32 +1,32 @@
 use Rattle.std.proofs.Common.{arith, ap, sym, ◌∙◌}
 use Rattle.std.proofs.lemmas.Result.{err_from_is_err_and}
 use Rattle.cpu8.specs.State.{State}
-use Rattle.pal_list.specs.Tags.{flagged_in}
+use Rattle.tape_source.specs.Tags.{is_flagged}
 use Rattle.trace8.proofs.RunLemmas.{begun, step-traced, stopped-trace, starved-trace, limit-trace, ended-trace, unwritten-trace, refused-trace}
 use Rattle.trace8.proofs.traces.trace_steps.Goals as goal
 
 pub returns-then-not-is_running : goal.returns-then-not-is_running
 returns-then-not-is_running g c =
-    stopped-trace (flagged_in c.args.tags.now) c.args.n c.args.terminal.now _ c.args.lines.now.items c.requires.none
+    stopped-trace (is_flagged c.args.tags.now) c.args.n c.args.terminal.now _ c.args.lines.now.items c.requires.none
     (ap (λ (s : State). s.running) (sym c.machine.ensures) ∙ sym c.is_running.ensures ∙ c.if-not-is_running.true)
 
 pub loop-made-init : goal.loop-made-init
 loop-made-init g c = record {
-  tracing = begun (flagged_in c.args.tags.now) c.args.terminal.now _ c.args.lines.now.items c.requires.none
+  tracing = begun (is_flagged c.args.tags.now) c.args.terminal.now _ c.args.lines.now.items c.requires.none
       (ap (λ (s : State). s.running) (sym c.machine.ensures) ∙ sym c.is_running.ensures ∙ c.if-not-is_running.false);
   within = omega arith;
 }
 
 pub returns-then-starves : goal.returns-then-starves
 returns-then-starves g c =
-    starved-trace (flagged_in c.args.tags.now) c.args.n c.args.terminal.now c.loop-made.terminal _ _ c.loop-made.lines.items c.loop-made.made
+    starved-trace (is_flagged c.args.tags.now) c.args.n c.args.terminal.now c.loop-made.terminal _ _ c.loop-made.lines.items c.loop-made.made
     c.loop-made.invariant.tracing c.loop-made-test.true (sym c.starves.ensures ∙ c.if-starves.true)
 
 pub returns-in_err-hand_on : goal.returns-in_err-hand_on
 returns-in_err-hand_on g c =
     let p = err_from_is_err_and c.from_residual.result c.from_residual.ensures.1 in
     rw (p.1, p.2)
-    (unwritten-trace (flagged_in c.args.tags.now) c.args.n c.args.terminal.now c.loop-made.terminal _ _ _ c.loop-made.lines.items c.hand_on.new.lines.items
+    (unwritten-trace (is_flagged c.args.tags.now) c.args.n c.args.terminal.now c.loop-made.terminal _ _ _ c.loop-made.lines.items c.hand_on.new.lines.items
     c.loop-made.made c.in_err-hand_on.field-0.0 c.loop-made.invariant.tracing c.loop-made.invariant.within c.in_err-hand_on.ensures.err)
 
 pub trace_step-requires-clause-room : goal.trace_step-requires-clause-room
@@ -38,20 +38,20 @@ pub returns-in_err-did : goal.returns-in_err-did
 returns-in_err-did g c =
     let p = err_from_is_err_and c.from_residual-in_err-did.result c.from_residual-in_err-did.ensures.1 in
     rw (p.1)
-    (refused-trace (flagged_in c.args.tags.now) c.args.n c.args.terminal.now c.loop-made.terminal c.trace_step.new.terminal _ _ _ c.loop-made.lines.items
+    (refused-trace (is_flagged c.args.tags.now) c.args.n c.args.terminal.now c.loop-made.terminal c.trace_step.new.terminal _ _ _ c.loop-made.lines.items
     c.hand_on.new.lines.items c.trace_step.new.lines.items c.loop-made.made p.0 c.loop-made.invariant.tracing c.loop-made-test.true
     (sym c.starves.ensures ∙ c.if-starves.false) c.in_ok-hand_on.ensures.ok c.in_err-did.ensures.terminal)
 
 pub returns-in-Some : goal.returns-in-Some
 returns-in-Some g c =
-    ended-trace (flagged_in c.args.tags.now) c.args.n c.args.terminal.now c.loop-made.terminal c.trace_step.new.terminal _ _ _ c.loop-made.lines.items
+    ended-trace (is_flagged c.args.tags.now) c.args.n c.args.terminal.now c.loop-made.terminal c.trace_step.new.terminal _ _ _ c.loop-made.lines.items
     c.hand_on.new.lines.items c.trace_step.new.lines.items c.loop-made.made c.in_ok-did.did c.in-Some.why c.loop-made.invariant.tracing c.loop-made-test.true
     (sym c.starves.ensures ∙ c.if-starves.false) c.in_ok-hand_on.ensures.ok c.in_ok-did.ensures.terminal c.in_ok-did.ensures.did c.in_ok-did.ensures.line
     (sym c.stop_of.ensures ∙ c.in-Some.is)
 
 pub loop-made-preserved : goal.loop-made-preserved
 loop-made-preserved g c = record {
-  tracing = step-traced (flagged_in c.args.tags.now) c.args.terminal.now c.loop-made.terminal c.trace_step.new.terminal _ _ _ c.loop-made.lines.items
+  tracing = step-traced (is_flagged c.args.tags.now) c.args.terminal.now c.loop-made.terminal c.trace_step.new.terminal _ _ _ c.loop-made.lines.items
       c.hand_on.new.lines.items c.trace_step.new.lines.items c.loop-made.made c.in_ok-did.did c.loop-made.invariant.tracing
       (sym c.starves.ensures ∙ c.if-starves.false) c.in_ok-hand_on.ensures.ok c.in_ok-did.ensures.terminal c.in_ok-did.ensures.did c.in_ok-did.ensures.line
       (sym c.stop_of.ensures ∙ c.in_default.is);
@@ -60,5 +60,5 @@ loop-made-preserved g c = record {
 
 pub returns : goal.returns
 returns g c =
-    limit-trace (flagged_in c.args.tags.now) c.args.n c.args.terminal.now c.loop-made.terminal _ _ c.loop-made.lines.items c.loop-made.made
+    limit-trace (is_flagged c.args.tags.now) c.args.n c.args.terminal.now c.loop-made.terminal _ _ c.loop-made.lines.items c.loop-made.made
     c.loop-made.invariant.tracing (omega (arith, c.loop-made-test.false, c.loop-made.invariant.within))

@@ -1,11 +1,11 @@
 use Rattle.std.proofs.Common.{◌≤◌}
-use Rattle.pal_list.specs.Tags.{flagged_in}
+use Rattle.tape_source.specs.Tags.{is_flagged}
 use Rattle.trace8.proofs.RunLemmas.{IsTracing}
 use Rattle.trace8.proofs.traces.trace_steps.Given as goal
 
 -- the trace has come so far, and goes on
 abbrev pub invariant-loop-made : goal.invariant-loop-made
 invariant-loop-made g l = record {
-  tracing : IsTracing (flagged_in l.tags) l.fn.terminal l.terminal (g.W.Write.contents l.fn.writer) (g.W.Write.contents l.writer) l.lines.items l.made;
+  tracing : IsTracing (is_flagged l.tags) l.fn.terminal l.terminal (g.W.Write.contents l.fn.writer) (g.W.Write.contents l.writer) l.lines.items l.made;
   within : l.made ≤ l.n;
 }

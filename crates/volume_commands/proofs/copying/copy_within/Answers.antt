@@ -1,6 +1,6 @@
 use Rattle.std.proofs.Common.{rules, inl, inr, refl, subst, Err}
 use Rattle.volume_commands.specs.Copying.{MakesCopy}
-use Rattle.archive8.specs.Asking.{asked_for}
+use Rattle.archive8.specs.Asking.{target_of}
 use Rattle.volume_commands.proofs.WorkLemmas.{ends_with}
 use Rattle.volume_commands.proofs.copying.copy_within.Goals as goal
 
@@ -11,4 +11,4 @@ pub returns : goal.returns
 returns g c = inr (record { given = c.in_ok-new.new; between = g.H.Host.history c.image_with.new.host; done = search rules; after = inr (record { given = c.in_ok-line.line; between = g.H.Host.history c.image_with.new.host; done = (c.in_ok-line.ensures, refl); after = rw c.deref-2.ensures.value at (rw c.deref-3.ensures.value at c.store.ensures) }) })
 
 pub returns-in_err-new : goal.returns-in_err-new
-returns-in_err-new g c = inl (ends_with (MakesCopy c.args.form.now (asked_for c.args.file.now) c.args.image.bytes.items c.args.image.bytes.items) _ _ _ _ (subst (λ b. MakesCopy c.args.form.now (asked_for c.args.file.now) b c.args.image.bytes.items (g.H.Host.history c.args.host.now) (Err c.in_err-new.field-0.0) (g.H.Host.history c.image_with.new.host)) c.deref.ensures.value c.in_err-new.ensures) c.from_residual.ensures)
+returns-in_err-new g c = inl (ends_with (MakesCopy c.args.form.now (target_of c.args.file.now) c.args.image.bytes.items c.args.image.bytes.items) _ _ _ _ (subst (λ b. MakesCopy c.args.form.now (target_of c.args.file.now) b c.args.image.bytes.items (g.H.Host.history c.args.host.now) (Err c.in_err-new.field-0.0) (g.H.Host.history c.image_with.new.host)) c.deref.ensures.value c.in_err-new.ensures) c.from_residual.ensures)

@@ -1,9 +1,9 @@
 use Rattle.std.proofs.Common.{rules}
-use Rattle.cpu8.specs.Step.{executed}
+use Rattle.cpu8.specs.Step.{after_instruction}
 use Rattle.cpu8.proofs.processors.Processor.operate_and_go_on.Goals as goal
 
 pub returns-then-has : goal.returns-then-has
-unfolding executed
+unfolding after_instruction
 returns-then-has c = record {
   state = search rules;
   answer = search rules;

@@ -1,6 +1,6 @@
 use Rattle.std.proofs.Common.{◌∙◌, Err, ◌-◌, None, slice_set, ap, sym, subst, arith}
 use Rattle.jobs8.specs.Calls.{TakesTurn}
-use Rattle.jobs8.specs.Settled.{FitsIn, StandsIn, disturbed}
+use Rattle.jobs8.specs.Settled.{FitsIn, StandsIn, with_disturbance}
 use Rattle.jobs8.specs.Steps.{jobs_after}
 use Rattle.jobs8.specs.declared.faults.JobFault.TheVariants.{NoJob}
 use Rattle.jobs8.proofs.SettledLemmas.{fit_at, stand_at, held_enough}
@@ -27,7 +27,7 @@ pub returns-then-is_assembled : goal.returns-then-is_assembled
 returns-then-is_assembled g c =
     subst (λ l. TakesTurn c.args.files.now c.args.core.now c.args.self.now c.args.number c.job_turn-answer.result.0 c.job_turn-answer.new.files c.job_turn-answer.new.core l)
     (ap (λ b. jobs_after b (slice_set c.args.self.now (c.args.number - 1) c.job_turn-answer.result.1)) (sym c.is_assembled.ensures ∙ c.if-is_assembled.true)
-    ∙ ap disturbed (sym (c.put.ensures ∙ ap (λ l. slice_set l (c.args.number - 1) c.job_turn-answer.result.1) c.take.ensures.rest ∙ set_twice c.args.self.now (c.args.number - 1) None c.job_turn-answer.result.1))
+    ∙ ap with_disturbance (sym (c.put.ensures ∙ ap (λ l. slice_set l (c.args.number - 1) c.job_turn-answer.result.1) c.take.ensures.rest ∙ set_twice c.args.self.now (c.args.number - 1) None c.job_turn-answer.result.1))
     ∙ sym c.disturb.ensures)
     (takes_turn c.counted_holds.ensures.held c.args.files.now c.job_turn-answer.new.files c.args.core.now c.job_turn-answer.new.core c.args.self.now c.args.number (c.args.number - 1) c.in-Some.job c.job_turn-answer.result.0 c.job_turn-answer.result.1
     c.requires (omega (arith, c.if-number-eq0.false)) (omega (arith, c.if-number-eq0.false, c.if-number-gt8.false)) (sym c.take.ensures.job ∙ c.in-Some.is) c.job_turn-answer.ensures)

@@ -2,7 +2,7 @@ use Rattle.std.proofs.Common.{◌≡◌, ◌-◌, ◌<◌, true, false, Ok, [], 
 use Rattle.std.proofs.Math.ListN.{length-set}
 use Rattle.std.proofs.lemmas.Result.{err_from_is_err_and}
 use Rattle.os8_dir.specs.Reading.{is_unread, with_segment, block, word}
-use Rattle.os8_dir.specs.Reads.{judged_from}
+use Rattle.os8_dir.specs.Reads.{segments_to_fault}
 use Rattle.os8_dir.proofs.ReadingLemmas.{meets-whole, with_links-end, with_links-past, with_links-bad, with_links-segment, with_links-next}
 use Rattle.os8_dir.proofs.ReadsLemmas.{of_words, judged_end, judged_past, judged_bad, judged_some, judged_fault, judged_next, one_more, reads_done, reads_last}
 use Rattle.os8_dir.proofs.LinkLemmas.{unread-high, unread-seen, unread-new, seen-first, seen-more}
@@ -99,7 +99,7 @@ returns-then-link-gt0-2-clause-segments g c =
       | then-loop-left-test+else-link-gt0 w ↦ absurd (omega (arith, w.if-link-gt0.false, c.if-link-gt0-2.true))
       | else-loop-left-test w ↦
           let none : c.loop-left.left ≡ 0 = omega (arith, w.loop-left-test.false) in
-          let past : judged_from c.loop-left.left c.loop-left.self (g.S.BlockStore.contents c.args.store.now) i.0 c.loop-left.link ≡ 0 =
+          let past : segments_to_fault c.loop-left.left c.loop-left.self (g.S.BlockStore.contents c.args.store.now) i.0 c.loop-left.link ≡ 0 =
           rw none (judged_past c.loop-left.self (g.S.BlockStore.contents c.args.store.now) i.0 c.loop-left.link) in
           reads_done _ (5 - c.loop-left.left) _ _ _ c.loop-left.invariant.counts (omega (arith, i.2, past))
     ]
@@ -109,7 +109,7 @@ returns-clause-segments g c =
     let i = c.loop-left.invariant.read in
     let blocks = g.S.BlockStore.contents c.args.store.now in
     let none : c.loop-left.link ≡ 0 = omega arith in
-    let ended : judged_from c.loop-left.left c.loop-left.self blocks i.0 c.loop-left.link ≡ 0 = rw none (judged_end c.loop-left.left c.loop-left.self blocks i.0) in
+    let ended : segments_to_fault c.loop-left.left c.loop-left.self blocks i.0 c.loop-left.link ≡ 0 = rw none (judged_end c.loop-left.left c.loop-left.self blocks i.0) in
     reads_done _ (5 - c.loop-left.left) _ _ _ c.loop-left.invariant.counts (omega (arith, i.2, ended))
 
 pub returns-clause-reading : goal.returns-clause-reading

@@ -1,13 +1,13 @@
 use Rattle.std.proofs.Common.{All, ◌≡◌, ℕ, ◌-◌, ◌<◌, false, List, length, take, drop, Some, Ok, refl, ap, sym, subst, ◌∙◌, arith}
 use Rattle.std.proofs.lemmas.Result.{err_from_is_err_and, IfOk-at_ok}
-use Rattle.os8_dir.specs.Entries.{Listed}
+use Rattle.os8_dir.specs.Entries.{DirectoryState}
 use Rattle.os8_dir.specs.Reading.{directory_of}
 use Rattle.os8_dir.specs.declared.entries.DirEntry.{DirEntry}
 use Rattle.volume_image.specs.Volume.{IsBlock}
 use Rattle.os8_dir.specs.Files.{files_of, limit_of, of_directory}
 use Rattle.os8_dir.specs.Found.{IsDirectory, files_at, extent_of, limit}
 use Rattle.os8_dir.specs.Changes.{lowest_above, moved_down}
-use Rattle.os8_files.specs.Mounted.{Mounted}
+use Rattle.os8_files.specs.Mounted.{MountState}
 use Rattle.os8_files.specs.Calls.{StopsInPart, entries_moved, counted_more}
 use Rattle.os8_files.specs.Failed.{extent_or, lowest_or}
 use Rattle.os8_files.specs.WriteSteps.{HasDirectory, HasBrokenOff, with_run}
@@ -27,8 +27,8 @@ moved_down-requires g c =
     let d = c.self.inside.directory in
     let name = c.args.name in
     let gap = c.args.gap in
-    let same : old.blocks ≡ blocks = ap (λ (m : Mounted). m.blocks) (sym c.self.view_is) in
-    let running : c.self.inside.stopped ≡ false = ap (λ (m : Mounted). m.stopped) c.self.view_is ∙ c.requires.ready.running in
+    let same : old.blocks ≡ blocks = ap (λ (m : MountState). m.blocks) (sym c.self.view_is) in
+    let running : c.self.inside.stopped ≡ false = ap (λ (m : MountState). m.stopped) c.self.view_is ∙ c.requires.ready.running in
     let kept : directory_of old.blocks ≡ Ok d = subst (λ bs. directory_of bs ≡ Ok d) (sym same) (c.self.invariant.kept running) in
     let is = c.sound_directory.ensures old.blocks d kept in
     let low : lowest_above d.entries ≡ Some (name, gap) = sym (ap lowest_or kept) ∙ c.requires.lowest in
@@ -42,8 +42,8 @@ unreachable-requires g c =
     let d = c.self.inside.directory in
     let name = c.args.name in
     let gap = c.args.gap in
-    let same : old.blocks ≡ blocks = ap (λ (m : Mounted). m.blocks) (sym c.self.view_is) in
-    let running : c.self.inside.stopped ≡ false = ap (λ (m : Mounted). m.stopped) c.self.view_is ∙ c.requires.ready.running in
+    let same : old.blocks ≡ blocks = ap (λ (m : MountState). m.blocks) (sym c.self.view_is) in
+    let running : c.self.inside.stopped ≡ false = ap (λ (m : MountState). m.stopped) c.self.view_is ∙ c.requires.ready.running in
     let kept : directory_of old.blocks ≡ Ok d = subst (λ bs. directory_of bs ≡ Ok d) (sym same) (c.self.invariant.kept running) in
     let is = c.sound_directory.ensures old.blocks d kept in
     let low : lowest_above d.entries ≡ Some (name, gap) = sym (ap lowest_or kept) ∙ c.requires.lowest in
@@ -58,8 +58,8 @@ copy_down-requires-clause-high g c =
     let d = c.self.inside.directory in
     let name = c.args.name in
     let gap = c.args.gap in
-    let same : old.blocks ≡ blocks = ap (λ (m : Mounted). m.blocks) (sym c.self.view_is) in
-    let running : c.self.inside.stopped ≡ false = ap (λ (m : Mounted). m.stopped) c.self.view_is ∙ c.requires.ready.running in
+    let same : old.blocks ≡ blocks = ap (λ (m : MountState). m.blocks) (sym c.self.view_is) in
+    let running : c.self.inside.stopped ≡ false = ap (λ (m : MountState). m.stopped) c.self.view_is ∙ c.requires.ready.running in
     let kept : directory_of old.blocks ≡ Ok d = subst (λ bs. directory_of bs ≡ Ok d) (sym same) (c.self.invariant.kept running) in
     let is = c.sound_directory.ensures old.blocks d kept in
     let low : lowest_above d.entries ≡ Some (name, gap) = sym (ap lowest_or kept) ∙ c.requires.lowest in
@@ -76,8 +76,8 @@ copy_down-requires-clause-inside g c =
     let d = c.self.inside.directory in
     let name = c.args.name in
     let gap = c.args.gap in
-    let same : old.blocks ≡ blocks = ap (λ (m : Mounted). m.blocks) (sym c.self.view_is) in
-    let running : c.self.inside.stopped ≡ false = ap (λ (m : Mounted). m.stopped) c.self.view_is ∙ c.requires.ready.running in
+    let same : old.blocks ≡ blocks = ap (λ (m : MountState). m.blocks) (sym c.self.view_is) in
+    let running : c.self.inside.stopped ≡ false = ap (λ (m : MountState). m.stopped) c.self.view_is ∙ c.requires.ready.running in
     let kept : directory_of old.blocks ≡ Ok d = subst (λ bs. directory_of bs ≡ Ok d) (sym same) (c.self.invariant.kept running) in
     let is = c.sound_directory.ensures old.blocks d kept in
     let low : lowest_above d.entries ≡ Some (name, gap) = sym (ap lowest_or kept) ∙ c.requires.lowest in
@@ -94,13 +94,13 @@ rewrite-requires-clause-sound g c =
     let d = c.self.inside.directory in
     let name = c.args.name in
     let gap = c.args.gap in
-    let same : old.blocks ≡ blocks = ap (λ (m : Mounted). m.blocks) (sym c.self.view_is) in
-    let running : c.self.inside.stopped ≡ false = ap (λ (m : Mounted). m.stopped) c.self.view_is ∙ c.requires.ready.running in
+    let same : old.blocks ≡ blocks = ap (λ (m : MountState). m.blocks) (sym c.self.view_is) in
+    let running : c.self.inside.stopped ≡ false = ap (λ (m : MountState). m.stopped) c.self.view_is ∙ c.requires.ready.running in
     let kept : directory_of old.blocks ≡ Ok d = subst (λ bs. directory_of bs ≡ Ok d) (sym same) (c.self.invariant.kept running) in
     let is = c.sound_directory.ensures old.blocks d kept in
     let copied = c.in_ok-copy_down-in-Some.ensures in
     let long : length c.copy_down.new.self.blocks ≡ length old.blocks = ap (λ (bs : List (List ℕ)). length bs) copied.0 ∙ length-with_run old.blocks (c.in-Some.place - gap) (take c.in-Some.size (drop c.in-Some.place old.blocks)) in
-    subst (λ n. IsDirectory n c.in_ok-directory.directory) (sym long) (subst (λ (x : Listed). IsDirectory (length old.blocks) x) (sym (IfOk-at_ok _ c.in_ok-directory.ensures c.moved_down.ensures.list)) (c.file_moved_down.ensures.directory (length old.blocks) name d is))
+    subst (λ n. IsDirectory n c.in_ok-directory.directory) (sym long) (subst (λ (x : DirectoryState). IsDirectory (length old.blocks) x) (sym (IfOk-at_ok _ c.in_ok-directory.ensures c.moved_down.ensures.list)) (c.file_moved_down.ensures.directory (length old.blocks) name d is))
 
 pub returns : goal.returns
 returns g c =
@@ -109,8 +109,8 @@ returns g c =
     let d = c.self.inside.directory in
     let name = c.args.name in
     let gap = c.args.gap in
-    let same : old.blocks ≡ blocks = ap (λ (m : Mounted). m.blocks) (sym c.self.view_is) in
-    let running : c.self.inside.stopped ≡ false = ap (λ (m : Mounted). m.stopped) c.self.view_is ∙ c.requires.ready.running in
+    let same : old.blocks ≡ blocks = ap (λ (m : MountState). m.blocks) (sym c.self.view_is) in
+    let running : c.self.inside.stopped ≡ false = ap (λ (m : MountState). m.stopped) c.self.view_is ∙ c.requires.ready.running in
     let kept : directory_of old.blocks ≡ Ok d = subst (λ bs. directory_of bs ≡ Ok d) (sym same) (c.self.invariant.kept running) in
     let is = c.sound_directory.ensures old.blocks d kept in
     let low : lowest_above d.entries ≡ Some (name, gap) = sym (ap lowest_or kept) ∙ c.requires.lowest in
@@ -124,7 +124,7 @@ returns g c =
     moved-file c.files_found.ensures c.rooms.ensures.lie c.rooms.ensures.outside c.directory_numbers.ensures.limit c.directory_numbers.ensures.capacity c.directory_numbers.ensures.above
     c.lowest_file.ensures.gap c.lowest_file.ensures.fewer c.file_moved_down.ensures.there c.file_moved_down.ensures.others c.file_moved_down.ensures.covered
     old mid c.rewrite.new.self d name gap c.requires.ready kept is low r put copied.1 (copied.3 ∙ ap (λ n. counted_more n old.reads) (sym at.1)) (copied.2 ∙ ap (λ n. counted_more n old.writes) (sym at.1))
-    (subst (λ (x : Listed). HasDirectory mid x c.rewrite.new.self) (IfOk-at_ok _ c.in_ok-directory.ensures c.moved_down.ensures.list) c.in_ok-rewrite-in-Some.ensures)
+    (subst (λ (x : DirectoryState). HasDirectory mid x c.rewrite.new.self) (IfOk-at_ok _ c.in_ok-directory.ensures c.moved_down.ensures.list) c.in_ok-rewrite-in-Some.ensures)
 
 pub returns-then-entries-limit : goal.returns-then-entries-limit
 returns-then-entries-limit g c =
@@ -133,15 +133,15 @@ returns-then-entries-limit g c =
     let d = c.self.inside.directory in
     let name = c.args.name in
     let gap = c.args.gap in
-    let same : old.blocks ≡ blocks = ap (λ (m : Mounted). m.blocks) (sym c.self.view_is) in
-    let running : c.self.inside.stopped ≡ false = ap (λ (m : Mounted). m.stopped) c.self.view_is ∙ c.requires.ready.running in
+    let same : old.blocks ≡ blocks = ap (λ (m : MountState). m.blocks) (sym c.self.view_is) in
+    let running : c.self.inside.stopped ≡ false = ap (λ (m : MountState). m.stopped) c.self.view_is ∙ c.requires.ready.running in
     let kept : directory_of old.blocks ≡ Ok d = subst (λ bs. directory_of bs ≡ Ok d) (sym same) (c.self.invariant.kept running) in
     let is = c.sound_directory.ensures old.blocks d kept in
     let low : lowest_above d.entries ≡ Some (name, gap) = sym (ap lowest_or kept) ∙ c.requires.lowest in
     let some = some-above c.directory_numbers.ensures.above c.lowest_file.ensures.none old.blocks d name gap kept is low in
     let full : limit c.in_ok-directory.directory < length c.in_ok-directory.directory.entries = omega (arith, ap (λ (es : List DirEntry). length es) c.entries.ensures.list, c.limit.ensures.value, c.if-entries-limit.true) in
-    let more : limit d < length (moved_down name d.entries) = subst (λ (x : Listed). limit x < length x.entries) (IfOk-at_ok _ c.in_ok-directory.ensures c.moved_down.ensures.list) full in
-    let long : limit_of old.blocks < entries_moved name old.blocks = omega (arith, more, c.directory_numbers.ensures.limit old.blocks d kept, ap (of_directory (λ (x : Listed). length (moved_down name x.entries))) kept) in
+    let more : limit d < length (moved_down name d.entries) = subst (λ (x : DirectoryState). limit x < length x.entries) (IfOk-at_ok _ c.in_ok-directory.ensures c.moved_down.ensures.list) full in
+    let long : limit_of old.blocks < entries_moved name old.blocks = omega (arith, more, c.directory_numbers.ensures.limit old.blocks d kept, ap (of_directory (λ (x : DirectoryState). length (moved_down name x.entries))) kept) in
     let each : All IsBlock old.blocks = subst (λ bs. All IsBlock bs) (sym same) c.self.invariant.volume.each in
     let made = c.files_made.ensures old.blocks d kept in
     let over = is-over c.directory_numbers.ensures.limit c.directory_numbers.ensures.above c.entry_counts.ensures.entries c.entry_counts.ensures.empties c.entry_counts.ensures.one
@@ -155,8 +155,8 @@ returns-in_err-copy_down-in-Some g c =
     let d = c.self.inside.directory in
     let name = c.args.name in
     let gap = c.args.gap in
-    let same : old.blocks ≡ blocks = ap (λ (m : Mounted). m.blocks) (sym c.self.view_is) in
-    let running : c.self.inside.stopped ≡ false = ap (λ (m : Mounted). m.stopped) c.self.view_is ∙ c.requires.ready.running in
+    let same : old.blocks ≡ blocks = ap (λ (m : MountState). m.blocks) (sym c.self.view_is) in
+    let running : c.self.inside.stopped ≡ false = ap (λ (m : MountState). m.stopped) c.self.view_is ∙ c.requires.ready.running in
     let kept : directory_of old.blocks ≡ Ok d = subst (λ bs. directory_of bs ≡ Ok d) (sym same) (c.self.invariant.kept running) in
     let is = c.sound_directory.ensures old.blocks d kept in
     let low : lowest_above d.entries ≡ Some (name, gap) = sym (ap lowest_or kept) ∙ c.requires.lowest in
@@ -180,8 +180,8 @@ returns-in_err-directory g c =
     let d = c.self.inside.directory in
     let name = c.args.name in
     let gap = c.args.gap in
-    let same : old.blocks ≡ blocks = ap (λ (m : Mounted). m.blocks) (sym c.self.view_is) in
-    let running : c.self.inside.stopped ≡ false = ap (λ (m : Mounted). m.stopped) c.self.view_is ∙ c.requires.ready.running in
+    let same : old.blocks ≡ blocks = ap (λ (m : MountState). m.blocks) (sym c.self.view_is) in
+    let running : c.self.inside.stopped ≡ false = ap (λ (m : MountState). m.stopped) c.self.view_is ∙ c.requires.ready.running in
     let kept : directory_of old.blocks ≡ Ok d = subst (λ bs. directory_of bs ≡ Ok d) (sym same) (c.self.invariant.kept running) in
     let is = c.sound_directory.ensures old.blocks d kept in
     let low : lowest_above d.entries ≡ Some (name, gap) = sym (ap lowest_or kept) ∙ c.requires.lowest in
@@ -195,8 +195,8 @@ returns-in_err-rewrite-in-Some g c =
     let d = c.self.inside.directory in
     let name = c.args.name in
     let gap = c.args.gap in
-    let same : old.blocks ≡ blocks = ap (λ (m : Mounted). m.blocks) (sym c.self.view_is) in
-    let running : c.self.inside.stopped ≡ false = ap (λ (m : Mounted). m.stopped) c.self.view_is ∙ c.requires.ready.running in
+    let same : old.blocks ≡ blocks = ap (λ (m : MountState). m.blocks) (sym c.self.view_is) in
+    let running : c.self.inside.stopped ≡ false = ap (λ (m : MountState). m.stopped) c.self.view_is ∙ c.requires.ready.running in
     let kept : directory_of old.blocks ≡ Ok d = subst (λ bs. directory_of bs ≡ Ok d) (sym same) (c.self.invariant.kept running) in
     let is = c.sound_directory.ensures old.blocks d kept in
     let low : lowest_above d.entries ≡ Some (name, gap) = sym (ap lowest_or kept) ∙ c.requires.lowest in
@@ -210,5 +210,5 @@ returns-in_err-rewrite-in-Some g c =
     let p = err_from_is_err_and c.from_residual-in_err-rewrite-in-Some.result c.from_residual-in_err-rewrite-in-Some.ensures.1 in
     rw (p.1, p.2) (rewrite-refused old mid c.rewrite.new.self c.in_ok-directory.directory c.in_err-rewrite-in-Some.field-0.0
     (λ failed keeps part. move-failed c.directory_blocks.ensures c.files_found.ensures c.rooms.ensures.lie c.rooms.ensures.outside c.lowest_file.ensures.gap c.file_moved_down.ensures.there c.file_moved_down.ensures.others c.file_moved_down.ensures.directory
-    old mid c.rewrite.new.self d name gap c.requires.ready kept is low r put copied.1 (copied.3 ∙ ap (λ n. counted_more n old.reads) (sym at.1)) (copied.2 ∙ ap (λ n. counted_more n old.writes) (sym at.1)) failed keeps (subst (λ (x : Listed). StopsInPart mid.blocks c.rewrite.new.self.blocks x mid.writes c.rewrite.new.self.writes) (IfOk-at_ok _ c.in_ok-directory.ensures c.moved_down.ensures.list) part))
+    old mid c.rewrite.new.self d name gap c.requires.ready kept is low r put copied.1 (copied.3 ∙ ap (λ n. counted_more n old.reads) (sym at.1)) (copied.2 ∙ ap (λ n. counted_more n old.writes) (sym at.1)) failed keeps (subst (λ (x : DirectoryState). StopsInPart mid.blocks c.rewrite.new.self.blocks x mid.writes c.rewrite.new.self.writes) (IfOk-at_ok _ c.in_ok-directory.ensures c.moved_down.ensures.list) part))
     c.in_err-rewrite-in-Some.ensures)

@@ -2,9 +2,9 @@ use Rattle.std.proofs.Math.ListN.{length-set}
 use Rattle.std.proofs.Common.{get_or-set_other, true, List, [], ℕ, length, ◌≡◌, ◌+◌, Some, Ok, slice_set, refl, ap, sym, subst, ◌∙◌, arith}
 use Rattle.os8_dir.specs.Reading.{directory_of, block}
 use Rattle.os8_dir.specs.Files.{files_of, run}
-use Rattle.os8_files.specs.Mounted.{Mounted, Begun, IsBegun, AreSegments}
-use Rattle.volume_image.specs.Volume.{counted}
-use Rattle.os8_files.specs.Failed.{listed_or}
+use Rattle.os8_files.specs.Mounted.{MountState, NewFile, IsBegun, AreSegments}
+use Rattle.volume_image.specs.Volume.{next_count}
+use Rattle.os8_files.specs.Failed.{directory_or}
 use Rattle.os8_files.proofs.SegmentLemmas.{segments-written}
 use Rattle.os8_files.proofs.FailedLemmas.{write-failed}
 use Rattle.os8_files.proofs.KeepLemmas.{text-more, info-of, written-keeps}
@@ -17,8 +17,8 @@ overflow_add-place g c =
     let d = c.self.inside.directory in
     let kept = c.self.invariant.kept c.if-self.false in
     let is = c.sound_directory.ensures blocks d kept in
-    let b : Begun = record { name = c.begun.inside.name; place = c.begun.inside.place; room = c.begun.inside.room; written = c.begun.inside.written } in
-    let lies : IsBegun d b = subst (λ (x : Begun). IsBegun d x) (sym c.begun.view_is) (c.self.invariant.begun c.if-self.false c.in-Some.begun c.in-Some.is) in
+    let b : NewFile = record { name = c.begun.inside.name; place = c.begun.inside.place; room = c.begun.inside.room; written = c.begun.inside.written } in
+    let lies : IsBegun d b = subst (λ (x : NewFile). IsBegun d x) (sym c.begun.view_is) (c.self.invariant.begun c.if-self.false c.in-Some.begun c.in-Some.is) in
     let inside = write-inside blocks d b is lies c.if-written-room.false in
     omega (arith, inside.1, c.self.invariant.volume.most)
 
@@ -28,8 +28,8 @@ write-result-requires g c =
     let d = c.self.inside.directory in
     let kept = c.self.invariant.kept c.if-self.false in
     let is = c.sound_directory.ensures blocks d kept in
-    let b : Begun = record { name = c.begun.inside.name; place = c.begun.inside.place; room = c.begun.inside.room; written = c.begun.inside.written } in
-    let lies : IsBegun d b = subst (λ (x : Begun). IsBegun d x) (sym c.begun.view_is) (c.self.invariant.begun c.if-self.false c.in-Some.begun c.in-Some.is) in
+    let b : NewFile = record { name = c.begun.inside.name; place = c.begun.inside.place; room = c.begun.inside.room; written = c.begun.inside.written } in
+    let lies : IsBegun d b = subst (λ (x : NewFile). IsBegun d x) (sym c.begun.view_is) (c.self.invariant.begun c.if-self.false c.in-Some.begun c.in-Some.is) in
     let inside = write-inside blocks d b is lies c.if-written-room.false in
     inside.1
 
@@ -39,15 +39,15 @@ invariant_of-self g c =
     let d = c.self.inside.directory in
     let kept = c.self.invariant.kept c.if-self.false in
     let is = c.sound_directory.ensures blocks d kept in
-    let b : Begun = record { name = c.begun.inside.name; place = c.begun.inside.place; room = c.begun.inside.room; written = c.begun.inside.written } in
-    let lies : IsBegun d b = subst (λ (x : Begun). IsBegun d x) (sym c.begun.view_is) (c.self.invariant.begun c.if-self.false c.in-Some.begun c.in-Some.is) in
+    let b : NewFile = record { name = c.begun.inside.name; place = c.begun.inside.place; room = c.begun.inside.room; written = c.begun.inside.written } in
+    let lies : IsBegun d b = subst (λ (x : NewFile). IsBegun d x) (sym c.begun.view_is) (c.self.invariant.begun c.if-self.false c.in-Some.begun c.in-Some.is) in
     let inside = write-inside blocks d b is lies c.if-written-room.false in
     let k = b.place + b.written in
     record {
       segments = λ running. subst (λ bs. AreSegments bs c.self.inside.segments.items) (sym c.in-Ok.ensures.ok) (segments-written blocks c.self.inside.segments.items k c.args.words.now (c.self.invariant.segments c.if-self.false) (omega (arith, inside.0)));
       volume = c.blocks-blocks.ensures.volume;
       kept = λ running. ap (λ bs. directory_of bs) c.in-Ok.ensures.ok ∙ written-directory c.directory_blocks.ensures blocks k c.args.words.now (omega (arith, inside.0)) ∙ kept;
-      begun = λ running x same. subst (λ (y : Begun). IsBegun d y) (some-same _ x same) (record { named = lies.named; room = lies.room; most = omega (arith, c.if-written-room.false) });
+      begun = λ running x same. subst (λ (y : NewFile). IsBegun d y) (some-same _ x same) (record { named = lies.named; room = lies.room; most = omega (arith, c.if-written-room.false) });
     }
 
 pub returns-in-Ok-clause-call : goal.returns-in-Ok-clause-call
@@ -56,8 +56,8 @@ returns-in-Ok-clause-call g c =
     let d = c.self.inside.directory in
     let kept = c.self.invariant.kept c.if-self.false in
     let is = c.sound_directory.ensures blocks d kept in
-    let b : Begun = record { name = c.begun.inside.name; place = c.begun.inside.place; room = c.begun.inside.room; written = c.begun.inside.written } in
-    let lies : IsBegun d b = subst (λ (x : Begun). IsBegun d x) (sym c.begun.view_is) (c.self.invariant.begun c.if-self.false c.in-Some.begun c.in-Some.is) in
+    let b : NewFile = record { name = c.begun.inside.name; place = c.begun.inside.place; room = c.begun.inside.room; written = c.begun.inside.written } in
+    let lies : IsBegun d b = subst (λ (x : NewFile). IsBegun d x) (sym c.begun.view_is) (c.self.invariant.begun c.if-self.false c.in-Some.begun c.in-Some.is) in
     let inside = write-inside blocks d b is lies c.if-written-room.false in
     let k = b.place + b.written in
     let new = g.S.BlockStore.contents c.write-result.new.self in
@@ -88,18 +88,18 @@ returns-in-Err-clause-call g c =
     let blocks = g.S.BlockStore.contents c.self.inside.store in
     let d = c.self.inside.directory in
     let old = c.args.self.now in
-    let same : old.blocks ≡ blocks = ap (λ (m : Mounted). m.blocks) (sym c.self.view_is) in
+    let same : old.blocks ≡ blocks = ap (λ (m : MountState). m.blocks) (sym c.self.view_is) in
     let kept : directory_of old.blocks ≡ Ok d = subst (λ bs. directory_of bs ≡ Ok d) (sym same) (c.self.invariant.kept c.if-self.false) in
     let is = c.sound_directory.ensures old.blocks d kept in
-    let b : Begun = record { name = c.begun.inside.name; place = c.begun.inside.place; room = c.begun.inside.room; written = c.begun.inside.written } in
-    let lies : IsBegun d b = subst (λ (x : Begun). IsBegun d x) (sym c.begun.view_is) (c.self.invariant.begun c.if-self.false c.in-Some.begun c.in-Some.is) in
+    let b : NewFile = record { name = c.begun.inside.name; place = c.begun.inside.place; room = c.begun.inside.room; written = c.begun.inside.written } in
+    let lies : IsBegun d b = subst (λ (x : NewFile). IsBegun d x) (sym c.begun.view_is) (c.self.invariant.begun c.if-self.false c.in-Some.begun c.in-Some.is) in
     let kept' = c.self.invariant.kept c.if-self.false in
     write-failed c.directory_blocks.ensures c.files_found.ensures c.rooms.ensures.lie c.rooms.ensures.outside old _ d b c.in-Err.ensures.err.words
-    (ap (λ (m : Mounted). m.stopped) (sym c.self.view_is) ∙ c.if-self.false)
-    (ap (λ (m : Mounted). m.tentative) (sym c.self.view_is) ∙ c.in-Some.is ∙ ap Some (sym c.begun.view_is))
+    (ap (λ (m : MountState). m.stopped) (sym c.self.view_is) ∙ c.if-self.false)
+    (ap (λ (m : MountState). m.tentative) (sym c.self.view_is) ∙ c.in-Some.is ∙ ap Some (sym c.begun.view_is))
     kept is lies c.if-written-room.false
     (c.in-Err.ensures.err.rest ∙ ap (λ bs. slice_set bs (b.place + b.written) c.in-Err.ensures.err.words) (sym same))
-    (c.write-result.ensures.writes ∙ ap (λ (m : Mounted). counted m.writes) c.self.view_is)
+    (c.write-result.ensures.writes ∙ ap (λ (m : MountState). next_count m.writes) c.self.view_is)
     (rw (← c.self.view_is, c.write-result.ensures.reads, c.write-result.ensures.failed_reads, c.in-Err.ensures.failed_writes) (ap (λ r. record {
       blocks = g.S.BlockStore.contents c.write-result.new.self;
       reads = g.S.BlockStore.reads c.self.inside.store;
@@ -107,7 +107,7 @@ returns-in-Err-clause-call g c =
       failed_reads = g.S.BlockStore.failed_reads c.self.inside.store;
       failed_writes = g.S.BlockStore.failed_writes c.self.inside.store + 1;
       stopped = true;
-      last = listed_or r;
+      last = directory_or r;
       holds = c.self.inside.holds.items;
       tentative = c.self.inside.tentative;
     }) (sym kept')))

@@ -1,5 +1,5 @@
 use Rattle.std.proofs.Common.{◌≡◌, ◌+◌, ◌-◌, ◌*◌, ◌≤◌, ◌++◌, ℕ, List, length}
-use Rattle.os8_files.specs.Mounted.{Begun}
+use Rattle.os8_files.specs.Mounted.{NewFile}
 use Rattle.os8_files.specs.Steps.{HasFilled}
 use Rattle.os8_files.proofs.service.putting.fill.Given as goal
 
@@ -7,7 +7,7 @@ use Rattle.os8_files.proofs.service.putting.fill.Given as goal
 abbrev pub invariant-loop-written : goal.invariant-loop-written
 invariant-loop-written g l = record {
   left : (256 * l.written + length l.rest ≡ 256 * l.blocks) × (l.written ≤ l.blocks);
-  text : (prefix : List ℕ) × (begun : Begun) × (l.words ≡ prefix ++ l.rest) × HasFilled l.fn.files begun prefix l.written l.files × (l.blocks ≤ begun.room) × (begun.name ≡ l.tentative);
+  text : (prefix : List ℕ) × (begun : NewFile) × (l.words ≡ prefix ++ l.rest) × HasFilled l.fn.files begun prefix l.written l.files × (l.blocks ≤ begun.room) × (begun.name ≡ l.tentative);
   token : l.tentative ≡ l.fn.tentative;
 }
 

@@ -24,5 +24,5 @@ returns c = λ sources left is more this.
     first_turn c.source_ends_join.ensures c.no_word_is_told.ensures sources left c.args.self.now c.args.block.now c.pass_block.new.offset c.blocks_at.result c.count-sources.result c.pass_block.new.pass c.begin_second_pass.new.pass c.begin_second_pass.result is more c.requires.first this
     (c.blocks_at.ensures ∙ ap (λ l. get_or l c.args.self.now.source 0) c.deref.ensures.value) (sym c.follows.ensures.follows ∙ c.if-follows.false) (c.count-sources.ensures ∙ ap (λ l. length l) c.deref-2.ensures.value) (sym c.follows-2.ensures.follows ∙ c.if-follows-2.false)
     c.in_ok-pass_block.ensures.passes c.in_ok-pass_block.ensures.ended c.in_ok-pass_block.ensures.none c.begin_second_pass.ensures.turns
-    (fresh_lexer c.begin_second_pass.result c.lexer_of-lexer.result c.begin_second_pass.new.pass.lexer c.begin_second_pass.new.pass.ended (length c.args.self.now.blocks.items) c.begin_second_pass.ensures.lexer c.lexer_of-lexer.ensures.read
+    (fresh_lexer c.begin_second_pass.result c.lexer_of-lexer.result c.begin_second_pass.new.pass.lexer c.begin_second_pass.new.pass.is_at_end (length c.args.self.now.blocks.items) c.begin_second_pass.ensures.lexer c.lexer_of-lexer.ensures.read
     (c.lexer_of-lexer.ensures.several ∙ ap (λ l. nat_lt 1 (length l)) c.deref-3.ensures.value))

@@ -1,6 +1,6 @@
 use Rattle.std.proofs.Common.{ap, ◌∙◌}
 use Rattle.pal_lex.specs.Drafting.{Cut}
-use Rattle.pal_lex.specs.JudgeSteps.{paused}
+use Rattle.pal_lex.specs.JudgeSteps.{after_pause}
 use Rattle.pal_lex.specs.declared.lexing.State.TheVariants.{Paused}
 use Rattle.pal_lex.specs.declared.runs.Radix.TheVariants.{Octal}
 use Rattle.pal_lex.proofs.lexing.Lexer.pause.Goals as goal
@@ -18,4 +18,4 @@ returns-clause-paused c =
       keeps_tokens = c.self.inside.keeps_tokens;
       draft = d;
     }) (c.take-tokens.ensures.anew Octal)
-    ∙ ap paused c.self.view_is
+    ∙ ap after_pause c.self.view_is

@@ -4,7 +4,7 @@ use Rattle.jobs8.specs.Settled.{plain_jobs}
 use Rattle.session8.specs.ConsoleSteps.{ConsoleDoes}
 use Rattle.script8.specs.declared.entries.Entry.TheVariants as entry
 use Rattle.session8.specs.Console.{is_within_limits}
-use Rattle.session8.specs.Session.{Seen}
+use Rattle.session8.specs.Session.{SessionView}
 use Rattle.session8.proofs.SessionLemmas.{console_shown, console_undone, console_full, console_unlimited}
 use Rattle.session8.proofs.LeavesLemmas.{leaves_same}
 use Rattle.session8.proofs.sessions.Session.operate.Goals.{in-Ok, in-Err-TooManyBreaks, in-Err-Memory}
@@ -12,7 +12,7 @@ use Rattle.session8.proofs.sessions.Session.operate.Goals as goal
 
 pub returns-clause-does : goal.returns-clause-does
 returns-clause-does g c =
-    let old : Seen = record { volume = c.self.inside.files; jobs = plain_jobs c.self.inside.jobs; console = c.self.inside.console } in
+    let old : SessionView = record { volume = c.self.inside.files; jobs = plain_jobs c.self.inside.jobs; console = c.self.inside.console } in
     let within : is_within_limits c.args.asked.now ≡ true = sym c.is_within_limits.ensures ∙ c.if-not-is_within_limits.false in
     elim c.match-enter.branch [
       | in-Ok w ↦ rw (w.result-is, ← c.self.view_is)
@@ -29,4 +29,4 @@ pub returns-then-not-is_within_limits-clause-does : goal.returns-then-not-is_wit
 returns-then-not-is_within_limits-clause-does g c = console_unlimited c.args.asked.now c.args.self.now (sym c.is_within_limits.ensures ∙ c.if-not-is_within_limits.true)
 
 pub returns-clause-leaves : goal.returns-clause-leaves
-returns-clause-leaves g c = leaves_same (entry.Console c.args.asked.now) c.args.self.now _ (ap (λ (s : Seen). s.volume) c.self.view_is)
+returns-clause-leaves g c = leaves_same (entry.Console c.args.asked.now) c.args.self.now _ (ap (λ (s : SessionView). s.volume) c.self.view_is)

@@ -1,5 +1,5 @@
 use Rattle.std.proofs.Common.{◌≡◌, false, sym, subst}
-use Rattle.session8.specs.Session.{state_of, NoCallFailed, IsLater, Seen}
+use Rattle.session8.specs.Session.{state_of, NoCallFailed, IsLater, SessionView}
 use Rattle.session8.specs.System.{MayAnswer}
 use Rattle.std.proofs.KnownBytes.{Appends-nil}
 use Rattle.session8.proofs.ToldLemmas.{entry_told, entry_undone}
@@ -11,9 +11,9 @@ returns-then-is_memory-clause-told g c quiet = entry_undone c.args.entry.now _ _
 
 pub returns-clause-told : goal.returns-clause-told
 returns-clause-told g c quiet =
-    let before = subst (λ (s : Seen). NoCallFailed c.args.self.now s) c.tell.ensures.same quiet in
+    let before = subst (λ (s : SessionView). NoCallFailed c.args.self.now s) c.tell.ensures.same quiet in
     entry_told _ c.step-answer.result _ _ _ _ c.tell.result
-    (subst (λ (s : Seen). MayAnswer (state_of c.args.self.now) c.args.entry.now c.step-answer.result (state_of s)) (sym c.tell.ensures.same) (c.step-answer.ensures.does.step before))
+    (subst (λ (s : SessionView). MayAnswer (state_of c.args.self.now) c.args.entry.now c.step-answer.result (state_of s)) (sym c.tell.ensures.same) (c.step-answer.ensures.does.step before))
     (no_memory _ (sym c.if-is_memory.ensures))
     c.tell.ensures.ok
     c.tell.ensures.err
@@ -25,9 +25,9 @@ pub returns-then-is_memory-clause-running : goal.returns-then-is_memory-clause-r
 returns-then-is_memory-clause-running g c = c.step-answer.ensures.does.running
 
 pub returns-clause-later : goal.returns-clause-later
-returns-clause-later g c = subst (λ (s : Seen). IsLater c.args.self.now s) (sym c.tell.ensures.same) c.step-answer.ensures.does.later
+returns-clause-later g c = subst (λ (s : SessionView). IsLater c.args.self.now s) (sym c.tell.ensures.same) c.step-answer.ensures.does.later
 
 pub returns-clause-running : goal.returns-clause-running
 returns-clause-running g c quiet =
-    subst (λ (s : Seen). s.volume.stopped ≡ false) (sym c.tell.ensures.same)
-    (c.step-answer.ensures.does.running (subst (λ (s : Seen). NoCallFailed c.args.self.now s) c.tell.ensures.same quiet))
+    subst (λ (s : SessionView). s.volume.stopped ≡ false) (sym c.tell.ensures.same)
+    (c.step-answer.ensures.does.running (subst (λ (s : SessionView). NoCallFailed c.args.self.now s) c.tell.ensures.same quiet))

@@ -3,7 +3,7 @@ use Rattle.std.proofs.KnownBytes.{Appends-nil}
 use Rattle.jobs8.specs.Jobs.{turns_left}
 use Rattle.script8.specs.declared.entries.Entry.TheVariants as entry
 use Rattle.script8.specs.declared.entries.JobEntry.TheVariants as order
-use Rattle.session8.specs.Session.{Seen, state_of, NoCallFailed, IsLater}
+use Rattle.session8.specs.Session.{SessionView, state_of, NoCallFailed, IsLater}
 use Rattle.session8.specs.System.{MayAnswer}
 use Rattle.session8.proofs.EntryLemmas.{memory_is, no_memory, not_err, on_ok}
 use Rattle.session8.proofs.ToldLemmas.{turn_told, turn_working}
@@ -33,21 +33,21 @@ returns-then-is_working-clause-running g c = c.turn-answer.ensures.does.running
 
 pub returns-clause-told : goal.returns-clause-told
 returns-clause-told g c quiet =
-    let before = subst (λ (s : Seen). NoCallFailed c.args.self.now s) c.tell.ensures.same quiet in
+    let before = subst (λ (s : SessionView). NoCallFailed c.args.self.now s) c.tell.ensures.same quiet in
     turn_told c.args.number c.turn-answer.result _ _ _ _ c.tell.result
-    (subst (λ (s : Seen). MayAnswer (state_of c.args.self.now) (entry.Jobs (order.Turn c.args.number)) c.turn-answer.result (state_of s)) (sym c.tell.ensures.same) (c.turn-answer.ensures.does.step before))
+    (subst (λ (s : SessionView). MayAnswer (state_of c.args.self.now) (entry.Jobs (order.Turn c.args.number)) c.turn-answer.result (state_of s)) (sym c.tell.ensures.same) (c.turn-answer.ensures.does.step before))
     (no_memory _ (sym c.if-is_memory.ensures)) (sym c.if-is_working.ensures)
     c.tell.ensures.ok c.tell.ensures.err
 
 pub returns-clause-fewer : goal.returns-clause-fewer
 returns-clause-fewer g c =
-    on_ok c.tell.result (subst (λ (s : Seen). turns_left s.jobs < turns_left c.args.self.now.jobs) (sym c.tell.ensures.same)
+    on_ok c.tell.result (subst (λ (s : SessionView). turns_left s.jobs < turns_left c.args.self.now.jobs) (sym c.tell.ensures.same)
     (c.turn-answer.ensures.fewer (not_err _ (sym c.if-is_memory.ensures)) c.requires))
 
 pub returns-clause-later : goal.returns-clause-later
-returns-clause-later g c = subst (λ (s : Seen). IsLater c.args.self.now s) (sym c.tell.ensures.same) c.turn-answer.ensures.does.later
+returns-clause-later g c = subst (λ (s : SessionView). IsLater c.args.self.now s) (sym c.tell.ensures.same) c.turn-answer.ensures.does.later
 
 pub returns-clause-running : goal.returns-clause-running
 returns-clause-running g c quiet =
-    subst (λ (s : Seen). s.volume.stopped ≡ false) (sym c.tell.ensures.same)
-    (c.turn-answer.ensures.does.running (subst (λ (s : Seen). NoCallFailed c.args.self.now s) c.tell.ensures.same quiet))
+    subst (λ (s : SessionView). s.volume.stopped ≡ false) (sym c.tell.ensures.same)
+    (c.turn-answer.ensures.does.running (subst (λ (s : SessionView). NoCallFailed c.args.self.now s) c.tell.ensures.same quiet))

@@ -1,13 +1,13 @@
 use Rattle.std.proofs.Common.{◌≡◌, ◌∙◌, ◌/◌, true, false, true≢false, Ok, Err, refl, sym, ap, subst, IsErrOf, arith, Result}
 use Rattle.std.proofs.lemmas.Result.{err_from_is_err_and}
-use Rattle.char_pack.specs.Texts.{is_storable, stored}
+use Rattle.char_pack.specs.Texts.{is_storable, words_of_text}
 use Rattle.char_pack.specs.declared.faults.TextFault.{TextFault}
 use Rattle.char_pack.specs.declared.faults.TextFault.TheVariants.{BadText, Memory}
 use Rattle.jobs8.specs.Settled.{plain_jobs}
 use Rattle.os8_files.specs.Puts.{TellsRoom}
 use Rattle.script8.specs.Faults.{fault_of_file}
 use Rattle.session8.specs.Room.{IfFile}
-use Rattle.session8.specs.Session.{Seen}
+use Rattle.session8.specs.Session.{SessionView}
 use Rattle.session8.proofs.SessionLemmas.{store_refused, store_done, put_settled, storable_is, ok_err, unstored, no_text_stored, text_lacks}
 use Rattle.os8_dir.specs.Entries.{contains}
 use Rattle.script8.specs.declared.entries.Entry.TheVariants as entry
@@ -38,13 +38,13 @@ returns-in_ok-put-in-Ok-clause-does g c bytes is =
 pub returns-then-stopped-clause-does : goal.returns-then-stopped-clause-does
 returns-then-stopped-clause-does g c bytes is =
     rw (← c.self.view_is)
-    (unstored _ bytes c.args.name c.args.text.now c.unstored.result is (λ name. c.held_names.ensures _ _ name c.self.invariant.0) held c.unstored.ensures.bad
-    (λ storable halted. c.unstored.ensures.stopped storable (c.stopped-then-stopped.ensures.value ∙ halted))
-    (λ storable running. c.unstored.ensures.busy storable (c.stopped-then-stopped.ensures.value ∙ running)))
+    (unstored _ bytes c.args.name c.args.text.now c.unstored.result is (λ name. c.held_names.ensures _ _ name c.self.invariant.0) held c.store_fault.ensures.bad
+    (λ storable halted. c.store_fault.ensures.stopped storable (c.stopped-then-stopped.ensures.value ∙ halted))
+    (λ storable running. c.store_fault.ensures.busy storable (c.stopped-then-stopped.ensures.value ∙ running)))
   where
     held : c.self.inside.files.stopped ≡ false → contains c.self.inside.files.holds c.args.name ≡ true
     held running = elim c.then-stopped.branch [
-      | then-stopped-via-then-stopped w ↦ absurd (true≢false (sym w.if-stopped.true ∙ c.stopped.ensures.value ∙ running))
+      | then-stopped-via-then-stopped w ↦ absurd (true≢false (sym w.if-stopped.true ∙ c.is_stopped.ensures.value ∙ running))
       | then-stopped-via-else-stopped+then-is_held w ↦ sym w.is_held.ensures ∙ w.if-is_held.true
     ]
 
@@ -58,12 +58,12 @@ pub returns-in_err-put-in-Ok-clause-room : goal.returns-in_err-put-in-Ok-clause-
 returns-in_err-put-in-Ok-clause-room g c =
     let p = err_from_is_err_and c.from_residual.result c.from_residual.ensures.1 in
     rw (p.1, p.2)
-    (subst (λ (s : Seen). IfFile (TellsRoom s.volume.blocks c.args.name (stored c.args.text.now)) (Err (fault_of_file c.in_err-put-in-Ok.field-0.0))) c.self.view_is
-    (store_room _ _ c.args.name c.deref.result.now (stored c.args.text.now) c.in_err-put-in-Ok.field-0.0 (c.deref.ensures.value ∙ c.in-Ok.ensures.words) c.in_err-put-in-Ok.ensures.call))
+    (subst (λ (s : SessionView). IfFile (TellsRoom s.volume.blocks c.args.name (words_of_text c.args.text.now)) (Err (fault_of_file c.in_err-put-in-Ok.field-0.0))) c.self.view_is
+    (store_room _ _ c.args.name c.deref.result.now (words_of_text c.args.text.now) c.in_err-put-in-Ok.field-0.0 (c.deref.ensures.value ∙ c.in-Ok.ensures.words) c.in_err-put-in-Ok.ensures.call))
 
 pub returns-then-stopped-clause-room : goal.returns-then-stopped-clause-room
 returns-then-stopped-clause-room g c =
-    unstored_room _ c.args.name (stored c.args.text.now) c.unstored.result (is_storable c.args.text.now) c.stopped-then-stopped.result c.unstored.ensures.bad c.unstored.ensures.stopped c.unstored.ensures.busy
+    unstored_room _ c.args.name (words_of_text c.args.text.now) c.unstored.result (is_storable c.args.text.now) c.stopped-then-stopped.result c.store_fault.ensures.bad c.store_fault.ensures.stopped c.store_fault.ensures.busy
 
 pub returns-in_err-put-in-Ok-clause-leaves : goal.returns-in_err-put-in-Ok-clause-leaves
 returns-in_err-put-in-Ok-clause-leaves g c bytes is =
@@ -91,7 +91,7 @@ returns-in-Err-Memory-clause-does g c bytes is =
     rw (← c.self.view_is)
     (text_lacks _ bytes c.args.name c.args.text.now is (λ name. c.held_names.ensures _ _ name c.self.invariant.0)
     (storable_is (is_storable c.args.text.now) (λ bad. other_fault (subst (λ r. IsErrOf r BadText) (c.in-Err-Memory.is ∙ ap Err c.in-Err-Memory.field-0-is) (c.store.ensures.bad_text.1 bad))))
-    (sym c.stopped.ensures.value ∙ c.if-stopped.false) (sym c.is_held.ensures ∙ c.if-is_held.false))
+    (sym c.is_stopped.ensures.value ∙ c.if-stopped.false) (sym c.is_held.ensures ∙ c.if-is_held.false))
 
 pub returns-in-Err-Memory-clause-leaves : goal.returns-in-Err-Memory-clause-leaves
 returns-in-Err-Memory-clause-leaves g c bytes is = leaves_same (entry.Files (filing.Store bytes c.args.text.now)) c.args.self.now _ refl

@@ -5,7 +5,7 @@ use Rattle.jobs8.specs.Jobs.{job_of, lowest_job, turns_left}
 use Rattle.jobs8.specs.Settled.{plain_jobs}
 use Rattle.script8.specs.declared.entries.Entry.TheVariants as entry
 use Rattle.script8.specs.declared.entries.JobEntry.TheVariants as order
-use Rattle.session8.specs.Session.{Seen}
+use Rattle.session8.specs.Session.{SessionView}
 use Rattle.session8.specs.SessionSteps.{DoesEntry}
 use Rattle.session8.specs.State.{Console}
 use Rattle.session8.proofs.LeavesLemmas.{turn_leaves}
@@ -25,11 +25,11 @@ returns-clause-does g c =
 
 pub returns-clause-fewer : goal.returns-clause-fewer
 returns-clause-fewer g c other low =
-    subst (λ (s : Seen). turns_left (plain_jobs c.turn.new.jobs) < turns_left s.jobs) c.self.view_is (turn_fewer c.job_numbers.ensures.lowest c.self.inside.files c.turn.new.files c.self.inside.console.machine.core c.turn.new.self.machine.core c.self.inside.jobs c.turn.new.jobs c.args.number c.turn.result
+    subst (λ (s : SessionView). turns_left (plain_jobs c.turn.new.jobs) < turns_left s.jobs) c.self.view_is (turn_fewer c.job_numbers.ensures.lowest c.self.inside.files c.turn.new.files c.self.inside.console.machine.core c.turn.new.self.machine.core c.self.inside.jobs c.turn.new.jobs c.args.number c.turn.result
     (elim c.match-turn.branch [
       | in-Ok w ↦ (λ is. never_number _ _ (sym w.in-Ok.is ∙ is))
       | in-Err w ↦ (λ is. not_lacking c.match-turn.result w.in-Err.fault other (w.result-is ∙ ap Err w.fault_of_job.ensures) (sym w.in-Err.is ∙ is))
-    ]) (ap (λ (s : Seen). lowest_job s.jobs) c.self.view_is ∙ low) c.turn.ensures.turn)
+    ]) (ap (λ (s : SessionView). lowest_job s.jobs) c.self.view_is ∙ low) c.turn.ensures.turn)
 
 pub returns-clause-leaves : goal.returns-clause-leaves
 returns-clause-leaves g c = rw (← c.self.view_is) (turn_leaves c.job_calls.ensures.places c.job_calls.ensures.reads c.args.number _ _ c.self.inside.jobs refl c.turn.ensures.turn.calls)

@@ -3,7 +3,7 @@ use Rattle.cpu8.specs.State.{State}
 use Rattle.cpu8.specs.declared.outcomes.Stepped.TheVariants.{Ran}
 use Rattle.terminal8.specs.Asks.{asks_for_key}
 use Rattle.terminal8.specs.Fetches.{AddsFetches}
-use Rattle.terminal8.specs.Terminal.{Terminal, later, stepped}
+use Rattle.terminal8.specs.Terminal.{Terminal, later, after_step}
 use Rattle.terminal8.proofs.FetchLemmas.{not-asked, later-alone, answers-alone, asks-alone, adds-alone}
 use Rattle.terminal8.proofs.terminals.Terminal.go_on_counting.Goals as goal
 
@@ -24,7 +24,7 @@ returns c =
           ap (λ (s : State). let x : Terminal = record t { machine = s; since = t.since + made } in x) did.state
           ∙ sym (later-alone made t asks)
           ∙ ap (λ x. later made x) c.self.view_is;
-      answers = subst (λ x. (k : ℕ) → k < made → (stepped (later k x)).1 ≡ Ran None) c.self.view_is (answers-alone t made did.unasked asks);
+      answers = subst (λ x. (k : ℕ) → k < made → (after_step (later k x)).1 ≡ Ran None) c.self.view_is (answers-alone t made did.unasked asks);
       asks =
           subst (λ x. (k : ℕ) → k < made → asks_for_key (later k x).since (later k x).machine ≡ false) c.self.view_is
           (asks-alone t made asks);

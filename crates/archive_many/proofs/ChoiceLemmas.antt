@@ -1,0 +1,46 @@
+-- Words that choose files are short.
+use Rattle.std.proofs.Common.{◌≡◌, ◌<◌, ◌≤◌, ℕ, Bool, true, false, true≢false, cond, Option, Some, None, List, length, refl, sym, ap, arith}
+use Rattle.std.specs.Prelude.{◌&&◌, nat_le}
+use Rattle.std.specs.Option.{is_some}
+use Rattle.std.proofs.lemmas.Bool.Decides.{nat_tests}
+use Rattle.os8_dir.specs.Names.{after_dot, before_dot, parsed_name}
+use Rattle.archive_many.specs.Patterns.{are_of_pattern, are_within, has_sign, is_choice, is_extension_pattern, is_pattern}
+use Rattle.archive_many.proofs.HostLemmas.{behind-dot, length-parts, none-if}
+
+both-hold : (a b : Bool) → (a && b) ≡ true → (a ≡ true) × (b ≡ true)
+both-hold true b is = (refl, is)
+both-hold false b is = absurd (true≢false (sym is))
+
+at-most : (size most : ℕ) → nat_le size most ≡ true → size ≤ most
+at-most size most is = grind (arith, nat_tests)
+
+short : (most : ℕ) (part : List ℕ) → are_within most part ≡ true → length part ≤ most
+short most part is =
+    at-most (length part) most
+    (both-hold (nat_le (length part) most) (are_of_pattern part) (both-hold (nat_le 1 (length part)) (nat_le (length part) most && are_of_pattern part) is).1).0
+
+short-extension : (o : Option (List ℕ)) → is_extension_pattern o ≡ true → behind-dot o ≤ 5
+short-extension None is = omega arith
+short-extension (Some part) is = let few = short 4 part is in omega (arith, few)
+
+short-pattern : (word : List ℕ) → is_pattern word ≡ true → length word ≤ 17
+short-pattern word is =
+    let parts = both-hold (are_within 12 (before_dot word)) (is_extension_pattern (after_dot word)) is in
+    let stem = short 12 (before_dot word) parts.0 in
+    let extension = short-extension (after_dot word) parts.1 in
+    let sum = length-parts word in
+    omega (arith, sum, stem, extension)
+
+no-pattern : (b : Bool) (word : List ℕ) → is_pattern word ≡ b → 17 < length word → is_pattern word ≡ false
+no-pattern false word is long = is
+no-pattern true word is long = let few = short-pattern word is in absurd (omega (arith, few, long))
+
+either-false : (b one two : Bool) → one ≡ false → two ≡ false → false ≡ cond b one two
+either-false true one two first second = sym first
+either-false false one two first second = sym second
+
+-- a longer word is no choice
+pub long-no-choice : (word : List ℕ) → 17 < length word → false ≡ is_choice word
+long-no-choice word long =
+    either-false (has_sign word) (is_pattern word) (is_some (parsed_name word)) (no-pattern (is_pattern word) word refl long)
+    (ap is_some (sym (none-if word (parsed_name word) refl (omega (arith, long)))))

@@ -1,0 +1,200 @@
+-- The files that are told of a volume.
+use Rattle.std.proofs.Common.{◌≡◌, ◌≢◌, ◌∙◌, ◌<◌, ◌≤◌, ◌+◌, ℕ, zero, suc, Bool, true, false, true≢false, cond, Option, Some, None, Result, Ok, Err, List, [], ◌∷◌, ◌++◌, length, append_assoc, map, refl, sym, ap, subst, arith, inl, inr}
+use Rattle.std.specs.Prelude.{◌==◌, codes, decimal}
+use Rattle.std.proofs.lemmas.Bool.Decides.{eqb_tells}
+use Rattle.std.proofs.lemmas.Fmt.{decimal_injective}
+use Rattle.os8_dir.specs.declared.entries.DirEntry.{DirEntry}
+use Rattle.os8_dir.specs.declared.entries.DirEntry.TheVariants as entry
+use Rattle.os8_dir.specs.declared.faults.DirFault.{DirFault}
+use Rattle.os8_dir.specs.Entries.{AreDistinct, DirectoryState, contains, names_of}
+use Rattle.os8_dir.specs.Found.{AreApart, IsDirectory, FilePlace, extent_of, files_at, find}
+use Rattle.os8_dir.specs.Names.{parsed_name, before_dot, after_dot, codes_within, extension_codes}
+use Rattle.os8_dir.specs.Reading.{directory_of}
+use Rattle.os8_dir.specs.Files.{FileData}
+use Rattle.volume_image.specs.Volume.{IsVolume}
+use Rattle.archive_many.specs.Opened.{LiesOn, file_at, files_or}
+use Rattle.archive_many.specs.HostNames.{NamesHost}
+use Rattle.archive_many.specs.declared.opened.VolumeFile.{VolumeFile}
+use Rattle.archive_many.proofs.FileLemmas.{FoundSo, lies}
+use Rattle.archive_many.proofs.HostLemmas.{typed, within}
+
+-- ## Lists
+
+no-end : {X : Type 0} (before behind : List X) (x : X) → [] ≡ before ++ x ∷ behind → ⊥
+no-end [] behind x is = cc
+no-end (y ∷ before) behind x is = cc
+
+same-first : {X : Type 0} (x y : X) (xs ys : List X) → x ∷ xs ≡ y ∷ ys → x ≡ y
+same-first x y xs ys is = cc
+
+same-behind : {X : Type 0} (x y : X) (xs ys : List X) → x ∷ xs ≡ y ∷ ys → xs ≡ ys
+same-behind x y xs ys is = cc
+
+-- the names of files
+abbrev names : List FilePlace → List ℕ
+names [] = []
+names (f ∷ fs) = f.name ∷ names fs
+
+names-at : (place : ℕ) (es : List DirEntry) → names (files_at place es) ≡ names_of es
+names-at place [] = refl
+names-at place (entry.File name info zero ∷ es) = names-at place es
+names-at place (entry.File name info (suc size) ∷ es) = ap (λ l. name ∷ l) (names-at (place + suc size) es)
+names-at place (entry.Empty size ∷ es) = names-at (place + size) es
+
+-- ## Found
+
+found-step : (b : Bool) (f g : FilePlace) (o : Option FilePlace) (known : Bool) → cond b (Some f) o ≡ Some g → (o ≡ Some g → known ≡ true) → cond b true known ≡ true
+found-step true f g o known is rest = refl
+found-step false f g o known is rest = rest is
+
+found-contains : (fs : List FilePlace) (name : ℕ) (g : FilePlace) → find name fs ≡ Some g → contains (names fs) name ≡ true
+found-contains [] name g is = absurd (cc)
+found-contains (f ∷ fs) name g is = found-step (f.name == name) f g (find name fs) (contains (names fs) name) is (found-contains fs name g)
+
+-- a file of a list is found by its name, where no name stands twice
+record Found (fs : List FilePlace) (file : VolumeFile) : Type 0 where
+  placed : FilePlace
+  found : find file.name fs ≡ Some placed
+  is : file_at placed ≡ file
+
+found-first : (f : FilePlace) (fs : List FilePlace) (file : VolumeFile) → file_at f ≡ file → find file.name (f ∷ fs) ≡ Some f
+found-first f fs file is = elim (eqb_tells f.name file.name) [
+  | inl p ↦ ap (λ b. cond b (Some f) (find file.name fs)) p.0
+  | inr p ↦ absurd (p.1 (ap (λ (v : VolumeFile). v.name) is))
+]
+
+found-later : (f : FilePlace) (fs : List FilePlace) (file : VolumeFile) (g : FilePlace) → contains (names fs) f.name ≡ false → find file.name fs ≡ Some g → find file.name (f ∷ fs) ≡ Some g
+found-later f fs file g none is = elim (eqb_tells f.name file.name) [
+  | inl p ↦ absurd (true≢false (sym (found-contains fs file.name g is) ∙ ap (contains (names fs)) (sym p.1) ∙ none))
+  | inr p ↦ ap (λ b. cond b (Some f) (find file.name fs)) p.0 ∙ is
+]
+
+found-in : (fs : List FilePlace) (before behind : List VolumeFile) (file : VolumeFile) → AreDistinct (names fs) → map file_at fs ≡ before ++ file ∷ behind → Found fs file
+found-in [] before behind file distinct is = absurd (no-end before behind file is)
+found-in (f ∷ fs) [] behind file distinct is =
+    let first = same-first (file_at f) file (map file_at fs) behind is in
+    record { placed = f; found = found-first f fs file first; is = first }
+found-in (f ∷ fs) (b ∷ before) behind file distinct is =
+    let rest = found-in fs before behind file distinct.1 (same-behind (file_at f) b (map file_at fs) (before ++ file ∷ behind) is) in
+    record { placed = rest.placed; found = found-later f fs file rest.placed distinct.0 rest.found; is = rest.is }
+
+-- ## Where they lie
+
+record Read (read : Result DirectoryState DirFault) (files : List VolumeFile) : Type 0 where
+  directory : DirectoryState
+  is_read : read ≡ Ok directory
+  files_are : map file_at (files_at directory.first directory.entries) ≡ files
+
+read-files : (read : Result DirectoryState DirFault) (before behind : List VolumeFile) (file : VolumeFile) → files_or read ≡ before ++ file ∷ behind → Read read (before ++ file ∷ behind)
+read-files (Ok d) before behind file is = record { directory = d; is_read = refl; files_are = is }
+read-files (Err fault) before behind file is = absurd (no-end before behind file is)
+
+abbrev SoundSo : Type 0
+SoundSo = (blocks : List (List ℕ)) (d : DirectoryState) → directory_of blocks ≡ Ok d → IsDirectory (length blocks) d
+
+pub each-lies : FoundSo → SoundSo → (blocks : List (List ℕ)) (before behind : List VolumeFile) (file : VolumeFile) → files_or (directory_of blocks) ≡ before ++ file ∷ behind → (held : FileData) × LiesOn blocks file held
+each-lies law sound blocks before behind file is =
+    let read = read-files (directory_of blocks) before behind file is in
+    let d = read.directory in
+    let so = found-in (files_at d.first d.entries) before behind file (subst AreDistinct (sym (names-at d.first d.entries)) (sound blocks d read.is_read).single) read.files_are in
+    lies law blocks d file so.placed.place so.placed.size read.is_read (sym (ap extent_of so.found)) (ap (λ (v : VolumeFile). v.place) so.is) (ap (λ (v : VolumeFile). v.blocks) so.is)
+
+-- a file of a list begins at its bound or behind it
+begins-behind : (from bound : ℕ) (fs : List FilePlace) (before behind : List VolumeFile) (file : VolumeFile) → AreApart from bound fs → map file_at fs ≡ before ++ file ∷ behind → from ≤ file.place
+begins-behind from bound [] before behind file apart is = absurd (no-end before behind file is)
+begins-behind from bound (f ∷ fs) [] behind file apart is =
+    let place : f.place ≡ file.place = ap (λ (v : VolumeFile). v.place) (same-first (file_at f) file (map file_at fs) behind is) in
+    omega (arith, place, apart.0)
+begins-behind from bound (f ∷ fs) (b ∷ before) behind file apart is =
+    let rest = begins-behind (f.place + f.size) bound fs before behind file apart.2 (same-behind (file_at f) b (map file_at fs) (before ++ file ∷ behind) is) in
+    omega (arith, rest, apart.0)
+
+apart-ends : (from bound : ℕ) (fs : List FilePlace) → AreApart from bound fs → from ≤ bound
+apart-ends from bound [] apart = apart
+apart-ends from bound (f ∷ fs) apart = let rest = apart-ends (f.place + f.size) bound fs apart.2 in omega (arith, rest, apart.0)
+
+begins-before : (from bound : ℕ) (fs : List FilePlace) (before behind : List VolumeFile) (file : VolumeFile) → AreApart from bound fs → map file_at fs ≡ before ++ file ∷ behind → file.place ≤ bound
+begins-before from bound [] before behind file apart is = absurd (no-end before behind file is)
+begins-before from bound (f ∷ fs) [] behind file apart is =
+    let place : f.place ≡ file.place = ap (λ (v : VolumeFile). v.place) (same-first (file_at f) file (map file_at fs) behind is) in
+    let rest = apart-ends (f.place + f.size) bound fs apart.2 in
+    omega (arith, place, rest)
+begins-before from bound (f ∷ fs) (b ∷ before) behind file apart is =
+    begins-before (f.place + f.size) bound fs before behind file apart.2 (same-behind (file_at f) b (map file_at fs) (before ++ file ∷ behind) is)
+
+-- of two the second begins behind the first
+in-order : (from bound : ℕ) (fs : List FilePlace) (before between behind : List VolumeFile) (one two : VolumeFile) → AreApart from bound fs → map file_at fs ≡ before ++ one ∷ (between ++ two ∷ behind) → one.place < two.place
+in-order from bound [] before between behind one two apart is = absurd (no-end before (between ++ two ∷ behind) one is)
+in-order from bound (f ∷ fs) [] between behind one two apart is =
+    let place : f.place ≡ one.place = ap (λ (v : VolumeFile). v.place) (same-first (file_at f) one (map file_at fs) (between ++ two ∷ behind) is) in
+    let rest = begins-behind (f.place + f.size) bound fs between behind two apart.2 (same-behind (file_at f) one (map file_at fs) (between ++ two ∷ behind) is) in
+    omega (arith, place, rest, apart.1)
+in-order from bound (f ∷ fs) (b ∷ before) between behind one two apart is =
+    in-order (f.place + f.size) bound fs before between behind one two apart.2 (same-behind (file_at f) b (map file_at fs) (before ++ one ∷ (between ++ two ∷ behind)) is)
+
+-- ## Names of the host
+
+some-eq : {X : Type 0} (x y : X) → Some x ≡ Some y → x ≡ y
+some-eq x y same = cc
+
+none-known : (known : List ℕ) → ◌≡◌ {A = Option (List ℕ)} None (Some known) → ⊥
+none-known known is = cc
+
+-- no typed name begins with a small letter
+never-typed : (rest : List ℕ) (name : ℕ) → parsed_name (codes "at-" ++ rest) ≡ Some name → ⊥
+never-typed rest name is =
+    let parts = typed (codes_within 6 (before_dot (codes "at-" ++ rest))) (extension_codes (after_dot (codes "at-" ++ rest))) name is in
+    none-known parts.codes (within 6 (before_dot (codes "at-" ++ rest)) parts.codes parts.stem_is).1
+
+-- two files of one name are one
+one-file : (fs : List FilePlace) (one two : VolumeFile) → Found fs one → Found fs two → one.name ≡ two.name → one.place ≡ two.place
+one-file fs one two first second same =
+    let placed : first.placed ≡ second.placed = some-eq first.placed second.placed (sym first.found ∙ ap (λ n. find n fs) same ∙ second.found) in
+    ap (λ (v : VolumeFile). v.place) (sym first.is ∙ ap file_at placed ∙ second.is)
+
+-- two files are told of a volume, one behind the other
+record AreTwo (blocks : List (List ℕ)) (one two : VolumeFile) : Type 0 where
+  files : List FilePlace
+  first : Found files one
+  second : Found files two
+  order : one.place < two.place
+  end : two.place ≤ length blocks
+
+are-two : SoundSo → (blocks : List (List ℕ)) (before between behind : List VolumeFile) (one two : VolumeFile) → files_or (directory_of blocks) ≡ before ++ one ∷ (between ++ two ∷ behind) → AreTwo blocks one two
+are-two sound blocks before between behind one two is =
+    let read = read-files (directory_of blocks) before (between ++ two ∷ behind) one is in
+    let d = read.directory in
+    let directory = sound blocks d read.is_read in
+    let single = subst AreDistinct (sym (names-at d.first d.entries)) directory.single in
+    let parted = read.files_are ∙ sym (append_assoc before (one ∷ between) (two ∷ behind)) in
+    record {
+      files = files_at d.first d.entries;
+      first = found-in (files_at d.first d.entries) before (between ++ two ∷ behind) one single read.files_are;
+      second = found-in (files_at d.first d.entries) (before ++ one ∷ between) behind two single parted;
+      order = in-order d.first (length blocks) (files_at d.first d.entries) before between behind one two directory.apart read.files_are;
+      end = begins-before d.first (length blocks) (files_at d.first d.entries) (before ++ one ∷ between) behind two directory.apart parted;
+    }
+
+same-decimal : (p q : List ℕ) → codes "at-" ++ p ≡ codes "at-" ++ q → p ≡ q
+same-decimal p q is = same-behind 0o55 0o55 p q (same-behind 0o164 0o164 (0o55 ∷ p) (0o55 ∷ q) (same-behind 0o141 0o141 (0o164 ∷ 0o55 ∷ p) (0o164 ∷ 0o55 ∷ q) is))
+
+at-places : (blocks : List (List ℕ)) (one two : VolumeFile) → AreTwo blocks one two → IsVolume blocks → decimal one.place ≡ decimal two.place → ⊥
+at-places blocks one two both volume same =
+    let equal = decimal_injective one.place two.place (omega (arith, both.order, both.end, volume.most)) (omega (arith, both.end, volume.most)) same in
+    omega (arith, equal, both.order)
+
+hosts-differ : (blocks : List (List ℕ)) (one two : VolumeFile) (text other : List ℕ) → AreTwo blocks one two → IsVolume blocks → NamesHost one text → NamesHost two other → text ≢ other
+hosts-differ blocks one two text other both volume (inl spelled) (inl also) same =
+    let place = one-file both.files one two both.first both.second (some-eq one.name two.name (sym spelled ∙ ap parsed_name same ∙ also)) in
+    omega (arith, place, both.order)
+hosts-differ blocks one two text other both volume (inl spelled) (inr also) same =
+    never-typed (decimal two.place) one.name (sym (ap parsed_name (same ∙ also.1)) ∙ spelled)
+hosts-differ blocks one two text other both volume (inr untyped) (inl also) same =
+    never-typed (decimal one.place) two.name (sym (ap parsed_name (sym same ∙ untyped.1)) ∙ also)
+hosts-differ blocks one two text other both volume (inr untyped) (inr also) same =
+    at-places blocks one two both volume (same-decimal (decimal one.place) (decimal two.place) (sym untyped.1 ∙ same ∙ also.1))
+
+pub names-differ : SoundSo → (blocks : List (List ℕ)) (before between behind : List VolumeFile) (one two : VolumeFile) (text other : List ℕ) → IsVolume blocks
+    → files_or (directory_of blocks) ≡ before ++ one ∷ (between ++ two ∷ behind) → NamesHost one text → NamesHost two other → text ≢ other
+names-differ sound blocks before between behind one two text other volume is first second =
+    hosts-differ blocks one two text other (are-two sound blocks before between behind one two is) volume first second

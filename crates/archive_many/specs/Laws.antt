@@ -1,0 +1,82 @@
+-- What holds of files that were put into an image at once, of words that choose files, and of the files of a volume.
+use Rattle.std.specs.Prelude.{◌≡◌, ◌≢◌, ℕ, ◌<◌, true, codes, Option, Some, Ok, List, [], ◌∷◌, ◌++◌, All}
+use Rattle.std.specs.Global.{Vec}
+use Rattle.std.specs.FinMap.{get}
+use Rattle.volume_image.specs.Volume.{IsVolume}
+use Rattle.char_pack.specs.declared.forms.GetForm.{GetForm}
+use Rattle.char_pack.specs.declared.forms.GetForm.TheVariants as get_as
+use Rattle.char_pack.specs.declared.forms.PutForm.TheVariants as put_as
+use Rattle.os8_dir.specs.Names.{parsed_name}
+use Rattle.os8_dir.specs.Files.{FileData, files_of}
+use Rattle.archive8.specs.Opening.{IsOpened}
+use Rattle.archive8.specs.Getting.{IsGiven}
+use Rattle.archive8.specs.Laws.{whole_blocks}
+use Rattle.archive_many.specs.Opened.{GetsFile, LiesOn, OpensVolume, files_on}
+use Rattle.archive_many.specs.Putting.{PutsAll, words_in}
+use Rattle.archive_many.specs.Patterns.{is_choice, matches}
+use Rattle.archive_many.specs.HostNames.{NamesHost}
+use Rattle.archive_many.specs.declared.opened.VolumeFile.{VolumeFile}
+use Rattle.archive_many.specs.declared.putting.NewFile.{NewFile}
+use Rattle.archive_many.specs.declared.putting.ManyImage.{ManyImage}
+
+-- ## Files that were put
+
+-- the volume of an image has a file of a name, which is this
+pub record HoldsFile (image : List ℕ) (name : ℕ) (held : FileData) : Type 0 where
+  pub blocks : List (List ℕ)
+  pub opened : IsOpened image blocks
+  pub there : get (files_of blocks) name ≡ Some held
+
+-- none of some new files has the name
+abbrev pub IsNoneOf : ℕ → List NewFile → Type 0
+IsNoneOf name [] = Unit {0}
+IsNoneOf name (file ∷ files) = (file.name ≢ name) × IsNoneOf name files
+
+-- a file whose name no later one has is there with its words
+abbrev pub PutAreThere : Type 0
+PutAreThere = (image : List ℕ) (before behind : List NewFile) (file : NewFile) (info : Option (List ℕ)) (new : ManyImage) → PutsAll image (before ++ file ∷ behind) info (Ok new)
+    → IsNoneOf file.name behind → (words : List ℕ) × HoldsFile new.bytes.items file.name (words, words_in file)
+
+-- and what is got of it from the new image is given of these words
+abbrev pub PutAreGot : Type 0
+PutAreGot = (image : List ℕ) (before behind : List NewFile) (file : NewFile) (info : Option (List ℕ)) (new : ManyImage) (blocks : List (List ℕ)) (found : VolumeFile) (form : GetForm) (bytes : Vec ℕ)
+    → PutsAll image (before ++ file ∷ behind) info (Ok new) → IsNoneOf file.name behind → OpensVolume new.bytes.items (Ok blocks) → found.name ≡ file.name
+    → GetsFile blocks found form (Ok bytes) → IsGiven form (words_in file) bytes.items
+
+-- so frames that were put are got again, with zeros after them to the end of their last block
+abbrev pub PutFramesAreGot : Type 0
+PutFramesAreGot = (image : List ℕ) (before behind : List NewFile) (file : NewFile) (info : Option (List ℕ)) (new : ManyImage) (blocks : List (List ℕ)) (found : VolumeFile) (bytes : Vec ℕ)
+    → PutsAll image (before ++ file ∷ behind) info (Ok new) → IsNoneOf file.name behind → OpensVolume new.bytes.items (Ok blocks) → found.name ≡ file.name
+    → file.form ≡ put_as.Frames → All (λ byte. byte < 256) file.bytes.items → GetsFile blocks found get_as.Frames (Ok bytes) → bytes.items ≡ whole_blocks file.bytes.items
+
+-- any other file is there as it was
+abbrev pub OthersStay : Type 0
+OthersStay = (image : List ℕ) (files : List NewFile) (info : Option (List ℕ)) (new : ManyImage) (name : ℕ) (held : FileData) → PutsAll image files info (Ok new) → IsNoneOf name files
+    → HoldsFile image name held → HoldsFile new.bytes.items name held
+
+-- and lies where it lay
+abbrev pub OthersLie : Type 0
+OthersLie = (image : List ℕ) (files : List NewFile) (info : Option (List ℕ)) (new : ManyImage) (old blocks : List (List ℕ)) (file : VolumeFile) (held : FileData) → PutsAll image files info (Ok new)
+    → IsNoneOf file.name files → OpensVolume image (Ok old) → OpensVolume new.bytes.items (Ok blocks) → LiesOn old file held → LiesOn blocks file held
+
+-- ## Words that choose
+
+-- `*.*` is a pattern, which each name is like
+pub record AllAreLike : Type 0 where
+  pub choice : is_choice (codes "*.*") ≡ true
+  pub like : (name : ℕ) → matches (codes "*.*") name ≡ true
+
+-- only the name that a word spells is like that word
+abbrev pub SpelledAlone : Type 0
+SpelledAlone = (word : List ℕ) (spelled name : ℕ) → parsed_name word ≡ Some spelled → matches word name ≡ true → name ≡ spelled
+
+-- ## Files of a volume
+
+-- each file that is listed of a volume lies on it where the list says
+abbrev pub EachLies : Type 0
+EachLies = (blocks : List (List ℕ)) (before behind : List VolumeFile) (file : VolumeFile) → files_on blocks ≡ before ++ file ∷ behind → (held : FileData) × LiesOn blocks file held
+
+-- of two files of a volume the host's files have two names
+abbrev pub NamesDiffer : Type 0
+NamesDiffer = (blocks : List (List ℕ)) (before between behind : List VolumeFile) (one two : VolumeFile) (text other : List ℕ) → IsVolume blocks
+    → files_on blocks ≡ before ++ one ∷ (between ++ two ∷ behind) → NamesHost one text → NamesHost two other → text ≢ other

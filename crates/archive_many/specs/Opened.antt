@@ -1,0 +1,63 @@
+-- The files of an image that is opened once, and what is got of one of them.
+use Rattle.std.specs.Prelude.{◌≡◌, ◌≢◌, ℕ, Some, Result, Ok, Err, List, [], map}
+use Rattle.std.specs.Global.{Vec}
+use Rattle.std.specs.FinMap.{get}
+use Rattle.bin_tape.specs.Fault.{IsFault}
+use Rattle.char_pack.specs.Packing.{frames}
+use Rattle.char_pack.specs.declared.forms.GetForm.{GetForm}
+use Rattle.char_pack.specs.declared.forms.GetForm.TheVariants.{Tape}
+use Rattle.os8_dir.specs.Entries.{DirectoryState}
+use Rattle.os8_dir.specs.Found.{FilePlace, files_at}
+use Rattle.os8_dir.specs.Reading.{directory_of}
+use Rattle.os8_dir.specs.Files.{FileData, files_of, run}
+use Rattle.os8_dir.specs.declared.faults.DirFault.{DirFault}
+use Rattle.os8_files.specs.Failed.{extent_or}
+use Rattle.os8_dir.specs.declared.file_faults.FileFault.TheVariants.{NotFound}
+use Rattle.script8.specs.declared.faults.SessionFault.{SessionFault}
+use Rattle.script8.specs.declared.faults.SessionFault.TheVariants.{File, Memory}
+use Rattle.script8.specs.declared.faults.SessionFault.TheVariants as session
+use Rattle.archive8.specs.declared.faults.ArchiveFault.{ArchiveFault}
+use Rattle.archive8.specs.Opening.{IsOpened, IsUnopened}
+use Rattle.archive8.specs.Getting.{IsGiven}
+use Rattle.archive_many.specs.declared.opened.VolumeFile.{VolumeFile}
+
+-- ## The files
+
+-- where a file lies
+abbrev pub file_at : FilePlace → VolumeFile
+file_at f = record { name = f.name; place = f.place; blocks = f.size }
+
+-- the files of a directory in order of their blocks
+abbrev pub files_in : DirectoryState → List VolumeFile
+files_in d = map file_at (files_at d.first d.entries)
+
+-- the same of what a directory is read as; an unsound one has none
+abbrev pub files_or : Result DirectoryState DirFault → List VolumeFile
+files_or (Ok d) = files_in d
+files_or (Err fault) = []
+
+-- the files of a volume in order of their blocks
+abbrev pub files_on : List (List ℕ) → List VolumeFile
+files_on blocks = files_or (directory_of blocks)
+
+-- ## What is opened
+
+-- an image is opened as a volume of these blocks, or why not
+abbrev pub OpensVolume : List ℕ → Result (List (List ℕ)) ArchiveFault → Type 0
+OpensVolume image (Ok blocks) = IsOpened image blocks
+OpensVolume image (Err fault) = IsUnopened image fault
+
+-- ## What is got
+
+-- a file lies on a volume where it is said to, and the volume holds this of it: the words are those of its blocks
+pub record LiesOn (blocks : List (List ℕ)) (file : VolumeFile) (held : FileData) : Type 0 where
+  pub extent : extent_or file.name (directory_of blocks) ≡ Some (file.place, file.blocks)
+  pub there : get (files_of blocks) file.name ≡ Some held
+  pub words : held.1 ≡ run blocks file.place file.blocks
+
+-- what is got of a file: what is given of its words; or it doesn't lie there; or its frames are no tape
+abbrev pub GetsFile : List (List ℕ) → VolumeFile → GetForm → Result (Vec ℕ) SessionFault → Type 0
+GetsFile blocks file form (Ok bytes) = (held : FileData) × LiesOn blocks file held × IsGiven form held.1 bytes.items
+GetsFile blocks file form (Err (File NotFound)) = extent_or file.name (directory_of blocks) ≢ Some (file.place, file.blocks)
+GetsFile blocks file form (Err (session.Tape fault)) = (held : FileData) × LiesOn blocks file held × (form ≡ Tape) × IsFault (frames held.1) fault
+GetsFile blocks file form (Err fault) = (fault ≡ Memory) × (held : FileData) × LiesOn blocks file held

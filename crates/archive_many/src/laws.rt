@@ -1,0 +1,42 @@
+//! What holds of many files that are got and put. Each function does nothing: its contract is the law.
+ghost use Rattle.archive_many.specs.Laws.{AllAreLike, EachLies, NamesDiffer, OthersLie, OthersStay, PutAreGot, PutAreThere, PutFramesAreGot, SpelledAlone};
+
+use char_pack::laws::packed_bytes;
+use os8_dir::laws::{files_found, sound_directory};
+use volume_image::image_round_trip;
+
+/// A law: of files that were put at once, one whose name no later one has is in the new image with the words of its bytes. What is
+/// got there is given of these words: frames with zeros after them to the end of their last block. Any other file is there as it
+/// was, and lies where it lay.
+pub fn put_many_is_got()
+    ensures there { PutAreThere }
+    ensures got { PutAreGot }
+    ensures frames { PutFramesAreGot }
+    ensures others { OthersStay }
+    ensures places { OthersLie }
+{
+    image_round_trip();
+    files_found();
+    packed_bytes();
+}
+
+/// A law: `*.*` chooses all files, and a word that spells a name no file of another name.
+pub fn words_choose()
+    ensures all { AllAreLike }
+    ensures one { SpelledAlone }
+{}
+
+/// A law: each file that is listed of a volume lies on it where the list says, so it can be got.
+pub fn files_lie()
+    ensures { EachLies }
+{
+    files_found();
+    sound_directory();
+}
+
+/// A law: of two files of a volume the host's files have two names, so none is written over the other.
+pub fn host_names_differ()
+    ensures { NamesDiffer }
+{
+    sound_directory();
+}

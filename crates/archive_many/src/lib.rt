@@ -1,0 +1,25 @@
+//! Many files of the image of a volume, got and put at once, by its bytes.
+//!
+//! In each contract an image is the list of its bytes, and a volume the list of its blocks.
+#![tactic(auto)]
+
+mod choosing;
+mod emptying;
+mod extensions;
+mod faults;
+mod host_names;
+mod images;
+pub mod laws;
+mod opened;
+mod patterns;
+mod putting;
+mod raw;
+
+pub use choosing::{at_place, choose_files};
+pub use emptying::empties;
+pub use extensions::{bad_extensions, is_text};
+pub use faults::{BlocksFault, ChoiceFault, ManyFault};
+pub use host_names::{host_name, volume_name};
+pub use opened::{OpenVolume, VolumeFile, open};
+pub use putting::{ManyImage, NewFile, put_all};
+pub use raw::blocks_of;

@@ -1,0 +1,153 @@
+ghost use Rattle.std.specs.Prelude.{◌≡◌, ◌+◌, ◌≤◌, ◌++◌, length, IfOk, OnOk};
+ghost use Rattle.word12.specs.declared.sizes.TheConstants.{MOST_BLOCKS};
+ghost use Rattle.os8_dir.specs.Entries.{total};
+ghost use Rattle.os8_dir.specs.Files.{run};
+ghost use Rattle.archive_many.specs.Opened.{GetsFile, OpensVolume, files_on};
+ghost use Rattle.archive_many.specs.Steps.{file_of_entry, files_of_entries};
+
+use crate::images::volume_of;
+use archive8::parts::content_of_words;
+use archive8::{ArchiveFault, GetForm};
+use os8_dir::laws::{files_found, files_inside, sound_directory};
+use os8_dir::{DirEntry, DirFault, Directory, Name};
+use os8_files::FileFault;
+use script8::SessionFault;
+use std::alloc::{AllocError, Global};
+use std::marker::Model;
+use volume_image::{BlockStore, MemoryVolume};
+use word12::Word;
+
+/// A file of a volume: its name, its first block, and its length in blocks.
+#[derive(Clone, Copy, PartialEq, Eq, Debug)]
+pub struct VolumeFile {
+    pub name: Name,
+    pub place: usize,
+    pub blocks: usize,
+}
+
+/// A sound volume whose directory was read. A contract sees its blocks.
+#[derive(Drop)]
+pub struct OpenVolume {
+    volume: MemoryVolume,
+    directory: Directory,
+}
+
+impl Model for OpenVolume {
+    ghost use Rattle.std.specs.Prelude.{◌≡◌, ℕ, List, Ok};
+    ghost use Rattle.os8_dir.specs.Reading.{directory_of};
+
+    ghost Value = { List (List ℕ) };
+
+    ghost view = { λ opened. opened.volume.blocks };
+
+    ghost invariant = { λ opened. directory_of opened.volume.blocks ≡ Ok opened.directory };
+}
+
+/// Opens an image, which is accepted or refused as a mount does (OS/8 Software Support Manual; the faults and their order are this
+/// project's profile).
+pub fn open(alloc: Global, image: &[u8]) -> Result<OpenVolume, ArchiveFault>
+    ensures { OpensVolume image.now result }
+{
+    let mut volume = volume_of(alloc, image)?;
+    match Directory::read(alloc, &mut volume) {
+        Err(DirFault::Memory) => Err(ArchiveFault::Refused(SessionFault::Memory)),
+        Err(fault) => Err(ArchiveFault::Directory(fault)),
+        Ok(directory) => Ok(OpenVolume { volume, directory }),
+    }
+}
+
+impl OpenVolume {
+    /// All files of the volume, in order of their blocks (OS/8 Software Support Manual).
+    pub fn files(&self, alloc: Global) -> Result<Vec<VolumeFile>, AllocError>
+        ensures { IfOk result (λ files. files.items ≡ files_on self.now) }
+    {
+        sound_directory();
+        let mut files = Vec::new(alloc);
+        put_files(
+            self.directory.first_block(),
+            self.directory.entries(),
+            &mut files,
+        )?;
+        Ok(files)
+    }
+
+    /// What one of the volume's files has: its frames, its text, or the tape that it begins with, as `archive8::get` gives it. One
+    /// that does not lie where it is said to is `NotFound` (OS/8 Software Support Manual; the faults are this project's profile).
+    pub fn get(
+        &self,
+        alloc: Global,
+        file: &VolumeFile,
+        form: GetForm,
+    ) -> Result<Vec<u8>, SessionFault>
+        ensures { GetsFile self.now file.now form result }
+    {
+        sound_directory();
+        files_found();
+        files_inside();
+        match self.directory.find(&file.name) {
+            None => Err(SessionFault::File(FileFault::NotFound)),
+            Some((place, size)) => {
+                if place != file.place || size != file.blocks {
+                    return Err(SessionFault::File(FileFault::NotFound));
+                }
+                let words = words_at(alloc, &self.volume, place, size)?;
+                let bytes = content_of_words(alloc, &words, form)?;
+                Ok(bytes)
+            }
+        }
+    }
+}
+
+/// Appends the files among entries, the first of which begins at a block.
+fn put_files(
+    first: usize,
+    entries: &[DirEntry],
+    files: &mut Vec<VolumeFile>,
+) -> Result<(), AllocError>
+    requires { first + total entries.now ≤ MOST_BLOCKS }
+    ensures { OnOk result (files.new.items ≡ files.old.items ++ files_of_entries first entries.now) }
+{
+    let mut place = first;
+    let mut rest = entries;
+    while let [entry, others @ ..] = rest {
+        put_file(place, entry, files)?;
+        place += entry.length();
+        rest = others;
+    }
+    Ok(())
+}
+
+/// Appends the file of an entry that begins at a block.
+fn put_file(place: usize, entry: &DirEntry, files: &mut Vec<VolumeFile>) -> Result<(), AllocError>
+    ensures { OnOk result (files.new.items ≡ files.old.items ++ file_of_entry place entry.now) }
+{
+    match entry {
+        DirEntry::File { name, length, .. } => {
+            files.push(VolumeFile {
+                name: *name,
+                place,
+                blocks: *length,
+            })?;
+            Ok(())
+        }
+        DirEntry::Empty { .. } => Ok(()),
+    }
+}
+
+/// The words of a run of blocks.
+pub(crate) fn words_at(
+    alloc: Global,
+    volume: &MemoryVolume,
+    place: usize,
+    blocks: usize,
+) -> Result<Vec<Word>, AllocError>
+    requires { place + blocks ≤ length volume.now.blocks }
+    ensures { IfOk result (λ words. words.items ≡ run volume.now.blocks place blocks) }
+{
+    let _blocks = volume.blocks();
+    let mut words = Vec::new(alloc);
+    for k in 0..blocks {
+        words.extend_from_slice(volume.block(place + k))?;
+    }
+    Ok(words)
+}

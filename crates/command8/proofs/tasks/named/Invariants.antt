@@ -1,9 +1,0 @@
-use Rattle.std.proofs.Common.{◌≡◌, drop, map}
-use Rattle.std.specs.Prelude.{find}
-use Rattle.std.specs.Str.{bytes_eq}
-use Rattle.command8.specs.TableSteps.{entry_of}
-use Rattle.command8.proofs.tasks.named.Given as goal
-
--- no entry so far has the name
-abbrev pub invariant-loop-entry : goal.invariant-loop-entry
-invariant-loop-entry l = find (λ entry. bytes_eq l.name entry.word) (map entry_of l.entries) ≡ find (λ entry. bytes_eq l.name entry.word) (map entry_of (drop l.entry-index l.entries))

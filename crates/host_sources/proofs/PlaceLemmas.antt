@@ -1,0 +1,21 @@
+-- Places of a join in its sources.
+use Rattle.std.proofs.Common.{◌≡◌, ℕ, ◌+◌, ◌≤◌, ◌<◌, nat_eq, Bool, true, false, if◌then◌else◌, length, take, get_or, List, ap, arith}
+use Rattle.pal_lex.specs.Text.{text_of}
+use Rattle.host_sources.specs.Places.{next_line, next_column}
+use Rattle.host_sources.proofs.PauseLemmas.{next_byte}
+
+pub line_more : (bytes : List ℕ) (n b : ℕ) → n < length bytes → b ≡ get_or bytes n 0
+    → next_line (text_of (take (n + 1) bytes)) ≡ (if nat_eq b 10 then 1 else 0) + next_line (text_of (take n bytes))
+line_more bytes n b inside is = ap next_line (next_byte bytes n b inside is)
+
+pub column_more : (bytes : List ℕ) (n b : ℕ) → n < length bytes → b ≡ get_or bytes n 0
+    → next_column (text_of (take (n + 1) bytes)) ≡ (if nat_eq b 10 then 1 else next_column (text_of (take n bytes)) + 1)
+column_more bytes n b inside is = ap next_column (next_byte bytes n b inside is)
+
+pub line_bound : (test : Bool) (line n : ℕ) → line ≤ n + 1 → (if test then 1 else 0) + line ≤ n + 1 + 1
+line_bound true line n bound = omega (arith, bound)
+line_bound false line n bound = omega (arith, bound)
+
+pub column_bound : (test : Bool) (column n : ℕ) → column ≤ n + 1 → (if test then 1 else column + 1) ≤ n + 1 + 1
+column_bound true column n bound = omega arith
+column_bound false column n bound = omega (arith, bound)

@@ -1,0 +1,33 @@
+use Rattle.std.proofs.Common.{take, get_or, refl, ap, sym, subst, ◌∙◌}
+use Rattle.pal_lex.specs.Text.{text_of}
+use Rattle.pal_lex.specs.Statements.{statements}
+use Rattle.pal_lex.specs.Reading.{HasRead}
+use Rattle.pal_lex.specs.Progress.{Setting}
+use Rattle.host_sources.specs.Symbols.{Follows}
+use Rattle.host_sources.proofs.LocateLemmas.{nothing_read}
+use Rattle.host_sources.proofs.PauseLemmas.{next_byte}
+use Rattle.host_sources.proofs.ReadingLemmas.{fine_order}
+use Rattle.host_sources.proofs.names.reading_of.Goals as goal
+
+pub loop-taken-init : goal.loop-taken-init
+loop-taken-init c = record {
+  follows = subst (Follows c.no_names-names.result.symbols c.no_names-names.result.place) (sym nothing_read) c.no_names-names.ensures;
+  read = c.without_tokens-lexer.ensures.read;
+  may = ap (λ (s : Setting). s.may_pause) c.without_tokens-lexer.ensures.setting;
+}
+
+pub loop-taken-preserved : goal.loop-taken-preserved
+loop-taken-preserved c =
+    let text = c.args.text.now in
+    let taken = c.loop-taken.taken in
+    let inside = c.loop-taken-test.true in
+    let stands = c.loop-taken.invariant in
+    let next = sym (next_byte text taken (get_or text taken 0) inside refl) in
+    let took =
+    c.in_ok-take_byte.ensures.takes (text_of (take taken text)) stands.read stands.may (fine_order text taken c.statements_stay.ensures c.no_fault_before.ensures inside c.requires)
+    stands.follows in
+    record {
+      follows = subst (λ t. Follows c.take_byte.new.names.symbols c.take_byte.new.names.place (statements t)) next took.0;
+      read = subst (HasRead c.take_byte.new.lexer 0) next took.1;
+      may = c.take_byte.ensures.setting ∙ stands.may;
+    }

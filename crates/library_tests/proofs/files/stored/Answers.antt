@@ -1,5 +1,0 @@
-use Rattle.library_tests.proofs.Tokens.{entered-of}
-use Rattle.library_tests.proofs.files.stored.Goals as goal
-
-pub write_blocks-requires : goal.write_blocks-requires
-write_blocks-requires g c = entered-of _ _ _ _ _ c.in-Ok.ensures

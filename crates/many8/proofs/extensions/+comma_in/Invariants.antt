@@ -1,5 +1,0 @@
-use Rattle.std.proofs.Common.{length}
-use Rattle.many8.proofs.extensions.+comma_in.Given as goal
-
-abbrev pub decreases-comma_in : goal.decreases-comma_in
-decreases-comma_in l = length l.list.now

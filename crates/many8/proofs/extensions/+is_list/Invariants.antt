@@ -1,5 +1,0 @@
-use Rattle.std.proofs.Common.{length}
-use Rattle.many8.proofs.extensions.+is_list.Given as goal
-
-abbrev pub decreases-is_list : goal.decreases-is_list
-decreases-is_list l = length l.list.now

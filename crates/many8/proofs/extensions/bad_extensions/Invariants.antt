@@ -1,7 +1,0 @@
-use Rattle.std.proofs.Common.{take, map}
-use Rattle.many8.specs.Extensions.{AreLists}
-use Rattle.many8.proofs.extensions.bad_extensions.Given as goal
-
--- the lists so far are good
-abbrev pub invariant-loop-place : goal.invariant-loop-place
-invariant-loop-place l = AreLists (map (λ list. list.bytes.items) (take l.place l.fn.lists))

@@ -1,9 +1,0 @@
-use Rattle.std.proofs.Common.{List}
-use Rattle.bin_tape.specs.Items.{Item}
-use Rattle.pal_list.specs.Looks.{Look}
-use Rattle.pal_list.specs.Steps.{HoldsMap, HoldsFlags, tagged_below}
-use Rattle.pal_list.proofs.tags.mark_all.Given as goal
-
-abbrev pub invariant-loop-number : goal.invariant-loop-number
-invariant-loop-number l = (look : Look) (items : List Item) → HoldsMap items l.words → HoldsFlags look.is_code l.code
-    → HoldsFlags (tagged_below look items 0) l.fn.tags → HoldsFlags (tagged_below look items l.number) l.tags

@@ -1,5 +1,0 @@
-use Rattle.pal_names.proofs.SpellingLemmas.{spelled_alike}
-use Rattle.pal_names.proofs.laws.names_are_spelled_one_way.Goals as goal
-
-pub returns : goal.returns
-returns c = spelled_alike

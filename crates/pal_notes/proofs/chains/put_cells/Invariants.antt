@@ -1,9 +1,0 @@
-use Rattle.std.proofs.Common.{ℕ, List, ◌-◌, ◌++◌}
-use Rattle.pal_notes.specs.Notes.{some_cells}
-use Rattle.pal_notes.specs.Tables.{IsChain}
-use Rattle.pal_notes.proofs.CommentLemmas.{IsPutTo}
-use Rattle.pal_notes.proofs.chains.put_cells.Given as goal
-
-abbrev pub invariant-loop-put : goal.invariant-loop-put
-invariant-loop-put l = (cells : List ℕ) → IsChain l.next l.fn.first cells
-    → IsPutTo l.next (l.fn.text.items ++ some_cells 8 cells) l.text.items l.rest (8 - l._put)

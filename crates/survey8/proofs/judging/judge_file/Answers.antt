@@ -1,5 +1,0 @@
-use Rattle.survey8.proofs.JudgingLemmas.{knows_more}
-use Rattle.survey8.proofs.judging.judge_file.Goals as goal
-
-pub returns-then-new-clause-names : goal.returns-then-new-clause-names
-returns-then-new-clause-names c = λ known knows. knows_more _ _ known c.args.name c.in_ok-new.ensures.more knows
