@@ -55,7 +55,7 @@ PLACES: dict[str, dict[str, tuple[int, str]]] = {
         "fitted_volume": (1, "a volume of as many blocks as one that is there can be refused for nothing else"),
     },
     "os8_files/src/service/changes.rt": {
-        "changed": (1, "`removed`, `placed` and `moved_down` can fail for nothing else"),
+        "changed_directory": (1, "`without_file`, `with_new_file` and `moved_down` can fail for nothing else"),
     },
     "tape_source/src/sources.rt": {
         "words_in": (1, "a word or none for each cell of core, asked for once"),

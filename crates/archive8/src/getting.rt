@@ -36,7 +36,11 @@ pub fn get(
 
 /// What a file of these words gives: their frames, their text, or the tape that they begin with (OS/8 Software Support Manual; PAL III
 /// Symbolic Assembler manual, BIN format).
-pub fn content_of_words(alloc: Global, words: &[Word], form: GetForm) -> Result<Vec<u8>, SessionFault>
+pub fn content_of_words(
+    alloc: Global,
+    words: &[Word],
+    form: GetForm,
+) -> Result<Vec<u8>, SessionFault>
     ensures { GivesFile form words.now result }
 {
     match form {

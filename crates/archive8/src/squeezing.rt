@@ -32,7 +32,10 @@ pub fn squeeze(alloc: Global, image: &[u8]) -> Result<SqueezedImage, ArchiveFaul
         Err(fault) => Err(ArchiveFault::Refused(SessionFault::File(fault))),
         Ok(moved) => {
             let bytes = image_of(alloc, &volume)?;
-            Ok(SqueezedImage { bytes, move_count: moved })
+            Ok(SqueezedImage {
+                bytes,
+                move_count: moved,
+            })
         }
     }
 }

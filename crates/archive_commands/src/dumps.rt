@@ -5,10 +5,10 @@ ghost use Rattle.archive_commands.specs.Dumping.{Dumps, IsDump, bad_line, bad_li
 
 use crate::lines::{put_bits, put_number, put_shown};
 use crate::owners::{files_in, owner_in};
+use archive_many::VolumeFile;
 use block_dump::{DumpForm, put_words};
 use hosts::Host;
 use image_patch::word_at;
-use archive_many::VolumeFile;
 use outcome::Ending;
 use report8::ProgramLine;
 use std::alloc::{AllocError, Global};

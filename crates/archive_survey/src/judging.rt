@@ -115,7 +115,11 @@ pub(crate) fn judge(
 }
 
 /// Appends the lines of the report of a part.
-pub(crate) fn put_part_lines(verdict: Verdict, part: &Part, out: &mut Vec<u8>) -> Result<(), AllocError>
+pub(crate) fn put_part_lines(
+    verdict: Verdict,
+    part: &Part,
+    out: &mut Vec<u8>,
+) -> Result<(), AllocError>
     ensures { OnOk result (out.new.items ≡ out.old.items ++ finding_lines (findings_by verdict part.now)) }
 {
     match verdict {

@@ -1,7 +1,7 @@
 -- Kept frames of a list and of its parts, and the count of the frames so far.
 use Rattle.std.proofs.Common.{◌≡◌, ◌≢◌, ℕ, ◌+◌, ◌%◌, nat_eq, not, if◌then◌else◌, true, false, Bool, ◌∙◌, ap, refl, sym, arith, inl, inr, zero-add, min, length-append, List, [], ◌∷◌, ◌++◌}
 use Rattle.std.proofs.lemmas.Bool.Decides.{nat_tests, eqb_tells}
-use Rattle.bin_tape.specs.Frames.{ignore_count, frames_after, frames_of_note}
+use Rattle.bin_tape.specs.Frames.{ignore_count, frames_after, heeded_frames}
 use Rattle.bin_tape.specs.Fault.{place_after}
 use Rattle.bin_tape.specs.Reading.{Counts}
 
@@ -47,7 +47,7 @@ ignore_none frames frame other =
     let e : nat_eq frame 255 ≡ false = other_false frame 255 other
     in ignore_count-append frames (frame ∷ []) ∙ rw e (omega arith)
 
-pub kept_ignore : (frames : List ℕ) → frames_of_note (frames ++ 255 ∷ []) ≡ frames_of_note frames ++ []
+pub kept_ignore : (frames : List ℕ) → heeded_frames (frames ++ 255 ∷ []) ≡ heeded_frames frames ++ []
 kept_ignore frames = heeded_after-append 0 frames (255 ∷ [])
 
 -- a frame other than 0377 is heeded where no stretch is ignored
@@ -55,10 +55,10 @@ pub kept_one : (n frame : ℕ) → frame ≢ 255 → frames_after n (frame ∷ [
 kept_one n frame other = rw (other_false frame 255 other, even-odd n) refl
 
 pub kept_more : (frames : List ℕ) (frame : ℕ) → frame ≢ 255 → (ignoring : Bool) → ignoring ≡ nat_eq (ignore_count frames % 2) 1
-    → frames_of_note (frames ++ frame ∷ []) ≡ frames_of_note frames ++ (if not ignoring then frame ∷ [] else [])
+    → heeded_frames (frames ++ frame ∷ []) ≡ heeded_frames frames ++ (if not ignoring then frame ∷ [] else [])
 kept_more frames frame other ignoring is =
     heeded_after-append 0 frames (frame ∷ [])
-    ∙ ap (λ l. frames_of_note frames ++ l)
+    ∙ ap (λ l. heeded_frames frames ++ l)
     (ap (λ n. frames_after n (frame ∷ [])) (zero-add (ignore_count frames))
     ∙ kept_one (ignore_count frames) frame other
     ∙ ap (λ b. if not b then frame ∷ [] else []) (sym is))

@@ -4,7 +4,7 @@ use Rattle.std.proofs.lemmas.Bool.Decides.{eqb_tells, nat_tests}
 use Rattle.std.proofs.lemmas.Grind.{get_or-set_at}
 use Rattle.std.proofs.lemmas.List.{get_or-replicate, take_all}
 use Rattle.std.proofs.Math.Seq.{take-append_seam}
-use Rattle.bin_tape.specs.Frames.{frames_of_note, ignore_count}
+use Rattle.bin_tape.specs.Frames.{heeded_frames, ignore_count}
 use Rattle.bin_tape.specs.Items.{Item, Origin, Word, frames_of_items, has_origin, words_of, words_but_last}
 use Rattle.bin_tape.specs.Tape.{IsTape}
 use Rattle.bin_tape.specs.Fault.{place_after, IsFault}
@@ -68,12 +68,12 @@ even_two before a b first second =
 not_odd : (n : ℕ) → n % 2 ≡ 0 → false ≡ nat_eq (n % 2) 1
 not_odd n even = rw even refl
 
-kept_two : (before : List ℕ) (a b : ℕ) → a ≢ 255 → b ≢ 255 → ignore_count before % 2 ≡ 0 → frames_of_note (before ++ a ∷ b ∷ []) ≡ frames_of_note before ++ a ∷ b ∷ []
+kept_two : (before : List ℕ) (a b : ℕ) → a ≢ 255 → b ≢ 255 → ignore_count before % 2 ≡ 0 → heeded_frames (before ++ a ∷ b ∷ []) ≡ heeded_frames before ++ a ∷ b ∷ []
 kept_two before a b first second even =
-    ap frames_of_note (sym (two_frames before a b))
+    ap heeded_frames (sym (two_frames before a b))
     ∙ kept_more (before ++ a ∷ []) b second false (not_odd (ignore_count (before ++ a ∷ [])) (rw (ignore_none before a first) even))
     ∙ ap (λ l. l ++ b ∷ []) (kept_more before a first false (not_odd (ignore_count before) even))
-    ∙ two_frames (frames_of_note before) a b
+    ∙ two_frames (heeded_frames before) a b
 
 pub word_more : (whole later : List ℕ) (high low : ℕ) (prefix next : Prefix) (words put : List (Option ℕ)) → high < 64 → low < 64
     → ((items : List Item) (part : List ℕ) → ReadsItems prefix items part → has_origin items ≡ true → ReadsItems next (Word high low ∷ items) [])
@@ -116,7 +116,7 @@ pub begins_run : (whole frames : List ℕ) (reader : Progress) (words : List (Op
     → reader.state ≡ Reading prefix → reader.ignoring ≡ false → prefix.first ≡ None → prefix.has_origin ≡ true
     → HasReadTo whole frames reader words → ReadsTo whole frames prefix words
 begins_run whole frames reader words prefix reading ignoring first origin r =
-    let keeps : KeepsFrames prefix (frames_of_note r.before) r.out = subst (λ (s : State). StateIs s r.before r.out) reading r.read.state in
+    let keeps : KeepsFrames prefix (heeded_frames r.before) r.out = subst (λ (s : State). StateIs s r.before r.out) reading r.read.state in
     record {
       before = r.before;
       split = r.split;

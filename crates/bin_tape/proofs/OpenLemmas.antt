@@ -1,7 +1,7 @@
 -- What is open can go on as a tape.
 use Rattle.std.proofs.Common.{◌≡◌, ℕ, ◌+◌, ◌-◌, ◌*◌, ◌/◌, ◌%◌, ◌<◌, ◌≤◌, ◌⊎◌, inl, inr, Bool, true, false, nat_eq, nat_lt, zero-add, append_assoc, append-nil, refl, ap, sym, ◌∙◌, arith, List, [], ◌∷◌, ◌++◌}
 use Rattle.std.proofs.lemmas.Bool.Decides.{nat_tests}
-use Rattle.bin_tape.specs.Frames.{frames_of_note, frames_after, ignore_count}
+use Rattle.bin_tape.specs.Frames.{heeded_frames, frames_after, ignore_count}
 use Rattle.bin_tape.specs.Items.{Item, Origin, Word, frames_of_items, has_origin, IsPrefix, check_sum}
 use Rattle.bin_tape.specs.Tape.{IsPart, IsOpen, IsTape}
 use Rattle.bin_tape.specs.Laws.{GoesOn}
@@ -36,11 +36,11 @@ kept_woken n false fs e others = kept_others (n + 1) fs (odd n e) others
     odd : (n : ℕ) → nat_eq (n % 2) 0 ≡ false → (n + 1) % 2 ≡ 0
     odd n e = grind (arith, nat_tests)
 
-kept_behind : (frames fs : List ℕ) → AreOthers fs → frames_of_note (frames ++ woken (nat_eq (ignore_count frames % 2) 0) fs) ≡ frames_of_note frames ++ fs
+kept_behind : (frames fs : List ℕ) → AreOthers fs → heeded_frames (frames ++ woken (nat_eq (ignore_count frames % 2) 0) fs) ≡ heeded_frames frames ++ fs
 kept_behind frames fs others =
     heeded_after-append 0 frames (woken (nat_eq (ignore_count frames % 2) 0) fs)
-    ∙ ap (λ n. frames_of_note frames ++ frames_after n (woken (nat_eq (ignore_count frames % 2) 0) fs)) (zero-add (ignore_count frames))
-    ∙ ap (λ l. frames_of_note frames ++ l) (kept_woken (ignore_count frames) (nat_eq (ignore_count frames % 2) 0) fs refl others)
+    ∙ ap (λ n. heeded_frames frames ++ frames_after n (woken (nat_eq (ignore_count frames % 2) 0) fs)) (zero-add (ignore_count frames))
+    ∙ ap (λ l. heeded_frames frames ++ l) (kept_woken (ignore_count frames) (nat_eq (ignore_count frames % 2) 0) fs refl others)
 
 -- ## The rest of a pair
 
@@ -128,7 +128,7 @@ spelled_ending : (items : List Item) (high low : ℕ)
 spelled_ending items high low =
     append_assoc (frames_of_items items ++ 64 ∷ 0 ∷ []) (high ∷ low ∷ []) (128 ∷ []) ∙ append_assoc (frames_of_items items) (64 ∷ 0 ∷ []) (high ∷ low ∷ 128 ∷ [])
 
-tape_of : (frames : List ℕ) (items : List Item) (part : List ℕ) → frames_of_note frames ≡ frames_of_items items ++ part → (w : Whole items part)
+tape_of : (frames : List ℕ) (items : List Item) (part : List ℕ) → heeded_frames frames ≡ frames_of_items items ++ part → (w : Whole items part)
     → IsTape (frames ++ woken (nat_eq (ignore_count frames % 2) 0) (w.end ++ ending (w.later ++ items))) (Origin 0 0 ∷ (w.later ++ items))
 tape_of frames items part is w =
     let all = w.later ++ items in
@@ -147,7 +147,7 @@ tape_of frames items part is w =
       sum = joined sum;
     }
 
-pub goes_on : (frames : List ℕ) (items : List Item) (part : List ℕ) → IsOpen (frames_of_note frames) items part → GoesOn frames items
+pub goes_on : (frames : List ℕ) (items : List Item) (part : List ℕ) → IsOpen (heeded_frames frames) items part → GoesOn frames items
 goes_on frames items part opened =
     let w = whole items part opened.is_prefix opened.begun in
     record {

@@ -1,6 +1,6 @@
 -- What a reader knows behind one more frame.
 use Rattle.std.proofs.Common.{◌≡◌, ◌≢◌, ℕ, ◌%◌, inr, Result, Ok, Err, ◌∙◌, ap, refl, sym, subst, append_assoc, append-nil, zero-add, List, [], ◌∷◌, ◌++◌}
-use Rattle.bin_tape.specs.Frames.{frames_of_note, frames_after, ignore_count}
+use Rattle.bin_tape.specs.Frames.{heeded_frames, frames_after, ignore_count}
 use Rattle.bin_tape.specs.Items.{Item, Leader, Field, Origin, frames_of_items, words_but_last}
 use Rattle.bin_tape.specs.Items as item
 use Rattle.bin_tape.specs.Tape.{IsTape}
@@ -35,7 +35,7 @@ longer frames more items t = record {
   rest = t.rest ++ frames_after (ignore_count frames) more;
   kept_frames =
       heeded_after-append 0 frames more
-      ∙ ap (λ n. frames_of_note frames ++ frames_after n more) (zero-add (ignore_count frames))
+      ∙ ap (λ n. heeded_frames frames ++ frames_after n more) (zero-add (ignore_count frames))
       ∙ ap (λ l. l ++ frames_after (ignore_count frames) more) t.kept_frames
       ∙ simp append_assoc;
   is_prefix = t.is_prefix;
@@ -43,7 +43,7 @@ longer frames more items t = record {
 }
 
 -- what a prefix keeps may go on as a tape
-pub going : (prefix : Prefix) (frames : List ℕ) (out : List (ℕ × ℕ)) → KeepsFrames prefix (frames_of_note frames) out → IsGoing frames out
+pub going : (prefix : Prefix) (frames : List ℕ) (out : List (ℕ × ℕ)) → KeepsFrames prefix (heeded_frames frames) out → IsGoing frames out
 going prefix frames out k = record {
   items = k.items;
   part = k.part;
@@ -53,7 +53,7 @@ going prefix frames out k = record {
 
 -- the trailer behind the check sum makes the frames a tape
 pub whole : (frames : List ℕ) (out : List (ℕ × ℕ)) (frame : ℕ) (items : List Item) (part : List ℕ) (prefix : Prefix)
-    → frames_of_note frames ≡ frames_of_items items ++ part → frames_of_note (frames ++ frame ∷ []) ≡ frames_of_note frames ++ frame ∷ []
+    → heeded_frames frames ≡ frames_of_items items ++ part → heeded_frames (frames ++ frame ∷ []) ≡ heeded_frames frames ++ frame ∷ []
     → out ≡ words_but_last items → ReadsItems prefix items part → EndsTape items part frame → IsWhole (frames ++ frame ∷ []) out
 whole frames out frame [] part prefix here more words r ends = absurd ends
 whole frames out frame (Leader f ∷ older) part prefix here more words r ends = absurd ends
@@ -74,7 +74,7 @@ whole frames out frame (item.Word high low ∷ older) part prefix here more word
 
 -- a refused frame, at its place
 pub refused_here : (frames rest : List ℕ) (frame : ℕ) (items : List Item) (part : List ℕ) (prefix : Prefix) (fault : TapeFault)
-    → frames_of_note frames ≡ frames_of_items items ++ part → ReadsItems prefix items part → frame ≢ 255 → ignore_count frames % 2 ≡ 0
+    → heeded_frames frames ≡ frames_of_items items ++ part → ReadsItems prefix items part → frame ≢ 255 → ignore_count frames % 2 ≡ 0
     → IsRefused items part frame (place_after frames) fault → RefusesFrame (frames ++ frame ∷ rest) fault
 refused_here frames rest frame items part prefix fault here r other even refused = record {
   before = frames;
@@ -91,26 +91,26 @@ refused_here frames rest frame items part prefix fault here r other even refused
 
 -- the prefix behind one more heeded frame
 pub prefix_more : (frames : List ℕ) (out : List (ℕ × ℕ)) (frame : ℕ) (items : List Item) (part : List ℕ) (handed : List (ℕ × ℕ)) (prefix : Prefix)
-    → frames_of_note frames ≡ frames_of_items items ++ part → frames_of_note (frames ++ frame ∷ []) ≡ frames_of_note frames ++ frame ∷ [] → out ≡ words_but_last items
+    → heeded_frames frames ≡ frames_of_items items ++ part → heeded_frames (frames ++ frame ∷ []) ≡ heeded_frames frames ++ frame ∷ [] → out ≡ words_but_last items
     → KeepsFrames prefix (frames_of_items items ++ part ++ frame ∷ []) (words_but_last items ++ handed)
-    → KeepsFrames prefix (frames_of_note (frames ++ frame ∷ [])) (out ++ handed)
+    → KeepsFrames prefix (heeded_frames (frames ++ frame ∷ [])) (out ++ handed)
 prefix_more frames out frame items part handed prefix here more words k =
     rw (more, here, words) k
 
 pub state_more : (frames : List ℕ) (out : List (ℕ × ℕ)) (frame : ℕ) (items : List Item) (part : List ℕ) (prefix : Prefix)
     (result : Result Tape TapeFault) (state : State)
-    → frames_of_note frames ≡ frames_of_items items ++ part → frames_of_note (frames ++ frame ∷ []) ≡ frames_of_note frames ++ frame ∷ [] → out ≡ words_but_last items
+    → heeded_frames frames ≡ frames_of_items items ++ part → heeded_frames (frames ++ frame ∷ []) ≡ heeded_frames frames ++ frame ∷ [] → out ≡ words_but_last items
     → ReadsItems prefix items part → frame ≢ 255 → ignore_count frames % 2 ≡ 0
     → AnswersFrame items part frame (place_after frames) result state
     → StateIs state (frames ++ frame ∷ []) (out ++ words_in result) × Answers frames out frame result
 state_more frames out frame items part prefix (Ok Nothing) (Reading later) here more words r other even k =
-    let keeps : KeepsFrames later (frames_of_note (frames ++ frame ∷ [])) (out ++ []) =
+    let keeps : KeepsFrames later (heeded_frames (frames ++ frame ∷ [])) (out ++ []) =
     prefix_more frames out frame items part [] later here more words (rw append-nil k)
     in (keeps, inr (going later (frames ++ frame ∷ []) out (rw append-nil at keeps)))
 state_more frames out frame items part prefix (Ok Nothing) Ended here more words r other even k = absurd k
 state_more frames out frame items part prefix (Ok Nothing) (Failed fault) here more words r other even k = absurd k
 state_more frames out frame items part prefix (Ok (Word cell word)) (Reading later) here more words r other even k =
-    let keeps : KeepsFrames later (frames_of_note (frames ++ frame ∷ [])) (out ++ (cell, word) ∷ []) =
+    let keeps : KeepsFrames later (heeded_frames (frames ++ frame ∷ [])) (out ++ (cell, word) ∷ []) =
     prefix_more frames out frame items part ((cell, word) ∷ []) later here more words k
     in (keeps, going later (frames ++ frame ∷ []) (out ++ (cell, word) ∷ []) keeps)
 state_more frames out frame items part prefix (Ok (Word cell word)) Ended here more words r other even k = absurd k
@@ -129,13 +129,13 @@ state_more frames out frame items part prefix (Err fault) state here more words 
 -- a reader that was reading, behind one more heeded frame
 pub read_on : (old counted new : Progress) (prefix : Prefix) (frame place : ℕ) (result : Result Tape TapeFault) (frames : List ℕ) (out : List (ℕ × ℕ))
     → old.state ≡ Reading prefix → place ≡ old.place → new ≡ record counted { state = new.state }
-    → frame ≢ 255 → ignore_count frames % 2 ≡ 0 → frames_of_note (frames ++ frame ∷ []) ≡ frames_of_note frames ++ frame ∷ []
+    → frame ≢ 255 → ignore_count frames % 2 ≡ 0 → heeded_frames (frames ++ frame ∷ []) ≡ heeded_frames frames ++ frame ∷ []
     → Counts counted.place counted.ignoring (frames ++ frame ∷ [])
     → ((items : List Item) (part : List ℕ) → ReadsItems prefix items part → AnswersFrame items part frame place result new.state)
     → HasRead old frames out
     → HasRead new (frames ++ frame ∷ []) (out ++ words_in result) × Answers frames out frame result
 read_on old counted new prefix frame place result frames out reading here same other even more counts comes read =
-    let keeps : KeepsFrames prefix (frames_of_note frames) out = subst (λ (s : State). StateIs s frames out) reading read.state in
+    let keeps : KeepsFrames prefix (heeded_frames frames) out = subst (λ (s : State). StateIs s frames out) reading read.state in
     let came : AnswersFrame keeps.items keeps.part frame (place_after frames) result new.state =
     subst (λ (p : ℕ). AnswersFrame keeps.items keeps.part frame p result new.state) (here ∙ read.counts.place_is) (comes keeps.items keeps.part keeps.reads) in
     let both : StateIs new.state (frames ++ frame ∷ []) (out ++ words_in result) × Answers frames out frame result =

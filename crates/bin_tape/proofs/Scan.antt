@@ -1,7 +1,7 @@
 -- Reading frames from the first to the last, as a function: so a reading, and a fault, is one only.
 use Rattle.std.proofs.Common.{◌≡◌, ◌≢◌, ℕ, suc, ◌+◌, ◌-◌, ◌*◌, ◌/◌, ◌%◌, ◌<◌, ◌≤◌, ◌⊎◌, inl, inr, Bool, true, false, nat_eq, nat_lt, if◌then◌else◌, min, ◌∙◌, ap, refl, sym, subst, arith, length, eq-eqb, List, [], ◌∷◌, ◌++◌}
 use Rattle.std.proofs.lemmas.Bool.Decides.{nat_tests}
-use Rattle.bin_tape.specs.Frames.{frames_of_note, frames_after, ignore_count}
+use Rattle.bin_tape.specs.Frames.{heeded_frames, frames_after, ignore_count}
 use Rattle.bin_tape.specs.Items.{Item, Leader, Field, Origin, Word, frames_of_items, frames_of, has_origin, ends_in_word, IsPrefix, check_sum, words_of, words_but_last}
 use Rattle.bin_tape.specs.Tape.{IsOpen, IsTape}
 use Rattle.bin_tape.specs.Fault.{IsRefused, IsOutOfPlace, IsWrongSum, RefusesFrame, IsFault}
@@ -232,7 +232,7 @@ open_goes kept_frames items (p ∷ []) o =
     ∙ ap (outcome 0) (first_goes items p o.begun.0 o.begun.1)
 open_goes kept_frames items (p ∷ q ∷ rest) o = absurd o.begun
 
-tape_goes : (frames : List ℕ) (items : List Item) → IsTape frames items → run start (frames_of_note frames) ≡ Tape items
+tape_goes : (frames : List ℕ) (items : List Item) → IsTape frames items → run start (heeded_frames frames) ≡ Tape items
 unfolding run
 tape_goes frames items t =
     ap (run start) t.kept_frames
@@ -287,14 +287,14 @@ refused_goes items part f place Memory prefix h = absurd h
 
 -- ## Frames come to one thing only
 
-scan_open : (frames : List ℕ) (items : List Item) (part : List ℕ) → IsOpen (frames_of_note frames) items part → scan 0 0 start frames ≡ Open items part
+scan_open : (frames : List ℕ) (items : List Item) (part : List ℕ) → IsOpen (heeded_frames frames) items part → scan 0 0 start frames ≡ Open items part
 scan_open frames items part o =
-    let here : run start (frames_of_note frames) ≡ Open items part = open_goes (frames_of_note frames) items part o
+    let here : run start (heeded_frames frames) ≡ Open items part = open_goes (heeded_frames frames) items part o
     in scan_run 0 0 start frames (ap is_fault here) ∙ here
 
 scan_tape : (frames : List ℕ) (items : List Item) → IsTape frames items → scan 0 0 start frames ≡ Tape items
 scan_tape frames items t =
-    let here : run start (frames_of_note frames) ≡ Tape items = tape_goes frames items t
+    let here : run start (heeded_frames frames) ≡ Tape items = tape_goes frames items t
     in scan_run 0 0 start frames (ap is_fault here) ∙ here
 
 -- a heeded frame, with frames before it that are open, and others behind it
@@ -365,7 +365,7 @@ whole_words reader frames out items read t =
     ]
 
 pub open_words : (reader : Progress) (frames : List ℕ) (out : List (ℕ × ℕ)) (items : List Item) (part : List ℕ)
-    → HasRead reader frames out → IsOpen (frames_of_note frames) items part → out ≡ words_but_last items
+    → HasRead reader frames out → IsOpen (heeded_frames frames) items part → out ≡ words_but_last items
 open_words reader frames out items part read o =
     let here : scan 0 0 start frames ≡ Open items part = scan_open frames items part o in
     elim (words_told reader.state frames out read.state) [

@@ -3,7 +3,7 @@ use Rattle.std.proofs.Common.{◌≡◌, ◌≢◌, ℕ, ◌+◌, ◌*◌, ◌/�
 use Rattle.std.proofs.lemmas.List.{take_more, reverse-append, reverse-reverse, length-reverse}
 use Rattle.std.proofs.lemmas.Bool.Decides.{nat_tests, eqb_tells}
 use Rattle.std.specs.Option.{option_or}
-use Rattle.bin_tape.specs.Frames.{frames_of_note}
+use Rattle.bin_tape.specs.Frames.{heeded_frames}
 use Rattle.bin_tape.specs.Items.{Item, Leader, Field, Origin, Word, frames_of_items, frames_of, has_origin, IsPrefix, field_after, address_after, cell_after, check_sum, words_of, tape_map}
 use Rattle.bin_tape.specs.Tape.{IsTape}
 use Rattle.bin_tape.specs.Pairs.{ArePairs, last_word, IsTapeOf}
@@ -147,10 +147,10 @@ prefix_items (pair ∷ older) all = (
 
 -- ## Frames that are heeded
 
-kept_here : (frame : ℕ) (frames : List ℕ) → frame ≢ 255 → frames_of_note (frame ∷ frames) ≡ frame ∷ frames_of_note frames
+kept_here : (frame : ℕ) (frames : List ℕ) → frame ≢ 255 → heeded_frames (frame ∷ frames) ≡ frame ∷ heeded_frames frames
 kept_here frame frames other = rw (other_false frame 255 other) refl
 
-kept_item : (item : Item) (older : List Item) (frames : List ℕ) → IsPrefix (item ∷ older) → frames_of_note (frames_of item ++ frames) ≡ frames_of item ++ frames_of_note frames
+kept_item : (item : Item) (older : List Item) (frames : List ℕ) → IsPrefix (item ∷ older) → heeded_frames (frames_of item ++ frames) ≡ frames_of item ++ heeded_frames frames
 kept_item (Leader f) older frames h =
     kept_here f frames (λ is. elim h.0 [ inl e ↦ omega (arith, e, is) | inr e ↦ omega (arith, e, is) ])
 kept_item (Field n) older frames h = kept_here (192 + 8 * n) frames (λ is. omega (arith, h.0, is))
@@ -166,10 +166,10 @@ older_prefix (Origin high low) older h = h.2
 older_prefix (Word high low) older h = h.3
 
 -- no frame of a prefix is ignored
-kept_prefix : (items : List Item) (frames : List ℕ) → IsPrefix items → frames_of_note (frames_of_items items ++ frames) ≡ frames_of_items items ++ frames_of_note frames
+kept_prefix : (items : List Item) (frames : List ℕ) → IsPrefix items → heeded_frames (frames_of_items items ++ frames) ≡ frames_of_items items ++ heeded_frames frames
 kept_prefix [] frames h = refl
 kept_prefix (item ∷ older) frames h =
-    ap frames_of_note (append_assoc (frames_of_items older) (frames_of item) frames)
+    ap heeded_frames (append_assoc (frames_of_items older) (frames_of item) frames)
     ∙ kept_prefix older (frames_of item ++ frames) (older_prefix item older h)
     ∙ ap (λ l. frames_of_items older ++ l) (kept_item item older frames h)
     ∙ simp append_assoc
@@ -181,9 +181,9 @@ tape_is : (items : List Item) (rest : List ℕ) → IsPrefix items → has_origi
 tape_is items rest prefix begun = record {
   high = check_sum items / 64;
   low = check_sum items % 64;
-  rest = frames_of_note (replicate 15 128 ++ rest);
+  rest = heeded_frames (replicate 15 128 ++ rest);
   kept_frames =
-      ap frames_of_note (append_assoc (frames_of_items (word_item (check_sum items) ∷ items)) (replicate 16 128) rest)
+      ap heeded_frames (append_assoc (frames_of_items (word_item (check_sum items) ∷ items)) (replicate 16 128) rest)
       ∙ kept_prefix (word_item (check_sum items) ∷ items) (replicate 16 128 ++ rest) whole;
   is_prefix = whole;
   sum = two_parts (check_sum items);

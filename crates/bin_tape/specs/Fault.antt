@@ -1,6 +1,6 @@
 -- The one fault of frames that are no BIN tape.
 use Rattle.std.specs.Prelude.{◌≡◌, ◌≢◌, ℕ, ◌+◌, ◌*◌, ◌%◌, ◌<◌, ◌≤◌, ◌⊎◌, true, false, min, length, List, [], ◌∷◌, ◌++◌}
-use Rattle.bin_tape.specs.Frames.{frames_of_note, ignore_count}
+use Rattle.bin_tape.specs.Frames.{heeded_frames, ignore_count}
 use Rattle.bin_tape.specs.Items.{Item, Leader, Field, Origin, Word, has_origin, ends_in_word, check_sum}
 use Rattle.bin_tape.specs.Tape.{IsOpen}
 use Rattle.bin_tape.specs.declared.faults.TapeFault.{TapeFault}
@@ -44,12 +44,12 @@ pub record RefusesFrame (frames : List ℕ) (fault : TapeFault) : Type 0 where
   pub split : frames ≡ before ++ frame ∷ after
   pub not_ignore : frame ≢ 0o377
   pub not_ignored : ignore_count before % 2 ≡ 0
-  pub is_open : IsOpen (frames_of_note before) items part
+  pub is_open : IsOpen (heeded_frames before) items part
   pub refused : IsRefused items part frame (place_after before) fault
 
 -- The fault of frames that are no tape: that of the frame which closes what was open, or that no frame did so.
 abbrev pub IsFault : List ℕ → TapeFault → Type 0
-IsFault frames NoTrailer = (items : List Item) × (part : List ℕ) × IsOpen (frames_of_note frames) items part
+IsFault frames NoTrailer = (items : List Item) × (part : List ℕ) × IsOpen (heeded_frames frames) items part
 IsFault frames (BadFrame at) = RefusesFrame frames (BadFrame at)
 IsFault frames NoOrigin = RefusesFrame frames NoOrigin
 IsFault frames (CheckSum found computed) = RefusesFrame frames (CheckSum found computed)

@@ -15,5 +15,5 @@ frames_after n (f ∷ fs) =
     else (if nat_eq (n % 2) 0 then f ∷ frames_after n fs else frames_after n fs)
 
 -- the frames of a tape that aren't ignored
-abbrev pub frames_of_note : List ℕ → List ℕ
-frames_of_note frames = frames_after 0 frames
+abbrev pub heeded_frames : List ℕ → List ℕ
+heeded_frames frames = frames_after 0 frames

@@ -1,7 +1,7 @@
 -- The steps of reading a tape into a map, for private clauses.
 use Rattle.std.specs.Prelude.{◌≡◌, ℕ, ◌<◌, ◌%◌, slice_index_or, true, Option, None, List, [], ◌++◌}
 use Rattle.word12.specs.declared.sizes.TheConstants.{CORE}
-use Rattle.bin_tape.specs.Frames.{frames_of_note, ignore_count}
+use Rattle.bin_tape.specs.Frames.{heeded_frames, ignore_count}
 use Rattle.bin_tape.specs.Items.{Item, frames_of_items, has_origin, words_but_last}
 use Rattle.bin_tape.specs.Prefix.{ReadsItems}
 use Rattle.bin_tape.specs.Pairs.{last_word}
@@ -32,5 +32,5 @@ pub record ReadsTo (frames rest : List ℕ) (prefix : Prefix) (words : List (Opt
   pub items : List Item
   pub reads : ReadsItems prefix items []
   pub origin : has_origin items ≡ true
-  pub kept_is : frames_of_note before ≡ frames_of_items items
+  pub kept_is : heeded_frames before ≡ frames_of_items items
   pub holds : HoldsWords words (words_but_last items)

@@ -1,6 +1,6 @@
 -- What a reader was given and has handed out, and its answer for one more frame.
 use Rattle.std.specs.Prelude.{◌≡◌, ℕ, ◌%◌, nat_eq, Bool, Result, Ok, Err, option_to_list, List, [], ◌∷◌, ◌++◌, ◌⊎◌}
-use Rattle.bin_tape.specs.Frames.{frames_of_note, ignore_count}
+use Rattle.bin_tape.specs.Frames.{heeded_frames, ignore_count}
 use Rattle.bin_tape.specs.Items.{Item, words_of, words_but_last}
 use Rattle.bin_tape.specs.Tape.{IsOpen, IsTape}
 use Rattle.bin_tape.specs.Fault.{RefusesFrame, place_after}
@@ -17,7 +17,7 @@ use Rattle.bin_tape.specs.declared.readers.Tape.TheVariants.{Nothing, Word, End}
 pub record IsGoing (frames : List ℕ) (out : List (ℕ × ℕ)) : Type 0 where
   pub items : List Item
   pub part : List ℕ
-  pub is_open : IsOpen (frames_of_note frames) items part
+  pub is_open : IsOpen (heeded_frames frames) items part
   pub words : out ≡ words_but_last items
 
 -- the frames are a tape, and its words were handed out
@@ -32,7 +32,7 @@ pub record Counts (place : ℕ) (ignoring : Bool) (frames : List ℕ) : Type 0 w
   pub ignoring_is : ignoring ≡ nat_eq (ignore_count frames % 2) 1
 
 abbrev pub StateIs : State → List ℕ → List (ℕ × ℕ) → Type 0
-StateIs (Reading prefix) frames out = KeepsFrames prefix (frames_of_note frames) out
+StateIs (Reading prefix) frames out = KeepsFrames prefix (heeded_frames frames) out
 StateIs Ended frames out = IsWhole frames out
 StateIs (Failed fault) frames out = RefusesFrame frames fault
 

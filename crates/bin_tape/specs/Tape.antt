@@ -1,6 +1,6 @@
 -- When frames are a BIN tape.
 use Rattle.std.specs.Prelude.{◌≡◌, ℕ, ◌+◌, ◌*◌, ◌<◌, ◌≤◌, ◌⊎◌, true, List, [], ◌∷◌, ◌++◌}
-use Rattle.bin_tape.specs.Frames.{frames_of_note}
+use Rattle.bin_tape.specs.Frames.{heeded_frames}
 use Rattle.bin_tape.specs.Items.{Item, Word, frames_of_items, has_origin, IsPrefix, check_sum}
 
 -- nothing, or the first frame of an origin or, after an origin, of a word
@@ -20,6 +20,6 @@ pub record IsTape (frames : List ℕ) (items : List Item) : Type 0 where
   pub high : ℕ
   pub low : ℕ
   pub rest : List ℕ
-  pub kept_frames : frames_of_note frames ≡ frames_of_items (Word high low ∷ items) ++ 0o200 ∷ rest
+  pub kept_frames : heeded_frames frames ≡ frames_of_items (Word high low ∷ items) ++ 0o200 ∷ rest
   pub is_prefix : IsPrefix (Word high low ∷ items)
   pub sum : 0o100 * high + low ≡ check_sum items

@@ -1,7 +1,7 @@
 //! Laws of BIN tapes: a tape has one reading, what is no tape has one fault, and what is written is a tape of its words.
 
 ghost use Rattle.std.specs.Prelude.{◌≡◌, ℕ, ◌<◌, length, List, ◌∷◌, ◌++◌};
-ghost use Rattle.bin_tape.specs.Frames.{frames_of_note};
+ghost use Rattle.bin_tape.specs.Frames.{heeded_frames};
 ghost use Rattle.bin_tape.specs.Items.{Item, words_of, words_but_last};
 ghost use Rattle.bin_tape.specs.Tape.{IsTape, IsOpen};
 ghost use Rattle.bin_tape.specs.Fault.{IsFault, RefusesFrame};
@@ -43,7 +43,7 @@ pub fn first_closing()
 
 /// What is open can go on as a tape: some further frames make it one, and leave its items.
 pub fn open_goes_on()
-    ensures { (frames : List ℕ) (items : List Item) (part : List ℕ) → IsOpen (frames_of_note frames) items part
+    ensures { (frames : List ℕ) (items : List Item) (part : List ℕ) → IsOpen (heeded_frames frames) items part
         → GoesOn frames items }
 {}
 
@@ -54,7 +54,7 @@ pub fn handed_words()
         → HasRead reader frames out → IsTape frames items → out ≡ words_of items }
     ensures of_prefix { (reader : Progress) (frames : List ℕ) (out : List (ℕ × ℕ)) (items : List Item)
         (part : List ℕ)
-        → HasRead reader frames out → IsOpen (frames_of_note frames) items part → out ≡ words_but_last items }
+        → HasRead reader frames out → IsOpen (heeded_frames frames) items part → out ≡ words_but_last items }
 {}
 
 /// What is written for words with their cells is a tape of these words, whatever frames follow it. Each cell has the

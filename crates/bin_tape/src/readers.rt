@@ -1,6 +1,6 @@
 ghost use Rattle.std.specs.Prelude.{◌≡◌, ℕ, ◌%◌, ◌≤◌, length, List, [], ◌∷◌, ◌++◌, nat_eq, if◌then◌else◌, ◌≢◌, MatchResult};
 ghost use Rattle.std.specs.Bool.{OnTrue};
-ghost use Rattle.bin_tape.specs.Frames.{frames_of_note, ignore_count};
+ghost use Rattle.bin_tape.specs.Frames.{heeded_frames, ignore_count};
 ghost use Rattle.bin_tape.specs.Items.{Item};
 ghost use Rattle.bin_tape.specs.Fault.{IsFault};
 ghost use Rattle.bin_tape.specs.Prefix.{ReadsItems};
@@ -162,7 +162,7 @@ impl TapeReader {
         ensures counts { (frames : List ℕ) → Counts self.old.place self.old.ignoring frames
             → Counts self.new.place self.new.ignoring (frames ++ frame ∷ []) }
         ensures kept { (frames : List ℕ) → Counts self.old.place self.old.ignoring frames
-            → frames_of_note (frames ++ frame ∷ []) ≡ frames_of_note frames ++ (if result then frame ∷ [] else []) }
+            → heeded_frames (frames ++ frame ∷ []) ≡ heeded_frames frames ++ (if result then frame ∷ [] else []) }
         ensures is_kept { OnTrue result ((frame ≢ 0o377) × ((frames : List ℕ)
             → Counts self.old.place self.old.ignoring frames → ignore_count frames % 2 ≡ 0)) }
         ensures same { self.new.state ≡ self.old.state }

@@ -20,7 +20,11 @@ use word12::MOST_BLOCKS;
 
 /// Refuses the arguments for the first of these, in this order. Two exclude each other, one is missing, standard input is named twice,
 /// there is one too many, or a value is none of its argument's kind.
-pub fn judge_arguments(alloc: Global, found: &ArgMatches<'_>, entry: &'static Entry) -> Result<(), TaskFault>
+pub fn judge_arguments(
+    alloc: Global,
+    found: &ArgMatches<'_>,
+    entry: &'static Entry,
+) -> Result<(), TaskFault>
     ensures passed { IfOk result (λ _. refusal_of entry.now.verb (rows_of (found_of found.now)) ≡ None) }
     ensures refused { IfErr result (IsRefusedBy (entry_of entry.now) (rows_of (found_of found.now))) }
 {

@@ -1,6 +1,6 @@
 -- What loading a BIN tape does to core.
 use Rattle.std.specs.Prelude.{◌≡◌, ℕ, ◌<◌, unwrap_or, Result, Ok, Err, List, [], ◌∷◌, ◌++◌, ◌⊎◌, length, slice_index}
-use Rattle.bin_tape.specs.Frames.{frames_of_note}
+use Rattle.bin_tape.specs.Frames.{heeded_frames}
 use Rattle.bin_tape.specs.Items.{Item, tape_map}
 use Rattle.bin_tape.specs.Tape.{IsTape, IsOpen}
 use Rattle.bin_tape.specs.Fault.{IsFault}
@@ -45,7 +45,7 @@ IsFed loader frames = HasRead loader.reader frames loader.words
 
 -- the frames are a tape, or may go on as one
 abbrev pub IsFine : List ℕ → Type 0
-IsFine frames = ((items : List Item) × IsTape frames items) ⊎ ((items : List Item) × (part : List ℕ) × IsOpen (frames_of_note frames) items part)
+IsFine frames = ((items : List Item) × IsTape frames items) ⊎ ((items : List Item) × (part : List ℕ) × IsOpen (heeded_frames frames) items part)
 
 -- What further frames do to a loader that was given some. A fault is that of the first frame that is refused. Memory
 -- runs out only where a word is handed out, and then nothing is taken.

@@ -10,4 +10,4 @@ pub mod laws;
 mod words;
 
 pub use flows::flow;
-pub use words::{exits, address_of_reference, referred_cell};
+pub use words::{address_of_reference, exits, referred_cell};

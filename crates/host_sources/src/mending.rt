@@ -18,7 +18,11 @@ use std::alloc::{AllocError, Global};
 
 /// A text whose first statement with a fault, which a byte of it ends, is read as its first tag, if that has no fault itself, and the word 0.
 /// There is none where the statement has a word that says how what follows is read. The only fault of the call is `Memory`.
-pub(crate) fn mend_text(alloc: Global, text: &[u8], end: usize) -> Result<Option<Vec<u8>>, SourceFault>
+pub(crate) fn mend_text(
+    alloc: Global,
+    text: &[u8],
+    end: usize,
+) -> Result<Option<Vec<u8>>, SourceFault>
     requires { IsMetAt text.now (Refused end) }
     ensures mended { IfOk result (λ next. Mends (text_of text.now) next) }
     ensures fault { IfErr result (λ fault. fault ≡ Memory) }

@@ -2,7 +2,7 @@
 use Rattle.std.proofs.Common.{◌≡◌, ◌∙◌, ℕ, ◌-◌, ◌*◌, ◌<◌, List, [], ◌∷◌, ◌++◌, length, replicate, refl, ap, arith}
 use Rattle.std.proofs.lemmas.List.{length-append, length-replicate}
 use Rattle.char_pack.specs.Packing.{frames, words_of_bytes, packed_blocks, group_count, block_count, block_words}
-use Rattle.bin_tape.specs.Frames.{frames_of_note}
+use Rattle.bin_tape.specs.Frames.{heeded_frames}
 use Rattle.bin_tape.specs.Items.{Item, Word, frames_of_items}
 use Rattle.bin_tape.specs.Tape.{IsTape}
 use Rattle.bin_tape.specs.Writing.{tape_of}
@@ -27,7 +27,7 @@ length_blocks bytes = length-append (words_of_bytes bytes) (replicate (256 * blo
 some_words : (words : List ℕ) (items : List Item) → IsTape (frames words) items → 0 < length words
 some_words [] items tape = absurd (never (ap (λ (l : List ℕ). length l) tape.kept_frames))
   where
-    never : length (frames_of_note []) ≡ length (frames_of_items (Word tape.high tape.low ∷ items) ++ 128 ∷ tape.rest) → ⊥
+    never : length (heeded_frames []) ≡ length (frames_of_items (Word tape.high tape.low ∷ items) ++ 128 ∷ tape.rest) → ⊥
     never is = omega (arith, is, length-append (frames_of_items (Word tape.high tape.low ∷ items)) (128 ∷ tape.rest))
 some_words (word ∷ words) items tape = omega arith
 

@@ -129,5 +129,8 @@ fn refusals(alloc: Global) -> Option<[usize; 9]> {
 
 #[test]
 fn refused_calls(rt: HostRuntime) {
-    assert_eq!(rt; refusals(rt.alloc()), Some([5, 7, 7, 7, 11, 6, 0, 1000, 13]));
+    assert_eq!(rt;
+        refusals(rt.alloc()),
+        Some([5, 7, 7, 7, 11, 6, 0, 1000, 13])
+    );
 }

@@ -54,5 +54,8 @@ fn many_statements_and_terms(rt: HostRuntime) {
     let sum = (MANY + 1, 0o301, 0o7040);
     assert_eq!(rt; last_tokens(rt.alloc(), &bytes), 2 * MANY);
     assert_eq!(rt; count_and_last_word(assemble(rt.alloc(), &bytes)), sum);
-    assert_eq!(rt; count_and_last_word(assemble_all(rt.alloc(), &[&bytes])), sum);
+    assert_eq!(rt;
+        count_and_last_word(assemble_all(rt.alloc(), &[&bytes])),
+        sum
+    );
 }

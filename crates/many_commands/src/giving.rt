@@ -11,9 +11,9 @@ ghost use Rattle.many_commands.specs.GettingMany.{GivesFile, IsPath, LaysAndTell
 
 use crate::checks::named_lines;
 use crate::texts::get_form;
+use archive_many::{OpenVolume, VolumeFile, host_name};
 use archive8::GetForm;
 use hosts::{Host, HostFault, lay};
-use archive_many::{OpenVolume, VolumeFile, host_name};
 use os8_dir::FileFault;
 use outcome::Ending;
 use report8::{ProgramLine, put_program};

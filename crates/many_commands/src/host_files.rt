@@ -8,8 +8,8 @@ ghost use Rattle.many_commands.specs.NameSteps.{KnowsNames, has_key};
 
 use crate::images::image_of;
 use crate::texts::put_form;
-use hosts::Host;
 use archive_many::{NewFile, volume_name};
+use hosts::Host;
 use os8_dir::{FileFault, Name};
 use outcome::{Ending, NameNote, Note, PlainNote};
 use report8::ProgramLine;

@@ -12,9 +12,9 @@ ghost use Rattle.many_commands.specs.PutManySteps.{IsFileRefused, IsNotPut, IsTe
 
 use crate::host_files::read_files;
 use crate::texts::take_lists;
+use archive_many::{ManyFault, ManyImage, NewFile, VolumeFile, empties, open, put_all};
 use archive8::bad_text_at;
 use hosts::Host;
-use archive_many::{ManyFault, ManyImage, NewFile, VolumeFile, empties, open, put_all};
 use os8_dir::FileFault;
 use outcome::{Ending, NameNote, Note};
 use script8::{LineReply, Reply, SessionFault, put_reply};

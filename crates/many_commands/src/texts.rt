@@ -3,9 +3,9 @@ ghost use Rattle.std.specs.Prelude.{◌≡◌, map, slice_get, OnOk, OnErr};
 ghost use Rattle.many_commands.specs.Texts as spec;
 ghost use Rattle.many_commands.specs.Texts.{TakesLists, TellsBadList};
 
+use archive_many::{bad_extensions, is_text};
 use archive8::{GetForm, PutForm};
 use hosts::Host;
-use archive_many::{bad_extensions, is_text};
 use os8_dir::Name;
 use outcome::{Ending, NameNote, Note};
 use std::alloc::{AllocError, Global};

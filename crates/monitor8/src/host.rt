@@ -24,8 +24,8 @@ use tape_host8::{
 };
 use task8::{IndexForm, LineForm, ScanForm, Task};
 use volume_commands::{
-    Rooms, file_asked, copy_file, create_image, create_tape, delete_files, end, get_bin, get_blocks,
-    get_file, list_files, put_file, rename_file, squeeze_files,
+    Rooms, copy_file, create_image, create_tape, delete_files, end, file_asked, get_bin,
+    get_blocks, get_file, list_files, put_file, rename_file, squeeze_files,
 };
 use volume_index::IndexStyle;
 

@@ -102,7 +102,11 @@ fn with_file(
 }
 
 /// The entries, where the file of a name stands below the empty that was directly below it.
-fn entries_with_file_lower(alloc: Global, entries: &[DirEntry], name: Name) -> Result<Vec<DirEntry>, AllocError>
+fn entries_with_file_lower(
+    alloc: Global,
+    entries: &[DirEntry],
+    name: Name,
+) -> Result<Vec<DirEntry>, AllocError>
     requires gap { 0 < gap_below name entries.now }
     requires fits { total entries.now ≤ MOST_BLOCKS }
     ensures { IfOk result (λ kept. kept.items ≡ moved_down_of name entries.now) }

@@ -52,7 +52,12 @@ fn with_name(
 impl Directory {
     /// The directory in which the file of a name has a new one, that no file has. Its entry keeps its place, its length and its
     /// information words (this project's profile). The only fault is that there is no memory.
-    pub fn with_new_name(&self, alloc: Global, name: &Name, new_name: Name) -> Result<Directory, DirFault>
+    pub fn with_new_name(
+        &self,
+        alloc: Global,
+        name: &Name,
+        new_name: Name,
+    ) -> Result<Directory, DirFault>
         requires there { IsSome (extent_of (found name.now (files_at self.now.first self.now.entries))) }
         requires named { IsNamed new_name }
         requires fresh { found new_name (files_at self.now.first self.now.entries) ≡ None }

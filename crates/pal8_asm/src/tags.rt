@@ -9,7 +9,7 @@ ghost use Rattle.pal8_asm.specs.Steps.{Defines, IsJudged, Values};
 ghost use Rattle.pal8_asm.specs.Assembling.{Passes, standing};
 
 use crate::places::{
-    Position, next_page, with_relocation, spot_at, to_place, with_field, with_page, with_size,
+    Position, next_page, spot_at, to_place, with_field, with_page, with_relocation, with_size,
 };
 use crate::{Code, Stop};
 use pal_sym::SymFault;

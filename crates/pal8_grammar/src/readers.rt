@@ -5,7 +5,7 @@ ghost use Rattle.pal8_grammar.specs.declared.stands.Stand.{Stand};
 ghost use Rattle.pal8_grammar.specs.declared.steps.Step.{Step};
 
 use crate::kinds::{
-    is_closing, modifier_of, step_of_name, opening_of, operation_of, operator_of, sign_of, term_of,
+    is_closing, modifier_of, opening_of, operation_of, operator_of, sign_of, step_of_name, term_of,
 };
 use crate::literals::Literals;
 use crate::stands::{goes_on, is_whole};

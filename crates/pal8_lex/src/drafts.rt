@@ -8,7 +8,7 @@ ghost use Rattle.pal8_lex.specs.Drafting.{Present, present_of};
 ghost use Rattle.pal8_lex.specs.Reading.{takes_room, takes_room_by};
 ghost use Rattle.pal8_lex.specs.Steps.{has_string};
 
-use crate::kinds::{head_again, head_with, takes_blank_before, takes_blank_after};
+use crate::kinds::{head_again, head_with, takes_blank_after, takes_blank_before};
 use crate::rules::{Effect, Head, Open, Shape, effect_of, is_blank};
 use crate::runs::{first_kind, longer};
 use crate::{Kind, Token};

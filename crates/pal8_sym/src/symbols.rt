@@ -76,7 +76,8 @@ impl Symbols {
     pub fn again(&mut self, name: Name, value: Word)
         ensures { IsSetAgain name value self.old self.new }
     {
-        self.table.again(SymbolName::name_of_number(name.number()), value);
+        self.table
+            .again(SymbolName::name_of_number(name.number()), value);
     }
 
     /// The value of a name, if it has one: what it was defined as, or else its permanent value (PAL8, in this project's profile).

@@ -8,7 +8,7 @@ ghost use Rattle.pal_asm.specs.Faults.{past};
 ghost use Rattle.pal_asm.specs.PassSteps.{Moves, MakesBody, spot_by, spot_fault, with_tags_again, with_body_again, SetsValue};
 ghost use Rattle.pal_asm.specs.Passes.{IsFirst, IsSecond, AnswersFirst, IsJudged, AnswersSecond, BeginsSecond, HasBegunSecond, HasNotBegunSecond, StaysFailed};
 
-use crate::again::{spot_and_word, set_tags};
+use crate::again::{set_tags, spot_and_word};
 use crate::names::{definitions, judge_tags, pass};
 use crate::spots::{Spot, first_spot};
 use crate::{AsmFault, Code};

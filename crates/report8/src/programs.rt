@@ -8,10 +8,10 @@ ghost use Rattle.script8.specs.declared.faults.SessionFault.TheVariants.{Memory}
 use core_image::CoreFault;
 use disk8::DiskFault;
 use os8_dir::{DirFault, Name};
-use source_names::LineRefusal as Unnamed;
 use rim_tape::RimFault;
 use script8::text_lines::{TextLine, put, put_name, put_number};
 use script8::{SessionFault, put_directory_fault};
+use source_names::LineRefusal as Unnamed;
 use terminal8::{Ended, TerminalEnd};
 use volume_image::ImageFault;
 use word12::{Cell, Word};

@@ -6,11 +6,11 @@ ghost use Rattle.report8.specs.declared.sources.SourceFault.TheVariants.{Session
 ghost use Rattle.report8.specs.Written.{IsNamedText, IsPlainText, IsSourceText, IsTextFault, PutsSource, WritesSource, fault_of_list};
 
 use crate::listings::write_out;
-use tape_source::{ListFault, named_source_from, named_source_of, source_from, source_of};
-use source_names::LineRefusal;
 use script8::{SessionFault, read_all};
+use source_names::LineRefusal;
 use std::alloc::Global;
 use std::io::{Read, Write};
+use tape_source::{ListFault, named_source_from, named_source_of, source_from, source_of};
 use word12::Cell;
 
 /// Why a reader's tape has no source.

@@ -4,10 +4,10 @@ ghost use Rattle.arrayvec.specs.ArrayVec.{array_vec_len};
 ghost use Rattle.salvage8.specs.Salvaging as spec;
 ghost use Rattle.salvage8.specs.Salvaging.{file_line, file_lines, place_text, reason_text, rescued_line};
 
+use archive_survey::FoundFile;
 use rescue::Refusal;
 use script8::text_lines::{TextLine, put, put_name, put_number};
 use std::alloc::AllocError;
-use archive_survey::FoundFile;
 use word12::Word;
 
 /// Appends the lines of files, by why each is not kept.

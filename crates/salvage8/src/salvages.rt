@@ -7,12 +7,12 @@ ghost use Rattle.salvage8.specs.Salvaging.{IsNoImage, IsSalvageOf, Salvages, is_
 
 use crate::lines::{count_kept, put_files, put_rescued};
 use crate::words::files_with_words;
+use archive_survey::laws::sound_files;
+use archive_survey::survey_volume;
 use archive8::ArchiveFault;
 use rescue::{FittedVolume, KeptFile, volume_of_what_fits};
 use script8::SessionFault;
 use std::alloc::{AllocError, Global};
-use archive_survey::laws::sound_files;
-use archive_survey::survey_volume;
 use volume_image::{BlockStore, ImageFault, MemoryVolume};
 
 /// A new volume, and what of the old one it has not.

@@ -4,9 +4,9 @@ ghost use Rattle.os8_dir.specs.Files.{run};
 ghost use Rattle.archive_survey.specs.Laws.{AreInside};
 ghost use Rattle.salvage8.specs.Salvaging.{AreFilesOf};
 
+use archive_survey::FoundFile;
 use rescue::KeptFile;
 use std::alloc::{AllocError, Global};
-use archive_survey::FoundFile;
 use volume_image::{BlockStore, MemoryVolume};
 use word12::Word;
 

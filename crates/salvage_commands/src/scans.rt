@@ -4,8 +4,8 @@ ghost use Rattle.salvage8.specs.Scanning.{Scans, piece_line, scan_text};
 ghost use Rattle.volume_commands.specs.Answers.{Answers, AreLines};
 ghost use Rattle.salvage_commands.specs.ScanningBlocks.{GivesPiece, IsPath, LaysFirst, ShowsPieces, WritesEach, WritesPiece, WritesPieces, ending_of_laid};
 
-use hosts::{Host, HostFault, lay};
 use archive_many::{BlocksFault, blocks_of};
+use hosts::{Host, HostFault, lay};
 use outcome::Ending;
 use report8::ProgramLine;
 use salvage8::{Piece, Scan, form_of, piece_name, scan_image};

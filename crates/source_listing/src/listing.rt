@@ -11,8 +11,8 @@ use crate::rows::put_rows;
 use crate::spots::all_spots;
 use crate::tables::put_table;
 use crate::word_ends::word_ends;
-use host_sources::{Assembly, SourceFault, assembly_of, names_of};
 use bin_tape::tape_of;
+use host_sources::{Assembly, SourceFault, assembly_of, names_of};
 use pal_asm::laws::has_words;
 use std::alloc::Global;
 

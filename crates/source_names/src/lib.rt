@@ -10,6 +10,6 @@ mod lines;
 mod names;
 mod reserved;
 
-pub use faults::{NamesFault, LineRefusal};
+pub use faults::{LineRefusal, NamesFault};
 pub use lines::visible_name;
 pub use names::{CellNames, names_of};

@@ -7,7 +7,7 @@ ghost use Rattle.flow8.specs.Flow.{word_in};
 ghost use Rattle.source_names.specs.Names.{AreNames, Entry, IsFault, Reading, why_taken};
 ghost use Rattle.source_names.specs.Steps.{Holds, TakesLine, TakesText};
 
-use crate::faults::{NamesFault, LineRefusal};
+use crate::faults::{LineRefusal, NamesFault};
 use crate::lines::{
     cell_in, has_tag_form, line_length, name_in, says_nothing, short_name, six_places,
     without_return,
@@ -137,7 +137,12 @@ fn is_given(table: &[Option<[u8; 6]>], given: &Symbols, cell: Cell, symbol: Symb
 }
 
 /// Why a name isn't given to a cell with this word or none, where the name or the cell was given before, or wasn't.
-fn why_taken(word: Option<Word>, is_given: bool, name: &[u8], symbol: SymbolName) -> Option<LineRefusal>
+fn why_taken(
+    word: Option<Word>,
+    is_given: bool,
+    name: &[u8],
+    symbol: SymbolName,
+) -> Option<LineRefusal>
     ensures { result ≡ why_taken word is_given name.now symbol }
 {
     if is_taken(symbol) {

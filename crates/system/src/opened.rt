@@ -4,7 +4,7 @@ ghost use Rattle.std.specs.Prelude.{◌≤◌, ◌+◌, length, IfOk};
 
 use crate::besides::Besides;
 use crate::files::{
-    answer, claim_path, cut_at, has_taken_lock, hold_path, held_bytes, leads_to, link_fault,
+    answer, claim_path, cut_at, has_taken_lock, held_bytes, hold_path, leads_to, link_fault,
     made_beside, put_at, remove_besides, rename_fault, stands_alone, take_owner,
 };
 use hosts::{HostFault, LinkFault, RenameFault};

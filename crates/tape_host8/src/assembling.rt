@@ -2,8 +2,8 @@
 
 use crate::pal8_assembling::assemble_pal8;
 use crate::volume_sources::{put_tape, text_on, volume_of};
-use host_sources::{About, SourceFault, assemble_sources, fault_text, further_faults};
 use file_kind::{are_marked, is_text};
+use host_sources::{About, SourceFault, assemble_sources, fault_text, further_faults};
 use image_file8::{
     Image, bytes_of, input_bytes, make_file, print_bytes, tell, tell_text, texts_of,
 };

@@ -10,7 +10,7 @@ use script8::SessionFault;
 use std::fs::Files;
 use std::io::Input;
 use task8::TeletypeForm;
-use terminal8::{Form, Input as Keys, TerminalFault, TerminalEnd, run};
+use terminal8::{Form, Input as Keys, TerminalEnd, TerminalFault, run};
 use word12::{Cell, Word};
 
 /// Loads a tape or a core image into a new machine, and runs it at the Teletype.
@@ -88,7 +88,11 @@ fn usual_start<R: Eprint + AllocGlobal>(
 }
 
 /// Prints on standard error why a machine goes no further: a HLT and the end of the keys are ends of a program's own.
-fn tell_end<R: Eprint + AllocGlobal>(rt: &R, machine: &Machine, why: TerminalEnd) -> Result<(), Ending> {
+fn tell_end<R: Eprint + AllocGlobal>(
+    rt: &R,
+    machine: &Machine,
+    why: TerminalEnd,
+) -> Result<(), Ending> {
     let cell = machine.next_cell();
     let line = match why {
         TerminalEnd::Halt => ProgramLine::Halted(cell, machine.ac(), machine.l()),

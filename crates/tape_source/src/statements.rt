@@ -174,5 +174,9 @@ fn put_address(
     if tags.flags[named.index()] {
         return put_tag(text, b' ', tags.names, named);
     }
-    put_piece(text, b' ', &address_of_reference(cell.address(), word).octal4())
+    put_piece(
+        text,
+        b' ',
+        &address_of_reference(cell.address(), word).octal4(),
+    )
 }

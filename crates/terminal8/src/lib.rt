@@ -18,6 +18,6 @@ mod writing;
 pub use asking::{asks_for_key, waits_for_key};
 pub use inputs::Input;
 pub use keyboards::{Form, Keyboard, keys_of};
-pub use outcomes::{Ended, TerminalFault, TerminalEnd};
+pub use outcomes::{Ended, TerminalEnd, TerminalFault};
 pub use runs::{run, stop_of};
 pub use terminals::Terminal;

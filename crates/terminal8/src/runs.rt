@@ -13,7 +13,7 @@ use crate::asking::steps_before_look;
 use crate::inputs::Input;
 use crate::keyboards::Form;
 use crate::operators::Operator;
-use crate::outcomes::{Ended, TerminalFault, TerminalEnd};
+use crate::outcomes::{Ended, TerminalEnd, TerminalFault};
 use crate::writing::Paper;
 use cpu8::{Machine, Stepped};
 use std::io::{Read, Write};

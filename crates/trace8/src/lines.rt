@@ -9,8 +9,8 @@ ghost use Rattle.trace8.specs.StoresSteps.{change_line, change_lines, instructio
 use crate::stores::Before;
 use core_load::Core;
 use cpu8::{Machine, Stepped};
-use tape_source::put_instruction;
 use std::alloc::AllocError;
+use tape_source::put_instruction;
 use word12::{Cell, Word};
 
 /// Appends the line of a step that did this, by what stood before it and the machine after it.

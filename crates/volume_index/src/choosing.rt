@@ -7,10 +7,10 @@ ghost use Rattle.volume_index.specs.Indexing as spec;
 
 use crate::holding::holds;
 use crate::kinds::is_text;
+use archive_many::{ChoiceFault, VolumeFile, choose_files};
 use archive8::GetForm;
 use archive8::parts::content_of_words;
 use file_kind::FileKind;
-use archive_many::{ChoiceFault, VolumeFile, choose_files};
 use os8_dir::Name;
 use std::alloc::{AllocError, Global};
 use word12::Word;
