@@ -202,7 +202,7 @@ pub fn value_by_number(symbols: &BTreeMap<u64, u16>, name: u64) -> Option<u16>
 fn permanent_value(name: u64) -> Option<u16>
     ensures { result ≡ permanent name }
 {
-    let word = Symbols::permanent(SymbolName::name_of_number(name))?;
+    let word = Symbols::permanent(SymbolName::from_number(name))?;
     Some(word.get())
 }
 

@@ -117,7 +117,7 @@ impl Reader {
         ensures { ReadsBody (file_phrase rest.now) result self.new }
     {
         match rest {
-            [run] => self.read_file_name(spaced_run(run), Some(Name::name_of_number(0))),
+            [run] => self.read_file_name(spaced_run(run), Some(Name::from_number(0))),
             [run, point, extension] => {
                 self.read_file_name(spaced_run(run), extension_of(point, extension))
             }

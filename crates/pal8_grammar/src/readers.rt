@@ -158,7 +158,7 @@ impl Reader {
             Stand::Operation(number) => match operator_of(kind) {
                 Some(operator) => {
                     self.put(Step::Alone, Stand::Term(false))?;
-                    let name = Name::name_of_number(number);
+                    let name = Name::from_number(number);
                     self.put(step_of_name(names, name), Stand::Term(false))?;
                     self.put_sign(false, operator)?;
                     Ok(true)

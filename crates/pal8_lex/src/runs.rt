@@ -13,7 +13,7 @@ fn longer_name(name: Name, weight: u32, character: u8) -> Name
     ensures { result ≡ longer_name name weight character }
 {
     let code = u64::from(sixbit(character).unwrap_or(0));
-    Name::name_of_number(name.number().saturating_add(u64::from(weight) * code))
+    Name::from_number(name.number().saturating_add(u64::from(weight) * code))
 }
 
 /// A number with one character more: 0o10000 where it isn't one of twelve bits by this base.
@@ -57,7 +57,7 @@ pub fn first_kind(byte: u8) -> Kind
     ensures { result ≡ first_kind byte }
 {
     let character = capital(byte);
-    let name = longer_name(Name::name_of_number(0), 0o10000000000, character);
+    let name = longer_name(Name::from_number(0), 0o10000000000, character);
     match character {
         b'A'..=b'Z' => Kind::Name(name),
         _ => Kind::Number(Number {

@@ -24,7 +24,7 @@ impl Model for Name {
 impl Name {
     /// The name of a number, which six sixbit codes make.
     #[inline]
-    pub fn name_of_number(number: u64) -> Name
+    pub fn from_number(number: u64) -> Name
         ensures { result ≡ number }
     {
         Name { number }

@@ -172,7 +172,7 @@ fn is_one_of(list: &[u64], number: u64) -> bool
 pub fn permanent(name: Name) -> Option<Meaning>
     ensures { result ≡ permanent name }
 {
-    match Symbols::permanent(SymbolName::name_of_number(name.number())) {
+    match Symbols::permanent(SymbolName::from_number(name.number())) {
         Some(value) => Some(Meaning {
             value,
             standing: standing_of(name),

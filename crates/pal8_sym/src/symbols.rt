@@ -57,7 +57,7 @@ impl Symbols {
         ensures values { OnOk result (Gives name value self.old self.new) }
     {
         self.table
-            .define_tag(SymbolName::name_of_number(name.number()), value)
+            .define_tag(SymbolName::from_number(name.number()), value)
     }
 
     /// Gives a name the value of an expression, as `=` does. A tag, and a permanent name that isn't soft, must stand for it already. Else the fault
@@ -68,7 +68,7 @@ impl Symbols {
         ensures values { OnOk result (Gives name value self.old self.new) }
     {
         self.table
-            .define_value(SymbolName::name_of_number(name.number()), value)
+            .define_value(SymbolName::from_number(name.number()), value)
     }
 
     /// Sets the value of a name that was defined, whatever it stands for. A permanent name that isn't soft keeps its value, and a name that
@@ -77,7 +77,7 @@ impl Symbols {
         ensures { IsSetAgain name value self.old self.new }
     {
         self.table
-            .again(SymbolName::name_of_number(name.number()), value);
+            .again(SymbolName::from_number(name.number()), value);
     }
 
     /// The value of a name, if it has one: what it was defined as, or else its permanent value (PAL8, in this project's profile).
@@ -86,7 +86,7 @@ impl Symbols {
         ensures value { result ≡ value_of self.now name }
         ensures range { IfSome result (λ word. word < 0o10000) }
     {
-        match self.table.value(SymbolName::name_of_number(name.number())) {
+        match self.table.value(SymbolName::from_number(name.number())) {
             Some(word) => Some(word),
             None => soft_value(name),
         }
@@ -98,6 +98,6 @@ impl Symbols {
         ensures value { result ≡ symbol_value self.now name }
         ensures range { IfSome result (λ word. word < 0o10000) }
     {
-        self.table.value(SymbolName::name_of_number(name.number()))
+        self.table.value(SymbolName::from_number(name.number()))
     }
 }

@@ -24,7 +24,7 @@ fn name_sign(alloc: Global, name: u64) -> Result<Vec<u8>, AllocError>
     ensures { IfOk result (λ text. text.items ≡ name_sign name) }
 {
     let mut text = Vec::new(alloc);
-    if is_reserved(Name::name_of_number(name)) {
+    if is_reserved(Name::from_number(name)) {
         put_spelling(&mut text, name)?;
     }
     Ok(text)

@@ -20,7 +20,7 @@ pub fn set_tags(symbols: &mut Symbols, tags: &[Name], place: Word)
 {
     let mut rest = tags;
     while let [tag, others @ ..] = rest {
-        symbols.again(SymbolName::name_of_number(tag.number()), place);
+        symbols.again(SymbolName::from_number(tag.number()), place);
         rest = others;
     }
 }
@@ -30,7 +30,7 @@ fn set_value(symbols: &mut Symbols, location: u16, name: Name, parts: &[Part]) -
     ensures { SetsValue name parts.now location symbols.old symbols.new result }
 {
     let value = value_of(symbols, location, parts)?;
-    symbols.again(SymbolName::name_of_number(name.number()), value);
+    symbols.again(SymbolName::from_number(name.number()), value);
     Ok(())
 }
 

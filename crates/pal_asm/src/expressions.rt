@@ -15,7 +15,7 @@ fn name_value(symbols: &Symbols, name: Name) -> Result<Word, Code>
         result }
     ensures range { IfOk result (λ word. word < 0o10000) }
 {
-    match symbols.value(SymbolName::name_of_number(name.number())) {
+    match symbols.value(SymbolName::from_number(name.number())) {
         Some(word) => {
             let _number = word.get();
             Ok(word)

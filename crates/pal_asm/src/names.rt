@@ -27,7 +27,7 @@ fn judge_tag(symbols: &Symbols, tag: Name, location: u16) -> Result<(), Code>
     ensures { Judges (tag_fault location (symbol_value symbols.now tag)) result }
 {
     let place = place_value(location)?;
-    match symbols.value(SymbolName::name_of_number(tag.number())) {
+    match symbols.value(SymbolName::from_number(tag.number())) {
         Some(known) => {
             if known != place {
                 return Err(Code::DT);
@@ -59,7 +59,7 @@ fn define_tags(symbols: &mut Symbols, tags: &[Name], location: u16) -> Result<()
     while let [tag, others @ ..] = rest {
         let place = place_value(location)?;
         symbols
-            .define_tag(SymbolName::name_of_number(tag.number()), place)
+            .define_tag(SymbolName::from_number(tag.number()), place)
             .map_err(|_| Code::DT)?;
         rest = others;
     }
@@ -73,7 +73,7 @@ fn define(symbols: &mut Symbols, spot: Spot, name: Name, parts: &[Part]) -> Resu
 {
     let value = value_of(symbols, spot.location, parts)?;
     symbols
-        .define_value(SymbolName::name_of_number(name.number()), value)
+        .define_value(SymbolName::from_number(name.number()), value)
         .map_err(|_| Code::RD)?;
     Ok(spot)
 }

@@ -42,7 +42,7 @@ fn name_of(first: u8, others: &[u8], place: u64) -> Grown
         → IsRun (base radix) first others.now at result }
     ensures range { result.more ≤ length others.now }
 {
-    let mut name = longer_name(Name::name_of_number(0), 0o10000000000, first);
+    let mut name = longer_name(Name::from_number(0), 0o10000000000, first);
     let mut end = place.saturating_add(1);
     let mut weight = 0o100000000;
     let mut more = 0;

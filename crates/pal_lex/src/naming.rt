@@ -35,7 +35,7 @@ impl Model for Name {
 impl Name {
     /// The name of a number, which six sixbit codes make.
     #[inline]
-    pub(crate) fn name_of_number(number: u64) -> Name
+    pub(crate) fn from_number(number: u64) -> Name
         ensures { result ≡ number }
     {
         Name {

@@ -31,7 +31,7 @@ pub fn longer_name(name: Name, weight: u32, character: u8) -> Name
     ensures { result ≡ longer_name name weight character }
 {
     let code = u64::from(sixbit(character).unwrap_or(0));
-    Name::name_of_number(name.number().saturating_add(u64::from(weight) * code))
+    Name::from_number(name.number().saturating_add(u64::from(weight) * code))
 }
 
 /// A number with one character more.
@@ -79,7 +79,7 @@ pub fn first_kind(radix: Radix, character: u8) -> Kind
 {
     match character {
         b'A'..=b'Z' => Kind::Term(Term::Name(longer_name(
-            Name::name_of_number(0),
+            Name::from_number(0),
             0o10000000000,
             character,
         ))),

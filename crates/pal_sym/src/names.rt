@@ -43,7 +43,7 @@ impl SymbolName {
 
     /// The name of a number, which six sixbit codes make.
     #[inline]
-    pub fn name_of_number(number: u64) -> SymbolName
+    pub fn from_number(number: u64) -> SymbolName
         ensures { result ≡ number }
     {
         SymbolName { number }

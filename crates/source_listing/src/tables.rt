@@ -35,7 +35,7 @@ fn put_entry(text: &mut Vec<u8>, name: u64, value: u16) -> Result<(), AllocError
 pub(crate) fn is_permanent(name: u64) -> bool
     ensures { result ≡ is_some (permanent name) }
 {
-    Symbols::permanent(SymbolName::name_of_number(name)).is_some()
+    Symbols::permanent(SymbolName::from_number(name)).is_some()
 }
 
 /// Puts a name with its value.

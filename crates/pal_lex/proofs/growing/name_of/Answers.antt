@@ -11,7 +11,7 @@ use Rattle.pal_lex.proofs.growing.name_of.Goals as goal
 pub loop-more-init : goal.loop-more-init
 loop-more-init c = record {
   run = λ radix at there.
-      begun_run (base radix) c.args.first c.args.others.now at c.args.place c.saturating_add-end.result (Term (Name c.longer_name-name.result)) (ap (λ n. Term (Name n)) c.longer_name-name.ensures ∙ ap (λ z. Term (Name (longer_name z 1073741824 c.args.first))) c.name_of_number.ensures ∙ letter_begun (base radix) c.args.first c.requires) there c.saturating_add-end.ensures;
+      begun_run (base radix) c.args.first c.args.others.now at c.args.place c.saturating_add-end.result (Term (Name c.longer_name-name.result)) (ap (λ n. Term (Name n)) c.longer_name-name.ensures ∙ ap (λ z. Term (Name (longer_name z 1073741824 c.args.first))) c.from_number.ensures ∙ letter_begun (base radix) c.args.first c.requires) there c.saturating_add-end.ensures;
   range = omega arith;
 }
 
