@@ -1,5 +1,5 @@
-//! The commands on archives, over any host: blocks that are shown, a word that is patched, files with their dates, the index of many volumes,
-//! and what a damaged volume still holds.
+//! The commands on archives, over any host. They show blocks, patch a word, put files with their dates, write the index of many volumes, and
+//! rescue what a damaged volume still holds.
 //!
 //! In each contract an image is the list of its bytes.
 #![tactic(auto)]

@@ -13,7 +13,7 @@ use std::thread;
 use std::time::{Clock, Duration};
 use word12::{BLOCK, FIRST_FILE_BLOCK};
 
-/// How often a file is locked anew whose name led elsewhere meanwhile.
+/// How often a file is locked anew whose name with_lead elsewhere meanwhile.
 const TRIES: u16 = 1000;
 
 /// How many times a second a held file is asked for again.

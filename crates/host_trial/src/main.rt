@@ -1,5 +1,5 @@
 //! `host_trial` has each call of a host in memory fail in turn, and prints what that leaves. `host_trial WHAT PATH` saves standard input as
-//! a file of the system: by `save` one that is there, by `make` one that is not, by `lay` either.
+//! a file of the system. `save` is for a file that is there, `make` for one that is not, and `lay` for either.
 #![tactic(auto)]
 
 mod rows;

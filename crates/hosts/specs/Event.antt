@@ -63,7 +63,7 @@ event_at call name ok bytes = record { call = call; ok = ok; name = name; bytes 
 abbrev pub event_of_number : Call → List ℕ → Bool → ℕ → List ℕ → Event
 event_of_number call name ok number bytes = record { call = call; ok = ok; name = name; bytes = bytes; number = number }
 
--- a name led to a path
+-- a name with_lead to a path
 abbrev pub resolve_call : List ℕ → Bool → List ℕ → Event
 resolve_call name ok path = event_at Resolve name ok path
 
@@ -131,7 +131,7 @@ write_over_call path ok at bytes = event_of_number (Alter WriteOver) path ok at 
 abbrev pub finish_over_call : List ℕ → Bool → ℕ → Event
 finish_over_call path ok size = event_of_number (Alter FinishOver) path ok size []
 
--- a name led to a path that no file has
+-- a name with_lead to a path that no file has
 abbrev pub free_call : List ℕ → Bool → List ℕ → Event
 free_call name ok path = event_at Free name ok path
 

@@ -26,7 +26,7 @@ fn halves(line: &str) -> (&str, &str) {
 }
 
 /// What a byte of a source stands for.
-fn meant(byte: &u8) -> &[u8] {
+fn meaning(byte: &u8) -> &[u8] {
     match *byte {
         b'|' => b"\r\n",
         b'^' => b"\n",
@@ -37,7 +37,7 @@ fn meant(byte: &u8) -> &[u8] {
 /// Puts down the bytes of a source, in which a bar stands for CR and LF, and `^` for LF.
 fn put_source(bytes: &mut Vec<u8>, source: &str) {
     for byte in source.as_bytes() {
-        let _ = bytes.extend_from_slice(meant(byte));
+        let _ = bytes.extend_from_slice(meaning(byte));
     }
 }
 

@@ -1,5 +1,5 @@
-//! The whole programming system: what the command line asks for, over the files of the host and the session of `session8`; and the public
-//! calls of the crates below that a program may want.
+//! The whole programming system: what the command line asks for, over the files of the host and the session of `session8`. It also shows
+//! the public calls of the crates below that a program may want.
 #![tactic(auto)]
 
 mod hints;

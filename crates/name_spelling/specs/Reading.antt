@@ -9,8 +9,8 @@ abbrev pub taking : ℕ → Option ℕ → Option (ℕ × ℕ)
 taking count None = None
 taking count (Some code) = Some (code, count)
 
--- The next code of a text, and how many characters it takes. `_` and two octal digits are one code, a letter or a digit is its own, and
--- after the end zeros follow.
+-- The next code of a text, and how many characters it takes. `_` and two octal digits are one code, and a letter or a digit is
+-- its own. After the end zeros follow.
 abbrev pub next_code : List ℕ → Option (ℕ × ℕ)
 next_code [] = Some (0, 0)
 next_code (first ∷ []) = taking 1 (sixbit_code first)

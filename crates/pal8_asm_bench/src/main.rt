@@ -1,6 +1,6 @@
-//! Assembles a PAL8 source on standard input by `pal8_asm`, to hold it to the plain model: it prints each cell that has a word, as field,
-//! address and word in octal; or the code of the first fault with its line, the byte at which its statement begins, and the name or the cell
-//! that it is about, by its number in octal.
+//! Assembles a PAL8 source on standard input by `pal8_asm`, to hold it to the plain model. It prints each cell that has a word, as field,
+//! address and word in octal. Or it prints the code of the first fault with its line, and the byte at which its statement begins. The name
+//! or the cell that the fault is about follows, by its number in octal.
 #![tactic(auto)]
 
 use pal8_asm::{AsmFault, Code, Place, assemble};

@@ -1,4 +1,4 @@
-//! Reads a PAL8 source on standard input by the lexer, to measure it and to hold it to the plain model: it prints how many statements and
+//! Reads a PAL8 source on standard input by the lexer, to measure it and to hold it to the plain model. It prints how many statements and
 //! tokens there are, and a number that is made of all that the lexer says of them.
 #![tactic(auto)]
 

@@ -1,5 +1,5 @@
-//! What the program prints beside a session, over readers and writers: its own lines, the listing of a tape, its source and its words; and
-//! what is asked of the frames of tapes and core images for that.
+//! What the program prints beside a session, over readers and writers: its own lines, the listing of a tape, its source and its words.
+//! For that it reads the frames of tapes and core images.
 #![tactic(auto)]
 
 mod cores;

@@ -1,5 +1,5 @@
-//! The commands on damaged volumes, over any host: a new volume with the files that an old one still shows, and the list of what blocks hold
-//! where no directory shows it.
+//! The commands on damaged volumes, over any host. One makes a new volume with the files that an old one still shows. The other lists what
+//! blocks hold where no directory shows it.
 //!
 //! In each contract an image is the list of its bytes.
 #![tactic(auto)]

@@ -155,7 +155,7 @@ fn each_call_failed(rt: HostRuntime) {
 
 /// What a script writes where its calls of these numbers fail, and what is said of the volume when it is mounted again. That is
 /// the free blocks, or 1000 where its first segment has a bad count.
-fn remounted(
+fn remount(
     alloc: Global,
     read: u32,
     write: u32,
@@ -171,46 +171,47 @@ fn remounted(
 }
 
 /// A text that is stored, and what asks for files and for none after it.
-const STORED: &[u8] = b"STORE A.TX 0\nDIRECT\nEXAMINE 00000\n";
+const STORE_SCRIPT: &[u8] = b"STORE A.TX 0\nDIRECT\nEXAMINE 00000\n";
 
 /// A file that is moved down.
-const MOVED: &[u8] = b"STORE A 0\nSTORE B 0\nDELETE A\nSQUEEZE\nTURN 1\nDIRECT\nSQUEEZE\nFINISH\n";
+const MOVE_SCRIPT: &[u8] =
+    b"STORE A 0\nSTORE B 0\nDELETE A\nSQUEEZE\nTURN 1\nDIRECT\nSQUEEZE\nFINISH\n";
 
 /// Which read and which write fail in a script, what is then written, and what is said when it is mounted again. The squeeze first
 /// reads at read 7, and writes at write 5.
-const STOPPED: [(u32, u32, &[u8], &[u8], usize); 5] = [
+const STOP_CASES: [(u32, u32, &[u8], &[u8], usize); 5] = [
     (
         NONE,
         0,
-        STORED,
+        STORE_SCRIPT,
         b"? 4.8 DEVICE\n? 4.9 STOPPED\n00000 0000\n",
         13,
     ),
     (
         NONE,
         1,
-        STORED,
+        STORE_SCRIPT,
         b"? 4.8 DEVICE\n? 4.9 STOPPED\n00000 0000\n",
         1000,
     ),
     (
         7,
         NONE,
-        MOVED,
+        MOVE_SCRIPT,
         b"STORED A 1\nSTORED B 1\nDELETED A\nJOB 1\nJOB 1 ? 4.8 DEVICE\nB 1\nFREE 12\nJOB 1\nJOB 1 SQUEEZED\nFINISHED\n",
         12,
     ),
     (
         NONE,
         5,
-        MOVED,
+        MOVE_SCRIPT,
         b"STORED A 1\nSTORED B 1\nDELETED A\nJOB 1\nJOB 1 ? 4.8 DEVICE\n? 4.9 STOPPED\n? 4.9 STOPPED\nFINISHED\n",
         12,
     ),
     (
         NONE,
         0,
-        MOVED,
+        MOVE_SCRIPT,
         b"? 4.8 DEVICE\n? 4.9 STOPPED\n? 4.9 STOPPED\n? 4.9 STOPPED\n? 2 NO JOB\n? 4.9 STOPPED\n? 4.9 STOPPED\nFINISHED\n",
         13,
     ),
@@ -220,9 +221,9 @@ const STOPPED: [(u32, u32, &[u8], &[u8], usize); 5] = [
 fn stopped_sessions(rt: HostRuntime) {
     let alloc = rt.alloc();
     let mut out = Vec::new(alloc);
-    for (read, write, script, want, said) in STOPPED {
+    for (read, write, script, want, said) in STOP_CASES {
         out.clear();
-        let is_said = remounted(alloc, read, write, script, &mut out) == Some(said);
+        let is_said = remount(alloc, read, write, script, &mut out) == Some(said);
         assert!(rt; is_said && out.as_slice() == want, "{out:?}");
     }
 }

@@ -11,7 +11,7 @@ use std::os::unix::fs::{FileTypeExt, MetadataExt, chown};
 use std::path::{Path, PathBuf};
 use std::time::{Clock, Instant};
 
-/// How many names beside a file are tried, and how often a file is locked anew whose name led elsewhere meanwhile.
+/// How many names beside a file are tried, and how often a file is locked anew whose name with_lead elsewhere meanwhile.
 const TRIES: u16 = 1000;
 
 /// How many links are followed at most, as Linux does.

@@ -7,7 +7,7 @@ use Rattle.pal_lex.specs.Runs.{run_kind, in_order}
 use Rattle.pal_lex.specs.declared.pieces.Token.{Token}
 use Rattle.pal_lex.specs.declared.pieces.Kind.{Kind}
 use Rattle.pal_lex.specs.declared.pieces.Kind.TheVariants.{BadNumber, Blank}
-use Rattle.tape_source.specs.Lines.{led}
+use Rattle.tape_source.specs.Lines.{with_lead}
 use Rattle.tape_source.proofs.ByteLemmas.{both, all_legal}
 use Rattle.tape_source.proofs.TextLemmas.{laid}
 
@@ -97,7 +97,7 @@ spaced [] = []
 spaced (piece ∷ []) = piece
 spaced (piece ∷ next ∷ others) = piece ++ 32 ∷ spaced (next ∷ others)
 
-pub led_spaced : (byte : ℕ) (piece : List ℕ) (others : List (List ℕ)) → led byte (piece ∷ others) ≡ byte ∷ spaced (piece ∷ others)
+pub led_spaced : (byte : ℕ) (piece : List ℕ) (others : List (List ℕ)) → with_lead byte (piece ∷ others) ≡ byte ∷ spaced (piece ∷ others)
 led_spaced byte piece [] = ap (λ l. byte ∷ l) (append-nil piece)
 led_spaced byte piece (next ∷ others) = ap (λ l. byte ∷ piece ++ l) (led_spaced 32 next others)
 

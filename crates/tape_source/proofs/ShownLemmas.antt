@@ -13,7 +13,7 @@ use Rattle.source_notes.specs.Notes.{note_lines}
 use Rattle.tape_source.specs.Looks.{Look, AreNotes, is_tagged, IsNaming}
 use Rattle.tape_source.specs.Steps.{SameLook}
 use Rattle.tape_source.specs.Statements.{datum, instruction_by, reference, is_named, statement}
-use Rattle.tape_source.specs.Lines.{led, line_end, field_line, origin_line, comment, tag_part, word_line, cell_lines, lines_of, source_with}
+use Rattle.tape_source.specs.Lines.{with_lead, line_end, field_line, origin_line, comment, tag_part, word_line, cell_lines, lines_of, source_with}
 use Rattle.tape_source.specs.Sources.{IsReadAs, Says, words_of_tape}
 use Rattle.tape_source.proofs.ReferenceLemmas.{referred_inside, shown_reference}
 use Rattle.tape_source.proofs.NameLemmas.{shown_names}
@@ -76,10 +76,10 @@ same_word_line : (c d : Look) (f g : ℕ → Bool) → SameLook c d → ((cell :
     → word < 4096 → word_line c f cell word ≡ word_line d g cell word
 same_word_line c d f g look same cell word small low =
     let end = 9 ∷ comment cell word in
-    ap (λ (b : Bool). (if b then c.name cell ++ 44 ∷ [] else []) ++ led 9 (statement c f cell word) ++ end ++ c.remark cell ++ line_end) (same cell small)
-    ∙ ap (λ l. (if g cell then l ++ 44 ∷ [] else []) ++ led 9 (statement c f cell word) ++ end ++ c.remark cell ++ line_end) (look.names cell small)
-    ∙ ap (λ s. tag_part d.name g cell ++ led 9 s ++ end ++ c.remark cell ++ line_end) (same_statement c d f g look same cell word small low)
-    ∙ ap (λ r. tag_part d.name g cell ++ led 9 (statement d g cell word) ++ end ++ r ++ line_end) (look.remark cell small)
+    ap (λ (b : Bool). (if b then c.name cell ++ 44 ∷ [] else []) ++ with_lead 9 (statement c f cell word) ++ end ++ c.remark cell ++ line_end) (same cell small)
+    ∙ ap (λ l. (if g cell then l ++ 44 ∷ [] else []) ++ with_lead 9 (statement c f cell word) ++ end ++ c.remark cell ++ line_end) (look.names cell small)
+    ∙ ap (λ s. tag_part d.name g cell ++ with_lead 9 s ++ end ++ c.remark cell ++ line_end) (same_statement c d f g look same cell word small low)
+    ∙ ap (λ r. tag_part d.name g cell ++ with_lead 9 (statement d g cell word) ++ end ++ r ++ line_end) (look.remark cell small)
 
 same_cell_lines : (c d : Look) (f g : ℕ → Bool) → SameLook c d → ((cell : ℕ) → cell < 32768 → f cell ≡ g cell) → (before : Option ℕ) (cell word : ℕ) → cell < 32768
     → word < 4096 → cell_lines c f before cell word ≡ cell_lines d g before cell word
@@ -117,7 +117,7 @@ some_line before line gap e =
 no_lines : (look : Look) (tagged : ℕ → Bool) (pairs : List (ℕ × ℕ)) → lines_of look tagged pairs ≡ [] → pairs ≡ []
 no_lines look tagged [] e = refl
 no_lines look tagged (pair ∷ older) e =
-    absurd (some_line _ (tag_part look.name tagged pair.0 ++ led 9 (statement look tagged pair.0 pair.1) ++ 9 ∷ comment pair.0 pair.1 ++ look.remark pair.0) _
+    absurd (some_line _ (tag_part look.name tagged pair.0 ++ with_lead 9 (statement look tagged pair.0 pair.1) ++ 9 ∷ comment pair.0 pair.1 ++ look.remark pair.0) _
     (nothing_behind (lines_of look tagged older) (cell_lines look tagged (newest_cell older) pair.0 pair.1) e))
 
 some_pair : (look : Look) (tagged : ℕ → Bool) (pairs : List (ℕ × ℕ)) → lines_of look tagged pairs ≢ [] → 0 < length pairs

@@ -26,7 +26,7 @@ use Rattle.tape_source.specs.Tags.{is_given, is_referred}
 use Rattle.source_notes.specs.Laws.{all_graphic, are_graphic}
 use Rattle.source_notes.specs.Notes.{note_lines}
 use Rattle.tape_source.specs.Looks.{Look, AreNotes, is_name, is_tagged, name_in, IsNaming}
-use Rattle.tape_source.specs.Lines.{led, line_end, field_line, origin_line, comment, tag_part, word_line, cell_lines, lines_of, source_with}
+use Rattle.tape_source.specs.Lines.{with_lead, line_end, field_line, origin_line, comment, tag_part, word_line, cell_lines, lines_of, source_with}
 use Rattle.tape_source.specs.Defined.{tags_in, tags_of, Differ, DefinesTags}
 use Rattle.tape_source.specs.Sources.{IsReadAs}
 use Rattle.tape_source.specs.Named.{IsByTag}
@@ -304,7 +304,7 @@ word_part look tagged text cell word pairs notes naming small shown is =
     let digits = octal_digit field ∷ octal4 place ++ 32 ∷ octal4 word in
     let line = code ++ (47 ∷ ((digits ++ remark) ++ 13 ∷ 10 ∷ [])) in
     let shape : word_line look tagged cell word ≡ line =
-    ap (λ w. prefix ++ led 9 w ++ 9 ∷ comment cell word ++ remark ++ line_end) shown.some
+    ap (λ w. prefix ++ with_lead 9 w ++ 9 ∷ comment cell word ++ remark ++ line_end) shown.some
     ∙ ap (λ l. prefix ++ l ++ 9 ∷ comment cell word ++ remark ++ line_end) (led_spaced 9 shown.first shown.others)
     ∙ regroup prefix (spaced words) (47 ∷ digits) remark (13 ∷ 10 ∷ []) in
     let done =

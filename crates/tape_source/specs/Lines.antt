@@ -24,9 +24,9 @@ abbrev pub comment : ℕ → ℕ → List ℕ
 comment cell word = 0o57 ∷ octal5 cell ++ 0o40 ∷ octal4 word
 
 -- pieces, the first after this byte and the others after a blank
-abbrev pub led : ℕ → List (List ℕ) → List ℕ
-led byte [] = []
-led byte (piece ∷ others) = byte ∷ piece ++ led 0o40 others
+abbrev pub with_lead : ℕ → List (List ℕ) → List ℕ
+with_lead byte [] = []
+with_lead byte (piece ∷ others) = byte ∷ piece ++ with_lead 0o40 others
 
 -- a cell's tag with a comma, where it has one
 abbrev pub tag_part : (ℕ → List ℕ) → (ℕ → Bool) → ℕ → List ℕ
@@ -35,7 +35,7 @@ tag_part name tagged cell = if tagged cell then name cell ++ 0o54 ∷ [] else []
 -- the cell's tag, the statement of the word after a tab, and after another tab the comment
 abbrev pub word_line : Look → (ℕ → Bool) → ℕ → ℕ → List ℕ
 word_line look tagged cell word =
-    tag_part look.name tagged cell ++ led 9 (statement look tagged cell word) ++ 0o11 ∷ comment cell word ++ look.remark cell ++ line_end
+    tag_part look.name tagged cell ++ with_lead 9 (statement look tagged cell word) ++ 0o11 ∷ comment cell word ++ look.remark cell ++ line_end
 
 -- The lines of a cell's word after a word for the cell before. They are the field where it changes, an origin where the
 -- cell isn't the next, the comments above it, the word, and an empty line where one stands after it.

@@ -12,8 +12,8 @@ pattern mask bits name value = (octal_number mask, octal_number bits, name, octa
 
 -- The names that are shown. An instruction of the interrupt, the reader, the punch, the Teletype and the extended memory has
 -- a name for its whole word. `CDF` and `CIF` have the number of the field after them, 10 to 70, where it isn't 0. An operate
--- has names for its bits, as few as its group has: one for two bits where that makes them fewer, as CIA, STL, GLK, STA and
--- LAS.
+-- has names for its bits, as few as its group has. One name is for two bits where that makes them fewer, as CIA, STL, GLK, STA
+-- and LAS.
 unfoldable pub patterns : List Pattern
 patterns =
     pattern (codes "7777") (codes "6001") (codes "ION") (codes "6001") ∷

@@ -36,8 +36,8 @@ pub fn tape_comes_back()
     has_words();
 }
 
-/// A tape's source tags a cell just where the tape gives it a word, and it has a name of its own or is named by a memory
-/// reference among the instructions.
+/// A tape's source tags a cell just where the tape gives it a word that is named. It is named by a name of its own, or by a
+/// memory reference among the instructions.
 pub fn named_cells_are_tagged()
     ensures { (look : Look) (frames text : List ℕ)
         (source : IsSourceWith look frames text) → TagsWhatIsNamed look source.items }

@@ -1,5 +1,5 @@
 ghost use Rattle.std.specs.Prelude.{◌≡◌, ℕ, ◌++◌, OnOk, List};
-ghost use Rattle.tape_source.specs.Lines.{led};
+ghost use Rattle.tape_source.specs.Lines.{with_lead};
 ghost use Rattle.tape_source.specs.Patterns.{patterns, patterns_of, or_after, shown_name, names};
 ghost use Rattle.tape_source.specs.Statements.{is_named};
 
@@ -104,14 +104,14 @@ fn value_of(list: &[Pattern], word: Word) -> u16
 /// Appends the names of the patterns that a word has, the first after a tab.
 #[tactic(auto, unfolding(crate::specs::Patterns::patterns))]
 pub fn put_names(text: &mut Vec<u8>, word: Word) -> Result<(), AllocError>
-    ensures { OnOk result (text.new.items ≡ text.old.items ++ led 9 (names (patterns_of word patterns))) }
+    ensures { OnOk result (text.new.items ≡ text.old.items ++ with_lead 9 (names (patterns_of word patterns))) }
 {
     put_listed(text, &PATTERNS, word)
 }
 
 /// Appends the names of the patterns of a list that a word has, the first after a tab.
 fn put_listed(text: &mut Vec<u8>, list: &[Pattern], word: Word) -> Result<(), AllocError>
-    ensures { OnOk result (text.new.items ≡ text.old.items ++ led 9 (names (patterns_of word list.now))) }
+    ensures { OnOk result (text.new.items ≡ text.old.items ++ with_lead 9 (names (patterns_of word list.now))) }
 {
     let bits = word.get();
     let mut byte = b'\t';

@@ -1,7 +1,7 @@
 ghost use Rattle.std.specs.Prelude.{◌≡◌, ℕ, ◌/◌, ◌%◌, ◌++◌, ◌∷◌, [], None, codes, nat_eq, if◌then◌else◌, length, OnOk};
 ghost use Rattle.word12.specs.declared.sizes.TheConstants.{CORE};
 ghost use Rattle.word12.specs.Octal.{octal4};
-ghost use Rattle.tape_source.specs.Lines.{led};
+ghost use Rattle.tape_source.specs.Lines.{with_lead};
 ghost use Rattle.tape_source.specs.Looks.{name_or_tag};
 ghost use Rattle.tape_source.specs.Tags.{is_flagged};
 ghost use Rattle.tape_source.specs.Statements.{address, datum, instruction, instruction_by, reference, statement};
@@ -30,7 +30,7 @@ pub fn put_statement(
     requires code { length code.now ≡ CORE }
     requires tags { length tags.now.flags.now ≡ CORE }
     ensures { OnOk result (text.new.items ≡ text.old.items
-        ++ led 9 (statement (look_with tags.now.names.now None (is_flagged code.now))
+        ++ with_lead 9 (statement (look_with tags.now.names.now None (is_flagged code.now))
         (is_flagged tags.now.flags.now) cell word)) }
 {
     if code[cell.index()] {
@@ -44,7 +44,7 @@ pub fn put_statement(
 fn put_datum(text: &mut Vec<u8>, tags: &Tags<'_>, cell: Cell, word: Word) -> Result<(), AllocError>
     requires { length tags.now.flags.now ≡ CORE }
     ensures { OnOk result (text.new.items ≡ text.old.items
-        ++ led 9 (datum (name_or_tag (name_by tags.now.names.now)) (is_flagged tags.now.flags.now)
+        ++ with_lead 9 (datum (name_or_tag (name_by tags.now.names.now)) (is_flagged tags.now.flags.now)
         cell word)) }
 {
     if word.get() == 0 {
@@ -67,7 +67,7 @@ pub fn put_instruction(
 ) -> Result<(), AllocError>
     requires { length tags.now ≡ CORE }
     ensures { OnOk result (text.new.items ≡ text.old.items
-        ++ led 9 (instruction (is_flagged tags.now) cell word)) }
+        ++ with_lead 9 (instruction (is_flagged tags.now) cell word)) }
 {
     let names = None;
     let made = Tags {
@@ -86,7 +86,7 @@ fn put_instruction_by(
 ) -> Result<(), AllocError>
     requires { length tags.now.flags.now ≡ CORE }
     ensures { OnOk result (text.new.items ≡ text.old.items
-        ++ led 9 (instruction_by (name_or_tag (name_by tags.now.names.now))
+        ++ with_lead 9 (instruction_by (name_or_tag (name_by tags.now.names.now))
         (is_flagged tags.now.flags.now) cell word)) }
 {
     if is_reference(cell.address(), word) {
@@ -100,7 +100,7 @@ fn put_instruction_by(
 
 /// Appends a word's number, after a tab.
 fn put_number(text: &mut Vec<u8>, word: Word) -> Result<(), AllocError>
-    ensures { OnOk result (text.new.items ≡ text.old.items ++ led 9 (octal4 word ∷ [])) }
+    ensures { OnOk result (text.new.items ≡ text.old.items ++ with_lead 9 (octal4 word ∷ [])) }
 {
     put_piece(text, b'\t', &word.octal4())
 }
@@ -138,7 +138,7 @@ fn put_reference(
 ) -> Result<(), AllocError>
     requires { length tags.now.flags.now ≡ CORE }
     ensures { OnOk result (text.new.items ≡ text.old.items
-        ++ led 9 (reference (name_or_tag (name_by tags.now.names.now))
+        ++ with_lead 9 (reference (name_or_tag (name_by tags.now.names.now))
         (is_flagged tags.now.flags.now) cell word)) }
 {
     put_piece(text, b'\t', &operation_name(word))?;
@@ -150,7 +150,7 @@ fn put_reference(
 /// Appends `I` where a word is indirect.
 fn put_indirection(text: &mut Vec<u8>, word: Word) -> Result<(), AllocError>
     ensures { OnOk result (text.new.items ≡ text.old.items
-        ++ led 0o40 (if nat_eq (word / 0o400 % 2) 1 then codes "I" ∷ [] else [])) }
+        ++ with_lead 0o40 (if nat_eq (word / 0o400 % 2) 1 then codes "I" ∷ [] else [])) }
 {
     if word.get() / INDIRECT % 2 == 1 {
         return put_piece(text, b' ', b"I");

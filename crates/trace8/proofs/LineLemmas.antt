@@ -5,7 +5,7 @@ use Rattle.cpu8.specs.State.{State, next_cell}
 use Rattle.cpu8.specs.Step.{next_word}
 use Rattle.cpu8.specs.declared.outcomes.Stepped.{Stepped}
 use Rattle.cpu8.specs.declared.outcomes.Stepped.TheVariants.{Stopped, Interrupted, Ran, Halted, Unassigned}
-use Rattle.tape_source.specs.Lines.{led}
+use Rattle.tape_source.specs.Lines.{with_lead}
 use Rattle.tape_source.specs.Statements.{instruction}
 use Rattle.terminal8.specs.Terminal.{Terminal, later, next, after_step}
 use Rattle.trace8.specs.Stores.{changing_cells}
@@ -17,8 +17,8 @@ use Rattle.trace8.specs.declared.stores.Before.{Before}
 
 told-instruction : (tagged : ℕ → Bool) (s : State) (b : Before) → IsBefore s b → instruction_line tagged b ≡ instruction_text tagged s
 told-instruction tagged s b is =
-    ap (λ c. octal5 c ++ 0o40 ∷ octal4 b.word ++ led 9 (instruction tagged c b.word)) is.cell
-    ∙ ap (λ w. octal5 (next_cell s) ++ 0o40 ∷ octal4 w ++ led 9 (instruction tagged (next_cell s) w)) is.word
+    ap (λ c. octal5 c ++ 0o40 ∷ octal4 b.word ++ with_lead 9 (instruction tagged c b.word)) is.cell
+    ∙ ap (λ w. octal5 (next_cell s) ++ 0o40 ∷ octal4 w ++ with_lead 9 (instruction tagged (next_cell s) w)) is.word
 
 told-step : (tagged : ℕ → Bool) (s : State) (b : Before) (did : Stepped) → IsBefore s b → step_report tagged b did ≡ step_text tagged s did
 told-step tagged s b Stopped is = told-instruction tagged s b is

@@ -5,14 +5,14 @@ use Rattle.cpu8.specs.State.{State, next_cell}
 use Rattle.cpu8.specs.Step.{next_word}
 use Rattle.cpu8.specs.declared.outcomes.Stepped.{Stepped}
 use Rattle.cpu8.specs.declared.outcomes.Stepped.TheVariants.{Stopped, Interrupted, Ran, Halted, Unassigned}
-use Rattle.tape_source.specs.Lines.{led}
+use Rattle.tape_source.specs.Lines.{with_lead}
 use Rattle.tape_source.specs.Statements.{instruction}
 use Rattle.terminal8.specs.Terminal.{Terminal, later, after_step}
 use Rattle.trace8.specs.Stores.{changing_cells}
 
 -- the cell of the next instruction, its word, and the instruction as a source spells it where these cells are tagged
 abbrev pub instruction_text : (ℕ → Bool) → State → List ℕ
-instruction_text tagged s = octal5 (next_cell s) ++ 0o40 ∷ octal4 (next_word s) ++ led 9 (instruction tagged (next_cell s) (next_word s))
+instruction_text tagged s = octal5 (next_cell s) ++ 0o40 ∷ octal4 (next_word s) ++ with_lead 9 (instruction tagged (next_cell s) (next_word s))
 
 -- what the step was: an interrupt, or an instruction
 abbrev pub step_text : (ℕ → Bool) → State → Stepped → List ℕ

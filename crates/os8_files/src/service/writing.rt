@@ -34,8 +34,8 @@ pub(super) fn has_first_word(name: Name) -> bool
 }
 
 impl<S: BlockStore> FileService<S> {
-    /// Begins a file in the smallest empty that has at least `wish` blocks, for a wish of 0 in the largest, of equals in
-    /// the first (this project's profile). `BadName` is for a name whose first word is 0. Then come `TentativeOpen` while
+    /// Begins a file in the smallest empty that has at least `wish` blocks. For a wish of 0 it is the largest, and of equals the
+    /// first (this project's profile). `BadName` is for a name whose first word is 0. Then come `TentativeOpen` while
     /// a file is written, `Busy` where the file is held, and `NoRoom` with the blocks of the largest empty.
     pub fn enter(&mut self, name: Name, wish: usize) -> Result<Tentative, FileFault>
         ensures { Enters self.old name wish result self.new }

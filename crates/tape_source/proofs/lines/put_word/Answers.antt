@@ -1,5 +1,5 @@
 use Rattle.std.proofs.Common.{◌≡◌, ℕ, List, ◌++◌, ◌∷◌, ap, ◌∙◌, append_assoc}
-use Rattle.tape_source.specs.Lines.{led, comment, line_end, tag_part}
+use Rattle.tape_source.specs.Lines.{with_lead, comment, line_end, tag_part}
 use Rattle.tape_source.specs.Statements.{statement}
 use Rattle.tape_source.specs.Steps.{look_with, remark_of}
 use Rattle.tape_source.specs.Tags.{is_flagged}
@@ -18,6 +18,6 @@ returns c =
     let tagged = is_flagged c.args.tags.now.flags.now in
     let cell = c.args.cell in
     let word = c.args.word in
-    joined c.args.text.now.items (tag_part look.name tagged cell) (led 9 (statement look tagged cell word)) (9 ∷ comment cell word) (remark_of c.args.notes.now cell) line_end
+    joined c.args.text.now.items (tag_part look.name tagged cell) (with_lead 9 (statement look tagged cell word)) (9 ∷ comment cell word) (remark_of c.args.notes.now cell) line_end
     c.put_tag.new.text.items c.put_statement.new.text.items c.put_comment.new.text.items c.put_remark.new.text.items c.extend_from_slice.new.self.items
     c.in_ok-put_tag.ensures c.in_ok-put_statement.ensures c.in_ok-put_comment.ensures c.in_ok-put_remark.ensures c.in_ok-extend_from_slice.ensures.items

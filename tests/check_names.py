@@ -1,0 +1,123 @@
+#!/usr/bin/env python3
+"""check_names.py: names and comments of the Rattle sources are in plain words.
+
+No function, constant or field of src/ and no definition of specs/ is named by a participle alone, as `held` or `told_of`: a name is a noun, begins
+with `is_` or `has_`, or is a verb with its object. The names that stay are listed here, each with its reason. No sentence of a comment has more than
+30 words, without what stands in brackets, and no comment has a word that is listed here as unplain. The last line is 'N passed, M failed'.
+"""
+import os
+import re
+import sys
+from typing import Iterator
+
+sys.dont_write_bytecode = True
+TOP = os.path.dirname(os.path.dirname(os.path.abspath(__file__)))
+sys.path.insert(0, TOP)
+from tests.check_documents import END, MOST_WORDS_OF_A_SENTENCE, words
+from tests.rattle_sources import Source, crate_of, definition_files, definitions, files_of, source
+
+# Participles that don't end in -ed. Those that a verb's own form is too, as `read` and `put`, are verbs here.
+PARTICIPLES = set(
+    "told made held found laid kept left given taken written begun gone done shown known seen said sent spent built bought brought caught chosen drawn driven"
+    " felt forgotten fed got hidden hurt led lent lost meant met paid sold struck stood taught thought thrown torn understood won wound born bound broken"
+    " heard hung worn sunk sworn spoken stolen spun stuck slept woken withdrawn overwritten rewritten unsaid unmade undone".split()
+)
+# Words that end in -ed and are none.
+NOUNS = set("need speed feed seed red bed hundred kind word embed indeed".split())
+# What may stand after a participle without making it a noun.
+SMALL = set("of by at in with to from on for as off up out into after before over under and or not is all each one two whole behind".split())
+# Names that stay.
+STAY = {
+    ("cpu8", "held_off"): "interrupts that ION holds off: the handbook's word",
+    ("cpu8", "left"): "the direction of a rotation",
+    ("jobs8", "done"): "of a job: how many blocks it has read",
+    ("jobs8", "left"): "of a job: how many turns it has left",
+    ("os8_files", "stopped"): "of a file service: the state of that name",
+    ("os8_files", "written"): "of a new file: its blocks that are written",
+    ("pal8_pools", "punched"): "of a cell: it goes to the tape, as ENPUNCH says",
+    ("session8", "printed"): "of a console: the characters that it printed",
+    ("session8", "stopped"): "of a session: the state of that name",
+}
+UNPLAIN = re.compile(r"\b(?:behind|tells?|told|telling)\b", re.I)
+COMMENT = re.compile(r"^\s*(?:///?|//!|--)(?:\s|$)")
+FIELDS = re.compile(r"(?m)^\s*(?:pub(?:\([\w: ]+\))? )?(\w+)\s*:")
+STRUCT = re.compile(r"(?m)^ *(?:pub(?:\([\w: ]+\))? )?struct \w+[^{;(]*\{")
+CONSTANT = re.compile(r"(?m)^ *(?:pub(?:\([\w: ]+\))? )?(?:const|static) (\w+):")
+
+
+def is_participle(word: str) -> bool:
+    return word in PARTICIPLES or (word.endswith("ed") and len(word) > 3 and word not in NOUNS)
+
+
+def is_bare(name: str) -> bool:
+    """Whether a name is a participle, alone or with small words after it."""
+    parts = [it.lower() for it in re.findall(r"[A-Z]+[a-z0-9]*|[a-z0-9]+", name)]
+    return bool(parts) and is_participle(parts[0]) and all(it in SMALL or is_participle(it) for it in parts[1:])
+
+
+def names_of(text: Source) -> Iterator[str]:
+    """The functions, constants and fields that a source declares."""
+    yield from (it.name for it in text.functions)
+    yield from (it[1].lower() for it in CONSTANT.finditer(text.mask))
+    for it in STRUCT.finditer(text.mask):
+        yield from FIELDS.findall(text.mask[it.end() : text.mask.find("}", it.end())])
+
+
+def all_names() -> Iterator[tuple[str, str, str]]:
+    """Each name with its crate and its file."""
+    for path in files_of("*"):
+        yield from ((crate_of(path), os.path.relpath(path, TOP), it) for it in names_of(source(path)))
+    for crate, file in definition_files():
+        yield from ((crate, f"crates/{crate}/specs/{file}.antt", it) for it in definitions(crate, file).texts)
+
+
+def comments(path: str) -> Iterator[tuple[int, str]]:
+    """The comments of a file, each with its first line's number; lines that follow one another are one."""
+    first, kept = 0, list[str]()
+    with open(path, encoding="utf-8") as text:
+        for number, line in enumerate([*text.read().split("\n"), ""], 1):
+            is_comment = bool(COMMENT.match(line))
+            if kept and not is_comment:
+                yield first, " ".join(kept)
+                kept = []
+            if is_comment:
+                first = first if kept else number
+                kept.append(COMMENT.sub("", line, count=1).strip())
+
+
+def unplain(path: str) -> tuple[int, list[str]]:
+    """How many sentences the comments of a file have, and which of them aren't plain."""
+    count, found = 0, list[str]()
+    for number, text in comments(path):
+        text = re.sub(r"`[^`]*`", "Code", text)
+        for sentence in filter(str.strip, END.split(re.sub(r"\([^()]*\)", "", text))):
+            count += 1
+            where = f"{os.path.relpath(path, TOP)}:{number}"
+            if words(sentence) > MOST_WORDS_OF_A_SENTENCE:
+                found.append(f"{where}: a sentence of {words(sentence)} words, {MOST_WORDS_OF_A_SENTENCE} at most: {sentence.strip()[:60]}")
+            if it := UNPLAIN.search(sentence):
+                found.append(f"{where}: a comment says {it[0]}: {sentence.strip()[:60]}")
+    return count, found
+
+
+def main() -> int:
+    passed, faults, seen = 0, list[str](), set[tuple[str, str]]()
+    for crate, path, name in all_names():
+        is_fault = is_bare(name) and (crate, name) not in STAY
+        seen.add((crate, name))
+        faults += [f"{path}: {name} is a participle alone"] * is_fault
+        passed += not is_fault
+    faults += [f"{crate} has no {name}, which is listed here" for crate, name in sorted(set(STAY) - seen)]
+    for path in [*files_of("*"), *(definitions(*it).path for it in definition_files())]:
+        count, found = unplain(path)
+        passed, faults = passed + max(0, count - len(found)), faults + found
+    if not passed:
+        faults.append("there is no name and no comment")
+    for fault in faults:
+        print(f"check_names: {fault}")
+    print(f"{passed} passed, {len(faults)} failed")
+    return 1 if faults else 0
+
+
+if __name__ == "__main__":
+    sys.exit(main())
