@@ -153,14 +153,14 @@ pause_out old seam text b h may alone =
       source = refl;
       same = cut_statements text;
       clear = (cut_twice text, cut_over text ∙ h.now.not_over);
-      after_pause = has_paused (after_pause old) (up_to_end text) record {
+      paused = has_paused (after_pause old) (up_to_end text) record {
         state = refl;
         line = h.now.line ∙ sym (cut_line text);
         radix = h.now.radix ∙ sym radix;
         draft = refl;
         no_fault = ap first_fault (cut_statements text) ∙ h.now.no_fault;
         not_over = cut_over text ∙ h.now.not_over;
-        after_statement = cut_twice text;
+        ended = cut_twice text;
       };
     }
 

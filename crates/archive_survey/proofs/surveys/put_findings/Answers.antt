@@ -16,14 +16,14 @@ loop-rest-preserved c =
     let is = c.in_ok-verdict.ensures.verdict i.0 i.1 in
     let volume = c.args.volume in
     record {
-      few = omega (arith, l.invariant.few, c.faults_told-faults.ensures.one, ap length whole);
+      few = omega (arith, l.invariant.few, c.count_of_faults-faults.ensures.one, ap length whole);
       told = (
         names_after volume i.0 part,
         c.in_ok-verdict.ensures.names i.0 i.1,
-        told_more finding_lines lines-append volume i.0 v part rest parts l.text.items c.put_told.new.out.items _ whole is c.in_ok-put_told.ensures i.2,
+        told_more finding_lines lines-append volume i.0 v part rest parts l.text.items c.put_part_lines.new.out.items _ whole is c.in_ok-put_part_lines.ensures i.2,
         told_more loss_lines losses-append volume i.0 v part rest parts l.losses.items c.put_loss.new.out.items _ whole is c.in_ok-put_loss.ensures i.3,
         told_more files_found files-append volume i.0 v part rest parts l.files.items c.put_found.new.files.items _ whole is c.in_ok-put_found.ensures i.4,
-        faults_more volume i.0 v part rest parts l.faults c.faults_told-faults.result _ whole is c.faults_told-faults.ensures.count i.5,
+        faults_more volume i.0 v part rest parts l.faults c.count_of_faults-faults.result _ whole is c.count_of_faults-faults.ensures.count i.5,
         (λ k low. claims_more volume i.0 v part rest parts k _ _ _ whole is (c.claim.ensures k (omega (arith, l.auto.counts))) (i.6 k low)),
       );
     }

@@ -10,11 +10,11 @@ loop-block-preserved c =
     let less : c.args.count - (l.block + 1) ≡ left - 1 = omega arith in
     record {
       pieces = rw less
-          (scan-more left l.block l.stretch c.stretch_behind-stretch.result l.rest.now c.split_at.result.0.now c.split_at.result.1.now l.pieces.items c.put_found.new.pieces.items _
+          (scan-more left l.block l.stretch c.stretch_after-stretch.result l.rest.now c.split_at.result.0.now c.split_at.result.1.now l.pieces.items c.put_found.new.pieces.items _
           (omega (arith, low)) c.split_at.ensures.front c.split_at.ensures.back (rw c.passage_of-way.ensures at c.in_ok-put_found.ensures)
-          (rw c.passage_of-way.ensures at c.stretch_behind-stretch.ensures.value) l.invariant.pieces);
+          (rw c.passage_of-way.ensures at c.stretch_after-stretch.ensures.value) l.invariant.pieces);
       left = fewer c.args.count l.block _ _ low l.invariant.left c.split_at.ensures.back_len;
-      order = c.stretch_behind-stretch.ensures.order;
+      order = c.stretch_after-stretch.ensures.order;
     }
 
 pub returns : goal.returns

@@ -5,8 +5,8 @@ use Rattle.command8.specs.TaskSteps.{HasMet}
 use Rattle.command8.proofs.TaskLemmas.{asked_answer, asked_kind, fault_answer, is_pdp8, met_rows, no_fault, taken_fault, task_whole}
 use Rattle.command8.proofs.tasks.task.Goals as goal
 
-pub asked-requires : goal.asked-requires
-asked-requires c =
+pub task_of_matches-requires : goal.task_of_matches-requires
+task_of_matches-requires c =
     let words = map (λ word. word.now) c.args.words.now in
     let none = no_fault (app_of c.in_ok-command.command) words (is_pdp8 c.in_ok-command.command c.in_ok-command.ensures) c.in_ok-matches.ensures.kinds in
     subst HasMet (sym (met_rows (app_of c.in_ok-command.command) words c.in_ok-matches.matches (is_pdp8 c.in_ok-command.command c.in_ok-command.ensures) c.in_ok-matches.ensures.matches))
@@ -17,10 +17,10 @@ returns-clause-answer c =
     let words = map (λ word. word.now) c.args.words.now in
     let none = no_fault (app_of c.in_ok-command.command) words (is_pdp8 c.in_ok-command.command c.in_ok-command.ensures) c.in_ok-matches.ensures.kinds in
     let met = met_rows (app_of c.in_ok-command.command) words c.in_ok-matches.matches (is_pdp8 c.in_ok-command.command c.in_ok-command.ensures) c.in_ok-matches.ensures.matches in
-    asked_answer words (subcommand_rows_of c.in_ok-matches.matches) c.asked.result (sym met) none c.task_of_matches.ensures
+    asked_answer words (subcommand_rows_of c.in_ok-matches.matches) c.task_of_matches.result (sym met) none c.task_of_matches.ensures
 
 pub returns-clause-taken : goal.returns-clause-taken
-returns-clause-taken c = λ takes. asked_kind (subcommand_rows_of c.in_ok-matches.matches) c.asked.result c.task_of_matches.ensures
+returns-clause-taken c = λ takes. asked_kind (subcommand_rows_of c.in_ok-matches.matches) c.task_of_matches.result c.task_of_matches.ensures
 
 pub returns-in_err-matches-clause-taken : goal.returns-in_err-matches-clause-taken
 returns-in_err-matches-clause-taken c = λ taken.

@@ -4,8 +4,8 @@ use Rattle.clap.specs.declared.parser.matches.ArgMatches.TheViews.{out-ArgMatche
 use Rattle.command8.proofs.TaskLemmas.{met_whole}
 use Rattle.command8.proofs.tasks.task_of_matches.Goals as goal
 
-pub asked_of-requires : goal.asked_of-requires
-asked_of-requires c =
+pub task_of_name-requires : goal.task_of_name-requires
+task_of_name-requires c =
     met_whole (out-ArgMatches c.args.matches.now).subcommand (λ b. (out-SubCommand (box_value b)).name.now)
     (λ b. rows_of (found_of (out-SubCommand (box_value b)).matches)) c.in-Some.name.now (rows_of (found_of c.in-Some.found.now)) c.in-Some.ensures.name
     c.in-Some.ensures.rows c.requires

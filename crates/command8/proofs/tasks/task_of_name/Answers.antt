@@ -7,8 +7,8 @@ use Rattle.command8.specs.TableSteps.{entry_of}
 use Rattle.command8.proofs.RefusalLemmas.{entry_needs}
 use Rattle.command8.proofs.tasks.task_of_name.Goals as goal
 
-pub asked_by-requires : goal.asked_by-requires
-asked_by-requires c =
+pub task_of_verb-requires : goal.task_of_verb-requires
+task_of_verb-requires c =
     let is = ap (λ (entries : List Entry). find (λ entry. bytes_eq c.args.name.now entry.word) entries) (sym c.table.ensures)
     ∙ (sym c.entry_of_name.ensures ∙ ap (option_map (λ entry. entry_of entry.now)) c.in-Some.is) in
-    entry_needs c.args.name.now (rows_of (found_of c.args.found.now)) (entry_of c.in-Some.entry.now) is c.requires c.in_ok-judged-in-Some.ensures.passed
+    entry_needs c.args.name.now (rows_of (found_of c.args.found.now)) (entry_of c.in-Some.entry.now) is c.requires c.in_ok-judge_arguments-in-Some.ensures.passed

@@ -14,6 +14,6 @@ returns-clause-follows c = λ older tokens follows fine.
 
 pub returns-clause-fault : goal.returns-clause-fault
 returns-clause-fault c = λ older follows.
-    c.judged-fault.ensures
+    c.fault_of_statement-fault.ensures
     ∙ judged_word c.args.statement.now.line c.args.statement.now.tags c.args.statement.now.body older c.args.names.now.symbols c.set_tags.new.symbols c.args.last.now c.args.names.now.place follows
     (λ n. c.in_ok-set_tags.ensures.values n ∙ ap (λ t. tag_values t c.args.names.now.place (meaning_in c.args.names.now.symbols) n) c.names.ensures)

@@ -12,11 +12,11 @@ loop-taken-preserved c =
     let taken = c.loop-taken.taken in
     let byte = get_or text taken 0 in
     let inside = c.loop-taken-test.true in
-    let quiet = c.comment_behind-comment.ensures ∙ comment_more text taken byte c.loop-taken.comment inside refl c.loop-taken.invariant.comment in
+    let quiet = c.comment_after-comment.ensures ∙ comment_more text taken byte c.loop-taken.comment inside refl c.loop-taken.invariant.comment in
     record {
       comment = quiet;
-      comma = ap (first_part text) (c.comma_behind-comma.ensures ∙ ap (λ d. comma_by c.loop-taken.comma d (is_end byte) (nat_eq byte 0o54) (taken + 1)) c.is_dead-dead.ensures)
-          ∙ comma_more text taken byte c.loop-taken.comma c.comment_behind-comment.result inside refl quiet c.loop-taken.invariant.comma;
+      comma = ap (first_part text) (c.comma_after-comma.ensures ∙ ap (λ d. comma_by c.loop-taken.comma d (is_end byte) (nat_eq byte 0o54) (taken + 1)) c.is_dead-dead.ensures)
+          ∙ comma_more text taken byte c.loop-taken.comma c.comment_after-comment.result inside refl quiet c.loop-taken.invariant.comma;
     }
 
 pub returns : goal.returns

@@ -14,15 +14,15 @@ loop-taken-preserved c =
     let byte = get_or text taken 0 in
     let inside = c.loop-taken-test.true in
     let live = stretch (text_of (take taken text)) in
-    let dead = is_ignored byte || c.comment_behind-comment.result in
-    let quiet = c.comment_behind-comment.ensures ∙ comment_more text taken byte c.loop-taken.comment inside refl c.loop-taken.invariant.comment in
+    let dead = is_ignored byte || c.comment_after-comment.result in
+    let quiet = c.comment_after-comment.ensures ∙ comment_more text taken byte c.loop-taken.comment inside refl c.loop-taken.invariant.comment in
     record {
       comment = quiet;
-      found = c.illegal_behind-found.ensures
+      found = c.illegal_after-found.ensures
           ∙ ap (λ d. illegal_by c.loop-taken.found d (is_end byte) byte taken) c.is_dead-dead.ensures
           ∙ ap (λ f. illegal_by f dead (is_end byte) byte taken) c.loop-taken.invariant.found
           ∙ illegal_more dead (is_end byte) byte taken live
-          ∙ ap marks.first_illegal (live_more text taken byte c.comment_behind-comment.result inside refl quiet);
+          ∙ ap marks.first_illegal (live_more text taken byte c.comment_after-comment.result inside refl quiet);
     }
 
 pub returns : goal.returns

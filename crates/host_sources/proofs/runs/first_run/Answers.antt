@@ -14,12 +14,12 @@ loop-taken-preserved c =
     let byte = get_or text taken 0 in
     let inside = c.loop-taken-test.true in
     let live = stretch (text_of (take taken text)) in
-    let quiet = c.comment_behind-comment.ensures ∙ comment_more text taken byte c.loop-taken.comment inside refl c.loop-taken.invariant.comment in
+    let quiet = c.comment_after-comment.ensures ∙ comment_more text taken byte c.loop-taken.comment inside refl c.loop-taken.invariant.comment in
     record {
       comment = quiet;
       search = subst (λ l. IsSearch (is_wanted c.args.wanted.now) c.look.new.search (pieces l))
           (ap (λ d. with_live d (is_end byte) byte taken live) c.is_dead-dead.ensures
-          ∙ live_more text taken byte c.comment_behind-comment.result inside refl quiet)
+          ∙ live_more text taken byte c.comment_after-comment.result inside refl quiet)
           (c.in_ok-look.ensures live c.loop-taken.invariant.search);
     }
 

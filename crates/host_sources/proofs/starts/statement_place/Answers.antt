@@ -8,11 +8,11 @@ loop-taken-preserved c =
     let taken = c.loop-taken.taken in
     let byte = get_or text taken 0 in
     let inside = c.loop-taken-test.true in
-    let quiet = c.comment_behind-comment.ensures ∙ comment_more text taken byte c.loop-taken.comment inside refl c.loop-taken.invariant.comment in
+    let quiet = c.comment_after-comment.ensures ∙ comment_more text taken byte c.loop-taken.comment inside refl c.loop-taken.invariant.comment in
     record {
       comment = quiet;
-      start = c.start_behind-start.ensures
-          ∙ start_more text taken byte c.loop-taken.start c.comment_behind-comment.result inside refl quiet c.loop-taken.invariant.start;
+      start = c.start_after-start.ensures
+          ∙ start_more text taken byte c.loop-taken.start c.comment_after-comment.result inside refl quiet c.loop-taken.invariant.start;
     }
 
 pub returns : goal.returns

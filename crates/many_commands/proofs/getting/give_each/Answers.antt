@@ -16,12 +16,12 @@ pub loop-rest-preserved : goal.loop-rest-preserved
 loop-rest-preserved g c = record {
   told = c.in_ok-is_there.ensures.told ∙ c.loop-rest.invariant.told;
   all = c.in_ok-is_there.ensures.all ∙ c.loop-rest.invariant.all;
-  count = done-more c.loop-rest.rest.now c.wish-item.result c.loop-rest.done c.done_with-done.result _ c.done_with-done.ensures (first-and-others c.loop-rest.rest.now c.wish-item.result c.in-len1-up.len_at_least c.wish-item.is) c.loop-rest.invariant.count;
+  count = done-more c.loop-rest.rest.now c.wish-item.result c.loop-rest.done c.count_after-done.result _ c.count_after-done.ensures (first-and-others c.loop-rest.rest.now c.wish-item.result c.in-len1-up.len_at_least c.wish-item.is) c.loop-rest.invariant.count;
   goes_on = λ result new is.
       c.loop-rest.invariant.goes_on result new
       (subst (λ wishes. GivesEach c.args.form.now c.args.volume.now c.loop-rest.progress.is_told c.loop-rest.progress.all c.loop-rest.done c.loop-rest.are_there wishes (g.H.Host.history c.loop-rest.host) result new)
       (sym (first-and-others c.loop-rest.rest.now c.wish-item.result c.in-len1-up.len_at_least c.wish-item.is))
-      (inr (record { given = c.in_ok-is_there.is_there; between = g.H.Host.history c.give_wish.new.host; done = c.in_ok-is_there.ensures.gives; after = rw (c.in_ok-is_there.ensures.told, c.in_ok-is_there.ensures.all, c.both-are_there.ensures, c.done_with-done.ensures) at is })));
+      (inr (record { given = c.in_ok-is_there.is_there; between = g.H.Host.history c.give_wish.new.host; done = c.in_ok-is_there.ensures.gives; after = rw (c.in_ok-is_there.ensures.told, c.in_ok-is_there.ensures.all, c.both-are_there.ensures, c.count_after-done.ensures) at is })));
 }
 
 pub returns-clause-gives : goal.returns-clause-gives

@@ -11,7 +11,7 @@ defined name value old new (Err fault) is defines = cc
 
 pub loop-rest-preserved : goal.loop-rest-preserved
 loop-rest-preserved c =
-    let left = tags_left c.loop-rest.rest.now c.tag-item.result c.numbered.result c.args.location c.in_ok-place.place c.loop-rest.symbols c.define_tag.new.self
+    let left = tags_left c.loop-rest.rest.now c.tag-item.result c.from_number.result c.args.location c.in_ok-place.place c.loop-rest.symbols c.define_tag.new.self
     c.in-len1-up.len_at_least c.tag-item.is (c.from_number.ensures ∙ c.number.ensures) c.in_ok-place.ensures.value
     (defined _ _ _ _ c.define_tag.result c.in_ok-map_err.ensures.variant c.define_tag.ensures) in
     record {

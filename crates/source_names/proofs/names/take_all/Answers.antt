@@ -19,15 +19,15 @@ loop-rest-preserved c =
     record {
       size = c.take.auto.table ∙ c.loop-rest.invariant.size;
       count =
-          omega (arith, some, behind_size, ap (λ l. length l) c.behind_end-rest.ensures, c.split_at.ensures.back_len, c.loop-rest.invariant.count);
+          omega (arith, some, behind_size, ap (λ l. length l) c.after_end-rest.ensures, c.split_at.ensures.back_len, c.loop-rest.invariant.count);
       takes =
-          takes_more (word_in c.args.words.now) c.args.text.now rest c.without_return.result.now c.behind_end-rest.result.now c.loop-rest.number
+          takes_more (word_in c.args.words.now) c.args.text.now rest c.without_return.result.now c.after_end-rest.result.now c.loop-rest.number
           (c.loop-rest.number + 1)
           c.loop-rest.table c.take.new.table c.loop-rest.given c.take.new.given some
           (line_before rest c.split_at.result.0.now c.without_return.result.now c.line_length.result c.line_length.ensures.value
           c.split_at.ensures.front c.without_return.ensures)
-          (line_behind rest c.split_at.result.1.now c.behind_end-rest.result.now c.line_length.result c.line_length.ensures.value
-          c.split_at.ensures.back c.behind_end-rest.ensures)
+          (line_behind rest c.split_at.result.1.now c.after_end-rest.result.now c.line_length.result c.line_length.ensures.value
+          c.split_at.ensures.back c.after_end-rest.ensures)
           refl c.loop-rest.invariant.takes c.in_ok-take.ensures;
     }
 

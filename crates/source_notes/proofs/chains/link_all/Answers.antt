@@ -18,7 +18,7 @@ loop-number-preserved c =
     let number = c.loop-number.number - 1 in
     let named = c.cell_named_by.ensures.value ∙ ap (cell_named_by c.args.kind words is_code) c.of-cell.ensures.number in
     built_on (names_by c.args.kind words is_code) c.loop-number.first c.loop-number.next c.link.new.first c.link.new.next c.loop-number.number
-    number c.of-cell.result c.named_by.result
+    number c.of-cell.result c.cell_named_by.result
     (omega (arith, c.loop-number-test.true)) c.of-cell.ensures.number (omega (arith, c.loop-number-test.true, c.loop-number.auto.number))
     (λ other. names_what c.args.kind words is_code other number ∙ ap (λ o. has_cell o other) (sym named))
     c.link.ensures.first c.link.ensures.next c.loop-number.invariant

@@ -5,4 +5,4 @@ pub returns-in_err-given : goal.returns-in_err-given
 returns-in_err-given g c = inr (record { given = c.in_ok-bytes.bytes; between = g.H.Host.history c.look_at.new.host; done = c.in_ok-bytes.ensures.looks; after = inl (search rules) })
 
 pub returns : goal.returns
-returns g c = inr (record { given = c.in_ok-bytes.bytes; between = g.H.Host.history c.look_at.new.host; done = c.in_ok-bytes.ensures.looks; after = inr (record { given = c.in_ok-given.given; between = g.H.Host.history c.given_of.new.host; done = search rules; after = rw c.deref-2.ensures.value at c.print.ensures }) })
+returns g c = inr (record { given = c.in_ok-bytes.bytes; between = g.H.Host.history c.look_at.new.host; done = c.in_ok-bytes.ensures.looks; after = inr (record { given = c.in_ok-given.given; between = g.H.Host.history c.show_file.new.host; done = search rules; after = rw c.deref-2.ensures.value at c.print.ensures }) })

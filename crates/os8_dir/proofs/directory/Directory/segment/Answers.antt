@@ -29,4 +29,4 @@ returns c =
     let d = c.args.self.now in
     let size : c.per_segment-size.result ≡ per_segment d.info = c.per_segment-size.ensures.value ∙ rw c.information_words-info.ensures.value refl in
     let parts = segment-pieces d c.args.number c.per_segment-size.result c.split_at.result.0.now c.split_at.result.1.now c.split_at-2.result.0.now size (rw (← c.entries.ensures.list) c.split_at.ensures.front) (rw (← c.entries.ensures.list) c.split_at.ensures.back) (rw (← c.min.ensures) c.split_at-2.ensures.front) in
-    record { words = c.put_segment.ensures ∙ rw (c.first_block.ensures.value, c.blocks_of.ensures, c.link_behind-link.ensures.value, c.segment_count.ensures.value, c.information_words-info.ensures.value, parts.0, parts.1) refl }
+    record { words = c.put_segment.ensures ∙ rw (c.first_block.ensures.value, c.blocks_of.ensures, c.link_after-link.ensures.value, c.segment_count.ensures.value, c.information_words-info.ensures.value, parts.0, parts.1) refl }

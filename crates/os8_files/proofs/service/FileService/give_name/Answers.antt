@@ -13,8 +13,8 @@ use Rattle.os8_files.proofs.CallLemmas.{by-rewrite}
 use Rattle.os8_files.proofs.RenameLemmas.{find-none, find-there, has-name, rename-failed}
 use Rattle.os8_files.proofs.service.FileService.give_name.Goals as goal
 
-pub renamed-requires : goal.renamed-requires
-renamed-requires g c =
+pub with_new_name-requires : goal.with_new_name-requires
+with_new_name-requires g c =
     let d = c.self.inside.directory in
     let name = c.args.name.now in
     let old = c.args.self.now in

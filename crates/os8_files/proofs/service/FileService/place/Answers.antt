@@ -31,7 +31,7 @@ returns-then-entries-limit g c =
     let kept : directory_of old.blocks ≡ Ok d = subst (λ bs. directory_of bs ≡ Ok d) (sym same) (c.self.invariant.kept running) in
     let is = c.sound_directory.ensures old.blocks d kept in
     let lies : IsBegun d b = subst (λ (x : DirectoryState). IsBegun x b) (ok-same (directory_of old.blocks) c.requires.begun.directory d c.requires.begun.read kept) c.requires.begun.lies in
-    let list : c.in_ok-directory.directory ≡ directory_with d (with_new_file d.first (new_file d name info b.place b.written) d.entries) = (IfOk-at_ok _ c.in_ok-directory.ensures c.placed-placed.ensures.list) ∙ ap (λ (x : NewFile). directory_with d (with_new_file d.first (new_file d name info x.place x.written) d.entries)) c.begun.view_is in
+    let list : c.in_ok-directory.directory ≡ directory_with d (with_new_file d.first (new_file d name info b.place b.written) d.entries) = (IfOk-at_ok _ c.in_ok-directory.ensures c.with_new_file-placed.ensures.list) ∙ ap (λ (x : NewFile). directory_with d (with_new_file d.first (new_file d name info x.place x.written) d.entries)) c.begun.view_is in
     let some : 0 < b.written = omega (arith, c.if-begun-eq0.false, ap (λ (x : NewFile). x.written) c.begun.view_is) in
     let free : IsFree old name = sym c.is_held.ensures ∙ c.if-is_held.false in
     let full : limit c.in_ok-directory.directory < length c.in_ok-directory.directory.entries = omega (arith, ap (λ (es : List DirEntry). length es) c.entries.ensures.list, c.limit.ensures.value, c.if-entries-limit.true) in
@@ -60,7 +60,7 @@ rewrite-requires-clause-sound g c =
     let kept : directory_of old.blocks ≡ Ok d = subst (λ bs. directory_of bs ≡ Ok d) (sym same) (c.self.invariant.kept running) in
     let is = c.sound_directory.ensures old.blocks d kept in
     let lies : IsBegun d b = subst (λ (x : DirectoryState). IsBegun x b) (ok-same (directory_of old.blocks) c.requires.begun.directory d c.requires.begun.read kept) c.requires.begun.lies in
-    let list : c.in_ok-directory.directory ≡ directory_with d (with_new_file d.first (new_file d name info b.place b.written) d.entries) = (IfOk-at_ok _ c.in_ok-directory.ensures c.placed-placed.ensures.list) ∙ ap (λ (x : NewFile). directory_with d (with_new_file d.first (new_file d name info x.place x.written) d.entries)) c.begun.view_is in
+    let list : c.in_ok-directory.directory ≡ directory_with d (with_new_file d.first (new_file d name info b.place b.written) d.entries) = (IfOk-at_ok _ c.in_ok-directory.ensures c.with_new_file-placed.ensures.list) ∙ ap (λ (x : NewFile). directory_with d (with_new_file d.first (new_file d name info x.place x.written) d.entries)) c.begun.view_is in
     let some : 0 < b.written = omega (arith, c.if-begun-eq0.false, ap (λ (x : NewFile). x.written) c.begun.view_is) in
     subst (λ (x : DirectoryState). IsDirectory (length old.blocks) x) (sym list) (c.file_placed.ensures.directory (length old.blocks) name b.place b.written info d is (subst IsNamed c.requires.names lies.named) some)
 
@@ -77,7 +77,7 @@ returns g c =
     let kept : directory_of old.blocks ≡ Ok d = subst (λ bs. directory_of bs ≡ Ok d) (sym same) (c.self.invariant.kept running) in
     let is = c.sound_directory.ensures old.blocks d kept in
     let lies : IsBegun d b = subst (λ (x : DirectoryState). IsBegun x b) (ok-same (directory_of old.blocks) c.requires.begun.directory d c.requires.begun.read kept) c.requires.begun.lies in
-    let list : c.in_ok-directory.directory ≡ directory_with d (with_new_file d.first (new_file d name info b.place b.written) d.entries) = (IfOk-at_ok _ c.in_ok-directory.ensures c.placed-placed.ensures.list) ∙ ap (λ (x : NewFile). directory_with d (with_new_file d.first (new_file d name info x.place x.written) d.entries)) c.begun.view_is in
+    let list : c.in_ok-directory.directory ≡ directory_with d (with_new_file d.first (new_file d name info b.place b.written) d.entries) = (IfOk-at_ok _ c.in_ok-directory.ensures c.with_new_file-placed.ensures.list) ∙ ap (λ (x : NewFile). directory_with d (with_new_file d.first (new_file d name info x.place x.written) d.entries)) c.begun.view_is in
     let some : 0 < b.written = omega (arith, c.if-begun-eq0.false, ap (λ (x : NewFile). x.written) c.begun.view_is) in
     let free : IsFree old name = sym c.is_held.ensures ∙ c.if-is_held.false in
     let room : length c.in_ok-directory.directory.entries ≤ limit c.in_ok-directory.directory = omega (arith, ap (λ (es : List DirEntry). length es) c.entries.ensures.list, c.limit.ensures.value, c.if-entries-limit.false) in

@@ -14,7 +14,7 @@ use Rattle.script8.specs.declared.entries.Entry.TheVariants as entry
 use Rattle.script8.specs.declared.entries.FileEntry.TheVariants as filing
 use Rattle.session8.proofs.LeavesLemmas.{leaves_same, store_leaves}
 use Rattle.session8.proofs.RoomLemmas.{store_room, unstored_room}
-use Rattle.session8.proofs.sessions.Session.store_named.Goals.{then-stopped-via-then-stopped, then-stopped-via-else-stopped+then-is_held}
+use Rattle.session8.proofs.sessions.Session.store_named.Goals.{then-is_stopped-via-then-is_stopped, then-is_stopped-via-else-stopped+then-is_held}
 use Rattle.session8.proofs.sessions.Session.store_named.Goals as goal
 
 pub returns-in_err-put-in-Ok-clause-does : goal.returns-in_err-put-in-Ok-clause-does
@@ -35,17 +35,17 @@ returns-in_ok-put-in-Ok-clause-does g c bytes is =
     (storable_is (is_storable c.args.text.now) (λ bad. ok_err _ _ (subst (λ r. IsErrOf r BadText) c.in-Ok.is (c.store.ensures.bad_text.1 bad))))
     (c.deref.ensures.value ∙ c.in-Ok.ensures.words) (omega (arith, c.len-blocks.ensures, c.in-Ok.ensures.length)) c.in_ok-put-in-Ok.ensures.call)
 
-pub returns-then-stopped-clause-does : goal.returns-then-stopped-clause-does
-returns-then-stopped-clause-does g c bytes is =
+pub returns-then-is_stopped-clause-does : goal.returns-then-is_stopped-clause-does
+returns-then-is_stopped-clause-does g c bytes is =
     rw (← c.self.view_is)
-    (unstored _ bytes c.args.name c.args.text.now c.unstored.result is (λ name. c.held_names.ensures _ _ name c.self.invariant.0) held c.store_fault.ensures.bad
-    (λ storable halted. c.store_fault.ensures.stopped storable (c.stopped-then-stopped.ensures.value ∙ halted))
-    (λ storable running. c.store_fault.ensures.busy storable (c.stopped-then-stopped.ensures.value ∙ running)))
+    (unstored _ bytes c.args.name c.args.text.now c.store_fault.result is (λ name. c.held_names.ensures _ _ name c.self.invariant.0) held c.store_fault.ensures.bad
+    (λ storable halted. c.store_fault.ensures.stopped storable (c.is_stopped-then-is_stopped.ensures.value ∙ halted))
+    (λ storable running. c.store_fault.ensures.busy storable (c.is_stopped-then-is_stopped.ensures.value ∙ running)))
   where
     held : c.self.inside.files.stopped ≡ false → contains c.self.inside.files.holds c.args.name ≡ true
-    held running = elim c.then-stopped.branch [
-      | then-stopped-via-then-stopped w ↦ absurd (true≢false (sym w.if-stopped.true ∙ c.is_stopped.ensures.value ∙ running))
-      | then-stopped-via-else-stopped+then-is_held w ↦ sym w.is_held.ensures ∙ w.if-is_held.true
+    held running = elim c.then-is_stopped.branch [
+      | then-is_stopped-via-then-is_stopped w ↦ absurd (true≢false (sym w.if-is_stopped.true ∙ c.is_stopped.ensures.value ∙ running))
+      | then-is_stopped-via-else-stopped+then-is_held w ↦ sym w.is_held.ensures ∙ w.if-is_held.true
     ]
 
 pub returns-in_ok-put-in-Ok-clause-leaves : goal.returns-in_ok-put-in-Ok-clause-leaves
@@ -61,9 +61,9 @@ returns-in_err-put-in-Ok-clause-room g c =
     (subst (λ (s : SessionView). IfFile (TellsRoom s.volume.blocks c.args.name (words_of_text c.args.text.now)) (Err (fault_of_file c.in_err-put-in-Ok.field-0.0))) c.self.view_is
     (store_room _ _ c.args.name c.deref.result.now (words_of_text c.args.text.now) c.in_err-put-in-Ok.field-0.0 (c.deref.ensures.value ∙ c.in-Ok.ensures.words) c.in_err-put-in-Ok.ensures.call))
 
-pub returns-then-stopped-clause-room : goal.returns-then-stopped-clause-room
-returns-then-stopped-clause-room g c =
-    unstored_room _ c.args.name (words_of_text c.args.text.now) c.unstored.result (is_storable c.args.text.now) c.stopped-then-stopped.result c.store_fault.ensures.bad c.store_fault.ensures.stopped c.store_fault.ensures.busy
+pub returns-then-is_stopped-clause-room : goal.returns-then-is_stopped-clause-room
+returns-then-is_stopped-clause-room g c =
+    unstored_room _ c.args.name (words_of_text c.args.text.now) c.store_fault.result (is_storable c.args.text.now) c.is_stopped-then-is_stopped.result c.store_fault.ensures.bad c.store_fault.ensures.stopped c.store_fault.ensures.busy
 
 pub returns-in_err-put-in-Ok-clause-leaves : goal.returns-in_err-put-in-Ok-clause-leaves
 returns-in_err-put-in-Ok-clause-leaves g c bytes is =
@@ -71,8 +71,8 @@ returns-in_err-put-in-Ok-clause-leaves g c bytes is =
     (store_leaves bytes c.args.text.now _ _ c.args.name is (c.block_reads.ensures.put c.self.inside.files c.put.new.self c.args.name c.deref.result.now (Err c.in_err-put-in-Ok.field-0.0) c.in_err-put-in-Ok.ensures.call)
     (c.file_places.ensures.put c.self.inside.files c.put.new.self c.args.name c.deref.result.now (Err c.in_err-put-in-Ok.field-0.0) c.in_err-put-in-Ok.ensures.call))
 
-pub returns-then-stopped-clause-leaves : goal.returns-then-stopped-clause-leaves
-returns-then-stopped-clause-leaves g c bytes is = leaves_same (entry.Files (filing.Store bytes c.args.text.now)) c.args.self.now _ refl
+pub returns-then-is_stopped-clause-leaves : goal.returns-then-is_stopped-clause-leaves
+returns-then-is_stopped-clause-leaves g c bytes is = leaves_same (entry.Files (filing.Store bytes c.args.text.now)) c.args.self.now _ refl
 
 pub returns-in-Err-BadText-clause-does : goal.returns-in-Err-BadText-clause-does
 returns-in-Err-BadText-clause-does g c bytes is =
@@ -91,7 +91,7 @@ returns-in-Err-Memory-clause-does g c bytes is =
     rw (← c.self.view_is)
     (text_lacks _ bytes c.args.name c.args.text.now is (λ name. c.held_names.ensures _ _ name c.self.invariant.0)
     (storable_is (is_storable c.args.text.now) (λ bad. other_fault (subst (λ r. IsErrOf r BadText) (c.in-Err-Memory.is ∙ ap Err c.in-Err-Memory.field-0-is) (c.store.ensures.bad_text.1 bad))))
-    (sym c.is_stopped.ensures.value ∙ c.if-stopped.false) (sym c.is_held.ensures ∙ c.if-is_held.false))
+    (sym c.is_stopped.ensures.value ∙ c.if-is_stopped.false) (sym c.is_held.ensures ∙ c.if-is_held.false))
 
 pub returns-in-Err-Memory-clause-leaves : goal.returns-in-Err-Memory-clause-leaves
 returns-in-Err-Memory-clause-leaves g c bytes is = leaves_same (entry.Files (filing.Store bytes c.args.text.now)) c.args.self.now _ refl

@@ -3,7 +3,7 @@ use Rattle.os8_dir.specs.declared.entries.DirEntry.TheVariants.{File}
 use Rattle.os8_dir.specs.Entries.{tidy}
 use Rattle.os8_dir.specs.Changes.{entries_without, put, with_new_file, new_file, directory_with}
 use Rattle.os8_dir.proofs.ChangeLemmas.{lie-inside, tidied-neat, tidied-total, total-put, total-emptied, take-min-words}
-use Rattle.os8_dir.proofs.directory.Directory.placed.Goals as goal
+use Rattle.os8_dir.proofs.directory.Directory.with_new_file.Goals as goal
 
 pub with_file-requires : goal.with_file-requires
 with_file-requires c =

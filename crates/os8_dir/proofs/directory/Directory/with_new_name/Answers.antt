@@ -2,7 +2,7 @@ use Rattle.std.proofs.Common.{◌≡◌, ap, ◌∙◌}
 use Rattle.os8_dir.specs.Changes.{directory_with}
 use Rattle.os8_dir.specs.Renaming.{with_new_name}
 use Rattle.os8_dir.proofs.RenamingLemmas.{tidy-renamed, total-renamed}
-use Rattle.os8_dir.proofs.directory.Directory.renamed.Goals as goal
+use Rattle.os8_dir.proofs.directory.Directory.with_new_name.Goals as goal
 
 pub with_list-requires : goal.with_list-requires
 with_list-requires c =

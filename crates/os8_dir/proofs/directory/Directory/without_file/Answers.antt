@@ -1,7 +1,7 @@
 use Rattle.std.proofs.Common.{◌≡◌, ap, ◌∙◌}
 use Rattle.os8_dir.specs.Changes.{entries_without, without_file, directory_with}
 use Rattle.os8_dir.proofs.ChangeLemmas.{tidied-neat, tidied-total, total-emptied}
-use Rattle.os8_dir.proofs.directory.Directory.removed.Goals as goal
+use Rattle.os8_dir.proofs.directory.Directory.without_file.Goals as goal
 
 pub with_list-requires : goal.with_list-requires
 with_list-requires c =

@@ -1,6 +1,6 @@
 use Rattle.std.proofs.Common.{◌≤◌, ◌-◌, ◌<◌, ◌≡◌, arith}
 use Rattle.os8_dir.proofs.NameLemmas.{place-fits, place-some, digit-small, digit-fits-before}
-use Rattle.os8_dir.proofs.names.+packed.Goals as goal
+use Rattle.os8_dir.proofs.names.+number_of_codes.Goals as goal
 
 pub pow-requires : goal.pow-requires
 pow-requires t c =
