@@ -1,4 +1,4 @@
-//! PAL III source of a BIN tape: what a tape gives the cells of core, as statements that assemble to just that.
+//! The disassembler: PAL III source of a BIN tape. It shows what a tape gives the cells of core, as statements that assemble to just that.
 //!
 //! A line stands for each cell that the tape gives a word, by rising field and address (PAL III Symbolic Assembler manual,
 //! and this project's profile of it). It has a statement that is the word at that place, and a comment with the cell and the word in
