@@ -8,7 +8,7 @@ use Rattle.pal_lex.proofs.growing.run_of.Goals as goal
 pub loop-more-init : goal.loop-more-init
 loop-more-init c = record {
   run = λ at there.
-      begun_run (base c.args.radix) c.args.first c.args.others.now at c.args.place c.saturating_add.result c.first_kind.result (c.new_lexer.ensures ∙ run_begun (base c.args.radix) c.args.first) there c.saturating_add.ensures;
+      begun_run (base c.args.radix) c.args.first c.args.others.now at c.args.place c.saturating_add.result c.first_kind.result (c.first_kind.ensures ∙ run_begun (base c.args.radix) c.args.first) there c.saturating_add.ensures;
   range = omega arith;
 }
 
