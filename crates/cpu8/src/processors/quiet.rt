@@ -10,7 +10,7 @@
 //! large function stands in the program once for each loop. The loops differ by its parameters: MINDS, whether breaks are minded;
 //! COUNTS, whether fetches are counted; TRANSFERS, whether IOTs are among the steps.
 
-ghost use Rattle.std.specs.Prelude.{◌≡◌, ◌<◌, ◌≤◌, ◌/◌, true, false, nat_eq, length};
+ghost use Rattle.std.specs.Prelude.{◌≡◌, ◌-◌, ◌<◌, ◌≤◌, ◌/◌, true, false, nat_eq, length};
 ghost use Rattle.word12.specs.declared.sizes.TheConstants.{CORE};
 ghost use Rattle.cpu8.specs.State.{next_cell, with_core};
 ghost use Rattle.cpu8.specs.Step.{next_word};
@@ -102,19 +102,43 @@ impl Processor {
         ensures quiet { AreQuiet quick breaks.now (with_core self.old core.old) result }
         ensures unasked { quick ≡ true → asks ≡ true → AreUnasked (with_core self.old core.old) result }
     {
+        n - self.make_quiet_steps::<MINDS>(core, n, quick, asks, breaks)
+    }
+
+    /// Makes up to n steps in the same way, and answers how many of the n are left. The loop counts down, since the compiler
+    /// makes it count up where the steps are the answer, and that takes an instruction more each step.
+    #[inline(always)]
+    fn make_quiet_steps<const MINDS: bool>(
+        &mut self,
+        core: &mut Core,
+        n: usize,
+        quick: bool,
+        asks: bool,
+        breaks: &[bool],
+    ) -> usize
+        requires quiet { is_quiet quick self.old ≡ true }
+        requires field { self.old.instruction_buffer ≡ self.old.instruction_field }
+        requires breaks { AreMinded breaks.now self.old.instruction_field MINDS }
+        ensures within { result ≤ n }
+        ensures state { with_core self.new core.new ≡ after quick (n - result) (with_core self.old core.old) }
+        ensures quiet { AreQuiet quick breaks.now (with_core self.old core.old) (n - result) }
+        ensures unasked { quick ≡ true → asks ≡ true → AreUnasked (with_core self.old core.old) (n - result) }
+    {
         let _quick = quick;
-        for steps in 0..n {
+        let mut left = n;
+        while left > 0 {
             if !self.step_quietly::<MINDS, false, false>(core, asks) {
                 if !asks && self.end_by_transfer(core) {
-                    return steps + 1;
+                    return left - 1;
                 }
-                return steps;
+                return left;
             }
+            left -= 1;
             if self.is_at_break::<MINDS>(breaks) {
-                return steps + 1;
+                return left;
             }
         }
-        n
+        0
     }
 
     /// Makes up to n steps, and answers how many. It ends where a step is not quiet, and at a KSF that finds the keyboard flag
