@@ -43,13 +43,13 @@ some_none f e = absurd (never e)
 
 pub answer_made : (answer : Option Statement) (s : Statement) (handed : Option (ℕ × ℕ)) (pass : Pass) (new : asm.Progress) (pairs pairs2 : List (ℕ × ℕ)) → answer ≡ Some s → is_pause_body s.body ≡ false → pairs2 ≡ with_handed pairs handed
     → ((whole later older : Source) (tokens : List Token) → is_pause_body s.body ≡ false → whole ≡ later ++ Ok (with_tokens tokens s) ∷ older → IsSecond pass.assembler whole older → AnswersSecond whole older (with_tokens tokens s) (Ok handed) pass.assembler new)
-    → MakesAnswer answer (Ok tt) pass pairs (record { lexer = pass.lexer; assembler = new; waiting = pass.waiting; ended = pass.is_at_end }) pairs2
+    → MakesAnswer answer (Ok tt) pass pairs (record { lexer = pass.lexer; assembler = new; waiting = pass.waiting; is_at_end = pass.is_at_end }) pairs2
 answer_made answer s handed pass new pairs pairs2 is other put seconds =
     subst (λ a. MakesAnswer a (Ok tt) pass pairs now pairs2) (sym is)
     (subst (λ b. MakesSome b s (Ok tt) pass pairs now pairs2) (sym other) (refl, makes))
   where
     now : Pass
-    now = record { lexer = pass.lexer; assembler = new; waiting = pass.waiting; ended = pass.is_at_end }
+    now = record { lexer = pass.lexer; assembler = new; waiting = pass.waiting; is_at_end = pass.is_at_end }
 
     makes : (whole older : Source) (tokens : List Token) → GoesOnAfter whole (Ok (with_tokens tokens s) ∷ older) → IsSecond pass.assembler whole older → pairs ≡ pairs_by (values whole) older
         → MakesStatement whole (Ok (with_tokens tokens s) ∷ older) (Ok tt) new pairs2
@@ -59,13 +59,13 @@ answer_made answer s handed pass new pairs pairs2 is other put seconds =
 
 pub answer_refused : (answer : Option Statement) (s : Statement) (f : AsmFault) (pass : Pass) (new : asm.Progress) (pairs : List (ℕ × ℕ)) → answer ≡ Some s → is_pause_body s.body ≡ false
     → ((whole later older : Source) (tokens : List Token) → is_pause_body s.body ≡ false → whole ≡ later ++ Ok (with_tokens tokens s) ∷ older → IsSecond pass.assembler whole older → AnswersSecond whole older (with_tokens tokens s) (Err f) pass.assembler new)
-    → MakesAnswer answer (Err f) pass pairs (record { lexer = pass.lexer; assembler = new; waiting = pass.waiting; ended = pass.is_at_end }) pairs
+    → MakesAnswer answer (Err f) pass pairs (record { lexer = pass.lexer; assembler = new; waiting = pass.waiting; is_at_end = pass.is_at_end }) pairs
 answer_refused answer s f pass new pairs is other seconds =
     subst (λ a. MakesAnswer a (Err f) pass pairs now pairs) (sym is)
     (subst (λ b. MakesSome b s (Err f) pass pairs now pairs) (sym other) (refl, makes))
   where
     now : Pass
-    now = record { lexer = pass.lexer; assembler = new; waiting = pass.waiting; ended = pass.is_at_end }
+    now = record { lexer = pass.lexer; assembler = new; waiting = pass.waiting; is_at_end = pass.is_at_end }
 
     makes : (whole older : Source) (tokens : List Token) → GoesOnAfter whole (Ok (with_tokens tokens s) ∷ older) → IsSecond pass.assembler whole older → pairs ≡ pairs_by (values whole) older
         → MakesStatement whole (Ok (with_tokens tokens s) ∷ older) (Err f) new pairs
@@ -96,7 +96,7 @@ pub made_byte : PauseJoins → ByteGoesOn → PauseIsBad → (whole : Source) (p
     → ((seam : ℕ) (text : List ℕ) → HasRead pass.lexer seam text → Answers seam text b (Ok answer) pass.lexer lexer)
     → ((text : List ℕ) → HasPaused pass.lexer text → IsNothing (Ok answer) × (lexer ≡ pass.lexer))
     → setting lexer ≡ setting pass.lexer
-    → MakesAnswer answer result (record { lexer = lexer; assembler = pass.assembler; waiting = pass.waiting; ended = pass.is_at_end }) pairs new pairs2
+    → MakesAnswer answer result (record { lexer = lexer; assembler = pass.assembler; waiting = pass.waiting; is_at_end = pass.is_at_end }) pairs new pairs2
     → HasMade whole pass pairs prefix several here false → IsWithin whole prefix several (b ∷ here) → MakesByte whole prefix several here b result new pairs2
 made_byte joins goes bad whole pass new pairs pairs2 lexer answer result prefix several here b answers paused same makes has within = elim has [
   | inl counts ↦ by_answer answer makes counts.0 counts.1 (answers (length prefix) (here ++ prefix) counts.1.read)
@@ -107,7 +107,7 @@ made_byte joins goes bad whole pass new pairs pairs2 lexer answer result prefix 
 ]
   where
     now : Pass
-    now = record { lexer = lexer; assembler = pass.assembler; waiting = pass.waiting; ended = pass.is_at_end }
+    now = record { lexer = lexer; assembler = pass.assembler; waiting = pass.waiting; is_at_end = pass.is_at_end }
 
     all_same : result ≡ Ok tt → new ≡ now → pairs2 ≡ pairs → HasMade whole now pairs prefix several (b ∷ here) false → MakesByte whole prefix several here b result new pairs2
     all_same is_ok is_now is_pairs made =
@@ -120,7 +120,7 @@ made_byte joins goes bad whole pass new pairs pairs2 lexer answer result prefix 
     after_pause s true made pause going counts out =
         subst (λ r. MakesByte whole prefix several here b r new pairs2) (sym made.0)
         (subst (λ (n : Pass). HasMade whole n pairs2 prefix several (b ∷ here) false) (sym made.1)
-        (subst (λ (l : List (ℕ × ℕ)). HasMade whole (record { lexer = lexer; assembler = pass.assembler; waiting = pass.waiting; ended = true }) l prefix several (b ∷ here) false) (sym made.2)
+        (subst (λ (l : List (ℕ × ℕ)). HasMade whole (record { lexer = lexer; assembler = pass.assembler; waiting = pass.waiting; is_at_end = true }) l prefix several (b ∷ here) false) (sym made.2)
         (inr (refl, pauses_here joins pass.lexer lexer prefix several here b s (λ q. IsMade whole pass pairs q) counts out))))
     after_pause s false made pause going counts out =
         by_result result (made.1 whole (statements (here ++ prefix)) (tokens_after (here ++ prefix)) (within_whole.0, within_whole.1 ∙ ap (λ l. within_whole.0 ++ l) out.newest) counts.at.1 counts.at.2)
@@ -136,7 +136,7 @@ made_byte joins goes bad whole pass new pairs pairs2 lexer answer result prefix 
             subst (λ (n : Pass). HasMade whole n pairs2 prefix several (b ∷ here) false) (sym made.0)
             (inl (
               going,
-              counts_more pass.lexer lexer prefix several here b (λ q. IsMade whole pass pairs q) (λ q. IsMade whole (record { lexer = lexer; assembler = new.assembler; waiting = pass.waiting; ended = pass.is_at_end }) pairs2 q) counts same out.no_fault out.read
+              counts_more pass.lexer lexer prefix several here b (λ q. IsMade whole pass pairs q) (λ q. IsMade whole (record { lexer = lexer; assembler = new.assembler; waiting = pass.waiting; is_at_end = pass.is_at_end }) pairs2 q) counts same out.no_fault out.read
                   (counts.at.0, subst (λ q. IsSecond new.assembler whole q) (sym out.newest) m.0, m.1 ∙ ap (pairs_by (values whole)) (sym out.newest)),
             ))
         by_result (Err (At code line)) m = λ later others follows.
@@ -160,14 +160,14 @@ pub made_not : ByteGoesOn → NoFaultBefore → NoLexicalFault → (whole : Sour
     → ((seam : ℕ) (text : List ℕ) → HasRead pass.lexer seam text → Answers seam text b (Err f) pass.lexer lexer)
     → ((text : List ℕ) → HasPaused pass.lexer text → IsNothing (Err f) × (lexer ≡ pass.lexer))
     → HasMade whole pass pairs prefix several here false → IsWithin whole prefix several (b ∷ here)
-    → MakesByte whole prefix several here b (Err answer) (record { lexer = lexer; assembler = pass.assembler; waiting = pass.waiting; ended = pass.is_at_end }) pairs
+    → MakesByte whole prefix several here b (Err answer) (record { lexer = lexer; assembler = pass.assembler; waiting = pass.waiting; is_at_end = pass.is_at_end }) pairs
 made_not goes before lexless whole pass pairs lexer f answer prefix several here b e answers paused has within = elim has [
   | inl counts ↦ subst (λ a. MakesByte whole prefix several here b (Err a) now pairs) (sym e) (by_fault f counts.0 counts.1 (answers (length prefix) (here ++ prefix) counts.1.read))
   | inr p ↦ not_ok f (paused p.1.cut p.1.paused).0
 ]
   where
     now : Pass
-    now = record { lexer = lexer; assembler = pass.assembler; waiting = pass.waiting; ended = pass.is_at_end }
+    now = record { lexer = lexer; assembler = pass.assembler; waiting = pass.waiting; is_at_end = pass.is_at_end }
 
     never : {C : Type 0} (g : LexFault) → Counts pass.lexer prefix several here (λ q. IsMade whole pass pairs q) → LexTells (length prefix) (here ++ prefix) b g pass.lexer lexer → C
     never g counts is =
@@ -181,7 +181,7 @@ made_not goes before lexless whole pass pairs lexer f answer prefix several here
     by_fault (fault.NU line) going counts is = never (fault.NU line) counts is
     by_fault (fault.NE line) going counts is = absurd is
     by_fault fault.Memory going counts is =
-        subst (λ (l : lex.Progress). HasMade whole (record { lexer = l; assembler = pass.assembler; waiting = pass.waiting; ended = pass.is_at_end }) pairs prefix several here false) (sym is.3) (inl (going, counts))
+        subst (λ (l : lex.Progress). HasMade whole (record { lexer = l; assembler = pass.assembler; waiting = pass.waiting; is_at_end = pass.is_at_end }) pairs prefix several here false) (sym is.3) (inl (going, counts))
 
 -- ## Characters
 

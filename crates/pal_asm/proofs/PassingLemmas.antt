@@ -164,8 +164,8 @@ pub passed_byte : PauseJoins → (pass new : Pass) (lexer : lex.Progress) (answe
     → ((seam : ℕ) (text : List ℕ) → HasRead pass.lexer seam text → Answers seam text b (Ok answer) pass.lexer lexer)
     → ((text : List ℕ) → HasPaused pass.lexer text → IsNothing (Ok answer) × (lexer ≡ pass.lexer))
     → setting lexer ≡ setting pass.lexer
-    → (is_pause_answer answer ≡ true → new ≡ record { lexer = lexer; assembler = pass.assembler; waiting = pass.waiting; ended = true })
-    → (is_pause_answer answer ≡ false → new ≡ record { lexer = lexer; assembler = pass.assembler; waiting = answer; ended = pass.is_at_end })
+    → (is_pause_answer answer ≡ true → new ≡ record { lexer = lexer; assembler = pass.assembler; waiting = pass.waiting; is_at_end = true })
+    → (is_pause_answer answer ≡ false → new ≡ record { lexer = lexer; assembler = pass.assembler; waiting = answer; is_at_end = pass.is_at_end })
     → HasPassed pass prefix several here false → HasPassed new prefix several (b ∷ here) false
 passed_byte joins pass new lexer answer prefix several here b none answers paused same pausing keeping has = elim has [
   | inl counts ↦ by_answer answer refl counts.0 counts.1 (answers (length prefix) (here ++ prefix) counts.1.read)
@@ -173,7 +173,7 @@ passed_byte joins pass new lexer answer prefix several here b none answers pause
       let is = paused p.1.cut p.1.paused in
       let nothing = same_answer answer is.0 in
       subst (λ (n : Pass). HasPassed n prefix several (b ∷ here) false) (sym (keeping (ap is_pause_answer nothing)))
-      (subst (λ w. HasPassed (record { lexer = lexer; assembler = pass.assembler; waiting = w; ended = pass.is_at_end }) prefix several (b ∷ here) false) (none ∙ sym nothing)
+      (subst (λ w. HasPassed (record { lexer = lexer; assembler = pass.assembler; waiting = w; is_at_end = pass.is_at_end }) prefix several (b ∷ here) false) (none ∙ sym nothing)
       (inr (p.0, paused_byte pass.lexer lexer prefix several here b (λ s. StandsAfter pass.waiting pass.assembler s) p.1 is.1)))
 ]
   where
@@ -184,7 +184,7 @@ passed_byte joins pass new lexer answer prefix several here b none answers pause
         (inr (refl, pauses_here joins pass.lexer lexer prefix several here b s (λ q. StandsAfter pass.waiting pass.assembler q) counts out))
     after_pause s false is pause going counts out =
         subst (λ (n : Pass). HasPassed n prefix several (b ∷ here) false) (sym (keeping (ap is_pause_answer is ∙ pause)))
-        (subst (λ w. HasPassed (record { lexer = lexer; assembler = pass.assembler; waiting = w; ended = pass.is_at_end }) prefix several (b ∷ here) false) (sym is)
+        (subst (λ w. HasPassed (record { lexer = lexer; assembler = pass.assembler; waiting = w; is_at_end = pass.is_at_end }) prefix several (b ∷ here) false) (sym is)
         (inl (
           going,
           counts_more pass.lexer lexer prefix several here b (λ q. StandsAfter pass.waiting pass.assembler q) (λ q. StandsAfter (Some s) pass.assembler q) counts same out.no_fault out.read
@@ -195,7 +195,7 @@ passed_byte joins pass new lexer answer prefix several here b none answers pause
         → Answers (length prefix) (here ++ prefix) b (Ok a) pass.lexer lexer → HasPassed new prefix several (b ∷ here) false
     by_answer None is going counts told =
         subst (λ (n : Pass). HasPassed n prefix several (b ∷ here) false) (sym (keeping (ap is_pause_answer is)))
-        (subst (λ w. HasPassed (record { lexer = lexer; assembler = pass.assembler; waiting = w; ended = pass.is_at_end }) prefix several (b ∷ here) false) (sym is)
+        (subst (λ w. HasPassed (record { lexer = lexer; assembler = pass.assembler; waiting = w; is_at_end = pass.is_at_end }) prefix several (b ∷ here) false) (sym is)
         (inl (
           going,
           counts_more pass.lexer lexer prefix several here b (λ q. StandsAfter pass.waiting pass.assembler q) (λ q. StandsAfter None pass.assembler q) counts same told.0 told.2
@@ -217,14 +217,14 @@ goes_on_by goes prefix here later b others several lexer Fits counts follows qui
 pub refused_byte : ByteGoesOn → LexicalFaultIsTold → (pass : Pass) (lexer : lex.Progress) (f : LexFault) (answer : AsmFault) (prefix : List ℕ) (several : Bool) (here : List ℕ) (b : ℕ) → answer ≡ lexical f → pass.waiting ≡ None
     → ((seam : ℕ) (text : List ℕ) → HasRead pass.lexer seam text → Answers seam text b (Err f) pass.lexer lexer)
     → ((text : List ℕ) → HasPaused pass.lexer text → IsNothing (Err f) × (lexer ≡ pass.lexer))
-    → HasPassed pass prefix several here false → PassesByte prefix several here b (Err answer) (record { lexer = lexer; assembler = pass.assembler; waiting = pass.waiting; ended = pass.is_at_end })
+    → HasPassed pass prefix several here false → PassesByte prefix several here b (Err answer) (record { lexer = lexer; assembler = pass.assembler; waiting = pass.waiting; is_at_end = pass.is_at_end })
 refused_byte goes told pass lexer f answer prefix several here b e none answers paused has = elim has [
   | inl counts ↦ subst (λ a. PassesByte prefix several here b (Err a) now) (sym e) (by_fault f counts.0 counts.1 (answers (length prefix) (here ++ prefix) counts.1.read))
   | inr p ↦ not_ok f (paused p.1.cut p.1.paused).0
 ]
   where
     now : Pass
-    now = record { lexer = lexer; assembler = pass.assembler; waiting = pass.waiting; ended = pass.is_at_end }
+    now = record { lexer = lexer; assembler = pass.assembler; waiting = pass.waiting; is_at_end = pass.is_at_end }
 
     tells : (g : LexFault) → Counts pass.lexer prefix several here (λ q. StandsAfter pass.waiting pass.assembler q) → LexTells (length prefix) (here ++ prefix) b g pass.lexer lexer → TellsJoinFault first_order prefix several (b ∷ here) (lexical g)
     tells g counts is later others follows =
@@ -238,7 +238,7 @@ refused_byte goes told pass lexer f answer prefix several here b e none answers 
     by_fault (fault.NU line) going counts is = tells (fault.NU line) counts is
     by_fault (fault.NE line) going counts is = absurd is
     by_fault fault.Memory going counts is =
-        subst (λ (l : lex.Progress). HasPassed (record { lexer = l; assembler = pass.assembler; waiting = pass.waiting; ended = pass.is_at_end }) prefix several here false) (sym is.3) (inl (going, counts))
+        subst (λ (l : lex.Progress). HasPassed (record { lexer = l; assembler = pass.assembler; waiting = pass.waiting; is_at_end = pass.is_at_end }) prefix several here false) (sym is.3) (inl (going, counts))
 
 -- ## Characters
 
@@ -307,7 +307,7 @@ statement_settled s old new pass source is answers behind =
 -- the assembler has refused it
 pub statement_refused : (s : Statement) (new : asm.Progress) (pass : Pass) (source : Source) (f : AsmFault) → pass.waiting ≡ Some s
     → ((older : Source) (tokens : List Token) → is_pause_body s.body ≡ false → IsFirst pass.assembler older → AnswersFirst older (with_tokens tokens s) (Err f) pass.assembler new)
-    → StandsAfter pass.waiting pass.assembler source → Settles source (Err f) pass (record { lexer = pass.lexer; assembler = new; waiting = pass.waiting; ended = pass.is_at_end })
+    → StandsAfter pass.waiting pass.assembler source → Settles source (Err f) pass (record { lexer = pass.lexer; assembler = new; waiting = pass.waiting; is_at_end = pass.is_at_end })
 statement_refused s new pass source f is answers behind =
     by_fault f (answers b.0 b.1.0 b.1.1.1 b.1.1.2)
   where
@@ -315,9 +315,9 @@ statement_refused s new pass source f is answers behind =
     b = subst (λ w. StandsAfter w pass.assembler source) is behind
 
     by_fault : (g : AsmFault) → AnswersFirst b.0 (with_tokens b.1.0 s) (Err g) pass.assembler new
-        → Settles source (Err g) pass (record { lexer = pass.lexer; assembler = new; waiting = pass.waiting; ended = pass.is_at_end })
+        → Settles source (Err g) pass (record { lexer = pass.lexer; assembler = new; waiting = pass.waiting; is_at_end = pass.is_at_end })
     by_fault (At code line) told = ap first_order b.1.1.0 ∙ told.0
-    by_fault Memory told = ap (λ (a : asm.Progress). record { lexer = pass.lexer; assembler = a; waiting = pass.waiting; ended = pass.is_at_end }) told.0
+    by_fault Memory told = ap (λ (a : asm.Progress). record { lexer = pass.lexer; assembler = a; waiting = pass.waiting; is_at_end = pass.is_at_end }) told.0
 
 -- ## Between sources, and between the passes
 

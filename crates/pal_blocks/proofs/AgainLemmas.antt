@@ -257,8 +257,8 @@ second_next chars law sources left it block offset count total pass pass2 pairs 
             fine.0 fine.1 second.ends refl again refl
             (next_place sources second.place.before second.place.words next others it.source is.files second.place.count split)
             next_turn
-            (subst (λ w. IsAfter sources (second.place.before ++ second.place.words ∷ []) next others 0 pass2.lexer pass2.is_at_end (λ s. IsMade (Whole sources) (record { lexer = pass2.lexer; assembler = pass2.assembler; waiting = w; ended = pass2.is_at_end }) pairs.items s)) (sym same_waiting)
-            (subst (λ a. IsAfter sources (second.place.before ++ second.place.words ∷ []) next others 0 pass2.lexer pass2.is_at_end (λ s. IsMade (Whole sources) (record { lexer = pass2.lexer; assembler = a; waiting = pass.waiting; ended = pass2.is_at_end }) pairs.items s)) (sym same_assembler)
+            (subst (λ w. IsAfter sources (second.place.before ++ second.place.words ∷ []) next others 0 pass2.lexer pass2.is_at_end (λ s. IsMade (Whole sources) (record { lexer = pass2.lexer; assembler = pass2.assembler; waiting = w; is_at_end = pass2.is_at_end }) pairs.items s)) (sym same_waiting)
+            (subst (λ a. IsAfter sources (second.place.before ++ second.place.words ∷ []) next others 0 pass2.lexer pass2.is_at_end (λ s. IsMade (Whole sources) (record { lexer = pass2.lexer; assembler = a; waiting = pass.waiting; is_at_end = pass2.is_at_end }) pairs.items s)) (sym same_assembler)
             (next_source law sources second.place.before second.place.words next others (it.block + 1) pass.lexer pass2.lexer last pass2.is_at_end pass.is_at_end (λ s. IsMade (Whole sources) pass pairs.items s) is.files split at_end
             (may_pause_next last total it.source others (omega (arith, how_many sources it second.place total is.each many, ap length e)) lasts) ended after)))
         by_result (Err f) ended =
