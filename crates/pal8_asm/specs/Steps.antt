@@ -67,7 +67,7 @@ TakesStatement whole (Err asm.Memory) table entries brackets end = Unit {0}
 -- What a statement does to names and places was done, and its words are kept.
 pub record IsTaken (whole : Result Standing Code) (place : Place) (body : Body) (steps : List Step) (string : List ℕ) (before next : Position) (old : List Entry)
     (table : SymbolTable) (new : List Entry) : Type 0 where
-  pub pass_over : whole ≡ Ok (standing table next)
+  pub passed : whole ≡ Ok (standing table next)
   pub words : new ≡ with_entries place (spot_at before) (words_in body (symbol_value table) steps string (next.location - before.location)) old
 
 abbrev pub TakesBody : Result Standing Code → Place → Body → List Step → List ℕ → Position → List Entry → Result Position AsmFault → SymbolTable → List Entry → Type 0
