@@ -2,3 +2,5 @@ mod PassageLemmas
 mod PieceLemmas
 mod FoundLemmas
 mod ProgramLemmas
+mod TailLemmas
+mod ChanceLemmas

@@ -3,10 +3,12 @@
 //! A block is its frames, three for each two of its words.
 #![tactic(auto)]
 
+mod chances;
 mod kinds;
 pub mod laws;
 mod passages;
 mod programs;
+mod tails;
 mod texts;
 
 pub use kinds::ProgramKind;
