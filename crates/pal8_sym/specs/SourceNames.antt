@@ -146,6 +146,13 @@ is_operation table name = contains nat_cmp table.operations name || (not table.i
 abbrev pub names_of : SourceNames → Names
 names_of table = record { own = own_value table; fixed = is_own_fixed table; operation = is_operation table; is_expunged = table.is_expunged }
 
+-- A table holds the same.
+pub record Stays (old new : SourceNames) : Type 0 where
+  pub own : (n : ℕ) → own_value new n ≡ own_value old n
+  pub fixed : (n : ℕ) → is_own_fixed new n ≡ is_own_fixed old n
+  pub operations : (n : ℕ) → is_operation new n ≡ is_operation old n
+  pub permanent : new.is_expunged ≡ old.is_expunged
+
 -- a name stands for another value than this one
 abbrev pub is_other : Option ℕ → ℕ → Bool
 is_other None value = false
@@ -158,7 +165,7 @@ DefinesTag name value old new (Ok nothing) =
 DefinesTag name value old new (Err DT) = (new ≡ old) × (is_other (kept_value (names_of old) name) value ≡ true)
 DefinesTag name value old new (Err RD) = ⊥
 DefinesTag name value old new (Err Memory) =
-    (names_of new ≡ names_of old) × (is_other (kept_value (names_of old) name) value ≡ false) × (own_value old name ≡ None)
+    Stays old new × (is_other (kept_value (names_of old) name) value ≡ false) × (own_value old name ≡ None)
 
 -- What `=` answers. A fixed name must stand for this value already. Memory is taken for a new name alone.
 abbrev pub DefinesValue : ℕ → ℕ → SourceNames → SourceNames → Result (Unit {0}) SymFault → Type 0
@@ -167,9 +174,9 @@ DefinesValue name value old new (Ok nothing) =
 DefinesValue name value old new (Err DT) = ⊥
 DefinesValue name value old new (Err RD) = (new ≡ old) × ((is_fixed (names_of old) name && is_other (value_of (names_of old) name) value) ≡ true)
 DefinesValue name value old new (Err Memory) =
-    (names_of new ≡ names_of old) × ((is_fixed (names_of old) name && is_other (value_of (names_of old) name) value) ≡ false) × (own_value old name ≡ None)
+    Stays old new × ((is_fixed (names_of old) name && is_other (value_of (names_of old) name) value) ≡ false) × (own_value old name ≡ None)
 
 -- What FIXMRI answers. It may give any name any value.
 abbrev pub DefinesOperation : ℕ → ℕ → SourceNames → SourceNames → Result (Unit {0}) AllocError → Type 0
 DefinesOperation name value old new (Ok nothing) = names_of new ≡ names_with_operation name value (names_of old)
-DefinesOperation name value old new (Err refused) = names_of new ≡ names_of old
+DefinesOperation name value old new (Err refused) = Stays old new
