@@ -17,8 +17,8 @@ use Rattle.pal8_sym.specs.declared.source_names.SourceNames.{SourceNames}
 
 -- ## Names
 
--- What statements leave of names: the last value that the source gave each of its own names, by a tag, `=` or FIXMRI; those of them that are fixed, by
--- a tag or a FIXTAB; the names that begin a memory reference; and whether EXPUNGE took the permanent names away.
+-- What statements leave of names. Each of the source's own names has the last value that the source gave it, by a tag, `=` or FIXMRI. Some of these
+-- are fixed, by a tag or a FIXTAB. Some names begin a memory reference. EXPUNGE may have taken the permanent names away.
 pub record Names : Type 0 where
   pub own : ℕ → Option ℕ
   pub fixed : ℕ → Bool
