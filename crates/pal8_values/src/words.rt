@@ -136,7 +136,8 @@ fn value_of(pools: &mut Pools, alloc: Global, spot: Spot, sum: Sum) -> Result<Wo
     if !sum.is_reference {
         return Ok(sum.total);
     }
-    let is_indirect = is_through(sum);
+    let again = sum;
+    let is_indirect = is_through(again);
     match offset_of(spot.here, sum.total) {
         Some(offset) => Ok(reference_word(sum.operation, is_indirect, offset)),
         None => {
