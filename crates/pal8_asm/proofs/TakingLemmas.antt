@@ -1,12 +1,12 @@
 -- Statements, one at a time.
-use Rattle.std.proofs.Common.{◌≡◌, ℕ, Bool, Option, None, Result, Ok, Err, length, List, [], sym, ap, ◌∙◌}
+use Rattle.std.proofs.Common.{◌≡◌, ℕ, Bool, true, false, if◌then◌else◌, is_some, Option, None, Result, Ok, Err, length, List, [], sym, ap, ◌∙◌}
 use Rattle.pal8_sym.specs.declared.source_names.SourceNames.{SourceNames}
 use Rattle.pal8_sym.specs.SourceNames.{first_names, names_of}
 use Rattle.pal8_grammar.specs.Bodies.{Phrase}
 use Rattle.pal8_asm.specs.Places.{truth_of, with_statement}
-use Rattle.pal8_asm.specs.Sources.{Entry, Remainder, Statement, brackets_with, end_of, first_left, place_of, phrase_of, with_brackets, with_phrase, with_said, with_selected}
+use Rattle.pal8_asm.specs.Sources.{Entry, Remainder, Statement, brackets_with, end_of, first_left, is_selected, place_of, phrase_of, with_brackets, with_phrase, with_next, with_said, with_selected, with_skipped}
 use Rattle.pal8_asm.specs.Steps.{IsTaken, PassesEnd, TakesStatement}
-use Rattle.pal8_asm.specs.Assembling.{standing}
+use Rattle.pal8_asm.specs.Assembling.{Progress, Takes, standing}
 use Rattle.pal8_asm.specs.declared.faults.AsmFault.{AsmFault}
 use Rattle.pal8_asm.specs.declared.faults.AsmFault.TheVariants.{At, Memory}
 use Rattle.pal8_asm.specs.declared.faults.Fault.{Fault}
@@ -37,6 +37,16 @@ module _ (s : Statement) (table table' : SourceNames) (position next : Position)
       → TakesStatement (with_selected s left) (Err fault) table' entries' brackets' (end_of s)
   end_fails (At code place) is = comes ∙ ap (with_brackets s (standing table' next) entries') is
   end_fails Memory is = tt
+
+-- a selected statement that has a fault
+pub take_fails : (s : Statement) (before : Remainder) (table : SourceNames) (entries : List Entry) (brackets : List Bool) (end : Option Place) (new : Progress) (fault : AsmFault)
+    → is_some before.end ≡ false → is_selected before.brackets ≡ true
+    → TakesStatement (with_selected s record { standing = before.standing; entries = before.entries; brackets = before.brackets; end = None }) (Err fault) table entries brackets end
+    → Takes (with_next s (Ok before)) (Err fault) new
+take_fails s before table entries brackets end new (At code place) none selected takes =
+    ap (λ b. if b then Ok before else (if is_selected before.brackets then with_selected s before else Ok (with_skipped s before))) none
+    ∙ ap (λ b. if b then with_selected s before else Ok (with_skipped s before)) selected ∙ takes
+take_fails s before table entries brackets end new Memory none selected takes = tt
 
 -- the permanent names alone
 pub begins : (table : SourceNames) (entries : List Entry) (brackets : List Bool) → names_of table ≡ first_names → entries ≡ [] → brackets ≡ []
