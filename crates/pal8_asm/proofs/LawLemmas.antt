@@ -14,7 +14,7 @@ use Rattle.pal8_grammar.specs.Bodies.{Phrase}
 use Rattle.pal8_grammar.specs.declared.bodies.Body.TheVariants as body
 use Rattle.pal8_grammar.specs.declared.faults.GrammarFault.{GrammarFault}
 use Rattle.pal8_grammar.specs.declared.steps.Step.{Step}
-use Rattle.pal8_asm.specs.Places.{Standing, spot_at, stands, truth_of, with_body_if, with_statement, with_tags}
+use Rattle.pal8_asm.specs.Places.{Standing, spot_at, truth_of, with_body_if, with_statement, with_tags}
 use Rattle.pal8_asm.specs.Sources.{Entry, Remainder, PassResult, Statement, brackets_with, is_selected, remainder_of_text, number, pass_over, place_of, phrase_of, with_brackets, with_entries as with_entries_of, with_next, with_phrase, with_said, with_selected, with_skipped, words_in}
 use Rattle.pal8_asm.specs.Tapes.{TapeWords, without_clash, unless_clash, words_of_entries, spot_of, with_entries, with_entry, with_made}
 use Rattle.pal8_asm.specs.Assembled.{dollar_in, has_words, result_if_any_word, result_with_words, result_of_source}
@@ -66,7 +66,7 @@ module _ (dollar : Place) (made : TapeWords) where
 by_left : (made : TapeWords) (l : PassResult) → result_of_source l ≡ Ok made → lowest_clash made.asks made.words ≡ None
 by_left made (Err fault) is = absurd cc
 by_left made (Ok left) is =
-    by_made (dollar_in left.end) made (words_of_entries (stands left.standing.kept) left.entries) (made_is_free (stands left.standing.kept) left.entries) is
+    by_made (dollar_in left.end) made (words_of_entries left.standing.names.own left.entries) (made_is_free left.standing.names.own left.entries) is
 
 pub apart : NoClashIsApart → Apart
 apart law text made is c has = law made.words made.asks (by_left made (remainder_of_text text) is) c has
@@ -195,7 +195,7 @@ module _ (s : Statement) where
   abbrev words_after : Phrase → Remainder → List Entry → Standing → List Entry
   words_after phrase left entries standing =
       with_entries_of (place_of s) (spot_at left.standing.position)
-      (words_in phrase.0 standing.kept phrase.1 s.string (standing.position.location - left.standing.position.location)) entries
+      (words_in phrase.0 standing.names.own phrase.1 s.string (standing.position.location - left.standing.position.location)) entries
 
   by_result : (phrase : Phrase) (left : Remainder) (entries : List Entry) (r : Result Standing Code)
       → without_words (with_phrase s (zero_phrase phrase) (with_words entries left) r) ≡ without_words (with_phrase s phrase left r)
@@ -214,12 +214,12 @@ module _ (s : Statement) where
 
   by_reading : (left : Remainder) (entries : List Entry) (over selected : Bool)
       → without_words (if over then Ok (with_words entries left)
-      else (if selected then with_said s (with_words entries left) (zero_said (phrase_of left.standing.position.radix s.tokens s.is_cut s.end))
+      else (if selected then with_said s (with_words entries left) (zero_said (phrase_of left.standing s.tokens s.is_cut s.end))
       else Ok (with_skipped s (with_words entries left))))
       ≡ without_words (if over then Ok left else (if selected then with_selected s left else Ok (with_skipped s left)))
   by_reading left entries true selected = refl
   by_reading left entries false false = refl
-  by_reading left entries false true = by_said left entries (phrase_of left.standing.position.radix s.tokens s.is_cut s.end)
+  by_reading left entries false true = by_said left entries (phrase_of left.standing s.tokens s.is_cut s.end)
 
   by_both : (other whole : PassResult) → without_words other ≡ without_words whole → without_words (read_zero s other) ≡ without_words (with_next s whole)
   by_both (Err f) (Err g) same = same

@@ -1,8 +1,8 @@
 -- The answers of an assembler.
 use Rattle.std.specs.Prelude.{◌≡◌, ℕ, Bool, Option, Some, Result, Ok, Err, List, ◌++◌}
-use Rattle.pal_sym.specs.SymbolTable.{SymbolTable}
-use Rattle.pal_sym.specs.Values.{is_fixed, symbol_value}
 use Rattle.std.specs.Global.{Vec}
+use Rattle.pal8_sym.specs.SourceNames.{names_of}
+use Rattle.pal8_sym.specs.declared.source_names.SourceNames.{SourceNames}
 use Rattle.pal8_pools.specs.Cells.{ArePairs}
 use Rattle.pal8_pools.specs.Pooled.{Holds, PoolTable}
 use Rattle.pal8_asm.specs.Places.{Standing}
@@ -19,18 +19,18 @@ use Rattle.pal8_asm.specs.declared.faults.Stop.TheVariants.{At, Memory}
 use Rattle.pal8_asm.specs.declared.places.Position.{Position}
 
 -- what a table of names and a position are
-abbrev pub standing : SymbolTable → Position → Standing
-standing table position = record { kept = symbol_value table; fixed = is_fixed table; position = position }
+abbrev pub standing : SourceNames → Position → Standing
+standing table position = record { names = names_of table; position = position }
 
 -- a statement is taken, or its fault is answered; or memory ran out
-abbrev pub Passes : Result Standing Code → Result Position Stop → SymbolTable → Type 0
+abbrev pub Passes : Result Standing Code → Result Position Stop → SourceNames → Type 0
 Passes whole (Ok next) new = whole ≡ Ok (standing new next)
 Passes whole (Err (At code)) new = whole ≡ Err code
 Passes whole (Err Memory) new = Unit {0}
 
 -- How far an assembler is.
 pub record Progress : Type 0 where
-  pub table : SymbolTable
+  pub table : SourceNames
   pub position : Position
   pub entries : List Entry
   pub brackets : List Bool

@@ -2,7 +2,6 @@
 -- the newest first. What each one leaves rests on those before it alone.
 use Rattle.std.specs.Prelude.{ℕ, ◌+◌, ◌-◌, ◌*◌, ◌%◌, Bool, true, false, if◌then◌else◌, is_some, Option, Some, None, Result, Ok, Err, length, replicate, List, [], ◌∷◌, ◌++◌}
 use Rattle.word12.specs.declared.sizes.TheConstants.{FIELD}
-use Rattle.pal_sym.specs.Permanent as old
 use Rattle.pal_lex.specs.Text.{limit}
 use Rattle.pal8_lex.specs.Text.{line_after, live}
 use Rattle.pal8_lex.specs.Pieces.{ends, pieces}
@@ -11,9 +10,8 @@ use Rattle.pal8_lex.specs.Statements.{statement_of}
 use Rattle.pal8_lex.specs.declared.tokens.Token.{Token}
 use Rattle.pal8_lex.specs.declared.rules.End.{End}
 use Rattle.pal8_lex.specs.declared.rules.End.TheVariants as end
-use Rattle.pal8_lex.specs.declared.judging.Radix.{Radix}
 use Rattle.pal8_lex.specs.declared.judging.Radix.TheVariants as radix
-use Rattle.pal8_sym.specs.SourceNames.{first_vocabulary}
+use Rattle.pal8_sym.specs.SourceNames.{first_names, vocabulary_of}
 use Rattle.pal8_grammar.specs.Bodies.{Phrase, phrase_by_names}
 use Rattle.pal8_grammar.specs.declared.bodies.Body.{Body}
 use Rattle.pal8_grammar.specs.declared.bodies.Body.TheVariants as body
@@ -82,12 +80,11 @@ pub record Remainder : Type 0 where
 abbrev pub PassResult : Type 0
 PassResult = Result Remainder Fault
 
--- what stands before a source: the permanent names that aren't soft, and its first place
+-- what stands before a source: the permanent names, and its first place
 abbrev pub first_left : Remainder
 first_left = record {
   standing = record {
-    kept = old.permanent;
-    fixed = λ n. is_some (old.permanent n);
+    names = first_names;
     position = record { radix = radix.Octal; location = FIRST_PLACE; field = 0; shift = 0; is_punched = true };
   };
   entries = [];
@@ -97,26 +94,26 @@ first_left = record {
 
 -- ## Words
 
--- a name that keeps a value by now stands for it; another for what it stands for at last
+-- a name that the source has defined by now stands for that value; another for what it stands for at last
 abbrev pub number_or : Step → Option ℕ → Step
 number_or s None = s
 number_or s (Some v) = step.Number v
 
 abbrev pub resolved_step : Meanings → Step → Step
-resolved_step kept (step.Operation word) = step.Operation word
-resolved_step kept step.Alone = step.Alone
-resolved_step kept step.Indirect = step.Indirect
-resolved_step kept (step.Name name) = number_or (step.Name name) (kept name)
-resolved_step kept (step.Permanent name value) = number_or (step.Permanent name value) (kept name)
-resolved_step kept (step.Number word) = step.Number word
-resolved_step kept step.Here = step.Here
-resolved_step kept (step.Sign op) = step.Sign op
-resolved_step kept (step.Open pool) = step.Open pool
-resolved_step kept step.Close = step.Close
+resolved_step own (step.Operation word) = step.Operation word
+resolved_step own step.Alone = step.Alone
+resolved_step own step.Indirect = step.Indirect
+resolved_step own (step.Name name) = number_or (step.Name name) (own name)
+resolved_step own (step.Permanent name value) = number_or (step.Permanent name value) (own name)
+resolved_step own (step.Number word) = step.Number word
+resolved_step own step.Here = step.Here
+resolved_step own (step.Sign op) = step.Sign op
+resolved_step own (step.Open pool) = step.Open pool
+resolved_step own step.Close = step.Close
 
 abbrev pub with_values : Meanings → List Step → List Step
-with_values kept [] = []
-with_values kept (s ∷ others) = resolved_step kept s ∷ with_values kept others
+with_values own [] = []
+with_values own (s ∷ others) = resolved_step own s ∷ with_values own others
 
 abbrev pub number : ℕ → List Step
 number word = step.Number word ∷ []
@@ -134,31 +131,31 @@ word_each (s ∷ others) = (s ∷ []) ∷ word_each others
 
 -- the words of a body, each as its steps, in their order
 abbrev pub words_in : Body → Meanings → List Step → List ℕ → ℕ → List (List Step)
-words_in body.Nothing kept steps string size = []
-words_in body.Origin kept steps string size = []
-words_in (body.Define name) kept steps string size = []
-words_in body.Decimal kept steps string size = []
-words_in body.Octal kept steps string size = []
-words_in body.Field kept steps string size = []
-words_in body.NextPage kept steps string size = []
-words_in body.Page kept steps string size = []
-words_in body.Zeros kept steps string size = replicate size (number 0)
-words_in body.Text kept steps string size = text_words string
-words_in body.Listing kept steps string size = []
-words_in body.IfZero kept steps string size = []
-words_in body.IfNotZero kept steps string size = []
-words_in (body.IfDefined name) kept steps string size = []
-words_in (body.IfUndefined name) kept steps string size = []
-words_in body.NoPunch kept steps string size = []
-words_in body.Punch kept steps string size = []
-words_in body.Relocate kept steps string size = []
-words_in body.Unrelocate kept steps string size = []
-words_in body.FileName kept steps string size = word_each (with_values kept steps)
-words_in body.Device kept steps string size = word_each (with_values kept steps)
-words_in body.Expunge kept steps string size = []
-words_in body.FixTable kept steps string size = []
-words_in (body.FixOperation name) kept steps string size = []
-words_in body.Word kept steps string size = with_values kept steps ∷ []
+words_in body.Nothing own steps string size = []
+words_in body.Origin own steps string size = []
+words_in (body.Define name) own steps string size = []
+words_in body.Decimal own steps string size = []
+words_in body.Octal own steps string size = []
+words_in body.Field own steps string size = []
+words_in body.NextPage own steps string size = []
+words_in body.Page own steps string size = []
+words_in body.Zeros own steps string size = replicate size (number 0)
+words_in body.Text own steps string size = text_words string
+words_in body.Listing own steps string size = []
+words_in body.IfZero own steps string size = []
+words_in body.IfNotZero own steps string size = []
+words_in (body.IfDefined name) own steps string size = []
+words_in (body.IfUndefined name) own steps string size = []
+words_in body.NoPunch own steps string size = []
+words_in body.Punch own steps string size = []
+words_in body.Relocate own steps string size = []
+words_in body.Unrelocate own steps string size = []
+words_in body.FileName own steps string size = word_each (with_values own steps)
+words_in body.Device own steps string size = word_each (with_values own steps)
+words_in body.Expunge own steps string size = []
+words_in body.FixTable own steps string size = []
+words_in (body.FixOperation name) own steps string size = []
+words_in body.Word own steps string size = with_values own steps ∷ []
 
 abbrev pub entry_at : Place → Spot → List Step → Entry
 entry_at place spot steps = record {
@@ -246,19 +243,19 @@ abbrev pub with_phrase : Statement → Phrase → Remainder → Result Standing 
 with_phrase s phrase left (Err fault) = Err (at_place (place_of s) fault)
 with_phrase s phrase left (Ok standing) = with_brackets s standing
     (with_entries (place_of s) (spot_at left.standing.position)
-    (words_in phrase.0 standing.kept phrase.1 s.string (standing.position.location - left.standing.position.location)) left.entries)
+    (words_in phrase.0 standing.names.own phrase.1 s.string (standing.position.location - left.standing.position.location)) left.entries)
     (brackets_with (place_of s) s.end left.brackets (truth_of phrase.0 phrase.1 standing))
 
 abbrev pub with_said : Statement → Remainder → Result Phrase GrammarFault → PassResult
 with_said s left (Err fault) = Err (at_place (place_of s) (code_of fault))
 with_said s left (Ok phrase) = with_phrase s phrase left (with_statement s.tokens phrase.0 phrase.1 (length s.string) left.standing)
 
--- what a statement says by the radix before it: no EXPUNGE and no FIXMRI is taken yet
-abbrev pub phrase_of : Radix → List Token → Bool → End → Result Phrase GrammarFault
-phrase_of radix tokens is_cut end = phrase_by_names first_vocabulary radix tokens is_cut end
+-- what a statement says by the names and the radix before it
+abbrev pub phrase_of : Standing → List Token → Bool → End → Result Phrase GrammarFault
+phrase_of standing tokens is_cut end = phrase_by_names (vocabulary_of standing.names) standing.position.radix tokens is_cut end
 
 abbrev pub with_selected : Statement → Remainder → PassResult
-with_selected s left = with_said s left (phrase_of left.standing.position.radix s.tokens s.is_cut s.end)
+with_selected s left = with_said s left (phrase_of left.standing s.tokens s.is_cut s.end)
 
 -- one that isn't selected says nothing, and a bracket that it opens is false
 abbrev pub with_skipped : Statement → Remainder → Remainder

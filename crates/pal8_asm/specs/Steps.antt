@@ -1,8 +1,8 @@
 -- What the small steps of a pass give, for private clauses.
 use Rattle.pal8_asm.specs.Assembling.{Progress, remainder_of, standing}
 use Rattle.std.specs.Prelude.{◌≡◌, ℕ, ◌-◌, Bool, true, false, length, Option, Some, None, Result, Ok, Err, List, ◌∷◌, ◌++◌}
-use Rattle.pal_sym.specs.SymbolTable.{SymbolTable}
-use Rattle.pal_sym.specs.Values.{symbol_value}
+use Rattle.pal8_sym.specs.SourceNames.{own_value}
+use Rattle.pal8_sym.specs.declared.source_names.SourceNames.{SourceNames}
 use Rattle.pal_lex.specs.Text.{limit, text_from}
 use Rattle.pal8_lex.specs.Reading.{HasRead, last_statement}
 use Rattle.pal8_lex.specs.Text.{as_read, live}
@@ -35,7 +35,7 @@ Moves whole (Err (At code)) = whole ≡ Err code
 Moves whole (Err Memory) = Unit {0}
 
 -- names are defined, or the fault is answered that refuses them; or memory ran out
-abbrev pub Defines : Result Standing Code → Position → Result (Unit {0}) Stop → SymbolTable → Type 0
+abbrev pub Defines : Result Standing Code → Position → Result (Unit {0}) Stop → SourceNames → Type 0
 Defines whole position (Ok nothing) new = whole ≡ Ok (standing new position)
 Defines whole position (Err (At code)) new = whole ≡ Err code
 Defines whole position (Err Memory) new = Unit {0}
@@ -59,18 +59,18 @@ PassesEnd whole (Err (asm.At code place)) brackets = whole ≡ Err (at_place pla
 PassesEnd whole (Err asm.Memory) brackets = Unit {0}
 
 -- a statement is taken at a position, or its fault is answered; or memory ran out
-abbrev pub TakesStatement : PassResult → Result Position AsmFault → SymbolTable → List Entry → List Bool → Option Place → Type 0
+abbrev pub TakesStatement : PassResult → Result Position AsmFault → SourceNames → List Entry → List Bool → Option Place → Type 0
 TakesStatement whole (Ok next) table entries brackets end = whole ≡ Ok record { standing = standing table next; entries = entries; brackets = brackets; end = end }
 TakesStatement whole (Err (asm.At code place)) table entries brackets end = whole ≡ Err (at_place place code)
 TakesStatement whole (Err asm.Memory) table entries brackets end = Unit {0}
 
 -- What a statement does to names and places was done, and its words are kept.
 pub record IsTaken (whole : Result Standing Code) (place : Place) (body : Body) (steps : List Step) (string : List ℕ) (before next : Position) (old : List Entry)
-    (table : SymbolTable) (new : List Entry) : Type 0 where
+    (table : SourceNames) (new : List Entry) : Type 0 where
   pub passed : whole ≡ Ok (standing table next)
-  pub words : new ≡ with_entries place (spot_at before) (words_in body (symbol_value table) steps string (next.location - before.location)) old
+  pub words : new ≡ with_entries place (spot_at before) (words_in body (own_value table) steps string (next.location - before.location)) old
 
-abbrev pub TakesBody : Result Standing Code → Place → Body → List Step → List ℕ → Position → List Entry → Result Position AsmFault → SymbolTable → List Entry → Type 0
+abbrev pub TakesBody : Result Standing Code → Place → Body → List Step → List ℕ → Position → List Entry → Result Position AsmFault → SourceNames → List Entry → Type 0
 TakesBody whole place body steps string before old (Ok next) table new = IsTaken whole place body steps string before next old table new
 TakesBody whole place body steps string before old (Err (asm.At code place')) table new = (whole ≡ Err code) × (place' ≡ place)
 TakesBody whole place body steps string before old (Err asm.Memory) table new = Unit {0}

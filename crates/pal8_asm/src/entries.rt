@@ -1,7 +1,6 @@
 ghost use Rattle.std.specs.Prelude.{◌≡◌, ◌+◌, ◌*◌, ◌%◌, ◌<◌, ◌≤◌, ◌++◌, [], ◌∷◌, OnOk, Ok, Result, length, replicate, vec_len, vec_capacity};
 ghost use Rattle.word12.specs.declared.sizes.TheConstants.{FIELD, CORE};
-ghost use Rattle.pal_sym.specs.Values.{symbol_value};
-ghost use Rattle.pal8_sym.specs.Symbols.{value_of};
+ghost use Rattle.pal8_sym.specs.SourceNames.{own_value};
 ghost use Rattle.pal8_asm.specs.Tapes.{TapeWords, with_entries as with_entries_made};
 ghost use Rattle.pal8_asm.specs.Steps.{IsMaking, Makes};
 ghost use Rattle.pal8_asm.specs.declared.faults.Fault.{Fault};
@@ -14,7 +13,7 @@ use crate::{AsmFault, Fault, Place};
 use pal8_clash::WordCells;
 use pal8_grammar::{Body, Step};
 use pal8_pools::Pools;
-use pal8_sym::Symbols;
+use pal8_sym::SourceNames;
 use pal8_values::{Frames, Spot};
 use std::alloc::{AllocError, Global};
 use std::marker::Model;
@@ -62,14 +61,14 @@ fn number_or(step: Step, value: Option<Word>) -> Step
     }
 }
 
-/// A step, whose name stands for what it keeps by now, if it keeps a value.
-fn resolved_step(symbols: &Symbols, step: Step) -> Step
-    ensures { result ≡ resolved_step (symbol_value symbols.now) step }
+/// A step, whose name stands for its value by now, if the source has defined it.
+fn resolved_step(names: &SourceNames, step: Step) -> Step
+    ensures { result ≡ resolved_step (own_value names.now) step }
 {
     let again = step;
     match step {
-        Step::Name(name) => number_or(again, symbols.kept_value(name)),
-        Step::Permanent(name, _) => number_or(again, symbols.kept_value(name)),
+        Step::Name(name) => number_or(again, names.own_value(name)),
+        Step::Permanent(name, _) => number_or(again, names.own_value(name)),
         Step::Operation(_) | Step::Alone | Step::Indirect | Step::Number(_) => again,
         Step::Here | Step::Sign(_) | Step::Open(_) | Step::Close => again,
     }
@@ -102,13 +101,13 @@ fn cell_of(spot: Spot) -> Cell
 }
 
 /// Puts steps after others, where there is room.
-fn put_steps(to: &mut Vec<Step>, symbols: &Symbols, steps: &[Step])
+fn put_steps(to: &mut Vec<Step>, names: &SourceNames, steps: &[Step])
     requires { vec_len to.old + length steps.now ≤ vec_capacity to.old }
-    ensures { to.new.items ≡ to.old.items ++ with_values (symbol_value symbols.now) steps.now }
+    ensures { to.new.items ≡ to.old.items ++ with_values (own_value names.now) steps.now }
 {
     let mut rest = steps;
     while let [step, others @ ..] = rest {
-        to.push_reserved(resolved_step(symbols, *step));
+        to.push_reserved(resolved_step(names, *step));
         rest = others;
     }
 }
@@ -127,17 +126,17 @@ impl Entries {
     /// Puts a word after the others, which stays to be made.
     fn push(
         &mut self,
-        symbols: &Symbols,
+        names: &SourceNames,
         place: Place,
         spot: Spot,
         steps: &[Step],
     ) -> Result<(), AllocError>
         requires { spot.field < 8 }
-        ensures { OnOk result (self.new ≡ self.old ++ entry_at place spot (with_values (symbol_value symbols.now) steps.now) ∷ []) }
+        ensures { OnOk result (self.new ≡ self.old ++ entry_at place spot (with_values (own_value names.now) steps.now) ∷ []) }
     {
         self.heads.reserve(1)?;
         self.steps.reserve(steps.len())?;
-        put_steps(&mut self.steps, symbols, steps);
+        put_steps(&mut self.steps, names, steps);
         self.heads.push_reserved(Head {
             place,
             cell: cell_of(spot),
@@ -151,7 +150,7 @@ impl Entries {
     /// Puts a number after the others.
     fn push_number(
         &mut self,
-        symbols: &Symbols,
+        names: &SourceNames,
         place: Place,
         spot: Spot,
         word: Word,
@@ -159,13 +158,13 @@ impl Entries {
         requires { spot.field < 8 }
         ensures { OnOk result (self.new ≡ self.old ++ entry_at place spot (number word) ∷ []) }
     {
-        self.push(symbols, place, spot, &[Step::Number(word)])
+        self.push(names, place, spot, &[Step::Number(word)])
     }
 
     /// Puts so many zeros after the others.
     fn push_zeros(
         &mut self,
-        symbols: &Symbols,
+        names: &SourceNames,
         place: Place,
         spot: Spot,
         count: u16,
@@ -176,7 +175,7 @@ impl Entries {
         let mut at = spot;
         let mut left = count;
         while left > 0 {
-            self.push_number(symbols, place, at, Word::ZERO)?;
+            self.push_number(names, place, at, Word::ZERO)?;
             at = next_spot(at);
             left -= 1;
         }
@@ -186,7 +185,7 @@ impl Entries {
     /// Puts the words of a text after the others.
     fn push_text(
         &mut self,
-        symbols: &Symbols,
+        names: &SourceNames,
         place: Place,
         spot: Spot,
         string: &[u8],
@@ -198,7 +197,7 @@ impl Entries {
         let mut rest = string;
         while let [first, second, others @ ..] = rest {
             let word = Word::low(0o100 * u16::from(*first % 0o100) + u16::from(*second % 0o100));
-            self.push_number(symbols, place, at, word)?;
+            self.push_number(names, place, at, word)?;
             at = next_spot(at);
             rest = others;
         }
@@ -206,24 +205,24 @@ impl Entries {
             [first, ..] => Word::low(0o100 * u16::from(*first % 0o100)),
             [] => Word::ZERO,
         };
-        self.push_number(symbols, place, at, word)
+        self.push_number(names, place, at, word)
     }
 
     /// Puts a word of each step after the others.
     fn push_each(
         &mut self,
-        symbols: &Symbols,
+        names: &SourceNames,
         place: Place,
         spot: Spot,
         steps: &[Step],
     ) -> Result<(), AllocError>
         requires { spot.field < 8 }
-        ensures { OnOk result (self.new ≡ with_entries place spot (word_each (with_values (symbol_value symbols.now) steps.now)) self.old) }
+        ensures { OnOk result (self.new ≡ with_entries place spot (word_each (with_values (own_value names.now) steps.now)) self.old) }
     {
         let mut at = spot;
         let mut rest = steps;
         while let [step, others @ ..] = rest {
-            self.push(symbols, place, at, &[*step])?;
+            self.push(names, place, at, &[*step])?;
             at = next_spot(at);
             rest = others;
         }
@@ -233,7 +232,7 @@ impl Entries {
     /// Puts the words of a statement's body after the others, from where it stands on: of a value, of so many zeros, of a string, or of a name.
     pub(crate) fn push_body(
         &mut self,
-        symbols: &Symbols,
+        names: &SourceNames,
         place: Place,
         spot: Spot,
         body: Body,
@@ -243,13 +242,13 @@ impl Entries {
     ) -> Result<(), AllocError>
         requires { spot.field < 8 }
         ensures { OnOk result (self.new ≡ with_entries place spot
-            (words_in body (symbol_value symbols.now) steps.now string.now size) self.old) }
+            (words_in body (own_value names.now) steps.now string.now size) self.old) }
     {
         match body {
-            Body::Word => self.push(symbols, place, spot, steps),
-            Body::Zeros => self.push_zeros(symbols, place, spot, size),
-            Body::Text => self.push_text(symbols, place, spot, string),
-            Body::FileName | Body::Device => self.push_each(symbols, place, spot, steps),
+            Body::Word => self.push(names, place, spot, steps),
+            Body::Zeros => self.push_zeros(names, place, spot, size),
+            Body::Text => self.push_text(names, place, spot, string),
+            Body::FileName | Body::Device => self.push_each(names, place, spot, steps),
             Body::Nothing | Body::Origin | Body::Define(_) | Body::Decimal | Body::Octal => Ok(()),
             Body::Field | Body::NextPage | Body::Page | Body::Listing => Ok(()),
             Body::IfZero | Body::IfNotZero | Body::IfDefined(_) | Body::IfUndefined(_) => Ok(()),
@@ -264,19 +263,19 @@ impl Entries {
         frames: &mut Frames,
         pools: &mut Pools,
         alloc: Global,
-        symbols: &Symbols,
+        names: &SourceNames,
         cells: &mut WordCells,
         clash: &mut Option<Fault>,
         pairs: &mut Vec<(Cell, Word)>,
     ) -> Result<(), AsmFault>
         ensures { (whole : Result TapeWords Fault) → IsMaking whole pools.old cells.old clash.old pairs.old.items
-            → Makes (with_entries_made (value_of symbols.now) self.now whole) result pools.new cells.new clash.new pairs.new.items }
+            → Makes (with_entries_made (own_value names.now) self.now whole) result pools.new cells.new clash.new pairs.new.items }
     {
         make_all(
             frames,
             pools,
             alloc,
-            symbols,
+            names,
             cells,
             clash,
             pairs,

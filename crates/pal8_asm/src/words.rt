@@ -1,6 +1,6 @@
 ghost use Rattle.std.specs.Prelude.{◌≡◌, ◌+◌, ◌/◌, ◌%◌, ◌<◌, ◌≤◌, List, Result, Ok, length, vec_len, vec_capacity};
 ghost use Rattle.word12.specs.declared.sizes.TheConstants.{FIELD, PAGE};
-ghost use Rattle.pal8_sym.specs.Symbols.{value_of};
+ghost use Rattle.pal8_sym.specs.SourceNames.{own_value};
 ghost use Rattle.pal8_pools.specs.Asks.{Ask};
 ghost use Rattle.pal8_pools.specs.Pooled.{Holds};
 ghost use Rattle.pal8_clash.specs.Clashes.{with_word};
@@ -16,7 +16,7 @@ use crate::{AsmFault, Code, Fault, Place};
 use pal8_clash::WordCells;
 use pal8_grammar::Step;
 use pal8_pools::Pools;
-use pal8_sym::Symbols;
+use pal8_sym::SourceNames;
 use pal8_values::laws::words_ask_near;
 use pal8_values::{Frames, Spot, ValueFault, word_value};
 use std::alloc::Global;
@@ -94,7 +94,7 @@ fn word_at(
     frames: &mut Frames,
     pools: &mut Pools,
     alloc: Global,
-    symbols: &Symbols,
+    names: &SourceNames,
     place: Place,
     spot: Spot,
     steps: &[Step],
@@ -103,9 +103,9 @@ fn word_at(
     requires location { spot.location < 0o10000 }
     requires here { spot.here < 0o10000 }
     ensures { (asks punched : List Ask) → Holds pools.old asks punched
-        → GivesAt place (word_value (value_of symbols.now) spot steps.now asks punched) result pools.new }
+        → GivesAt place (word_value (own_value names.now) spot steps.now asks punched) result pools.new }
 {
-    match word_value(frames, pools, alloc, symbols, spot, steps) {
+    match word_value(frames, pools, alloc, names, spot, steps) {
         Ok(word) => Ok(word),
         Err(fault) => Err(fault_at(fault, place)),
     }
@@ -126,7 +126,7 @@ fn make_one(
     frames: &mut Frames,
     pools: &mut Pools,
     alloc: Global,
-    symbols: &Symbols,
+    names: &SourceNames,
     cells: &mut WordCells,
     clash: &mut Option<Fault>,
     pairs: &mut Vec<(Cell, Word)>,
@@ -134,7 +134,7 @@ fn make_one(
     steps: &[Step],
 ) -> Result<(), AsmFault>
     ensures { (whole : Result TapeWords Fault) → IsMaking whole pools.old cells.old clash.old pairs.old.items
-        → Makes (with_entry (value_of symbols.now) (entry_of head steps.now) whole) result
+        → Makes (with_entry (own_value names.now) (entry_of head steps.now) whole) result
         pools.new cells.new clash.new pairs.new.items }
 {
     words_ask_near();
@@ -142,7 +142,7 @@ fn make_one(
     let spot = spot_of(head.cell, head.here, head.is_punched);
     let own = pools.count(spot.field, page_of(spot));
     let zero = pools.count(spot.field, 0);
-    let word = match word_at(frames, pools, alloc, symbols, head.place, spot, steps) {
+    let word = match word_at(frames, pools, alloc, names, head.place, spot, steps) {
         Ok(word) => word,
         Err(fault) => return Err(fault),
     };
@@ -157,7 +157,7 @@ pub fn make_all(
     frames: &mut Frames,
     pools: &mut Pools,
     alloc: Global,
-    symbols: &Symbols,
+    names: &SourceNames,
     cells: &mut WordCells,
     clash: &mut Option<Fault>,
     pairs: &mut Vec<(Cell, Word)>,
@@ -166,16 +166,14 @@ pub fn make_all(
 ) -> Result<(), AsmFault>
     requires { total heads.now ≤ length steps.now }
     ensures { (whole : Result TapeWords Fault) → IsMaking whole pools.old cells.old clash.old pairs.old.items
-        → Makes (with_entries (value_of symbols.now) (cut heads.now steps.now) whole) result
+        → Makes (with_entries (own_value names.now) (cut heads.now steps.now) whole) result
         pools.new cells.new clash.new pairs.new.items }
 {
     let mut heads = heads;
     let mut steps = steps;
     while let [head, others @ ..] = heads {
         let (own, behind) = steps.split_at(head.count);
-        match make_one(
-            frames, pools, alloc, symbols, cells, clash, pairs, *head, own,
-        ) {
+        match make_one(frames, pools, alloc, names, cells, clash, pairs, *head, own) {
             Ok(()) => {}
             Err(fault) => return Err(fault),
         }

@@ -1,6 +1,5 @@
 -- A text with no fault has a word.
 use Rattle.std.proofs.Common.{◌≡◌, ℕ, ◌<◌, length, Bool, true, false, Result, Ok, Err, List, [], ◌∷◌, ◌++◌, refl, sym, ap, subst, ◌∙◌, arith}
-use Rattle.pal8_asm.specs.Places.{stands}
 use Rattle.pal8_asm.specs.Tapes.{TapeWords, without_clash, words_of_entries}
 use Rattle.pal8_asm.specs.Sources.{PassResult, remainder_of_text}
 use Rattle.pal8_asm.specs.Assembled.{dollar_in, has_words, result_if_any_word, result_with_words, result_of_source}
@@ -30,7 +29,7 @@ made_words dollar (Ok met) made is = judged_words dollar met made (has_words met
 
 passed_words : (left : PassResult) (made : TapeWords) → result_of_source left ≡ Ok made → has_words made.words ≡ true
 passed_words (Err fault) made is = absurd (err_ok fault made is)
-passed_words (Ok left) made is = made_words (dollar_in left.end) (without_clash (words_of_entries (stands left.standing.kept) left.entries)) made is
+passed_words (Ok left) made is = made_words (dollar_in left.end) (without_clash (words_of_entries left.standing.names.own left.entries)) made is
 
 false_true : false ≡ true → ⊥
 false_true is = cc
