@@ -167,7 +167,7 @@ await run('shelf', {
         same('TAD A', await page.look(`document.querySelectorAll('#doings [data-step]')[1].dataset.own`), 'the statement beside the step');
         await page.click('#to-step');
         await isTold(page, 'machine-status', 'after step 2');
-        same('0003', await page.look(`geivottu.machine.registers.ac`), 'the accumulator');
+        await page.until(`geivottu.machine.registers.ac === '0003'`);
         same('2 steps since START', await page.text('steps'), 'the count');
         await pane(page, 'source');
         await page.click('#profile');
