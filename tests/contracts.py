@@ -39,7 +39,7 @@ def cited(file: Source, public: str) -> Cited:
     """The definitions that some clauses of a source cite, each with its crate and module."""
     ours, found = set(crates()), set()
     for below, module, imported, alias in OF_DEFINITIONS.findall(file.code):
-        if below not in ours or module.startswith("declared"):
+        if below not in ours or module.startswith(("declared", "contracts")):
             continue
         if alias:
             found |= {(below, module, it) for it in re.findall(rf"\b{alias}\.(\w+)", public)}

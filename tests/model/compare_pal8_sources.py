@@ -24,6 +24,7 @@ NAMES = ("A", "B", "C", "LOOP", "ABCDEFG", "BSW", "IOT", "X1", "CLA", "TAD", "I"
 OPERATORS = ("+", "-", "!", "&", "^", "%", " ", " + ", " -", "  ")
 PIECES = (*"AZ019+-!&^%=,*.()[]\"/;<>$# \t\n", *"\n\n;;,(([[  ", "TAD ", "TAD I ", "A", "B", "TEXT /", "PAGE ", "ZBLOCK ", "*200", "FIELD ", "A,", "$\n", "XLIST", "DECIMAL", "\r\n", "\f", "\0")
 PIECES += ("IFZERO 0 <", "IFNZRO A<", "IFDEF A <", "IFNDEF B <", ">\n", "<")
+PIECES += ("EXPUNGE\n", "FIXTAB\n", "FIXMRI A=", "FIXMRI TAD=1000\n", "FIXMRI ")
 PIECES += ("NOPUNCH", "ENPUNCH\n", "RELOC ", "RELOC\n", "RELOC 400\n", "FILENAME A.B\n", "DEVICE 8\n", "FILENAME ")
 
 
@@ -37,6 +38,7 @@ class Maker:
         self.left = list(self.tags)
         self.has_faults = self.random.random() < 0.4
         self.open = 0
+        self.operations = list(OPERATIONS)
 
     def rarely(self) -> bool:
         return self.has_faults and self.random.random() < 0.04
@@ -75,7 +77,7 @@ class Maker:
 
     def value(self, depth: int) -> str:
         if self.random.random() < 0.55 and depth >= 0:
-            operation = self.random.choice(OPERATIONS)
+            operation = self.random.choice(self.operations)
             if self.random.random() < 0.2:
                 return operation + self.random.choice((" I ", " Z I ")) + self.random.choice(("20", "177", ".", "(7", "[A", "(TAD (3)"))
             return operation if self.random.random() < 0.1 else operation + self.random.choice((" ", " ", " Z ")) + self.terms(depth, False)
@@ -91,7 +93,9 @@ class Maker:
         return f"{self.random.randrange(limit):o}"
 
     def body(self) -> str:
-        kind = self.random.randrange(33)
+        kind = self.random.randrange(36)
+        if kind > 32:
+            return self.table()
         if kind == 30:
             return self.random.choice(("NOPUNCH", "ENPUNCH", "enpunch", "NOPUNCH"))
         if kind == 31:
@@ -103,6 +107,8 @@ class Maker:
         if kind == 1:
             return "*" + self.random.choice(("20", "200", "370", "400", "7600", ".+2", "TAD&370"))
         if kind < 4:
+            if self.random.random() < 0.2:
+                return self.late()
             return self.random.choice(self.values) + self.random.choice(("=", " = ")) + self.value(-9)
         if kind == 4:
             return self.random.choice(("DECIMAL", "OCTAL", "OCTAL", "OCTAL")) if self.has_faults else "OCTAL"
@@ -125,6 +131,26 @@ class Maker:
         if self.rarely():
             return self.random.choice(("FILENAME", "DEVICE A.B", "FILENAME A .B", "FILENAME A. B", "DEVICE (5", "FILENAME .A", "FILENAMEA.B"))
         return self.random.choice(("FILENAME ", "filename ")) + self.random.choice((runs[0], ".".join(runs))) if self.random.random() < 0.6 else "DEVICE " + runs[0]
+
+    def late(self) -> str:
+        """A definition by names that have no value before, mostly."""
+        name = self.random.choice((*self.values, "D", "E", "D", "E") if self.has_faults else ("D", "E"))
+        value = self.random.choice(self.left or self.tags) + self.random.choice(("", "+1", "-.", "&177", "%" + self.random.choice(self.values)))
+        return f"{name}=" + (f"JMS {value}" if self.rarely() else "D+1" if self.rarely() else value) + self.random.choice(("", ";D", ";E", ";TAD D", ";D;D=7;D"))
+
+    def table(self) -> str:
+        """A statement that changes the tables of names."""
+        if self.rarely():
+            return self.random.choice(("EXPUNGE 1", "FIXTAB A", "FIXMRI", "FIXMRI A", "FIXMRIA=1", "FIXMRI I=1", "FIXMRI A=(5", "FIXMRI A=LOOP"))
+        kind = self.random.randrange(12)
+        if kind < 2 and self.has_faults:
+            return self.random.choice(("EXPUNGE", "expunge"))
+        if kind < 6:
+            return "FIXTAB"
+        name = self.random.choice(("CALL", "TAD", "JMSI", "A", "B", "CLA"))
+        if name in ("CALL", "JMSI"):
+            self.operations.append(name)
+        return f"FIXMRI {name}" + self.random.choice(("=", " = ")) + self.random.choice(("JMS I 20", "4400", "1000", "2000", self.value(-9)))
 
     def condition(self) -> str:
         kind = self.random.randrange(8)
@@ -154,6 +180,7 @@ class Maker:
 
     def source(self) -> bytes:
         lines = [f"{name}={self.number()}" for name in self.values]
+        lines += [self.table()] if self.random.random() < 0.3 else []
         lines += [self.line() for _ in range(self.random.randint(1, 25))]
         lines += [">" for _ in range(self.open) if not self.rarely()]
         lines += ["OCTAL", *(f"{tag}, 7" for tag in self.left if not self.rarely())]

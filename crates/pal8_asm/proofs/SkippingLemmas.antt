@@ -6,15 +6,15 @@ use Rattle.pal8_lex.specs.declared.tokens.Token.{Token}
 use Rattle.pal8_lex.specs.declared.rules.End.{End}
 use Rattle.pal8_lex.specs.declared.rules.End.TheVariants as end
 use Rattle.pal8_lex.specs.declared.judging.Radix.{Radix}
-use Rattle.pal8_sym.specs.SourceNames.{first_vocabulary}
-use Rattle.pal8_grammar.specs.Bodies.{Phrase, body_in, body_phrase, free_name, has_free_tags, is_condition, number_tokens, names_file, phrase_or_fault, tags_in}
+use Rattle.pal8_sym.specs.SourceNames.{Vocabulary, vocabulary_of}
+use Rattle.pal8_grammar.specs.Bodies.{Phrase, body_in, body_phrase, free_name, has_free_tags, is_condition, number_tokens, names_file, phrase_by_names, phrase_or_fault, tags_in}
 use Rattle.pal8_grammar.specs.declared.bodies.Body.{Body}
 use Rattle.pal8_grammar.specs.declared.bodies.Body.TheVariants as body
 use Rattle.pal8_grammar.specs.declared.steps.Step.{Step}
 use Rattle.pal8_grammar.specs.declared.faults.GrammarFault.{GrammarFault}
 use Rattle.pal8_grammar.specs.declared.faults.GrammarFault.TheVariants.{IC, NU, SY}
 use Rattle.pal8_asm.specs.Places.{Standing, spot_at, truth_of, with_body, with_body_if, with_statement, with_tag_if, with_tags}
-use Rattle.pal8_asm.specs.Sources.{Entry, Remainder, PassResult, Source, Statement, brackets_with, end_of_pass, is_selected, pass_over, place_of, phrase_of, statements, with_brackets, with_end, with_entries, with_next, with_phrase, with_said, with_selected, with_skipped, words_in}
+use Rattle.pal8_asm.specs.Sources.{Entry, Remainder, PassResult, Source, Statement, brackets_with, end_of_pass, is_selected, open_value, pass_over, place_of, phrase_of, statements, with_brackets, with_end, with_entries, with_next, with_phrase, with_said, with_selected, with_skipped, words_in}
 use Rattle.pal8_values.specs.Sums.{Meanings}
 use Rattle.pal8_asm.specs.Laws.{SkippedIsNothing, plain, plain_by, plain_end, plain_statement}
 use Rattle.pal8_asm.specs.declared.faults.Place.{Place}
@@ -134,24 +134,24 @@ is_said false false false (Some it) phrase is = by_test (is_condition it.0) refl
     by_test true one is = record { no_bad = refl; no_number = refl; no_other = refl; is_one = sym (ap (λ r. is_condition (said_or phrase r).0) is) ∙ one }
     by_test false one is = absurd cc
 
-condition_said : (radix : Radix) (tokens : List Token) (is_cut : Bool) (phrase : Phrase) → phrase_of radix tokens is_cut end.Open ≡ Ok phrase → is_condition phrase.0 ≡ true
-condition_said radix tokens is_cut phrase is =
-    (is_said (has_bad tokens) (has_bad_number radix (number_tokens tokens)) (is_cut || not (has_free_tags tokens)) (body_phrase first_vocabulary radix (body_in tokens)) phrase is).is_one
+condition_said : (names : Vocabulary) (radix : Radix) (tokens : List Token) (is_cut : Bool) (phrase : Phrase) → phrase_by_names names radix tokens is_cut end.Open ≡ Ok phrase → is_condition phrase.0 ≡ true
+condition_said names radix tokens is_cut phrase is =
+    (is_said (has_bad tokens) (has_bad_number radix (number_tokens tokens)) (is_cut || not (has_free_tags tokens)) (body_phrase names radix (body_in tokens)) phrase is).is_one
 
 -- the tags alone say nothing
-tags_say_nothing : (radix : Radix) (tokens : List Token) (is_cut : Bool) (phrase : Phrase) → phrase_of radix tokens is_cut end.Open ≡ Ok phrase
-    → phrase_of radix (front tokens) is_cut end.Semicolon ≡ Ok (body.Nothing, [])
-tags_say_nothing radix tokens is_cut phrase is =
+tags_say_nothing : (names : Vocabulary) (radix : Radix) (tokens : List Token) (is_cut : Bool) (phrase : Phrase) → phrase_by_names names radix tokens is_cut end.Open ≡ Ok phrase
+    → phrase_by_names names radix (front tokens) is_cut end.Semicolon ≡ Ok (body.Nothing, [])
+tags_say_nothing names radix tokens is_cut phrase is =
     ap (λ test. if test then Err IC else (if has_bad_number radix (number_tokens (front tokens)) then Err NU
-    else (if is_cut || not (has_free_tags (front tokens)) then Err SY else phrase_or_fault end.Semicolon (body_phrase first_vocabulary radix (body_in (front tokens))))))
+    else (if is_cut || not (has_free_tags (front tokens)) then Err SY else phrase_or_fault end.Semicolon (body_phrase names radix (body_in (front tokens))))))
     (none_in_front (λ t. is_bad t.kind) has_bad refl (λ t l. refl) tokens said.no_bad)
     ∙ ap (λ test. if test then Err NU
-    else (if is_cut || not (has_free_tags (front tokens)) then Err SY else phrase_or_fault end.Semicolon (body_phrase first_vocabulary radix (body_in (front tokens))))) no_number
-    ∙ ap (λ test. if test then Err SY else phrase_or_fault end.Semicolon (body_phrase first_vocabulary radix (body_in (front tokens)))) no_other
-    ∙ ap (λ l. phrase_or_fault end.Semicolon (body_phrase first_vocabulary radix l)) (none_behind tokens)
+    else (if is_cut || not (has_free_tags (front tokens)) then Err SY else phrase_or_fault end.Semicolon (body_phrase names radix (body_in (front tokens))))) no_number
+    ∙ ap (λ test. if test then Err SY else phrase_or_fault end.Semicolon (body_phrase names radix (body_in (front tokens)))) no_other
+    ∙ ap (λ l. phrase_or_fault end.Semicolon (body_phrase names radix l)) (none_behind tokens)
   where
     said : IsSaid (has_bad tokens) (has_bad_number radix (number_tokens tokens)) (is_cut || not (has_free_tags tokens)) phrase
-    said = is_said (has_bad tokens) (has_bad_number radix (number_tokens tokens)) (is_cut || not (has_free_tags tokens)) (body_phrase first_vocabulary radix (body_in tokens)) phrase is
+    said = is_said (has_bad tokens) (has_bad_number radix (number_tokens tokens)) (is_cut || not (has_free_tags tokens)) (body_phrase names radix (body_in tokens)) phrase is
 
     by_names : (test : Bool) → has_bad_number radix (if test then tags_in tokens else tokens) ≡ false → has_bad_number radix (front tokens) ≡ false
     by_names true none = ap (has_bad_number radix) (sym (tags_are tokens)) ∙ none
@@ -250,7 +250,7 @@ module _ (line at : ℕ) (string : List ℕ) (is_cut : Bool) where
         (sym (ap (λ l. with_brackets (ended_by tokens end.Open) standing
         (with_entries (place_of (ended_by tokens end.Open)) (spot_at before.standing.position) l before.entries)
         (brackets_with (place_of (ended_by tokens end.Open)) end.Open before.brackets (truth_of phrase.0 phrase.1 standing)))
-        (passive.no_words standing.kept phrase.1 string (standing.position.location - before.standing.position.location)))
+        (passive.no_words (open_value standing) phrase.1 string (standing.position.location - before.standing.position.location)))
         ∙ sym (ap (with_phrase (ended_by tokens end.Open) phrase before) (passive.stays phrase.1 (length string) standing)) ∙ is)
       where
         by_truth : (truth : Result Bool Code)
@@ -259,24 +259,24 @@ module _ (line at : ℕ) (string : List ℕ) (is_cut : Bool) where
         by_truth (Err fault) is = absurd cc
         by_truth (Ok holds) is = ap (λ p. Ok (bare (left_or left p))) is
 
-    open_goes : (tokens : List Token) (q : Result Phrase GrammarFault) → phrase_of before.standing.position.radix tokens is_cut end.Open ≡ q
+    open_goes : (tokens : List Token) (q : Result Phrase GrammarFault) → phrase_of before.standing tokens is_cut end.Open ≡ q
         → with_said (ended_by tokens end.Open) before q ≡ Ok left → with_selected (ended_by (tags_in tokens) end.Semicolon) (bare before) ≡ Ok (bare left)
     open_goes tokens (Err fault) said is = absurd cc
     open_goes tokens (Ok phrase) said is =
         ap (λ l. with_selected (ended_by l end.Semicolon) (bare before)) (tags_are tokens)
-        ∙ ap (with_said (ended_by (front tokens) end.Semicolon) (bare before)) (tags_say_nothing before.standing.position.radix tokens is_cut phrase said)
+        ∙ ap (with_said (ended_by (front tokens) end.Semicolon) (bare before)) (tags_say_nothing (vocabulary_of before.standing.names) before.standing.position.radix tokens is_cut phrase said)
         ∙ ap (λ r. with_phrase (ended_by (front tokens) end.Semicolon) (body.Nothing, []) (bare before) (with_body_if body.Nothing [] (length string) r))
         (same_tags tokens (Ok before.standing))
-        ∙ tags_go tokens (front tokens) phrase (is_passive phrase.0 (condition_said before.standing.position.radix tokens is_cut phrase said))
+        ∙ tags_go tokens (front tokens) phrase (is_passive phrase.0 (condition_said (vocabulary_of before.standing.names) before.standing.position.radix tokens is_cut phrase said))
         (with_tags tokens (Ok before.standing)) is
 
     selected_goes : (tokens : List Token) (e : End) → with_selected (ended_by tokens e) before ≡ Ok left
         → with_selected (plain_statement (ended_by tokens e)) (bare before) ≡ Ok (bare left)
-    selected_goes tokens end.Semicolon is = said_goes tokens end.Semicolon (phrase_of before.standing.position.radix tokens is_cut end.Semicolon) is
-    selected_goes tokens end.Line is = said_goes tokens end.Line (phrase_of before.standing.position.radix tokens is_cut end.Line) is
-    selected_goes tokens end.Open is = open_goes tokens (phrase_of before.standing.position.radix tokens is_cut end.Open) refl is
-    selected_goes tokens end.Close is = said_goes tokens end.Close (phrase_of before.standing.position.radix tokens is_cut end.Close) is
-    selected_goes tokens end.Dollar is = said_goes tokens end.Dollar (phrase_of before.standing.position.radix tokens is_cut end.Dollar) is
+    selected_goes tokens end.Semicolon is = said_goes tokens end.Semicolon (phrase_of before.standing tokens is_cut end.Semicolon) is
+    selected_goes tokens end.Line is = said_goes tokens end.Line (phrase_of before.standing tokens is_cut end.Line) is
+    selected_goes tokens end.Open is = open_goes tokens (phrase_of before.standing tokens is_cut end.Open) refl is
+    selected_goes tokens end.Close is = said_goes tokens end.Close (phrase_of before.standing tokens is_cut end.Close) is
+    selected_goes tokens end.Dollar is = said_goes tokens end.Dollar (phrase_of before.standing tokens is_cut end.Dollar) is
 
 -- ## Sources
 

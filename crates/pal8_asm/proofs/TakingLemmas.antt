@@ -1,25 +1,24 @@
 -- Statements, one at a time.
-use Rattle.std.proofs.Common.{◌≡◌, ℕ, Bool, is_some, Option, None, Result, Ok, Err, length, List, [], sym, ap, ◌∙◌}
+use Rattle.std.proofs.Common.{◌≡◌, ℕ, Bool, true, false, if◌then◌else◌, is_some, Option, None, Result, Ok, Err, length, List, [], sym, ap, ◌∙◌}
+use Rattle.pal8_asm.specs.declared.names.Names.{Names}
+use Rattle.pal8_sym.specs.SourceNames.{first_names, names_of}
 use mathlib.Core.Path.{fun_ext}
-use Rattle.pal_sym.specs.Permanent as old
-use Rattle.pal_sym.specs.SymbolTable.{SymbolTable}
-use Rattle.pal_sym.specs.Values.{is_fixed, symbol_value}
 use Rattle.pal8_grammar.specs.Bodies.{Phrase}
 use Rattle.pal8_asm.specs.Places.{truth_of, with_statement}
-use Rattle.pal8_asm.specs.Sources.{Entry, Remainder, Statement, brackets_with, end_of, first_left, place_of, phrase_of, with_brackets, with_phrase, with_said, with_selected}
+use Rattle.pal8_asm.specs.Sources.{Entry, Remainder, Statement, brackets_with, end_of, first_left, is_selected, place_of, phrase_of, with_brackets, with_phrase, with_next, with_said, with_selected, with_skipped}
 use Rattle.pal8_asm.specs.Steps.{IsTaken, PassesEnd, TakesStatement}
-use Rattle.pal8_asm.specs.Assembling.{standing}
+use Rattle.pal8_asm.specs.Assembling.{Progress, Takes, is_late, standing}
 use Rattle.pal8_asm.specs.declared.faults.AsmFault.{AsmFault}
 use Rattle.pal8_asm.specs.declared.faults.AsmFault.TheVariants.{At, Memory}
 use Rattle.pal8_asm.specs.declared.faults.Fault.{Fault}
 use Rattle.pal8_asm.specs.declared.faults.Place.{Place}
 use Rattle.pal8_asm.specs.declared.places.Position.{Position}
 
-abbrev pub left_at : SymbolTable → Position → List Entry → List Bool → Option Place → Remainder
+abbrev pub left_at : Names → Position → List Entry → List Bool → Option Place → Remainder
 left_at table position entries brackets end = record { standing = standing table position; entries = entries; brackets = brackets; end = end }
 
-module _ (s : Statement) (table table' : SymbolTable) (position next : Position) (entries entries' : List Entry) (brackets brackets' : List Bool) (phrase : Phrase)
-    (said : phrase_of position.radix s.tokens s.is_cut s.end ≡ Ok phrase)
+module _ (s : Statement) (table table' : Names) (position next : Position) (entries entries' : List Entry) (brackets brackets' : List Bool) (phrase : Phrase)
+    (said : phrase_of (standing table position) s.tokens s.is_cut s.end ≡ Ok phrase)
     (taken : IsTaken (with_statement s.tokens phrase.0 phrase.1 (length s.string) (standing table position)) (place_of s) phrase.0 phrase.1 s.string position next entries table' entries') where
   abbrev left : Remainder
   left = left_at table position entries brackets None
@@ -40,13 +39,21 @@ module _ (s : Statement) (table table' : SymbolTable) (position next : Position)
   end_fails (At code place) is = comes ∙ ap (with_brackets s (standing table' next) entries') is
   end_fails Memory is = tt
 
+-- a selected statement that has a fault
+pub take_fails : (s : Statement) (before : Remainder) (table : Names) (entries : List Entry) (brackets : List Bool) (end : Option Place) (new : Progress) (fault : AsmFault)
+    → is_some before.end ≡ false → is_selected before.brackets ≡ true
+    → TakesStatement (with_selected s record { standing = before.standing; entries = before.entries; brackets = before.brackets; end = None }) (Err fault) table entries brackets end
+    → Takes (with_next s (Ok before)) (Err fault) new
+take_fails s before table entries brackets end new (At code place) none selected takes =
+    ap (λ b. if b then Ok before else (if is_selected before.brackets then with_selected s before else Ok (with_skipped s before))) none
+    ∙ ap (λ b. if b then with_selected s before else Ok (with_skipped s before)) selected ∙ takes
+take_fails s before table entries brackets end new Memory none selected takes = tt
+
 -- the permanent names alone
-pub begins : (table : SymbolTable) (entries : List Entry) (brackets : List Bool) → ((n : ℕ) → symbol_value table n ≡ old.permanent n) → ((n : ℕ) → is_fixed table n ≡ is_some (old.permanent n))
-    → entries ≡ [] → brackets ≡ [] → left_at table first_left.standing.position entries brackets None ≡ first_left
-begins table entries brackets kept fixed none closed =
-    ap (λ k. record { standing = record { kept = k; fixed = is_fixed table; position = first_left.standing.position }; entries = entries; brackets = brackets; end = None })
-    (fun_ext kept)
-    ∙ ap (λ f. record { standing = record { kept = old.permanent; fixed = f; position = first_left.standing.position }; entries = entries; brackets = brackets; end = None })
-    (fun_ext fixed)
+pub begins : (table : Names) (entries : List Entry) (brackets : List Bool) → names_of table.table ≡ first_names → ((n : ℕ) → is_late table n ≡ false) → entries ≡ [] → brackets ≡ []
+    → left_at table first_left.standing.position entries brackets None ≡ first_left
+begins table entries brackets names late none closed =
+    ap (λ n. record { standing = record { names = n; late = is_late table; position = first_left.standing.position }; entries = entries; brackets = brackets; end = None }) names
+    ∙ ap (λ l. record { standing = record { names = first_names; late = l; position = first_left.standing.position }; entries = entries; brackets = brackets; end = None }) (fun_ext late)
     ∙ ap (λ e. record { standing = first_left.standing; entries = e; brackets = brackets; end = None }) none
     ∙ ap (λ b. record { standing = first_left.standing; entries = []; brackets = b; end = None }) closed

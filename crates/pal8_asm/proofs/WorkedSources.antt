@@ -281,6 +281,78 @@ sy_filename : read (codes "FILENAME A.B C" ++ 10 ∷ codes "$" ++ 10 ∷ []) ≡
 unfolding permanent pal8_permanent
 sy_filename = refl
 
+-- ## Tables of names
+
+-- EXPUNGE takes permanent names and operations away; FIXMRI makes one anew
+expunge : read (codes "EXPUNGE" ++ 10 ∷ codes "FIXMRI TAD=1000" ++ 10 ∷ codes "CLA=7200" ++ 10 ∷ codes "FIXTAB" ++ 10 ∷ codes "*200" ++ 10 ∷ codes "TAD 205" ++ 10 ∷ codes "DECIMAL" ++ 10 ∷ codes "10" ++ 10 ∷ codes "TAD I 205" ++ 10 ∷ codes "$" ++ 10 ∷ []) ≡ Ok ((0o200, 0o1205) ∷ (0o201, 0o12) ∷ (0o202, 0o1715) ∷ [], [], [])
+unfolding permanent pal8_permanent
+expunge = refl
+
+-- the source's own names stay
+expunge_own : read (codes "*200" ++ 10 ∷ codes "A, 1" ++ 10 ∷ codes "EXPUNGE" ++ 10 ∷ codes "A" ++ 10 ∷ codes "TAD, 2" ++ 10 ∷ codes "TAD" ++ 10 ∷ codes "$" ++ 10 ∷ []) ≡ Ok ((0o200, 1) ∷ (0o201, 0o200) ∷ (0o202, 2) ∷ (0o203, 0o202) ∷ [], [], [])
+unfolding permanent pal8_permanent
+expunge_own = refl
+
+fixmri : read (codes "*400" ++ 10 ∷ codes "FIXMRI CALL=JMS I 20" ++ 10 ∷ codes "CALL 10" ++ 10 ∷ codes "CALL 410" ++ 10 ∷ codes "CALL" ++ 10 ∷ codes "$" ++ 10 ∷ []) ≡ Ok ((0o400, 0o4430) ∷ (0o401, 0o4630) ∷ (0o402, 0o4420) ∷ [], [], [])
+unfolding permanent pal8_permanent
+fixmri = refl
+
+-- `=` gives an operation another word
+fixmri_again : read (codes "EXPUNGE" ++ 10 ∷ codes "FIXMRI LDA=1000" ++ 10 ∷ codes "LDA=2000" ++ 10 ∷ codes "LDA 5" ++ 10 ∷ codes "$" ++ 10 ∷ []) ≡ Ok ((0o200, 0o2005) ∷ [], [], [])
+unfolding permanent pal8_permanent
+fixmri_again = refl
+
+-- an operation that is indirect by its word gets no link
+ii_fixmri : read (codes "FIXMRI JMSI=4400" ++ 10 ∷ codes "JMSI 1000" ++ 10 ∷ codes "$" ++ 10 ∷ []) ≡ Err (II, 2)
+unfolding permanent pal8_permanent
+ii_fixmri = refl
+
+ua_expunged : read (codes "EXPUNGE" ++ 10 ∷ codes "1" ++ 10 ∷ codes "CLA" ++ 10 ∷ codes "$" ++ 10 ∷ []) ≡ Err (UA (name_number (codes "CLA")), 3)
+unfolding permanent pal8_permanent
+ua_expunged = refl
+
+-- FIXTAB fixes the names before it alone
+rd_fixtab : read (codes "B=1" ++ 10 ∷ codes "A=5" ++ 10 ∷ codes "FIXTAB" ++ 10 ∷ codes "C=1;C=2" ++ 10 ∷ codes "A=5" ++ 10 ∷ codes "A=6" ++ 10 ∷ codes "$" ++ 10 ∷ []) ≡ Err (RD, 6)
+unfolding permanent pal8_permanent
+rd_fixtab = refl
+
+-- FIXMRI gives a fixed name another value, and `=` does not
+rd_fixmri : read (codes "FIXMRI TAD=2000" ++ 10 ∷ codes "TAD 5" ++ 10 ∷ codes "TAD=1000" ++ 10 ∷ codes "$" ++ 10 ∷ []) ≡ Err (RD, 3)
+unfolding permanent pal8_permanent
+rd_fixmri = refl
+
+-- ## Late definitions
+
+-- a name that is defined later counts in words
+late : read (codes "A=B+1;A;B=5" ++ 10 ∷ codes "$" ++ 10 ∷ []) ≡ Ok ((0o200, 6) ∷ [], [], [])
+unfolding permanent pal8_permanent
+late = refl
+
+-- a late definition rests on none that is late
+late_late : read (codes "A=B;B=C;C=5" ++ 10 ∷ codes "$" ++ 10 ∷ []) ≡ Err (UA (name_number (codes "B")), 1)
+unfolding permanent pal8_permanent
+late_late = refl
+
+-- and no place rests on it
+late_place : read (codes "A=B;*A;B=5" ++ 10 ∷ codes "$" ++ 10 ∷ []) ≡ Err (UA (name_number (codes "A")), 1)
+unfolding permanent pal8_permanent
+late_place = refl
+
+-- each word has the last definition before it
+late_again : read (codes "A=B;A;A=1;A;A=C;A;B=7;C=10" ++ 10 ∷ codes "$" ++ 10 ∷ []) ≡ Ok ((0o200, 7) ∷ (0o201, 1) ∷ (0o202, 0o10) ∷ [], [], [])
+unfolding permanent pal8_permanent
+late_again = refl
+
+-- a fixed name keeps its value
+late_rd : read (codes "A, 1;A=B;B=5" ++ 10 ∷ codes "$" ++ 10 ∷ []) ≡ Err (RD, 1)
+unfolding permanent pal8_permanent
+late_rd = refl
+
+-- before all definitions it has the last one of the source
+late_last : read (codes "A;A=B;B=5" ++ 10 ∷ codes "$" ++ 10 ∷ []) ≡ Ok ((0o200, 5) ∷ [], [], [])
+unfolding permanent pal8_permanent
+late_last = refl
+
 -- ## Places: the line, and the byte in the text as it stands
 
 abbrev place : Result TapeWords Fault → Result (List (ℕ × ℕ)) (Code × ℕ × ℕ)

@@ -109,7 +109,7 @@ abbrev pub read_zero : Statement → PassResult → PassResult
 read_zero s (Err fault) = Err fault
 read_zero s (Ok left) =
     if is_some left.end then Ok left
-    else (if is_selected left.brackets then with_said s left (zero_said (phrase_of left.standing.position.radix s.tokens s.is_cut s.end))
+    else (if is_selected left.brackets then with_said s left (zero_said (phrase_of left.standing s.tokens s.is_cut s.end))
     else Ok (with_skipped s left))
 
 -- what the statements of a source leave, where each word is read as the word 0

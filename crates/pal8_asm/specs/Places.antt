@@ -1,18 +1,16 @@
 -- What a statement does to places and names, by those before it (PAL8, in this project's profile). No place and no name rests on a literal
 -- or a link.
-use Rattle.std.specs.Prelude.{ℕ, ◌+◌, ◌-◌, ◌*◌, ◌/◌, ◌%◌, nat_eq, nat_lt, Bool, true, false, not, if◌then◌else◌, is_some, Option, Some, None, Result, Ok, Err, List, [], ◌∷◌}
-use Rattle.std.specs.Ordering.{nat_cmp}
-use Rattle.std.specs.FinMap.{find}
-use Rattle.pal_sym.specs.Values.{if_none}
+use Rattle.std.specs.Prelude.{ℕ, ◌+◌, ◌-◌, ◌*◌, ◌/◌, ◌%◌, nat_eq, nat_lt, Bool, true, false, ◌&&◌, ◌||◌, not, if◌then◌else◌, is_some, Option, Some, None, Result, Ok, Err, List, [], ◌∷◌}
 use Rattle.pal8_lex.specs.Kinds.{is_comma}
 use Rattle.pal8_lex.specs.declared.tokens.Token.{Token}
 use Rattle.pal8_lex.specs.declared.judging.Radix.{Radix}
 use Rattle.pal8_lex.specs.declared.judging.Radix.TheVariants as radix
-use Rattle.pal8_sym.specs.Permanent.{soft_names}
+use Rattle.pal8_sym.specs.SourceNames.{Names, is_fixed, is_other, kept_value, names_after_expunge, names_after_fixtab, names_with_operation, names_with_tag, names_with_value, value_of, with_one}
 use Rattle.pal8_grammar.specs.Bodies.{free_name}
 use Rattle.pal8_grammar.specs.declared.bodies.Body.{Body}
 use Rattle.pal8_grammar.specs.declared.bodies.Body.TheVariants as body
 use Rattle.pal8_grammar.specs.declared.steps.Step.{Step}
+use Rattle.pal8_grammar.specs.declared.steps.Step.TheVariants as step
 use Rattle.pal8_values.specs.Sums.{Meanings, early_value, here_of}
 use Rattle.pal8_values.specs.declared.sums.Spot.{Spot}
 use Rattle.pal8_values.specs.declared.faults.ValueFault.{ValueFault}
@@ -22,16 +20,12 @@ use Rattle.pal8_asm.specs.declared.faults.Code.TheVariants as code
 use Rattle.pal8_asm.specs.declared.places.Position.{Position}
 use Rattle.pal8_asm.specs.declared.places.TheConstants.{FIRST_PLACE}
 
--- What statements leave: what names keep, which are the defined ones and the permanent ones that aren't soft; which of these `=` can't change;
--- and where the next statement stands.
+-- What statements leave: names, and where the next statement stands. A definition by `=` is late where a name of its value has none by then. It counts
+-- in words alone, so names are those of the other definitions; the late names are those whose last definition is late.
 pub record Standing : Type 0 where
-  pub kept : Meanings
-  pub fixed : ℕ → Bool
+  pub names : Names
+  pub late : ℕ → Bool
   pub position : Position
-
--- what a name stands for: what it keeps, else its soft value
-abbrev pub stands : Meanings → Meanings
-stands kept name = if_none (kept name) (find nat_cmp name soft_names)
 
 -- ## Places
 
@@ -50,30 +44,17 @@ spot_at p = record { field = p.field; location = p.location; here = place_of_loc
 
 -- ## Names
 
--- a name keeps this value from here on
-abbrev pub with_name : ℕ → ℕ → Meanings → Meanings
-with_name name v kept n = if nat_eq name n then Some v else kept n
+abbrev pub without_one : ℕ → (ℕ → Bool) → ℕ → Bool
+without_one name has n = if nat_eq name n then false else has n
 
-abbrev pub with_fixed : ℕ → (ℕ → Bool) → ℕ → Bool
-with_fixed name fixed n = if nat_eq name n then true else fixed n
-
--- a name keeps another value than this one
-abbrev pub keeps_other : ℕ → Option ℕ → Bool
-keeps_other v None = false
-keeps_other v (Some known) = if nat_eq known v then false else true
-
--- a tag stands for the place, which must not be past 7777, and its name for nothing else
+-- a tag stands for the place, which must not be past 7777, and its name keeps no other value
 abbrev pub with_tag_by : ℕ → ℕ → Standing → Bool → Result Standing Code
 with_tag_by tag place s true = Err code.DT
-with_tag_by tag place s false = Ok record {
-  kept = with_name tag place s.kept;
-  fixed = with_fixed tag s.fixed;
-  position = s.position;
-}
+with_tag_by tag place s false = Ok record { names = names_with_tag tag place s.names; late = without_one tag s.late; position = s.position }
 
 abbrev pub with_tag_at : ℕ → Option ℕ → Standing → Result Standing Code
 with_tag_at tag None s = Err code.PF
-with_tag_at tag (Some place) s = with_tag_by tag place s (keeps_other place (s.kept tag))
+with_tag_at tag (Some place) s = with_tag_by tag place s (is_other (kept_value s.names tag) place)
 
 abbrev pub with_tag : Option ℕ → Standing → Result Standing Code
 with_tag None s = Ok s
@@ -89,14 +70,38 @@ with_tags [] s = s
 with_tags (t ∷ []) s = s
 with_tags (t ∷ next ∷ others) s = if is_comma next.kind then with_tags others (with_tag_if (free_name t.kind) s) else s
 
--- `=` gives a name a value. One that is fixed must keep that value already.
-abbrev pub with_definition_by : ℕ → ℕ → Standing → Bool → Bool → Result Standing Code
-with_definition_by name v s false is_other = Ok record { kept = with_name name v s.kept; fixed = s.fixed; position = s.position }
-with_definition_by name v s true false = Ok record { kept = with_name name v s.kept; fixed = s.fixed; position = s.position }
-with_definition_by name v s true true = Err code.RD
+-- `=` gives a name a value. One that is fixed must have that value already.
+abbrev pub with_definition_by : ℕ → ℕ → Standing → Bool → Result Standing Code
+with_definition_by name v s true = Err code.RD
+with_definition_by name v s false = Ok record { names = names_with_value name v s.names; late = without_one name s.late; position = s.position }
 
 abbrev pub with_definition : ℕ → ℕ → Standing → Result Standing Code
-with_definition name v s = with_definition_by name v s (s.fixed name) (keeps_other v (s.kept name))
+with_definition name v s = with_definition_by name v s (is_fixed s.names name && is_other (value_of s.names name) v)
+
+-- FIXMRI gives any name any value, and makes it an operation
+abbrev pub with_operation : ℕ → ℕ → Standing → Standing
+with_operation name v s = record { names = names_with_operation name v s.names; late = without_one name s.late; position = s.position }
+
+-- the last definition of a name is late
+abbrev pub with_late : ℕ → Standing → Standing
+with_late name s = record { names = s.names; late = with_one name s.late; position = s.position }
+
+-- a name of these steps has no value (a permanent name has one with its step)
+abbrev pub is_later : Meanings → Step → Bool
+is_later own (step.Operation word) = false
+is_later own step.Alone = false
+is_later own step.Indirect = false
+is_later own (step.Name name) = not (is_some (own name))
+is_later own (step.Permanent name value) = false
+is_later own (step.Number word) = false
+is_later own step.Here = false
+is_later own (step.Sign op) = false
+is_later own (step.Open pool) = false
+is_later own step.Close = false
+
+abbrev pub has_later : Meanings → List Step → Bool
+has_later own [] = false
+has_later own (s ∷ others) = is_later own s || has_later own others
 
 -- ## Positions
 
@@ -171,7 +176,7 @@ as_code (Ok v) = Ok v
 
 abbrev pub standing_at : Standing → Result Position Code → Result Standing Code
 standing_at s (Err fault) = Err fault
-standing_at s (Ok position) = Ok record { kept = s.kept; fixed = s.fixed; position = position }
+standing_at s (Ok position) = Ok record { names = s.names; late = s.late; position = position }
 
 -- a body with a value
 abbrev pub with_valued : Body → Standing → ℕ → Result Standing Code
@@ -198,22 +203,30 @@ with_valued body.FileName s v = Ok s
 with_valued body.Device s v = Ok s
 with_valued body.Expunge s v = Ok s
 with_valued body.FixTable s v = Ok s
-with_valued (body.FixOperation name) s v = Ok s
+with_valued (body.FixOperation name) s v = Ok (with_operation name v s)
 with_valued body.Word s v = Ok s
 
 abbrev pub with_value_of : Body → Standing → Result ℕ Code → Result Standing Code
 with_value_of body s (Err fault) = Err fault
 with_value_of body s (Ok v) = with_valued body s v
 
--- a value by the names before, of which a statement's own tags are some
+-- a value by the names before, of which a statement's own tags are some (a permanent name has its value with its step)
 abbrev pub value_at : Standing → List Step → Result ℕ Code
-value_at s steps = as_code (early_value (stands s.kept) (spot_at s.position) steps)
+value_at s steps = as_code (early_value s.names.own (spot_at s.position) steps)
 
--- what a body does, with the steps of its value and the length of its string; `EXPUNGE` and such bodies aren't taken yet
+abbrev pub with_names : Names → Standing → Standing
+with_names names s = record { names = names; late = s.late; position = s.position }
+
+-- a late definition isn't judged here
+abbrev pub with_define : ℕ → List Step → Standing → Bool → Result Standing Code
+with_define name steps s true = Ok (with_late name s)
+with_define name steps s false = with_value_of (body.Define name) s (value_at s steps)
+
+-- what a body does, with the steps of its value and the length of its string
 abbrev pub with_body : Body → List Step → ℕ → Standing → Result Standing Code
 with_body body.Nothing steps length s = Ok s
 with_body body.Origin steps length s = with_value_of body.Origin s (value_at s steps)
-with_body (body.Define name) steps length s = with_value_of (body.Define name) s (value_at s steps)
+with_body (body.Define name) steps length s = with_define name steps s (has_later s.names.own steps)
 with_body body.Decimal steps length s = standing_at s (Ok (with_radix radix.Decimal s.position))
 with_body body.Octal steps length s = standing_at s (Ok (with_radix radix.Octal s.position))
 with_body body.Field steps length s = with_value_of body.Field s (value_at s steps)
@@ -232,9 +245,9 @@ with_body body.Relocate steps length s = with_value_of body.Relocate s (value_at
 with_body body.Unrelocate steps length s = standing_at s (Ok (without_relocation s.position))
 with_body body.FileName steps length s = standing_at s (with_size 4 s.position)
 with_body body.Device steps length s = standing_at s (with_size 2 s.position)
-with_body body.Expunge steps length s = Err code.SY
-with_body body.FixTable steps length s = Err code.SY
-with_body (body.FixOperation name) steps length s = Err code.SY
+with_body body.Expunge steps length s = Ok (with_names (names_after_expunge s.names) s)
+with_body body.FixTable steps length s = Ok (with_names (names_after_fixtab s.names) s)
+with_body (body.FixOperation name) steps length s = with_value_of (body.FixOperation name) s (value_at s steps)
 with_body body.Word steps length s = standing_at s (with_size 1 s.position)
 
 abbrev pub with_body_if : Body → List Step → ℕ → Result Standing Code → Result Standing Code
@@ -247,9 +260,9 @@ abbrev pub is_zero : Result ℕ Code → Result Bool Code
 is_zero (Err fault) = Err fault
 is_zero (Ok v) = Ok (nat_eq v 0)
 
-abbrev pub is_other : Result ℕ Code → Result Bool Code
-is_other (Err fault) = Err fault
-is_other (Ok v) = Ok (not (nat_eq v 0))
+abbrev pub is_not_zero : Result ℕ Code → Result Bool Code
+is_not_zero (Err fault) = Err fault
+is_not_zero (Ok v) = Ok (not (nat_eq v 0))
 
 -- Whether a condition is true, by the names before, of which a statement's own tags are some. No other body is one.
 abbrev pub truth_of : Body → List Step → Standing → Result Bool Code
@@ -266,9 +279,9 @@ truth_of body.Text steps s = Ok false
 truth_of body.Listing steps s = Ok false
 truth_of body.Word steps s = Ok false
 truth_of body.IfZero steps s = is_zero (value_at s steps)
-truth_of body.IfNotZero steps s = is_other (value_at s steps)
-truth_of (body.IfDefined name) steps s = Ok (is_some (stands s.kept name))
-truth_of (body.IfUndefined name) steps s = Ok (not (is_some (stands s.kept name)))
+truth_of body.IfNotZero steps s = is_not_zero (value_at s steps)
+truth_of (body.IfDefined name) steps s = Ok (is_some (value_of s.names name))
+truth_of (body.IfUndefined name) steps s = Ok (not (is_some (value_of s.names name)))
 truth_of body.NoPunch steps s = Ok false
 truth_of body.Punch steps s = Ok false
 truth_of body.Relocate steps s = Ok false

@@ -1,8 +1,6 @@
 ghost use Rattle.std.specs.Prelude.{◌≡◌, ◌<◌, IfOk, Ok, None, length};
-ghost use Rattle.pal8_sym.specs.SourceNames.{first_vocabulary, vocabulary_of};
-ghost use Rattle.pal8_grammar.specs.Saying.{Says};
 ghost use Rattle.pal8_asm.specs.Places.{truth_of, with_statement};
-ghost use Rattle.pal8_asm.specs.Sources.{brackets_with, dollar_at, first_left, phrase_of, start_of, with_next, with_selected};
+ghost use Rattle.pal8_asm.specs.Sources.{brackets_with, dollar_at, first_left, start_of, with_next, with_selected};
 ghost use Rattle.pal8_asm.specs.Steps.{PassesEnd, TakesBody, TakesStatement};
 ghost use Rattle.pal8_asm.specs.Assembling.{Takes, remainder_of, standing};
 
@@ -10,10 +8,9 @@ use crate::brackets::Brackets;
 use crate::entries::Entries;
 use crate::places::{Position, first_position, spot_at};
 use crate::tags::{pass_statement, truth_of};
-use crate::{AsmFault, Code, Place, Stop};
+use crate::{AsmFault, Code, Names, Place, Stop};
 use pal8_grammar::{Body, GrammarFault, Reader, Step};
-use pal8_lex::{End, Radix, Token};
-use pal8_sym::{SourceNames, Symbols};
+use pal8_lex::{End, Token};
 use std::alloc::Global;
 use std::marker::Model;
 
@@ -21,37 +18,34 @@ use std::marker::Model;
 /// made.
 #[derive(Drop)]
 pub struct Assembler {
-    pub(crate) symbols: Symbols,
+    pub(crate) names: Names,
     position: Position,
     pub(crate) entries: Entries,
     pub(crate) brackets: Brackets,
     pub(crate) end: Option<Place>,
     reader: Reader,
-    /// What statements read by: the permanent names, of which none is expunged yet.
-    names: SourceNames,
 }
 
 impl Model for Assembler {
-    ghost use Rattle.std.specs.Prelude.{◌≡◌, ◌<◌};
-    ghost use Rattle.pal8_sym.specs.SourceNames.{first_vocabulary, vocabulary_of};
-    ghost use Rattle.pal_sym.specs.SymbolTable.{table_code};
+    ghost use Rattle.std.specs.Prelude.{◌<◌};
     ghost use Rattle.std.specs.Coded.{codes};
+    ghost use Rattle.pal8_asm.specs.contracts.names.Names as names;
+    ghost use Rattle.pal8_sym.specs.contracts.source_names.SourceNames as source_names;
     ghost use Rattle.pal8_asm.specs.Assembling.{Progress};
 
     ghost Value = { Progress };
 
-    ghost coded = { Prim.hlevel (codes, table_code) };
+    ghost coded = { Prim.hlevel (codes, names.the_row.coded, source_names.the_row.coded) };
 
     ghost view = { λ a. record {
-      table = a.symbols;
+      names = a.names;
       position = a.position;
       entries = a.entries;
       brackets = a.brackets;
       end = a.end;
     } };
 
-    ghost invariant = { λ a. (a.position.location < 0o20000) × (a.position.field < 8) × (a.position.shift < 0o10000)
-        × (vocabulary_of a.names ≡ first_vocabulary) };
+    ghost invariant = { λ a. (a.position.location < 0o20000) × (a.position.field < 8) × (a.position.shift < 0o10000) };
 }
 
 /// The place of the `$` at this byte that ends a statement, if one does.
@@ -76,7 +70,7 @@ fn start_of(at: u64, tokens: &[Token]) -> u64
 
 /// Takes a statement that says this, with the steps of its value.
 fn take_body(
-    symbols: &mut Symbols,
+    names: &mut Names,
     entries: &mut Entries,
     position: Position,
     place: Place,
@@ -88,25 +82,27 @@ fn take_body(
     requires location { position.location < 0o20000 }
     requires field { position.field < 8 }
     requires shift { position.shift < 0o10000 }
-    ensures takes { TakesBody (with_statement tokens.now body steps.now (length string.now) (standing symbols.old position)) place body
-        steps.now string.now position entries.old result symbols.new entries.new }
+    ensures takes { TakesBody (with_statement tokens.now body steps.now (length string.now) (standing names.old position)) place body
+        steps.now string.now position entries.old result names.new entries.new }
     ensures range { IfOk result (λ p. (p.location < 0o20000) × (p.field < 8) × (p.shift < 0o10000)) }
 {
     let before = position;
     let again = body;
-    let next = match pass_statement(symbols, tokens, body, steps, string.len(), position) {
+    let said = body;
+    let next = match pass_statement(names, tokens, body, steps, string.len(), position) {
         Ok(next) => next,
         Err(Stop::At(code)) => return Err(AsmFault::At(code, place)),
         Err(Stop::Memory) => return Err(AsmFault::Memory),
     };
     let size = next.location.saturating_sub(before.location);
-    entries.push_body(symbols, place, spot_at(before), again, steps, string, size)?;
+    entries.push_body(names, place, spot_at(before), again, steps, string, size)?;
+    entries.push_late(names, place, spot_at(before), said, steps)?;
     Ok(next)
 }
 
 /// Passes the end of a statement that says this, where the next one has this position: a condition opens a bracket.
 fn pass_end(
-    symbols: &Symbols,
+    names: &Names,
     brackets: &mut Brackets,
     position: Position,
     place: Place,
@@ -116,10 +112,10 @@ fn pass_end(
 ) -> Result<(), AsmFault>
     requires location { position.location < 0o20000 }
     requires shift { position.shift < 0o10000 }
-    ensures { PassesEnd (brackets_with place end brackets.old (truth_of body steps.now (standing symbols.now position))) result brackets.new }
+    ensures { PassesEnd (brackets_with place end brackets.old (truth_of body steps.now (standing names.now position))) result brackets.new }
 {
     let again = end;
-    let is_true = match truth_of(symbols, body, steps, position) {
+    let is_true = match truth_of(names, body, steps, position) {
         Ok(is_true) => is_true,
         Err(Stop::At(code)) => return Err(AsmFault::At(code, place)),
         Err(Stop::Memory) => return Err(AsmFault::Memory),
@@ -131,28 +127,12 @@ fn pass_end(
     Ok(())
 }
 
-/// Reads what a statement says, where nothing is expunged and no operation was added.
-fn read_statement_anew(
-    reader: &mut Reader,
-    names: &SourceNames,
-    tokens: &[Token],
-    is_cut: bool,
-    end: End,
-    radix: Radix,
-) -> Result<Body, GrammarFault>
-    requires { vocabulary_of names.now ≡ first_vocabulary }
-    ensures { Says (phrase_of radix tokens.now is_cut end) result reader.new }
-{
-    reader.read_statement(names, tokens, is_cut, end, radix)
-}
-
 /// Takes a statement that is selected, and answers the position of the next one.
 fn take_statement(
-    symbols: &mut Symbols,
+    names: &mut Names,
     entries: &mut Entries,
     brackets: &mut Brackets,
     reader: &mut Reader,
-    names: &SourceNames,
     position: Position,
     line: u64,
     at: u64,
@@ -164,10 +144,9 @@ fn take_statement(
     requires location { position.location < 0o20000 }
     requires field { position.field < 8 }
     requires shift { position.shift < 0o10000 }
-    requires names { vocabulary_of names.now ≡ first_vocabulary }
     ensures takes { TakesStatement (with_selected (record { line = line; at = at; tokens = tokens.now; string = string.now; is_cut = is_cut; end = end })
-        (record { standing = standing symbols.old position; entries = entries.old; brackets = brackets.old; end = None }))
-        result symbols.new entries.new brackets.new (dollar_at end (record { line = line; start = at })) }
+        (record { standing = standing names.old position; entries = entries.old; brackets = brackets.old; end = None }))
+        result names.new entries.new brackets.new (dollar_at end (record { line = line; start = at })) }
     ensures range { IfOk result (λ p. (p.location < 0o20000) × (p.field < 8) × (p.shift < 0o10000)) }
 {
     let place = Place {
@@ -175,7 +154,7 @@ fn take_statement(
         start: start_of(at, tokens),
     };
     let again = end;
-    let body = match read_statement_anew(reader, names, tokens, is_cut, end, position.radix) {
+    let body = match reader.read_statement(&names.table, tokens, is_cut, end, position.radix) {
         Ok(body) => body,
         Err(GrammarFault::IC) => return Err(AsmFault::At(Code::IC, place)),
         Err(GrammarFault::NU) => return Err(AsmFault::At(Code::NU, place)),
@@ -184,13 +163,11 @@ fn take_statement(
     };
     let said = body;
     let steps = reader.steps();
-    let next = match take_body(
-        symbols, entries, position, place, tokens, string, body, steps,
-    ) {
+    let next = match take_body(names, entries, position, place, tokens, string, body, steps) {
         Ok(next) => next,
         Err(fault) => return Err(fault),
     };
-    match pass_end(symbols, brackets, next, place, said, steps, again) {
+    match pass_end(names, brackets, next, place, said, steps, again) {
         Ok(()) => Ok(next),
         Err(fault) => Err(fault),
     }
@@ -202,13 +179,12 @@ impl Assembler {
         ensures { remainder_of result ≡ first_left }
     {
         Assembler {
-            symbols: Symbols::new(alloc),
+            names: Names::new(alloc),
             position: first_position(),
             entries: Entries::new(alloc),
             brackets: Brackets::new(alloc),
             end: None,
             reader: Reader::new(alloc),
-            names: SourceNames::new(alloc),
         }
     }
 
@@ -240,11 +216,10 @@ impl Assembler {
         }
         let again = end;
         match take_statement(
-            &mut self.symbols,
+            &mut self.names,
             &mut self.entries,
             &mut self.brackets,
             &mut self.reader,
-            &self.names,
             self.position,
             line,
             at,

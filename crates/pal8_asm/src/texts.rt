@@ -3,12 +3,11 @@ ghost use Rattle.pal_lex.specs.Text.{text_of};
 ghost use Rattle.pal_lex.specs.Text.{limit};
 ghost use Rattle.pal8_lex.specs.Reading.{HasRead, anew};
 ghost use Rattle.pal8_asm.specs.Sources.{first_left, place_after, with_end};
-ghost use Rattle.pal_sym.specs.Values.{symbol_value};
+ghost use Rattle.pal8_sym.specs.SourceNames.{own_value};
 ghost use Rattle.pal8_pools.specs.Pooled.{Holds};
-ghost use Rattle.pal8_asm.specs.Places.{stands};
 ghost use Rattle.pal8_asm.specs.Tapes.{without_clash, words_of_entries};
 ghost use Rattle.pal8_asm.specs.Steps.{Closes, HasTaken, IsOnTheWay, Pushes, ReadsOn, TakesByte};
-ghost use Rattle.pal8_asm.specs.Assembling.{MakesWords, ReadsText, remainder_of};
+ghost use Rattle.pal8_asm.specs.Assembling.{MakesWords, ReadsText, is_late, remainder_of};
 
 use crate::{AsmFault, Assembler, Code, Fault, Place};
 use pal8_clash::WordCells;
@@ -144,10 +143,9 @@ impl Assembler {
     ///
     /// Its fault is the first of a word, in their order: UA, DZ, II, RL, or PE or ZE where a page has no cell left. Else it is the first clash of a
     /// punched word with a pool's cell, by the later of the two statements (PAL8, in this project's profile).
-    #[tactic(auto, unfolding(pal8_sym::specs::Symbols::value_of))]
     pub fn words(&self, alloc: Global, pools: &mut Pools) -> Result<Vec<(Cell, Word)>, AsmFault>
         requires { Holds pools.old [] [] }
-        ensures { MakesWords (without_clash (words_of_entries (stands (symbol_value self.now.table)) self.now.entries)) result pools.new }
+        ensures { MakesWords (without_clash (words_of_entries (own_value self.now.names.table) (is_late self.now.names) self.now.entries)) result pools.new }
     {
         let mut frames = Frames::new(alloc);
         let mut cells = WordCells::new(alloc)?;
@@ -157,7 +155,7 @@ impl Assembler {
             &mut frames,
             pools,
             alloc,
-            &self.symbols,
+            &self.names,
             &mut cells,
             &mut clash,
             &mut pairs,

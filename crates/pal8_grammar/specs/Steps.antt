@@ -1,7 +1,7 @@
 -- What the small steps of reading give, for private clauses.
 use Rattle.std.specs.Prelude.{◌≡◌, Bool, true, false, Option, Some, None, Result, Ok, Err, List, [], ◌∷◌}
 use Rattle.std.specs.declared.alloc.AllocError.{AllocError}
-use Rattle.pal8_sym.specs.SourceNames.{vocabulary_of}
+use Rattle.pal8_sym.specs.SourceNames.{names_of, vocabulary_of}
 use Rattle.pal8_sym.specs.declared.source_names.SourceNames.{SourceNames}
 use Rattle.pal8_grammar.specs.Values.{Reading, Setting, after_literal}
 use Rattle.pal8_grammar.specs.Bodies.{Phrase}
@@ -12,7 +12,7 @@ use Rattle.pal8_grammar.specs.declared.stands.Rules.{Rules}
 
 -- what a value reads by: the names before it, and how values are read
 abbrev pub setting_of : SourceNames → Rules → Setting
-setting_of names rules = record { names = vocabulary_of names; radix = rules.radix; has_literals = rules.has_literals }
+setting_of names rules = record { names = vocabulary_of (names_of names); radix = rules.radix; has_literals = rules.has_literals }
 
 -- the innermost of literals is taken off, if one is open
 abbrev pub Pops : List Outer → Option Outer → List Outer → Type 0

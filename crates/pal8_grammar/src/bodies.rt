@@ -1,7 +1,7 @@
 ghost use Rattle.std.specs.Prelude.{◌≡◌, [], ◌∷◌, Ok};
 ghost use Rattle.pal8_lex.specs.Judging.{tag_count};
 ghost use Rattle.pal8_grammar.specs.Bodies.{alone, argument_steps, body_in, body_phrase, expression_steps, form_phrase, has_free_tags, number_tokens, named_phrase, operation_phrase, page_phrase, phrase, phrase_by, phrase_by_names, text_phrase, value_steps, word_phrase};
-ghost use Rattle.pal8_sym.specs.SourceNames.{vocabulary_of};
+ghost use Rattle.pal8_sym.specs.SourceNames.{names_of, vocabulary_of};
 ghost use Rattle.pal8_grammar.specs.Steps.{Reads, ReadsBody};
 ghost use Rattle.pal8_grammar.specs.Saying.{Says};
 ghost use Rattle.pal8_grammar.specs.declared.bodies.Body.{Body};
@@ -96,7 +96,7 @@ impl Reader {
         end: End,
         radix: Radix,
     ) -> Result<Body, GrammarFault>
-        ensures { Says (phrase_by_names (vocabulary_of names.now) radix tokens.now is_cut end) result self.new }
+        ensures { Says (phrase_by_names (vocabulary_of (names_of names.now)) radix tokens.now is_cut end) result self.new }
     {
         if has_bad(tokens) {
             return Err(GrammarFault::IC);
@@ -129,7 +129,7 @@ impl Reader {
         radix: Radix,
         tokens: &[Token],
     ) -> Result<Option<Body>, AllocError>
-        ensures { ReadsBody (body_phrase (vocabulary_of names.now) radix tokens.now) result self.new }
+        ensures { ReadsBody (body_phrase (vocabulary_of (names_of names.now)) radix tokens.now) result self.new }
     {
         match tokens {
             [] => Ok(self.read_alone(Body::Nothing, tokens)),
@@ -161,7 +161,7 @@ impl Reader {
         rest: &[Token],
     ) -> Result<Option<Body>, AllocError>
         ensures { (first : Token) → tokens.now ≡ first ∷ rest.now
-            → ReadsBody (named_phrase (vocabulary_of names.now) radix name first rest.now) result self.new }
+            → ReadsBody (named_phrase (vocabulary_of (names_of names.now)) radix name first rest.now) result self.new }
     {
         match rest {
             [] => self.read_word(names, radix, tokens),
@@ -183,7 +183,7 @@ impl Reader {
         form: Form,
         rest: &[Token],
     ) -> Result<Option<Body>, AllocError>
-        ensures { ReadsBody (form_phrase (vocabulary_of names.now) radix form rest.now) result self.new }
+        ensures { ReadsBody (form_phrase (vocabulary_of (names_of names.now)) radix form rest.now) result self.new }
     {
         match form {
             Form::Alone(body) => Ok(self.read_alone(body, rest)),
@@ -241,7 +241,7 @@ impl Reader {
         body: Body,
         rest: &[Token],
     ) -> Result<Option<Body>, AllocError>
-        ensures { ReadsBody (phrase body (argument_steps (vocabulary_of names.now) radix rest.now)) result self.new }
+        ensures { ReadsBody (phrase body (argument_steps (vocabulary_of (names_of names.now)) radix rest.now)) result self.new }
     {
         match rest {
             [] => Ok(None),
@@ -263,7 +263,7 @@ impl Reader {
         body: Body,
         tokens: &[Token],
     ) -> Result<Option<Body>, AllocError>
-        ensures { ReadsBody (phrase body (expression_steps (vocabulary_of names.now) radix tokens.now)) result self.new }
+        ensures { ReadsBody (phrase body (expression_steps (vocabulary_of (names_of names.now)) radix tokens.now)) result self.new }
     {
         let rules = Rules {
             radix,
@@ -281,7 +281,7 @@ impl Reader {
         body: Body,
         tokens: &[Token],
     ) -> Result<Option<Body>, AllocError>
-        ensures { ReadsBody (phrase body (value_steps (vocabulary_of names.now) radix tokens.now)) result self.new }
+        ensures { ReadsBody (phrase body (value_steps (vocabulary_of (names_of names.now)) radix tokens.now)) result self.new }
     {
         let rules = Rules {
             radix,
@@ -298,7 +298,7 @@ impl Reader {
         radix: Radix,
         rest: &[Token],
     ) -> Result<Option<Body>, AllocError>
-        ensures { ReadsBody (operation_phrase (vocabulary_of names.now) radix rest.now) result self.new }
+        ensures { ReadsBody (operation_phrase (vocabulary_of (names_of names.now)) radix rest.now) result self.new }
     {
         match rest {
             [first, second, others @ ..] => {
@@ -321,7 +321,7 @@ impl Reader {
         radix: Radix,
         tokens: &[Token],
     ) -> Result<Option<Body>, AllocError>
-        ensures { ReadsBody (word_phrase (vocabulary_of names.now) radix tokens.now) result self.new }
+        ensures { ReadsBody (word_phrase (vocabulary_of (names_of names.now)) radix tokens.now) result self.new }
     {
         let rules = Rules {
             radix,

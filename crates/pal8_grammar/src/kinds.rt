@@ -3,7 +3,7 @@ ghost use Rattle.pal8_grammar.specs.Values.{if_first, is_closing, is_first_sign,
 ghost use Rattle.pal8_grammar.specs.Steps.{setting_of};
 ghost use Rattle.pal8_grammar.specs.Bodies.{is_equals, is_star, is_string};
 ghost use Rattle.pal8_grammar.specs.Names.{free_name, name_of};
-ghost use Rattle.pal8_sym.specs.SourceNames.{vocabulary_of};
+ghost use Rattle.pal8_sym.specs.SourceNames.{names_of, vocabulary_of};
 
 use crate::{Rules, Step};
 use pal8_lex::{Kind, Name, Number, Operator, Pool, Radix};
@@ -23,7 +23,7 @@ const ZERO: u64 = name!(b'Z');
 
 /// The operation that a token names, with its word.
 pub fn operation_of(names: &SourceNames, kind: Kind) -> Option<(Name, Word)>
-    ensures { result ≡ operation_of (vocabulary_of names.now) kind }
+    ensures { result ≡ operation_of (vocabulary_of (names_of names.now)) kind }
 {
     match kind {
         Kind::Name(name) => match names.operation(name) {
@@ -144,7 +144,7 @@ fn number_step(radix: Radix, number: Number) -> Option<Step>
 
 /// The step that a name is as a term. A permanent one has its value with it.
 pub fn step_of_name(names: &SourceNames, name: Name) -> Step
-    ensures { result ≡ step_of_name (vocabulary_of names.now) name }
+    ensures { result ≡ step_of_name (vocabulary_of (names_of names.now)) name }
 {
     match names.permanent_value(name) {
         Some(value) => Step::Permanent(name, value),
@@ -154,7 +154,7 @@ pub fn step_of_name(names: &SourceNames, name: Name) -> Step
 
 /// The step that a name is as a term, if it isn't reserved.
 fn name_step(names: &SourceNames, name: Name) -> Option<Step>
-    ensures { result ≡ name_step (vocabulary_of names.now) name }
+    ensures { result ≡ name_step (vocabulary_of (names_of names.now)) name }
 {
     if is_reserved(name) {
         None

@@ -1,3 +1,1 @@
 pub mod NameLemmas
-pub mod SymbolLemmas
-pub mod SourceNameLemmas

@@ -1,5 +1,4 @@
 pub mod Permanent
 pub mod Laws
-pub mod Symbols
 pub mod SourceNames
 pub mod Steps

@@ -10,13 +10,28 @@ use Rattle.pal_sym.specs.Values.{if_none}
 use Rattle.pal_sym.specs.declared.faults.SymFault.{SymFault}
 use Rattle.pal_sym.specs.declared.faults.SymFault.TheVariants.{DT, RD, Memory}
 use Rattle.pal8_sym.specs.Permanent.{permanent}
-use Rattle.pal8_sym.specs.Symbols.{value_in}
 use Rattle.pal8_sym.specs.declared.permanent_names.Meaning.{Meaning}
 use Rattle.pal8_sym.specs.declared.permanent_names.Standing.{Standing}
 use Rattle.pal8_sym.specs.declared.permanent_names.Standing.TheVariants.{Operation, Firm, Soft}
 use Rattle.pal8_sym.specs.declared.source_names.SourceNames.{SourceNames}
 
--- ## Permanent names
+-- ## Names
+
+-- What statements leave of names. Each of the source's own names has the last value that the source gave it, by a tag, `=` or FIXMRI. Some of these
+-- are fixed, by a tag or a FIXTAB. Some names begin a memory reference. EXPUNGE may have taken the permanent names away.
+pub record Names : Type 0 where
+  pub own : ℕ → Option ℕ
+  pub fixed : ℕ → Bool
+  pub operation : ℕ → Bool
+  pub is_expunged : Bool
+
+-- where a source begins: the permanent names alone, with the six operations
+abbrev pub first_names : Names
+first_names = record { own = λ n. None; fixed = λ n. false; operation = λ n. is_some (pal3.operation_of n); is_expunged = false }
+
+abbrev pub value_in : Option Meaning → Option ℕ
+value_in None = None
+value_in (Some m) = Some m.value
 
 abbrev pub keeps : Standing → Bool
 keeps Operation = true
@@ -34,41 +49,27 @@ hard_value None = None
 hard_value (Some m) = if keeps m.standing then Some m.value else None
 
 -- what a permanent name stands for, unless EXPUNGE took it away
-abbrev pub permanent_in : SourceNames → ℕ → Option Meaning
+abbrev pub permanent_in : Names → ℕ → Option Meaning
 permanent_in names name = if names.is_expunged then None else permanent name
 
-abbrev pub permanent_value : SourceNames → ℕ → Option ℕ
+abbrev pub permanent_value : Names → ℕ → Option ℕ
 permanent_value names name = value_in (permanent_in names name)
 
--- ## Names of a source
-
--- the last value that the source gave a name, by a tag, `=` or FIXMRI
-abbrev pub own_value : SourceNames → ℕ → Option ℕ
-own_value names name = get nat_cmp names.own name
-
--- the source gave a name a value, by a tag or before a FIXTAB
-abbrev pub is_own_fixed : SourceNames → ℕ → Bool
-is_own_fixed names name = is_some (own_value names name) && not (contains nat_cmp names.free name)
-
 -- what a name stands for
-abbrev pub value_of : SourceNames → ℕ → Option ℕ
-value_of names name = if_none (own_value names name) (permanent_value names name)
+abbrev pub value_of : Names → ℕ → Option ℕ
+value_of names name = if_none (names.own name) (permanent_value names name)
 
 -- the value that a name keeps, whatever the source defines later: a soft one gives way
-abbrev pub kept_value : SourceNames → ℕ → Option ℕ
-kept_value names name = if_none (own_value names name) (hard_value (permanent_in names name))
+abbrev pub kept_value : Names → ℕ → Option ℕ
+kept_value names name = if_none (names.own name) (hard_value (permanent_in names name))
 
 -- `=` can't give a name another value
-abbrev pub is_fixed : SourceNames → ℕ → Bool
-is_fixed names name = is_kept (permanent_in names name) || is_own_fixed names name
-
--- a name begins a memory reference: the six until EXPUNGE, and those of FIXMRI since
-abbrev pub is_operation : SourceNames → ℕ → Bool
-is_operation names name = contains nat_cmp names.operations name || (not names.is_expunged && is_some (pal3.operation_of name))
+abbrev pub is_fixed : Names → ℕ → Bool
+is_fixed names name = is_kept (permanent_in names name) || names.fixed name
 
 -- the word of an operation: the value of its name
-abbrev pub operation_word : SourceNames → ℕ → Option ℕ
-operation_word names name = if is_operation names name then value_of names name else None
+abbrev pub operation_word : Names → ℕ → Option ℕ
+operation_word names name = if names.operation name then value_of names name else None
 
 -- ## What a statement reads by
 
@@ -77,75 +78,105 @@ pub record Vocabulary : Type 0 where
   pub operation : ℕ → Option ℕ
   pub permanent : ℕ → Option ℕ
 
-abbrev pub vocabulary_of : SourceNames → Vocabulary
+abbrev pub vocabulary_of : Names → Vocabulary
 vocabulary_of names = record { operation = operation_word names; permanent = permanent_value names }
 
--- where a source begins: the six operations, and all permanent names
-abbrev pub first_vocabulary : Vocabulary
-first_vocabulary = record {
-  operation = λ name. if is_some (pal3.operation_of name) then value_in (permanent name) else None;
-  permanent = λ name. value_in (permanent name);
+-- ## What statements do to names
+
+abbrev pub with_own : ℕ → ℕ → (ℕ → Option ℕ) → ℕ → Option ℕ
+with_own name value own n = if nat_eq name n then Some value else own n
+
+abbrev pub with_one : ℕ → (ℕ → Bool) → ℕ → Bool
+with_one name has n = if nat_eq name n then true else has n
+
+-- a tag has this place, and is fixed
+abbrev pub names_with_tag : ℕ → ℕ → Names → Names
+names_with_tag name value names = record {
+  own = with_own name value names.own;
+  fixed = with_one name names.fixed;
+  operation = names.operation;
+  is_expunged = names.is_expunged;
 }
 
--- ## Definitions
+-- `=` gives a name a value, which is its word where it is an operation
+abbrev pub names_with_value : ℕ → ℕ → Names → Names
+names_with_value name value names = record {
+  own = with_own name value names.own;
+  fixed = names.fixed;
+  operation = names.operation;
+  is_expunged = names.is_expunged;
+}
+
+-- FIXMRI gives a name a value and makes it an operation
+abbrev pub names_with_operation : ℕ → ℕ → Names → Names
+names_with_operation name value names = record {
+  own = with_own name value names.own;
+  fixed = names.fixed;
+  operation = with_one name names.operation;
+  is_expunged = names.is_expunged;
+}
+
+-- EXPUNGE: permanent names have no value, and no name is an operation; the source's own names stay
+abbrev pub names_after_expunge : Names → Names
+names_after_expunge names = record { own = names.own; fixed = names.fixed; operation = λ n. false; is_expunged = true }
+
+-- FIXTAB: all names that the source has defined are fixed
+abbrev pub names_after_fixtab : Names → Names
+names_after_fixtab names = record {
+  own = names.own;
+  fixed = λ n. is_some (names.own n);
+  operation = names.operation;
+  is_expunged = names.is_expunged;
+}
+
+-- ## The table
+
+-- the last value that the source gave a name
+abbrev pub own_value : SourceNames → ℕ → Option ℕ
+own_value table name = get nat_cmp table.own name
+
+-- the source gave a name a value, by a tag or before a FIXTAB
+abbrev pub is_own_fixed : SourceNames → ℕ → Bool
+is_own_fixed table name = is_some (own_value table name) && not (contains nat_cmp table.free name)
+
+abbrev pub is_operation : SourceNames → ℕ → Bool
+is_operation table name = contains nat_cmp table.operations name || (not table.is_expunged && is_some (pal3.operation_of name))
+
+-- what a table holds
+abbrev pub names_of : SourceNames → Names
+names_of table = record { own = own_value table; fixed = is_own_fixed table; operation = is_operation table; is_expunged = table.is_expunged }
+
+-- A table holds the same.
+pub record Stays (old new : SourceNames) : Type 0 where
+  pub own : (n : ℕ) → own_value new n ≡ own_value old n
+  pub fixed : (n : ℕ) → is_own_fixed new n ≡ is_own_fixed old n
+  pub operations : (n : ℕ) → is_operation new n ≡ is_operation old n
+  pub permanent : new.is_expunged ≡ old.is_expunged
 
 -- a name stands for another value than this one
 abbrev pub is_other : Option ℕ → ℕ → Bool
 is_other None value = false
 is_other (Some known) value = not (nat_eq known value)
 
--- The source gave a name this value. It stands for that and keeps it, and each other name stands for what it stood for.
-pub record Gives (name value : ℕ) (old new : SourceNames) : Type 0 where
-  pub values : (n : ℕ) → value_of new n ≡ (if nat_eq name n then Some value else value_of old n)
-  pub kept : (n : ℕ) → kept_value new n ≡ (if nat_eq name n then Some value else kept_value old n)
-  pub own : (n : ℕ) → own_value new n ≡ (if nat_eq name n then Some value else own_value old n)
-  pub permanent : new.is_expunged ≡ old.is_expunged
-
--- No name stands for anything else.
-pub record Stays (old new : SourceNames) : Type 0 where
-  pub own : (n : ℕ) → own_value new n ≡ own_value old n
-  pub permanent : new.is_expunged ≡ old.is_expunged
-  pub fixed : (n : ℕ) → is_fixed new n ≡ is_fixed old n
-  pub operations : (n : ℕ) → is_operation new n ≡ is_operation old n
-
--- What a tag answers: its name is fixed then. A value that the name keeps must be this one. Memory is taken for a new name alone.
+-- What a tag answers. A value that its name keeps must be this one. Memory is taken for a new name alone.
 abbrev pub DefinesTag : ℕ → ℕ → SourceNames → SourceNames → Result (Unit {0}) SymFault → Type 0
 DefinesTag name value old new (Ok nothing) =
-    (is_other (kept_value old name) value ≡ false) × Gives name value old new
-    × ((n : ℕ) → is_fixed new n ≡ (if nat_eq name n then true else is_fixed old n)) × ((n : ℕ) → is_operation new n ≡ is_operation old n)
-DefinesTag name value old new (Err DT) = (new ≡ old) × (is_other (kept_value old name) value ≡ true)
+    (is_other (kept_value (names_of old) name) value ≡ false) × (names_of new ≡ names_with_tag name value (names_of old))
+DefinesTag name value old new (Err DT) = (new ≡ old) × (is_other (kept_value (names_of old) name) value ≡ true)
 DefinesTag name value old new (Err RD) = ⊥
-DefinesTag name value old new (Err Memory) = Stays old new × (is_other (kept_value old name) value ≡ false) × (own_value old name ≡ None)
+DefinesTag name value old new (Err Memory) =
+    Stays old new × (is_other (kept_value (names_of old) name) value ≡ false) × (own_value old name ≡ None)
 
 -- What `=` answers. A fixed name must stand for this value already. Memory is taken for a new name alone.
 abbrev pub DefinesValue : ℕ → ℕ → SourceNames → SourceNames → Result (Unit {0}) SymFault → Type 0
 DefinesValue name value old new (Ok nothing) =
-    ((is_fixed old name && is_other (value_of old name) value) ≡ false) × Gives name value old new
-    × ((n : ℕ) → is_fixed new n ≡ is_fixed old n) × ((n : ℕ) → is_operation new n ≡ is_operation old n)
+    ((is_fixed (names_of old) name && is_other (value_of (names_of old) name) value) ≡ false) × (names_of new ≡ names_with_value name value (names_of old))
 DefinesValue name value old new (Err DT) = ⊥
-DefinesValue name value old new (Err RD) = (new ≡ old) × ((is_fixed old name && is_other (value_of old name) value) ≡ true)
+DefinesValue name value old new (Err RD) = (new ≡ old) × ((is_fixed (names_of old) name && is_other (value_of (names_of old) name) value) ≡ true)
 DefinesValue name value old new (Err Memory) =
-    Stays old new × ((is_fixed old name && is_other (value_of old name) value) ≡ false) × (own_value old name ≡ None)
+    Stays old new × ((is_fixed (names_of old) name && is_other (value_of (names_of old) name) value) ≡ false) × (own_value old name ≡ None)
 
--- What FIXMRI answers: its name is an operation then. It may give any name any value.
+-- What FIXMRI answers. It may give any name any value.
 abbrev pub DefinesOperation : ℕ → ℕ → SourceNames → SourceNames → Result (Unit {0}) AllocError → Type 0
-DefinesOperation name value old new (Ok nothing) =
-    Gives name value old new × ((n : ℕ) → is_fixed new n ≡ is_fixed old n)
-    × ((n : ℕ) → is_operation new n ≡ (if nat_eq name n then true else is_operation old n))
+DefinesOperation name value old new (Ok nothing) = names_of new ≡ names_with_operation name value (names_of old)
 DefinesOperation name value old new (Err refused) = Stays old new
-
--- EXPUNGE: the source's own names alone stand for values, and none is an operation.
-pub record Expunges (old new : SourceNames) : Type 0 where
-  pub values : (n : ℕ) → value_of new n ≡ own_value old n
-  pub kept : (n : ℕ) → kept_value new n ≡ own_value old n
-  pub own : (n : ℕ) → own_value new n ≡ own_value old n
-  pub fixed : (n : ℕ) → is_fixed new n ≡ is_own_fixed old n
-  pub operations : (n : ℕ) → is_operation new n ≡ false
-
--- FIXTAB: the source's own names are fixed.
-pub record FixesAll (old new : SourceNames) : Type 0 where
-  pub values : (n : ℕ) → value_of new n ≡ value_of old n
-  pub own : (n : ℕ) → own_value new n ≡ own_value old n
-  pub permanent : new.is_expunged ≡ old.is_expunged
-  pub fixed : (n : ℕ) → is_fixed new n ≡ (is_fixed old n || is_some (own_value old n))
-  pub operations : (n : ℕ) → is_operation new n ≡ is_operation old n

@@ -3,7 +3,7 @@ use Rattle.std.specs.Prelude.{◌≡◌, ℕ, Bool, true, ◌&&◌, if◌then◌
 use Rattle.std.specs.Ordering.{nat_cmp}
 use Rattle.std.specs.BTreeSet.{contains}
 use Rattle.std.specs.declared.alloc.AllocError.{AllocError}
-use Rattle.pal8_sym.specs.SourceNames.{Gives, is_own_fixed, own_value}
+use Rattle.pal8_sym.specs.SourceNames.{is_own_fixed, own_value}
 use Rattle.pal8_sym.specs.declared.source_names.SourceNames.{SourceNames}
 
 -- each value of a list is a word
@@ -34,6 +34,7 @@ Frees name old new (Err refused) =
 
 -- a value was put by no tag
 abbrev pub PutsFree : ℕ → ℕ → SourceNames → SourceNames → Result (Unit {0}) AllocError → Type 0
-PutsFree name value old new (Ok nothing) = Gives name value old new × ((n : ℕ) → is_own_fixed new n ≡ is_own_fixed old n) × (new.operations ≡ old.operations)
+PutsFree name value old new (Ok nothing) =
+    ((n : ℕ) → own_value new n ≡ (if nat_eq name n then Some value else own_value old n)) × ((n : ℕ) → is_own_fixed new n ≡ is_own_fixed old n) × KeepsRest old new
 PutsFree name value old new (Err refused) =
     ((n : ℕ) → own_value new n ≡ own_value old n) × ((n : ℕ) → is_own_fixed new n ≡ is_own_fixed old n) × KeepsRest old new × (own_value old name ≡ None)

@@ -6,8 +6,6 @@
 pub mod laws;
 mod permanent_names;
 mod source_names;
-mod symbols;
 
 pub use permanent_names::{Meaning, Standing, is_reserved, permanent};
 pub use source_names::SourceNames;
-pub use symbols::Symbols;

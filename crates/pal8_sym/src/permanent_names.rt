@@ -185,21 +185,13 @@ pub fn permanent(name: Name) -> Option<Meaning>
 fn soft(name: Name) -> Option<Meaning>
     ensures { result ≡ soft_by (find nat_cmp name soft_names) }
 {
-    match soft_value(name) {
+    match word_in_list(&SOFT, name.number()) {
         Some(value) => Some(Meaning {
             value,
             standing: Standing::Soft,
         }),
         None => None,
     }
-}
-
-/// The value of a soft name.
-pub(crate) fn soft_value(name: Name) -> Option<Word>
-    ensures value { result ≡ find nat_cmp name soft_names }
-    ensures range { IfSome result (λ word. word < 0o10000) }
-{
-    word_in_list(&SOFT, name.number())
 }
 
 /// The word that stands beside a name in a list.

@@ -3,8 +3,7 @@
 ghost use Rattle.std.specs.Prelude.{◌≡◌, ℕ, ◌<◌, None, IfSome, is_some};
 ghost use Rattle.pal_lex.specs.Language as pal3;
 ghost use Rattle.pal8_sym.specs.Permanent.{permanent};
-ghost use Rattle.pal8_sym.specs.Symbols.{value_in};
-ghost use Rattle.pal8_sym.specs.SourceNames.{DefinesOperation, DefinesTag, DefinesValue, Expunges, FixesAll, is_fixed, is_kept, is_operation, is_other, first_vocabulary, is_own_fixed, keeps, hard_value, kept_value, operation_word, own_value, permanent_in, permanent_value, value_of, vocabulary_of};
+ghost use Rattle.pal8_sym.specs.SourceNames.{DefinesOperation, DefinesTag, DefinesValue, first_names, hard_value, is_fixed, is_kept, is_operation, is_other, is_own_fixed, keeps, kept_value, names_after_expunge, names_after_fixtab, names_of, operation_word, own_value, permanent_in, permanent_value, value_in, value_of};
 ghost use Rattle.pal8_sym.specs.Steps.{Frees, Puts, PutsFree};
 
 use crate::permanent_names::{Meaning, Standing, is_operation, permanent};
@@ -89,13 +88,8 @@ fn is_other(known: Option<Word>, value: Word) -> bool
 
 impl SourceNames {
     /// The permanent names alone, with the six operations. It takes no memory.
-    #[tactic(auto, unfolding(crate::specs::Permanent::permanent))]
     pub fn new(alloc: Global) -> SourceNames
-        ensures own { (name : ℕ) → own_value result name ≡ None }
-        ensures values { (name : ℕ) → value_of result name ≡ value_in (permanent name) }
-        ensures fixed { (name : ℕ) → is_fixed result name ≡ is_kept (permanent name) }
-        ensures operations { (name : ℕ) → is_operation result name ≡ is_some (pal3.operation_of name) }
-        ensures vocabulary { vocabulary_of result ≡ first_vocabulary }
+        ensures { names_of result ≡ first_names }
     {
         SourceNames {
             own: BTreeMap::new(alloc),
@@ -122,7 +116,7 @@ impl SourceNames {
 
     /// What a permanent name stands for.
     fn permanent(&self, name: Name) -> Option<Meaning>
-        ensures { result ≡ permanent_in self.now name }
+        ensures { result ≡ permanent_in (names_of self.now) name }
     {
         if self.is_expunged {
             return None;
@@ -132,7 +126,7 @@ impl SourceNames {
 
     /// The value of a name, if it has one: its last definition in the source, or else its permanent value (PAL8, in this project's profile).
     pub fn value(&self, name: Name) -> Option<Word>
-        ensures value { result ≡ value_of self.now name }
+        ensures value { result ≡ value_of (names_of self.now) name }
         ensures range { IfSome result (λ word. word < 0o10000) }
     {
         match self.own_value(name) {
@@ -143,7 +137,7 @@ impl SourceNames {
 
     /// The value of a permanent name, unless EXPUNGE took it away, whatever the source defines (PAL8, in this project's profile).
     pub fn permanent_value(&self, name: Name) -> Option<Word>
-        ensures value { result ≡ permanent_value self.now name }
+        ensures value { result ≡ permanent_value (names_of self.now) name }
         ensures range { IfSome result (λ word. word < 0o10000) }
     {
         value_in(self.permanent(name))
@@ -152,7 +146,7 @@ impl SourceNames {
     /// The value that a name keeps, if it has one. It is its last definition in the source, or else its permanent value if it isn't soft (PAL8, in
     /// this project's profile).
     pub fn kept_value(&self, name: Name) -> Option<Word>
-        ensures value { result ≡ kept_value self.now name }
+        ensures value { result ≡ kept_value (names_of self.now) name }
         ensures range { IfSome result (λ word. word < 0o10000) }
     {
         match self.own_value(name) {
@@ -164,7 +158,7 @@ impl SourceNames {
     /// Whether `=` can't give a name another value: a permanent one that isn't soft, a tag, or one that was defined before a FIXTAB (PAL8, in
     /// this project's profile).
     pub fn is_fixed(&self, name: Name) -> bool
-        ensures { result ≡ is_fixed self.now name }
+        ensures { result ≡ is_fixed (names_of self.now) name }
     {
         is_kept(self.permanent(name)) || self.is_own_fixed(name)
     }
@@ -183,7 +177,7 @@ impl SourceNames {
 
     /// The word of an operation of this name: the six until EXPUNGE, and those of FIXMRI since (PAL8, in this project's profile).
     pub fn operation(&self, name: Name) -> Option<Word>
-        ensures word { result ≡ operation_word self.now name }
+        ensures word { result ≡ operation_word (names_of self.now) name }
         ensures range { IfSome result (λ word. word < 0o10000) }
     {
         if self.is_operation(name) {
@@ -212,7 +206,6 @@ impl SourceNames {
     }
 
     /// Puts a value of a name that isn't fixed by that.
-    #[tactic(auto, using(crate::proofs::SourceNameLemmas::gives))]
     fn put_free(&mut self, name: Name, value: Word) -> Result<(), AllocError>
         ensures { PutsFree name value self.old self.new result }
     {
@@ -222,7 +215,6 @@ impl SourceNames {
     }
 
     /// Gives the name of a tag its value, the place of the tag. Where it keeps another value the fault is DT (PAL8, in this project's profile).
-    #[tactic(auto, using(crate::proofs::SourceNameLemmas::gives))]
     pub fn define_tag(&mut self, name: Name, value: Word) -> Result<(), SymFault>
         ensures { DefinesTag name value self.old self.new result }
     {
@@ -265,7 +257,7 @@ impl SourceNames {
     /// Takes the permanent names and all operations away, as EXPUNGE does. The source's own names stay. It takes no memory (PAL8, in this
     /// project's profile).
     pub fn expunge(&mut self)
-        ensures { Expunges self.old self.new }
+        ensures { names_of self.new ≡ names_after_expunge (names_of self.old) }
     {
         self.is_expunged = true;
         self.operations.clear();
@@ -274,7 +266,7 @@ impl SourceNames {
     /// Fixes the names that the source has defined, as FIXTAB does. It takes no memory, and its time is that of the names which were defined
     /// since the last one (PAL8, in this project's profile).
     pub fn fix_all(&mut self)
-        ensures { FixesAll self.old self.new }
+        ensures { names_of self.new ≡ names_after_fixtab (names_of self.old) }
     {
         self.free.clear();
     }

@@ -10,7 +10,7 @@ use Rattle.pal8_pools.specs.Pooled.{with_punched}
 use Rattle.pal8_grammar.specs.declared.steps.Step.{Step}
 use Rattle.pal8_grammar.specs.declared.steps.Step.TheVariants as step
 use Rattle.pal8_values.specs.Sums.{Meanings, offset_of, with_plain, with_value}
-use Rattle.pal8_values.specs.Words.{AskResult, Evaluation, ask_of, evaluation, full, is_torn, page_start, word_of_reference, value_by, with_ask, with_cell, with_cell_of, with_close, with_link, with_literal, with_step, with_step_if, with_steps, word_in}
+use Rattle.pal8_values.specs.Words.{AskResult, Evaluation, ask_of, evaluation, full, is_through, is_torn, page_start, word_of_reference, value_by, with_ask, with_cell, with_cell_of, with_close, with_link, with_literal, with_step, with_step_if, with_steps, word_in}
 use Rattle.pal8_values.specs.Laws.{AsksNear, GoesNear, WordsAskNear, is_near}
 use Rattle.pal8_values.specs.declared.sums.Sum.{Sum}
 use Rattle.pal8_values.specs.declared.sums.Spot.{Spot}
@@ -85,7 +85,7 @@ module _ (spot : Spot) where
 
   value_near : (is_reference : Bool) (s : Sum) (asks punched : List Ask) → GoesNear spot asks (value_by spot is_reference s asks punched)
   value_near false s asks punched = stays asks
-  value_near true s asks punched = reference_near s.operation s.is_indirect (offset_of spot.here s.total) s.total asks punched
+  value_near true s asks punched = reference_near s.operation (is_through s) (offset_of spot.here s.total) s.total asks punched
 
   -- ## Steps
 

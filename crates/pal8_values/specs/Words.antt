@@ -1,5 +1,5 @@
 -- The value of a word: its literals and links ask pools for cells (PAL8, in this project's profile).
-use Rattle.std.specs.Prelude.{ℕ, ◌+◌, ◌*◌, ◌/◌, ◌%◌, nat_eq, nat_le, Bool, true, false, ◌&&◌, ◌||◌, not, if◌then◌else◌, Option, Some, None, Result, Ok, Err, List, [], ◌∷◌}
+use Rattle.std.specs.Prelude.{ℕ, ◌+◌, ◌*◌, ◌/◌, ◌%◌, nat_eq, nat_le, bit_and, Bool, true, false, ◌&&◌, ◌||◌, not, if◌then◌else◌, Option, Some, None, Result, Ok, Err, List, [], ◌∷◌}
 use Rattle.word12.specs.declared.sizes.TheConstants.{PAGE}
 use Rattle.pal8_lex.specs.declared.tokens.Pool.{Pool}
 use Rattle.pal8_lex.specs.declared.tokens.Pool.TheVariants.{Own, Zero}
@@ -74,9 +74,13 @@ word_of_reference spot operation is_indirect (Some offset) address asks punched 
 word_of_reference spot operation true None address asks punched = Err II
 word_of_reference spot operation false None address asks punched = with_link operation (with_ask spot Own address asks punched)
 
+-- a reference is indirect by `I`, or by the word of its operation
+abbrev pub is_through : Sum → Bool
+is_through s = s.is_indirect || not (nat_eq (bit_and s.operation 0o400) 0)
+
 abbrev pub value_by : Spot → Bool → Sum → List Ask → List Ask → AskResult
 value_by spot false s asks punched = Ok (s.total, asks, punched)
-value_by spot true s asks punched = word_of_reference spot s.operation s.is_indirect (offset_of spot.here s.total) s.total asks punched
+value_by spot true s asks punched = word_of_reference spot s.operation (is_through s) (offset_of spot.here s.total) s.total asks punched
 
 -- what a value is where it ends
 abbrev pub value_of : Spot → Sum → List Ask → List Ask → AskResult

@@ -1,12 +1,12 @@
 ghost use Rattle.std.specs.Prelude.{◌≡◌, ◌<◌, IfSome, false};
-ghost use Rattle.pal8_sym.specs.Symbols.{value_of};
+ghost use Rattle.pal8_sym.specs.SourceNames.{own_value};
 ghost use Rattle.pal8_values.specs.Sums.{direct, direct_by, early_value, empty, indirect_bit, is_undivided, join_values, meaning_or, offset_of, here_of, reference_word, with_known, with_place, with_plain, with_value};
 ghost use Rattle.pal8_values.specs.Answering.{Answers};
 
 use crate::ValueFault;
 use pal8_grammar::Step;
 use pal8_lex::{Name, Operator};
-use pal8_sym::Symbols;
+use pal8_sym::SourceNames;
 use word12::{PAGE, Word};
 
 /// The bit of a memory reference that stands for its own page.
@@ -101,10 +101,10 @@ pub fn with_value(value: Word, sum: Sum) -> Result<Sum, ValueFault>
 }
 
 /// A name more.
-fn with_name(symbols: &Symbols, name: Name, sum: Sum) -> Result<Sum, ValueFault>
-    ensures { Answers (with_known name (value_of symbols.now name) sum) result }
+fn with_name(names: &SourceNames, name: Name, sum: Sum) -> Result<Sum, ValueFault>
+    ensures { Answers (with_known name (own_value names.now name) sum) result }
 {
-    match symbols.value(name) {
+    match names.own_value(name) {
         Some(value) => with_value(value, sum),
         None => Err(ValueFault::UA(name.number())),
     }
@@ -131,18 +131,18 @@ fn with_place(spot: Spot, sum: Sum) -> Result<Sum, ValueFault>
 }
 
 /// A permanent name more, with the value that it has where the source gives it none.
-fn with_permanent(symbols: &Symbols, name: Name, value: Word, sum: Sum) -> Result<Sum, ValueFault>
-    ensures { Answers (with_value (meaning_or value (value_of symbols.now name)) sum) result }
+fn with_permanent(names: &SourceNames, name: Name, value: Word, sum: Sum) -> Result<Sum, ValueFault>
+    ensures { Answers (with_value (meaning_or value (own_value names.now name)) sum) result }
 {
-    match symbols.value(name) {
+    match names.own_value(name) {
         Some(known) => with_value(known, sum),
         None => with_value(value, sum),
     }
 }
 
 /// Takes a step that neither opens nor closes a literal.
-pub fn with_plain(symbols: &Symbols, spot: Spot, step: Step, sum: Sum) -> Result<Sum, ValueFault>
-    ensures { Answers (with_plain (value_of symbols.now) spot step sum) result }
+pub fn with_plain(names: &SourceNames, spot: Spot, step: Step, sum: Sum) -> Result<Sum, ValueFault>
+    ensures { Answers (with_plain (own_value names.now) spot step sum) result }
 {
     match step {
         Step::Operation(word) => Ok(Sum {
@@ -161,8 +161,8 @@ pub fn with_plain(symbols: &Symbols, spot: Spot, step: Step, sum: Sum) -> Result
             is_indirect: true,
             ..sum
         }),
-        Step::Name(name) => with_name(symbols, name, sum),
-        Step::Permanent(name, value) => with_permanent(symbols, name, value, sum),
+        Step::Name(name) => with_name(names, name, sum),
+        Step::Permanent(name, value) => with_permanent(names, name, value, sum),
         Step::Number(word) => with_value(word, sum),
         Step::Here => with_place(spot, sum),
         Step::Sign(sign) => Ok(Sum { sign, ..sum }),
@@ -219,13 +219,13 @@ fn direct(here: u16, sum: Sum) -> Result<Word, ValueFault>
 
 /// The value of steps without literals at a place, by the names so far. Else it is the first fault from the left: UA, PF where `.` stands
 /// and the location is past 7777, DZ, or at last IR. It takes no memory (PAL8, in this project's profile).
-pub fn early_value(symbols: &Symbols, spot: Spot, steps: &[Step]) -> Result<Word, ValueFault>
-    ensures { Answers (early_value (value_of symbols.now) spot steps.now) result }
+pub fn early_value(names: &SourceNames, spot: Spot, steps: &[Step]) -> Result<Word, ValueFault>
+    ensures { Answers (early_value (own_value names.now) spot steps.now) result }
 {
     let mut sum = empty();
     let mut rest = steps;
     while let [step, others @ ..] = rest {
-        sum = match with_plain(symbols, spot, *step, sum) {
+        sum = match with_plain(names, spot, *step, sum) {
             Ok(next) => next,
             Err(fault) => return Err(fault),
         };

@@ -1,9 +1,9 @@
 ghost use Rattle.std.specs.Prelude.{◌≡◌, ◌<◌, ◌≤◌, ◌+◌, ◌*◌, ◌%◌, ℕ, false, None, List};
 ghost use Rattle.word12.specs.declared.sizes.TheConstants.{FIELD, PAGE};
-ghost use Rattle.pal8_sym.specs.Symbols.{value_of as symbol_value};
+ghost use Rattle.pal8_sym.specs.SourceNames.{own_value};
 ghost use Rattle.pal8_pools.specs.Asks.{Ask};
 ghost use Rattle.pal8_pools.specs.Pooled.{Holds};
-ghost use Rattle.pal8_values.specs.Words.{full, is_torn, page_of, page_start, word_of_reference, value_of, with_ask, with_close, with_step, word_value};
+ghost use Rattle.pal8_values.specs.Words.{full, is_through, is_torn, page_of, page_start, word_of_reference, value_of, with_ask, with_close, with_step, word_value};
 ghost use Rattle.pal8_values.specs.Steps.{Takes};
 ghost use Rattle.pal8_values.specs.Answering.{Gives};
 
@@ -12,7 +12,7 @@ use crate::{Frame, Frames, ValueFault};
 use pal8_grammar::Step;
 use pal8_lex::Pool;
 use pal8_pools::{PoolFault, Pools};
-use pal8_sym::Symbols;
+use pal8_sym::SourceNames;
 use std::alloc::Global;
 use word12::{PAGE, Word};
 
@@ -118,6 +118,13 @@ fn word_through_link(
     Ok(reference_word(operation, true, offset))
 }
 
+/// Whether a reference is indirect: by `I`, or by the word of its operation.
+fn is_through(sum: Sum) -> bool
+    ensures { result ≡ is_through sum }
+{
+    sum.is_indirect || sum.operation.and(Word::low(0o400)).get() != 0
+}
+
 /// What a value is where it ends.
 fn value_of(pools: &mut Pools, alloc: Global, spot: Spot, sum: Sum) -> Result<Word, ValueFault>
     requires field { spot.field < 8 }
@@ -129,10 +136,12 @@ fn value_of(pools: &mut Pools, alloc: Global, spot: Spot, sum: Sum) -> Result<Wo
     if !sum.is_reference {
         return Ok(sum.total);
     }
+    let again = sum;
+    let is_indirect = is_through(again);
     match offset_of(spot.here, sum.total) {
-        Some(offset) => Ok(reference_word(sum.operation, sum.is_indirect, offset)),
+        Some(offset) => Ok(reference_word(sum.operation, is_indirect, offset)),
         None => {
-            if sum.is_indirect {
+            if is_indirect {
                 return Err(ValueFault::II);
             }
             word_through_link(pools, alloc, spot, sum.operation, sum.total)
@@ -175,7 +184,7 @@ fn take(
     frames: &mut Frames,
     pools: &mut Pools,
     alloc: Global,
-    symbols: &Symbols,
+    names: &SourceNames,
     spot: Spot,
     step: Step,
     sum: Sum,
@@ -184,7 +193,7 @@ fn take(
     requires place { spot.location < 0o10000 }
     requires here { spot.here < 0o10000 }
     ensures { (asks punched : List Ask) → Holds pools.old asks punched
-        → Takes (with_step (symbol_value symbols.now) spot step (record { sum = sum; frames = frames.old; asks = asks; punched = punched })) result frames.new pools.new }
+        → Takes (with_step (own_value names.now) spot step (record { sum = sum; frames = frames.old; asks = asks; punched = punched })) result frames.new pools.new }
 {
     let again = step;
     match step {
@@ -194,9 +203,9 @@ fn take(
         }
         Step::Close => close(frames, pools, alloc, spot, sum),
         Step::Operation(_) | Step::Alone | Step::Indirect | Step::Name(_) | Step::Number(_) => {
-            with_plain(symbols, spot, again, sum)
+            with_plain(names, spot, again, sum)
         }
-        Step::Permanent(_, _) | Step::Here | Step::Sign(_) => with_plain(symbols, spot, again, sum),
+        Step::Permanent(_, _) | Step::Here | Step::Sign(_) => with_plain(names, spot, again, sum),
     }
 }
 
@@ -211,7 +220,7 @@ pub fn word_value(
     frames: &mut Frames,
     pools: &mut Pools,
     alloc: Global,
-    symbols: &Symbols,
+    names: &SourceNames,
     spot: Spot,
     steps: &[Step],
 ) -> Result<Word, ValueFault>
@@ -219,13 +228,13 @@ pub fn word_value(
     requires place { spot.location < 0o10000 }
     requires here { spot.here < 0o10000 }
     ensures { (asks punched : List Ask) → Holds pools.old asks punched
-        → Gives (word_value (symbol_value symbols.now) spot steps.now asks punched) result pools.new }
+        → Gives (word_value (own_value names.now) spot steps.now asks punched) result pools.new }
 {
     frames.clear();
     let mut sum = empty();
     let mut rest = steps;
     while let [step, others @ ..] = rest {
-        sum = match take(frames, pools, alloc, symbols, spot, *step, sum) {
+        sum = match take(frames, pools, alloc, names, spot, *step, sum) {
             Ok(next) => next,
             Err(fault) => return Err(fault),
         };

@@ -1,5 +1,5 @@
 use Rattle.std.proofs.Common.{List, length}
-use Rattle.pal8_sym.specs.Symbols.{value_of}
+use Rattle.pal8_sym.specs.SourceNames.{own_value}
 use Rattle.pal8_pools.specs.Asks.{Ask}
 use Rattle.pal8_pools.specs.Pooled.{Holds}
 use Rattle.pal8_values.specs.Words.{word_value}
@@ -10,7 +10,7 @@ use Rattle.pal8_values.proofs.words.word_value.Given as goal
 abbrev pub invariant-loop-rest : goal.invariant-loop-rest
 invariant-loop-rest l =
     (asks punched : List Ask) → Holds l.fn.pools asks punched
-    → IsOnTheWay (value_of l.fn.symbols) l.fn.spot (word_value (value_of l.fn.symbols) l.fn.spot l.fn.steps asks punched) l.rest l.sum l.frames l.pools
+    → IsOnTheWay (own_value l.fn.names) l.fn.spot (word_value (own_value l.fn.names) l.fn.spot l.fn.steps asks punched) l.rest l.sum l.frames l.pools
 
 abbrev pub decreases-loop-rest : goal.decreases-loop-rest
 decreases-loop-rest l = length l.rest
