@@ -3,7 +3,8 @@
 # gets a file of 1,500 blocks. Prints the seconds that each command takes on a volume of 4095 blocks. Then it puts and gets 240 files at once. It
 # checks 1,000 images of 3248 blocks: one program after the other, one program for all, and four side by side. Each stands beside cp or cat of the
 # same bytes. It writes the index of 2,000 and of 10,000 images of 400 blocks, by one program and by four side by side. That stands beside cat and
-# md5sum, with the most memory that one program took. Takes palbart from Debian's packages where it is missing.
+# md5sum, with the most memory that one program took. It scans a volume of 4,088 tapes, and one of 4,088 blocks that each begin like a tape and have
+# no trailer, which may take three times as long. Takes palbart from Debian's packages where it is missing.
 set -eu
 top=$(cd "$(dirname "${BASH_SOURCE[0]}")/.." && pwd)
 . "$top/bench/seconds.sh"
@@ -16,7 +17,7 @@ program=$top/crates/pdp8/out/pdp8
 
 printf '*200\n\tCLL STA\t\t/ AC IS 7777\n\tTAD ONE\n\tHLT\nONE,\t1\n$\n' >add.pal
 "$top/pdp8" create V 4095
-"$program" put V ADD.PA --text <add.pal
+"$program" put V - --as ADD.PA --text <add.pal
 printf 'ASSEMBLE ADD.BN<ADD.PA\nFINISH\n' | "$program" run V
 "$program" get V ADD.BN --tape | "$program" tape >ours.txt
 palbart add.pal >/dev/null
@@ -25,7 +26,7 @@ cmp ours.txt palbart.txt || { echo "the words differ" >&2; exit 1; }
 echo "$(wc -l <ours.txt) words, as palbart has them"
 
 head -c 576000 /dev/urandom >bytes
-put_bytes() { "$program" put V BYTES <bytes >/dev/null; }
+put_bytes() { "$program" put V - --as BYTES <bytes >/dev/null; }
 get_bytes() { "$program" get V BYTES >got; }
 list_files() { "$program" list V; }
 check_volume() { "$program" check V; }
@@ -34,6 +35,18 @@ for command in put_bytes get_bytes list_files check_volume create_volume; do
     printf '%s: %.3f seconds\n' "$command" "$(seconds "$command")"
 done
 cmp bytes got
+
+{ "$program" get V ADD.BN --tape; head -c 384 /dev/zero; } | head -c 384 >tape
+{ printf '\102\000'; for k in $(seq 191); do printf '\001\002'; done; } >origin
+for name in tape origin; do
+    "$program" create "V.$name" 4095 >/dev/null
+    for k in $(seq 4088); do cat "$name"; done | "$program" put "V.$name" - --as A.BN >/dev/null
+done
+[ "$("$program" scan V.tape | wc -l) $("$program" scan V.origin | wc -l)" = '4088 0' ] || { echo "other pieces are scanned" >&2; exit 1; }
+scan_volume() { "$program" scan "V.$1"; }
+tapes=$(seconds scan_volume tape) origins=$(seconds scan_volume origin)
+printf 'scan_volume of 4088 tapes: %.3f seconds; of 4088 blocks without a trailer: %.3f seconds\n' "$tapes" "$origins"
+awk "BEGIN { exit $origins > 3 * $tapes }" || { echo "blocks without a trailer take too long" >&2; exit 1; }
 
 mkdir files
 for k in $(seq 240); do head -c 6000 /dev/urandom >"files/F$k.BN"; done

@@ -2,3 +2,6 @@ mod PassageLemmas
 mod PieceLemmas
 mod FoundLemmas
 mod ProgramLemmas
+mod TailLemmas
+mod ChanceLemmas
+mod SegmentLemmas

@@ -53,10 +53,10 @@ split-at (x ∷ xs) (suc i) low =
 
 -- ## With more behind
 
-more-tape : ((frames more : List ℕ) (items : List Item) → IsTape frames items → IsTape (frames ++ more) items) → (frames more : List ℕ) → IsSomeTape frames → IsSomeTape (frames ++ more)
+pub more-tape : ((frames more : List ℕ) (items : List Item) → IsTape frames items → IsTape (frames ++ more) items) → (frames more : List ℕ) → IsSomeTape frames → IsSomeTape (frames ++ more)
 more-tape law frames more tape = record { items = tape.items; is_tape = law frames more tape.items tape.is_tape }
 
-more-rim : (frames more : List ℕ) → IsSomeRim frames → IsSomeRim (frames ++ more)
+pub more-rim : (frames more : List ℕ) → IsSomeRim frames → IsSomeRim (frames ++ more)
 more-rim frames more rim = record {
   pairs = rim.pairs;
   is_rim = record {

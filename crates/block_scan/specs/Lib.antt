@@ -1,4 +1,7 @@
+pub mod Chances
 pub mod Laws
 pub mod Passages
 pub mod Pieces
 pub mod Programs
+pub mod Segments
+pub mod TailSteps

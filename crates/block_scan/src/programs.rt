@@ -1,13 +1,16 @@
 //! The programs among blocks: core images, BIN tapes and RIM tapes.
-ghost use Rattle.std.specs.Prelude.{◌≡◌, ◌+◌, ◌-◌, ◌*◌, ◌/◌, ◌<◌, ◌≤◌, ◌↔◌, length, IsTrue, IfOk, MatchOption};
+ghost use Rattle.std.specs.Prelude.{◌≡◌, ◌+◌, ◌-◌, ◌*◌, ◌/◌, ◌<◌, ◌≤◌, ◌↔◌, false, length, IsTrue, IfOk, MatchOption};
 ghost use Rattle.word12.specs.declared.sizes.TheConstants.{BLOCK};
 ghost use Rattle.char_pack.specs.Packing.{frames as frames_in};
 ghost use Rattle.char_pack.specs.declared.packing.TheConstants.{BLOCK_FRAMES};
+ghost use Rattle.block_scan.specs.Chances.{AreChances, IsChance, RulesOut};
 ghost use Rattle.block_scan.specs.Programs as spec;
 ghost use Rattle.block_scan.specs.Programs.{AreProgramsOf, Begins, BeginsNone, Heads, HeadsNone, IsFewest};
 
+use crate::chances::{Chance, chance_at, chances_of};
 use crate::kinds::{ProgramKind, is_program};
 use crate::laws::longer_programs;
+use bin_tape::laws::longer_tape;
 use char_pack::{BLOCK_FRAMES, Frames, frame_count};
 use std::alloc::{AllocError, Global};
 use word12::{BLOCK, Word};
@@ -57,12 +60,14 @@ fn programs_of(
     ensures { IfOk result (λ programs. AreProgramsOf words.now programs.items) }
 {
     let _size = frame_count(words);
+    let chances = chances_of(alloc, frames, count)?;
     let mut programs = Vec::new(alloc);
     let mut block = 0;
     while block < count {
         let (_, words_behind) = words.split_at(BLOCK * block);
         let (_, frames_behind) = frames.split_at(BLOCK_FRAMES * block);
-        match beginning(alloc, words_behind, frames_behind, count - block) {
+        let chance = chance_at(&chances, frames, count, block);
+        match beginning(alloc, chance, words_behind, frames_behind, count - block) {
             None => block += 1,
             Some(extent) => {
                 programs.push(Program {
@@ -78,8 +83,15 @@ fn programs_of(
 }
 
 /// What begins with the first of so many blocks.
-fn beginning(alloc: Global, words: &[Word], frames: &[u8], count: usize) -> Option<Extent>
+fn beginning(
+    alloc: Global,
+    chance: Chance,
+    words: &[Word],
+    frames: &[u8],
+    count: usize,
+) -> Option<Extent>
     requires some { 0 < count }
+    requires chance { IsChance frames.now chance }
     requires words { BLOCK * count ≤ length words.now }
     requires frames { BLOCK_FRAMES * count ≤ length frames.now }
     ensures { MatchOption result (BeginsNone words.now frames.now count)
@@ -88,19 +100,20 @@ fn beginning(alloc: Global, words: &[Word], frames: &[u8], count: usize) -> Opti
     if is_blank(frames) {
         return None;
     }
+    rule_out(chance, words, frames, count);
     if let Some(size) = fewest_blocks(alloc, ProgramKind::Core, words, frames, count) {
         return Some(Extent {
             kind: ProgramKind::Core,
             size,
         });
     }
-    if let Some(size) = fewest_blocks(alloc, ProgramKind::Bin, words, frames, count) {
+    if let Some(size) = fewest_tape(alloc, chance.bin, ProgramKind::Bin, words, frames, count) {
         return Some(Extent {
             kind: ProgramKind::Bin,
             size,
         });
     }
-    if let Some(size) = fewest_blocks(alloc, ProgramKind::Rim, words, frames, count) {
+    if let Some(size) = fewest_tape(alloc, chance.rim, ProgramKind::Rim, words, frames, count) {
         return Some(Extent {
             kind: ProgramKind::Rim,
             size,
@@ -130,6 +143,35 @@ fn are_leader(frames: &[u8]) -> bool
         rest = others;
     }
     true
+}
+
+/// A law: where frames have no chance to be a tape, no number of blocks at their head is one.
+fn rule_out(chance: Chance, words: &[Word], frames: &[u8], count: usize)
+    requires { IsChance frames.now chance }
+    ensures { RulesOut words.now frames.now count chance }
+{
+    longer_tape();
+}
+
+/// The least number of blocks, of so many at most, that are a tape of a kind, where there may be one.
+fn fewest_tape(
+    alloc: Global,
+    has_chance: bool,
+    kind: ProgramKind,
+    words: &[Word],
+    frames: &[u8],
+    count: usize,
+) -> Option<usize>
+    requires some { 0 < count }
+    requires words { BLOCK * count ≤ length words.now }
+    requires frames { BLOCK_FRAMES * count ≤ length frames.now }
+    requires chance { has_chance ≡ false → HeadsNone words.now frames.now count kind }
+    ensures { MatchOption result (HeadsNone words.now frames.now count kind) (IsFewest words.now frames.now count kind) }
+{
+    if !has_chance {
+        return None;
+    }
+    fewest_blocks(alloc, kind, words, frames, count)
 }
 
 /// The least number of blocks, of so many at most, that are a program of a kind.

@@ -4,6 +4,7 @@
 //! In each contract an image is the list of its bytes.
 #![tactic(auto)]
 
+pub mod laws;
 mod rescues;
 mod scans;
 

@@ -1,0 +1,176 @@
+-- The command that writes pieces to files changes their paths alone.
+use Rattle.std.proofs.Common.{◌≡◌, ◌≢◌, ◌∙◌, ◌∷◌, ◌++◌, ℕ, Bool, true, false, codes, Option, None, Some, Result, Ok, Err, List, [], ap, inl, inr, length, refl, sym}
+use Rattle.std.specs.Global.{Vec}
+use Rattle.std.specs.Str.{bytes_eq}
+use Rattle.std.proofs.lemmas.Slice.Eq.{bytes_eq-Decides}
+use Rattle.hosts.specs.Event.{Event}
+use Rattle.hosts.specs.Place.{about}
+use Rattle.outcome.specs.Hints.{image_note}
+use Rattle.outcome.specs.declared.contents.Content.TheVariants as content
+use Rattle.outcome.specs.declared.endings.Ending.{Ending}
+use Rattle.outcome.specs.declared.endings.Ending.TheVariants.{Line, Fault, Failure, Busy, NotWritten, FullOutput, NoReader, Misuse}
+use Rattle.outcome.specs.declared.notes.PlainNote.{PlainNote}
+use Rattle.archive8.specs.declared.faults.ArchiveFault.{ArchiveFault}
+use Rattle.archive_many.specs.declared.faults.BlocksFault.{BlocksFault}
+use Rattle.archive_many.specs.declared.faults.BlocksFault.TheVariants.{Archive, NoBlocks}
+use Rattle.report8.specs.declared.programs.ProgramLine.TheVariants as line
+use Rattle.script8.specs.declared.faults.SessionFault.TheVariants as fault
+use Rattle.task8.specs.declared.forms.ImageForm.{ImageForm}
+use Rattle.volume_commands.specs.Answers.{Answers, AreLines, Refuses}
+use Rattle.volume_commands.specs.Notes.{Tells}
+use Rattle.volume_commands.specs.Reading.{FindsVolume, Looks, LooksAt}
+use Rattle.volume_commands.specs.Saving.{Prints}
+use Rattle.volume_commands.specs.ShowingParts.{RefusesBlocks}
+use Rattle.volume_commands.specs.Work.{Then, Purely}
+use Rattle.salvage8.specs.Scanning.{Scans, piece_line, piece_name}
+use Rattle.salvage8.specs.declared.pieces.Piece.{Piece}
+use Rattle.salvage8.specs.declared.scans.Scan.{Scan}
+use Rattle.salvage_commands.specs.Laws.{ChangesPiecesAlone, IsOfNone}
+use Rattle.salvage_commands.specs.ScanningBlocks.{GivesPiece, IsPath, LaysFirst, WritesEach, WritesPiece}
+
+-- a step leaves a path as it was
+abbrev Stays : {A : Type 0} → List ℕ → (List Event → Result A Ending → List Event → Type 0) → Type 0
+Stays {A} path step = (old : List Event) (result : Result A Ending) (new : List Event) → step old result new → about path new ≡ about path old
+
+same : {old new : List Event} (path : List ℕ) → new ≡ old → about path new ≡ about path old
+same path is = ap (λ (events : List Event). about path events) is
+
+then-stays : {A B : Type 0} (path : List ℕ) (first : List Event → Result A Ending → List Event → Type 0) (next : A → List Event → Result B Ending → List Event → Type 0)
+    → Stays path first → ((a : A) (old between : List Event) → first old (Ok a) between → (result : Result B Ending) (new : List Event) → next a between result new → about path new ≡ about path between)
+    → Stays path (Then first next)
+then-stays path first next f n old (Ok r) new (inl ends) = absurd ends
+then-stays path first next f n old (Err e) new (inl ends) = f old (Err e) new ends
+then-stays path first next f n old result new (inr it) = n it.given old it.between it.done result new it.after ∙ f old (Ok it.given) it.between it.done
+
+purely-stays : {A : Type 0} (path : List ℕ) (gives : Result A Ending → Type 0) → Stays path (Purely gives)
+purely-stays path gives old result new p = same path p.1
+
+-- ## What is printed
+
+prints-stays : (path bytes : List ℕ) → Stays path (Prints bytes)
+prints-stays path bytes old (Ok it) new p = same path p
+prints-stays path bytes old (Err (Line it)) new p = absurd p
+prints-stays path bytes old (Err (Fault it)) new p = absurd p
+prints-stays path bytes old (Err Failure) new p = absurd p
+prints-stays path bytes old (Err (Busy it)) new p = absurd p
+prints-stays path bytes old (Err (NotWritten it left)) new p = absurd p
+prints-stays path bytes old (Err FullOutput) new p = same path p
+prints-stays path bytes old (Err NoReader) new p = same path p
+prints-stays path bytes old (Err Misuse) new p = absurd p
+
+tells-stays : (path : List ℕ) (note : Option PlainNote) (old new : List Event) → Tells note old new → about path new ≡ about path old
+tells-stays path None old new p = same path p
+tells-stays path (Some note) old new p = same path p.1
+
+refuses-stays : (path : List ℕ) (why : ArchiveFault) (size : ℕ) (old : List Event) (ending : Ending) (new : List Event) → Refuses why size old ending new → about path new ≡ about path old
+refuses-stays path why size old ending new p = tells-stays path (image_note size why) old new p.1
+
+answers-stays : {A : Type 0} (path : List ℕ) (gives : Result A ArchiveFault → Type 0) (size : ℕ) → Stays path (Answers gives size)
+answers-stays path gives size old (Ok it) new p = same path p.1
+answers-stays path gives size old (Err ending) new (why, gave, p) = refuses-stays path why size old ending new p
+
+-- ## What is read
+
+looks-stays : (path name shown : List ℕ) → Stays path (Looks name shown)
+looks-stays path name shown old (Ok bytes) new p = same path p.1
+looks-stays path name shown old (Err (Line (line.Created n))) new p = absurd p
+looks-stays path name shown old (Err (Line line.HostRead)) new (inl p) = same path p
+looks-stays path name shown old (Err (Line line.HostRead)) new (inr (bytes, many, ok, p)) = same path p
+looks-stays path name shown old (Err (Line line.HostWrite)) new p = absurd p
+looks-stays path name shown old (Err (Line line.HostBusy)) new p = absurd p
+looks-stays path name shown old (Err (Line line.NoWord)) new p = absurd p
+looks-stays path name shown old (Err (Line (line.NoStart n))) new p = absurd p
+looks-stays path name shown old (Err (Line (line.Names n why))) new p = absurd p
+looks-stays path name shown old (Err (Line (line.Renamed one other))) new p = absurd p
+looks-stays path name shown old (Err (Line line.Exists)) new p = absurd p
+looks-stays path name shown old (Err (Line (line.Squeezed n))) new p = absurd p
+looks-stays path name shown old (Err (Line (line.Got got n))) new p = absurd p
+looks-stays path name shown old (Err (Line line.HostExists)) new p = absurd p
+looks-stays path name shown old (Err (Line line.SameName)) new p = absurd p
+looks-stays path name shown old (Err (Line (line.OnlyBlocks n))) new p = absurd p
+looks-stays path name shown old (Err (Line (line.Images n refused))) new p = absurd p
+looks-stays path name shown old (Err (Line (line.Disk fault))) new p = absurd p
+looks-stays path name shown old (Err (Line line.NothingToRun)) new p = absurd p
+looks-stays path name shown old (Err (Line (line.Halted cell ac l))) new p = absurd p
+looks-stays path name shown old (Err (Line (line.Unassigned cell word))) new p = absurd p
+looks-stays path name shown old (Err (Line (line.KeysEnd cell))) new p = absurd p
+looks-stays path name shown old (Err (Line (line.Limit cell))) new p = absurd p
+looks-stays path name shown old (Err (Line (line.Steps ended cell))) new p = absurd p
+looks-stays path name shown old (Err (Line (line.Start cell))) new p = absurd p
+looks-stays path name shown old (Err (Line (line.Core fault))) new p = absurd p
+looks-stays path name shown old (Err (Line (line.Rim fault))) new p = absurd p
+looks-stays path name shown old (Err (Line (line.Image fault))) new p = absurd p
+looks-stays path name shown old (Err (Line (line.Directory fault))) new p = absurd p
+looks-stays path name shown old (Err (Fault fault.BadLine)) new p = absurd p
+looks-stays path name shown old (Err (Fault fault.NoJob)) new p = absurd p
+looks-stays path name shown old (Err (Fault fault.TooManyJobs)) new p = absurd p
+looks-stays path name shown old (Err (Fault (fault.File why))) new p = absurd p
+looks-stays path name shown old (Err (Fault (fault.Asm why))) new p = absurd p
+looks-stays path name shown old (Err (Fault (fault.Tape why))) new p = absurd p
+looks-stays path name shown old (Err (Fault fault.BadText)) new p = absurd p
+looks-stays path name shown old (Err (Fault fault.Reader)) new p = absurd p
+looks-stays path name shown old (Err (Fault fault.Writer)) new p = absurd p
+looks-stays path name shown old (Err (Fault fault.Memory)) new (inl p) = same path p
+looks-stays path name shown old (Err (Fault fault.Memory)) new (inr (bytes, many, p)) = same path p
+looks-stays path name shown old (Err (Fault fault.TooManyBreaks)) new p = absurd p
+looks-stays path name shown old (Err Failure) new p = absurd p
+looks-stays path name shown old (Err (Busy content.Image)) new p = same path p
+looks-stays path name shown old (Err (Busy content.Tape)) new p = absurd p
+looks-stays path name shown old (Err (Busy content.Listing)) new p = absurd p
+looks-stays path name shown old (Err (NotWritten it left)) new p = absurd p
+looks-stays path name shown old (Err FullOutput) new p = absurd p
+looks-stays path name shown old (Err NoReader) new p = absurd p
+looks-stays path name shown old (Err Misuse) new p = absurd p
+
+looks-at-stays : (path : List ℕ) (form : ImageForm) → Stays path (LooksAt form)
+looks-at-stays path form = then-stays path (Looks form.file.bytes.items form.file.bytes.items) (λ file. Purely (FindsVolume form.layout file.items))
+    (looks-stays path form.file.bytes.items form.file.bytes.items) (λ file old between done. purely-stays path (FindsVolume form.layout file.items) between)
+
+gives-stays : (path image : List ℕ) (piece : Piece) → Stays path (GivesPiece image piece)
+gives-stays path image piece old (Ok bytes) new p = same path p.1
+gives-stays path image piece old (Err ending) new (why, gets, p) = refused why p
+  where
+    refused : (why : BlocksFault) → RefusesBlocks why (length image) old ending new → about path new ≡ about path old
+    refused (Archive why) r = refuses-stays path why (length image) old ending new r
+    refused (NoBlocks has) r = same path r.1
+
+-- ## What is written
+
+apart : (laid path : List ℕ) (is : Bool) → bytes_eq laid path ≡ is → path ≢ laid → bytes_eq laid path ≡ false
+apart laid path true is other = absurd (other (sym ((bytes_eq-Decides laid path).0 is)))
+apart laid path false is other = is
+
+lays-stays : (path laid bytes : List ℕ) → path ≢ laid → Stays path (LaysFirst laid bytes)
+lays-stays path laid bytes other old (Ok it) new p = p.only.others path (apart laid path (bytes_eq laid path) refl other)
+lays-stays path laid bytes other old (Err ending) new (why, is, laid_by, cause) = laid_by.only.others path (apart laid path (bytes_eq laid path) refl other)
+
+piece-stays : (path folder image : List ℕ) (scan : Scan) (piece : Piece) → path ≢ folder ++ codes "/" ++ piece_name piece → Stays path (WritesPiece folder image scan piece)
+piece-stays path folder image scan piece other =
+    then-stays path (GivesPiece image piece)
+    (λ bytes. Then (Purely (IsPath folder piece)) (λ name. Then (Purely (AreLines (piece_line scan.frames.items piece))) (λ shown. Then (LaysFirst name.bytes.items bytes.items) (λ it. Prints shown.items))))
+    (gives-stays path image piece)
+    (λ bytes old between done.
+    then-stays path (Purely (IsPath folder piece)) (λ name. Then (Purely (AreLines (piece_line scan.frames.items piece))) (λ shown. Then (LaysFirst name.bytes.items bytes.items) (λ it. Prints shown.items)))
+    (purely-stays path (IsPath folder piece))
+    (λ name from to found.
+    then-stays path (Purely (AreLines (piece_line scan.frames.items piece))) (λ shown. Then (LaysFirst name.bytes.items bytes.items) (λ it. Prints shown.items))
+    (purely-stays path (AreLines (piece_line scan.frames.items piece)))
+    (λ shown first second lines.
+    then-stays path (LaysFirst name.bytes.items bytes.items) (λ it. Prints shown.items) (lays-stays path name.bytes.items bytes.items (λ is. other (is ∙ found.0)))
+    (λ it before after laid. prints-stays path shown.items after) second) to) between)
+
+each-stays : (path folder image : List ℕ) (scan : Scan) (pieces : List Piece) → IsOfNone folder path pieces → Stays path (WritesEach folder image scan pieces)
+each-stays path folder image scan [] none = purely-stays path (λ (result : Result (Unit {0}) Ending). result ≡ Ok tt)
+each-stays path folder image scan (piece ∷ pieces) none =
+    then-stays path (WritesPiece folder image scan piece) (λ it. WritesEach folder image scan pieces) (piece-stays path folder image scan piece none.0)
+    (λ it old between done. each-stays path folder image scan pieces none.1 between)
+
+pub pieces-alone : ChangesPiecesAlone
+pieces-alone folder form old (Ok it) new (inl ends) path none = absurd ends
+pieces-alone folder form old (Err ending) new (inl ends) path none = looks-at-stays path form old (Err ending) new ends
+pieces-alone folder form old result new (inr looked) path none =
+    then-stays path (Answers (Scans looked.given.items) (length looked.given.items)) (λ scan. WritesEach folder looked.given.items scan scan.pieces.items)
+    (answers-stays path (Scans looked.given.items) (length looked.given.items))
+    (λ scan from to scanned. each-stays path folder looked.given.items scan scan.pieces.items (none looked.given looked.between scan looked.done scanned.0) to)
+    looked.between result new looked.after
+    ∙ looks-at-stays path form old (Ok looked.given) looked.between looked.done
