@@ -1,9 +1,5 @@
 -- An argument with one setting more, and a command with one part more.
-use Rattle.std.proofs.Common.{◌≡◌, ◌∙◌, ◌||◌, ◌<◌, ℕ, List, Bool, Option, Some, None, Result, Ok, Err, IfOk, ap, ap₂, arith, refl, subst, true, false}
-use Rattle.std.specs.Prelude.{IsSomeAnd, max, ℤ, pos}
-use Rattle.clap.specs.Walk.{Rule, rule_of}
-use Rattle.clap.specs.Simple.{App, app_of, app_of_fields, with_rule, with_subcommand}
-use Rattle.clap.specs.Words.{AddsArg, AddsSubcommand, NarrowsTo, new_rule}
+use Rattle.command8.proofs.Names.{not_empty, ◌≡◌, ◌∙◌, ◌||◌, ◌<◌, ℕ, List, Bool, Option, Some, None, Result, Ok, Err, IfOk, ap, ap₂, arith, refl, subst, true, false, IsSomeAnd, max, ℤ, pos, Rule, rule_of, App, app_of, app_of_fields, with_rule, with_subcommand, AddsArg, AddsSubcommand, NarrowsTo, new_rule, nat_tests, ◌+◌, ◌≤◌, ◌++◌, ◌∷◌, [], length, map, take, sym, list_all, slice_index_or, true≢false, list_all-map, list_all_at, both, Bor, map_more, take_all, map-map, Text}
 use Rattle.clap.specs.declared.builder.value_parser.ValueParser.TheVariants.{Unsigned}
 use Rattle.clap.specs.declared.builder.texts.Texts.TheVariants.{One}
 use Rattle.clap.specs.declared.builder.action.ArgAction.{ArgAction}
@@ -13,23 +9,11 @@ use Rattle.clap.specs.declared.builder.value_parser.ValueParser.{ValueParser}
 use Rattle.clap.specs.declared.builder.command.Command.{Command}
 use Rattle.clap.specs.declared.builder.command.Command.TheViews.{out-Command as fields_of}
 use Rattle.clap.specs.declared.builder.command.Command.TheOpen.{Command-F}
-use Rattle.std.proofs.lemmas.Bool.Decides.{nat_tests}
-use Rattle.std.proofs.Common.{◌+◌, ◌≤◌, ◌++◌, ◌∷◌, [], length, map, take, sym}
-use Rattle.std.specs.List.{list_all, slice_index_or}
-use Rattle.std.proofs.Common.{true≢false}
-use Rattle.std.proofs.lemmas.List.Folds.{list_all-map, list_all_at}
-use Rattle.clap.proofs.WalkLemmas.{both}
-use Rattle.std.specs.Borrow.{Bor}
 use Rattle.command8.specs.declared.table.ArgumentOf.{ArgumentOf}
 use Rattle.command8.specs.declared.table.EntryOf.{EntryOf}
-use Rattle.std.proofs.lemmas.List.{length-append, map_more, take_all}
-use Rattle.std.proofs.lemmas.Simd.{map-map}
-use Rattle.clap.specs.Walk.{is_empty}
-use Rattle.clap.specs.Words.{Text}
 use Rattle.command8.specs.Tables.{app_of_table, app_with, rule_with_letter, rows_for, leaf_app, leaf_shape, leaf_with, rule_for, rules_for}
-use Rattle.command8.specs.TableSteps.{entry_of, fits, row_of, is_fit, is_sound}
+use Rattle.command8.specs.Steps.{entry_of, fits, row_of, is_fit, is_sound, IsArgument, IsCommand, with_leaf}
 use Rattle.command8.specs.declared.table.Kind.TheVariants.{Words}
-use Rattle.command8.specs.CommandSteps.{IsArgument, IsCommand, with_leaf}
 
 -- ## Arguments
 
@@ -169,9 +153,6 @@ pub rows_all : (command : Command) (word : Text) (rows : List (ArgumentOf (Bor T
 rows_all command word rows i past is =
     subst (λ rules. IsCommand command (leaf_with word rules)) (ap (map (λ row. rule_for (row_of row))) (take_all i rows past) ∙ sym (map-map rule_for row_of rows)) is
 
-some_more : {X : Type 0} (xs : List X) (x : X) → is_empty (xs ++ x ∷ []) ≡ false
-some_more xs x = rw (length-append xs (x ∷ [])) (grind (arith, nat_tests))
-
 abbrev DeclaredEntry : Type 0
 DeclaredEntry = EntryOf (Bor Text)
 
@@ -184,7 +165,7 @@ entry_more old new leaf entries i d here is adds of =
     let entry = entry_of (slice_index_or entries i d) in
     let added : IsCommand new (with_leaf (app_with subs) (leaf_app entry)) = adds_leaf old new leaf (app_with subs) (leaf_app entry) adds is of in
     let now_some : with_leaf (app_with subs) (leaf_app entry) ≡ app_with (subs ++ leaf_shape entry ∷ []) =
-    ap (λ b. let app : App = record (app_with (subs ++ leaf_shape entry ∷ [])) { top = record (app_with subs).top { is_leaf = b } } in app) (sym (some_more subs (leaf_shape entry))) in
+    ap (λ b. let app : App = record (app_with (subs ++ leaf_shape entry ∷ [])) { top = record (app_with subs).top { is_leaf = b } } in app) (sym (not_empty subs (leaf_shape entry))) in
     subst (λ app. IsCommand new app) (now_some ∙ ap app_with (sym (map_more (λ entry. leaf_shape (entry_of entry)) entries i d here))) added
 
 -- and all of them

@@ -1,10 +1,5 @@
 -- A subcommand of the table that is entered: what it takes the program takes, and finds the same.
-use Rattle.std.proofs.Common.{◌≡◌, ◌∙◌, ◌&&◌, Bool, codes, true, false, refl, ap, ap₂, map, List, [], ◌∷◌, Option, Some, None}
-use Rattle.std.specs.Prelude.{find, if◌then◌else◌, option_and_then, option_map}
-use Rattle.std.specs.Str.{bytes_eq}
-use Rattle.clap.specs.Walk.{answers_to}
-use Rattle.clap.specs.Simple.{Shape, built, label_of}
-use Rattle.clap.specs.Words.{Row, Text}
+use Rattle.command8.proofs.Names.{◌≡◌, ◌∙◌, ◌&&◌, Bool, codes, true, false, refl, ap, ap₂, map, List, [], ◌∷◌, Option, Some, None, find, if◌then◌else◌, option_and_then, option_map, bytes_eq, answers_to, Shape, built, label_of, Row, Text}
 use Rattle.command8.specs.Plain.{AreTaken, EachIsTaken, IsTaken, IsTakenBy, Use, only_gives, words_of}
 use Rattle.command8.specs.Tables.{Entry, entry_named, leaf_shape, pdp8, table}
 use Rattle.command8.proofs.EnterLemmas.{Finds, asks_no_more, enter_met, enter_takes}

@@ -1,6 +1,5 @@
 -- The information words that are given, by a date or themselves.
-use Rattle.std.proofs.Common.{◌≡◌, ◌∙◌, ℕ, ap, map, option_map, sym, List, [], ◌∷◌, Option, Some, None}
-use Rattle.clap.specs.Words.{Text}
+use Rattle.command8.proofs.Names.{◌≡◌, ◌∙◌, ℕ, ap, map, option_map, sym, List, [], ◌∷◌, Option, Some, None, Text}
 use Rattle.command8.specs.Found.{date_word}
 use Rattle.command8.specs.Tasks.{info_or}
 use Rattle.command8.proofs.WalkLemmas.{some_eq}

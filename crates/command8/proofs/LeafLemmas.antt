@@ -1,25 +1,11 @@
 -- The subcommands as clap builds them: words in which it finds no fault give each argument that must be there.
-use Rattle.std.proofs.Common.{◌≡◌, ◌∙◌, ◌&&◌, ◌||◌, ◌≤◌, ℕ, Bool, cond, if◌then◌else◌, true, false, not, refl, sym, ap, arith, subst, true≢false, List, [], ◌∷◌, Option, Some, None, is_some}
-use Rattle.std.specs.Prelude.{◌==◌, find, nat_lt, option_and_then, option_map, slice_get}
-use Rattle.std.specs.List.{list_any}
-use Rattle.std.specs.Str.{bytes_eq}
-use Rattle.std.proofs.lemmas.Bool.Decides.{nat_tests}
-use Rattle.clap.proofs.ValueTestLemmas.{accepts-Accepts}
-use Rattle.clap.specs.Facts.{parser_of_value, unwrap_or_range}
-use Rattle.clap.specs.Values.{read_as, reading_of, refused_kind}
-use Rattle.clap.specs.ValueTests.{accepts}
-use Rattle.clap.specs.Walk.{Row, Rule, Text, action_of, arg_by_id, most_values, nothing_held, one_of, reading_by, row_text, rows_after}
-use Rattle.clap.specs.Simple.{Shape, built_leaf, inherited, marked_built}
-use Rattle.clap.specs.Takes.{is_given}
-use Rattle.clap.specs.Words.{Accepts, IsUnsignedIn}
-use Rattle.clap.specs.Kinds.{Kinds, range_kinds, value_kinds}
-use Rattle.clap.specs.Faults.{level_fault, values_fault}
+use Rattle.command8.proofs.Names.{or_parts, ◌≡◌, ◌∙◌, ◌&&◌, ◌≤◌, ℕ, Bool, cond, if◌then◌else◌, true, false, not, refl, sym, ap, arith, subst, true≢false, List, [], ◌∷◌, Option, Some, None, is_some, ◌==◌, find, nat_lt, option_and_then, option_map, slice_get, list_any, bytes_eq, nat_tests, accepts-Accepts, parser_of_value, unwrap_or_range, read_as, reading_of, refused_kind, accepts, Row, Rule, Text, action_of, arg_by_id, most_values, nothing_held, one_of, reading_by, row_text, rows_after, Shape, built_leaf, inherited, marked_built, is_given, Accepts, IsUnsignedIn, Kinds, range_kinds, value_kinds, level_fault, values_fault}
 use Rattle.clap.specs.declared.builder.action.ArgAction.TheVariants.{Set}
 use Rattle.clap.specs.declared.builder.value_parser.ValueParser.{ValueParser}
 use Rattle.clap.specs.declared.builder.value_parser.ValueParser.TheVariants.{Unsigned}
 use Rattle.clap.specs.declared.error.kind.ErrorKind.TheVariants.{InvalidValue, TooFewValues, TooManyValues, WrongNumberOfValues}
 use Rattle.command8.specs.Tables.{bare_app}
-use Rattle.command8.specs.FoundSteps.{Has}
+use Rattle.command8.specs.Steps.{Has}
 use Rattle.command8.proofs.WalkLemmas.{AllRules, Fits, TakesSome, given_row, leaf_given, leaf_good, no_values, not_none, or_first, row_good, some_eq}
 
 -- the program above its subcommands
@@ -32,15 +18,11 @@ below s = built_leaf (inherited (marked_built above) s)
 
 -- ## What words with no fault give
 
-both_false : (a b : Bool) → (a || b) ≡ false → (a ≡ false) × (b ≡ false)
-both_false true b none = absurd (true≢false none)
-both_false false b none = (refl, none)
-
 wanted : (id : Text) (a : Rule) (rows : List Row) (list : List Rule) → arg_by_id list id ≡ Some a → a.required ≡ true
     → list_any (λ r. r.required && not (is_given r.id rows)) list ≡ false → is_given a.id rows ≡ true
 wanted id a rows [] is needed none = absurd (cc)
 wanted id a rows (x ∷ xs) is needed none =
-    let parts = both_false (x.required && not (is_given x.id rows)) _ none in
+    let parts = or_parts (x.required && not (is_given x.id rows)) _ none in
     go (λ found. wanted id a rows xs found needed parts.1) (bytes_eq x.id id) is parts.0
   where
     here : (required given : Bool) → required ≡ true → (required && not given) ≡ false → given ≡ true

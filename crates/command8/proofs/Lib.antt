@@ -1,6 +1,6 @@
+mod Names
 mod CommandLemmas
 mod WalkLemmas
-mod StopLemmas
 mod LeafLemmas
 mod FoundLemmas
 mod RefusalLemmas

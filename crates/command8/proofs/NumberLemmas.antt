@@ -1,11 +1,6 @@
 -- A text that clap took as a number is read as that number.
-use Rattle.std.proofs.Common.{◌≡◌, ◌∙◌, ◌≤◌, ◌<◌, ◌*◌, ℕ, zero, suc, List, Option, Some, None, Result, Ok, Err, ap, arith, refl, subst, sym, true, option_map}
-use Rattle.std.specs.Prelude.{IfSome, nat_le}
-use Rattle.std.proofs.lemmas.Bool.Decides.{nat_tests}
-use Rattle.std.specs.Str.Parse.{ParsesUnsigned}
-use Rattle.clap.specs.Words.{IsUnsignedIn, ReadsOne, Text}
-use Rattle.command8.specs.Tables.{most_steps}
-use Rattle.command8.specs.Found.{is_limit, number_of}
+use Rattle.command8.proofs.Names.{◌≡◌, ◌∙◌, ◌≤◌, ◌<◌, ◌*◌, ℕ, zero, suc, List, Option, Some, None, Result, Ok, Err, ap, arith, refl, subst, sym, option_map, IfSome, ParsesUnsigned, IsUnsignedIn, ReadsOne, Text}
+use Rattle.command8.specs.Found.{number_of}
 
 pub unsigned_reads : (E : Type 0) (G : List ℕ → Result ℕ E → Type 0) (low high : ℕ) (t : List ℕ) (r : Option ℕ) → ReadsOne G t r
     → ((u : List ℕ) (x : Result ℕ E) → G u x → ParsesUnsigned 64 10 u x) → IsUnsignedIn low high t
@@ -16,29 +11,13 @@ unsigned_reads E G low high t (Some v) read only passed =
 unsigned_reads E G low high t None read only passed = absurd (only t (Err read.0) read.1 (passed.0, passed.1))
 
 -- what is read of a number that may be given, and passed where it is
-pub limit_given : (given : Option Text) (r : Option ℕ) → (given ≡ None → r ≡ None)
-    → ((t : Text) → given ≡ Some t → (n : ℕ) × (r ≡ Some n) × (n ≡ number_of t) × (1 ≤ n) × (n ≤ most_steps))
-    → (option_map number_of given ≡ r) × (is_limit r ≡ true)
-limit_given None r none some =
-    let is = none refl in
-    (sym is, ap is_limit is)
-limit_given (Some t) r none some =
-    let had = some t refl in
-    (ap Some (sym had.2) ∙ sym had.1, ap is_limit had.1 ∙ leb-true had.0 had.3)
-  where
-    leb-true : (n : ℕ) → 1 ≤ n → nat_le 1 n ≡ true
-    leb-true n lt = grind (arith, nat_tests)
-
--- the same, within limits
-pub bounded_given : (low high : ℕ) (given : Option Text) (r : Option ℕ) → (given ≡ None → r ≡ None)
+pub limits_given : (low high : ℕ) (P : ℕ → Type 0) (given : Option Text) (r : Option ℕ) → ((n : ℕ) → low ≤ n → n ≤ high → P n) → (given ≡ None → r ≡ None)
     → ((t : Text) → given ≡ Some t → (n : ℕ) × (r ≡ Some n) × (n ≡ number_of t) × (low ≤ n) × (n ≤ high))
-    → (option_map number_of given ≡ r) × IfSome r (λ n. (low ≤ n) × (n ≤ high))
-bounded_given low high None r none some =
-    let is = none refl in
-    (sym is, subst (λ (o : Option ℕ). IfSome o (λ n. (low ≤ n) × (n ≤ high))) (sym is) tt)
-bounded_given low high (Some t) r none some =
+    → (option_map number_of given ≡ r) × IfSome r P
+limits_given low high P None r fits none some = (sym (none refl), subst (λ (o : Option ℕ). IfSome o P) (sym (none refl)) tt)
+limits_given low high P (Some t) r fits none some =
     let had = some t refl in
-    (ap Some (sym had.2) ∙ sym had.1, subst (λ (o : Option ℕ). IfSome o (λ n. (low ≤ n) × (n ≤ high))) (sym had.1) (had.3, had.4))
+    (ap Some (sym had.2) ∙ sym had.1, subst (λ (o : Option ℕ). IfSome o P) (sym had.1) (fits had.0 had.3 had.4))
 
 pub none_some : {X : Type 0} (x : X) → None ≡ Some x → ⊥
 none_some x same = cc

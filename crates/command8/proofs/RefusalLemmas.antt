@@ -1,21 +1,15 @@
 -- What arguments that are not refused have.
-use Rattle.std.proofs.Common.{◌≡◌, ◌∙◌, ◌&&◌, ◌||◌, ◌≤◌, ◌+◌, Bool, true, false, true≢false, not, if◌then◌else◌, arith, ap, map, option_map, refl, suc, subst, sym, codes, is_some, length, List, [], ◌∷◌, Option, None, Some}
-use Rattle.std.specs.Prelude.{find, option_and_then, slice_get, unwrap_or}
-use Rattle.std.specs.Str.{bytes_eq}
-use Rattle.clap.specs.Values.{read_as}
-use Rattle.clap.specs.Walk.{row_text}
-use Rattle.clap.specs.Words.{Row, Text, first_of, one_of}
+use Rattle.command8.proofs.Names.{both, length-map, ◌≡◌, ◌∙◌, ◌||◌, ◌≤◌, ◌+◌, Bool, true, false, true≢false, not, if◌then◌else◌, arith, ap, map, option_map, refl, subst, sym, codes, is_some, length, List, [], ◌∷◌, Option, None, Some, find, option_and_then, slice_get, unwrap_or, bytes_eq, read_as, row_text, Row, Text, first_of, one_of}
+use Rattle.clap.specs.declared.builder.value_parser.Reading.{Reading}
 use Rattle.command8.specs.declared.refusals.What.{What}
 use Rattle.command8.specs.declared.refusals.What.TheVariants as what
 use Rattle.command8.specs.declared.table.Kind.{Kind}
 use Rattle.command8.specs.declared.table.Verb.{Verb}
 use Rattle.command8.specs.declared.table.Verb.TheVariants as verb
 use Rattle.command8.specs.Found.{capitals, has, is_set, names_in, number_in, number_of, place_of, values_of}
-use Rattle.command8.specs.FoundSteps.{AllHold, Has}
+use Rattle.command8.specs.Steps.{AllHold, Has, kind_at, IsWhole, Needs}
 use Rattle.command8.specs.Refusals.{Bad, Saying, bad_block, blocks_missing, blocks_word, both_given, first_bad, input_twice, is_alone, missing, missing_of, moved_missing, names_input_twice, names_one, names_some, or_else, refusal_of, saying_of_bad, together, unexpected, extra_argument}
 use Rattle.command8.specs.Tables.{Entry, entry_named, rows_for}
-use Rattle.command8.specs.TableSteps.{kind_at}
-use Rattle.command8.specs.TaskSteps.{IsWhole, Needs}
 use Rattle.command8.specs.Tasks.{after}
 use Rattle.command8.proofs.FoundLemmas.{all_well}
 use Rattle.command8.proofs.WalkLemmas.{some_eq}
@@ -55,71 +49,66 @@ entry_needs name values entry is whole none =
       map_none saying_of_bad (bad_block values) (or_second (option_map saying_of_bad (first_bad (rows_for which) values)) _ four),
     )
 
+-- ## Tests that were passed
+
+-- a test after which something is refused
+passed : {X : Type 0} (b : Bool) (x : X) (later : Option X) → (if not b then Some x else later) ≡ None → (b ≡ true) × (later ≡ None)
+passed true x later none = (refl, none)
+passed false x later none = absurd (cc)
+
+-- the last of several
+met : {X : Type 0} (b : Bool) (x : X) → (if b then None else Some x) ≡ None → b ≡ true
+met true x none = refl
+met false x none = absurd (cc)
+
+right_true : (x y : Bool) → (x || y) ≡ true → x ≡ false → y ≡ true
+right_true true y is off = absurd (true≢false off)
+right_true false y is off = is
+
 -- ## What words have with nothing missing
 
-left_true : (x y : Bool) → (x && y) ≡ true → x ≡ true
-left_true true y is = refl
-left_true false y is = absurd (true≢false (sym is))
-
-some_what : (w : What) → Some w ≡ None → ⊥
-some_what w is = cc
-
--- one file to be got has a name where `--at` does not tell it
+-- one file to be got has a name where `--at` does not give it
 pub one_named : (values : List Row) → missing_of verb.Get values ≡ None → is_set (codes "blocks") values ≡ false → has (codes "into") values ≡ false
     → has (codes "at") values ≡ false → Has (codes "NAME") values
 one_named values none no_blocks one free =
-    named (is_alone (codes "at") (codes "NAME") values) refl
-    (left_true _ _ (left_true _ _ (left_true _ _ (is_one (names_some values) (names_one values)
-    (sym (ap (λ b. if not (names_some values) then Some what.Name else if b || names_one values then None else Some what.Into) one)
-    ∙ (sym (ap (λ b. if b then blocks_missing values
-    else if not (names_some values) then Some what.Name else if has (codes "into") values || names_one values then None else Some what.Into) no_blocks) ∙ none))))))
+    named (is_alone (codes "NAME") (codes "at") values) refl (both _ _ (both _ _ (both _ _ (right_true _ _ (met _ _ (passed _ _ _ (got _ no_blocks none)).1) one)).0).0).0
   where
-    is_one : (some one : Bool) → (if not some then Some what.Name else if false || one then None else Some what.Into) ≡ None → one ≡ true
-    is_one some true is = refl
-    is_one true false is = absurd (some_what what.Into is)
-    is_one false false is = absurd (some_what what.Name is)
+    got : (blocks : Bool) → blocks ≡ false → (if blocks then blocks_missing values
+        else if not (names_some values) then Some what.Name else if has (codes "into") values || names_one values then None else Some what.Into) ≡ None
+        → (if not (names_some values) then Some what.Name else if has (codes "into") values || names_one values then None else Some what.Into) ≡ None
+    got true is none = absurd (true≢false is)
+    got false is none = none
 
-    named : (at : Bool) → is_alone (codes "at") (codes "NAME") values ≡ at → (is_alone (codes "NAME") (codes "at") values || at) ≡ true
+    named : (alone : Bool) → is_alone (codes "NAME") (codes "at") values ≡ alone → (alone || is_alone (codes "at") (codes "NAME") values) ≡ true
         → Has (codes "NAME") values
-    named true same is = absurd (true≢false (sym (left_true _ _ (left_true _ _ same)) ∙ free))
-    named false same is = go (is_alone (codes "NAME") (codes "at") values) refl is
-      where
-        go : (b : Bool) → is_alone (codes "NAME") (codes "at") values ≡ b → (b || false) ≡ true → Has (codes "NAME") values
-        go true alone is = left_true _ _ (left_true _ _ alone)
-        go false alone is = absurd (true≢false (sym is))
+    named true alone is = (both _ _ (both _ _ alone).0).0
+    named false alone is = absurd (true≢false (sym (both _ _ (both _ _ is).0).0 ∙ free))
 
--- a file that is named anew or copied has a name where `--at` does not tell it
-pub moved_named : (id : Text) (one both : What) (values : List Row) → moved_missing id one both values ≡ None → Has (codes "NAME") values
-moved_named id one both values none = go (has (codes "NAME") values) none
+moved_parts : (id : Text) (one both : What) (values : List Row) → moved_missing id one both values ≡ None
+    → Has (codes "NAME") values × ((if has (codes "at") values || has id values then None else Some one) ≡ None)
+moved_parts id one both values none = go (has (codes "NAME") values) (has (codes "at") values) none
   where
-    go : (name : Bool) → (if not name then (if has (codes "at") values then Some one else Some both)
-        else if has (codes "at") values || has id values then None else Some one) ≡ None → name ≡ true
-    go true none = refl
-    go false none = absurd (missed (has (codes "at") values) none)
-      where
-        missed : (at : Bool) → (if at then Some one else Some both) ≡ None → ⊥
-        missed true is = some_what one is
-        missed false is = some_what both is
+    go : (name at : Bool) → (if not name then (if at then Some one else Some both) else if has (codes "at") values || has id values then None else Some one) ≡ None
+        → (name ≡ true) × ((if has (codes "at") values || has id values then None else Some one) ≡ None)
+    go true at none = (refl, none)
+    go false true none = absurd (cc)
+    go false false none = absurd (cc)
+
+-- a file that is named anew or copied has a name where `--at` does not give it
+pub moved_named : (id : Text) (one both : What) (values : List Row) → moved_missing id one both values ≡ None → Has (codes "NAME") values
+moved_named id one both values none = (moved_parts id one both values none).0
 
 -- and the argument after it is there
 pub moved_after : (id : Text) (one both : What) (values : List Row) → moved_missing id one both values ≡ None
     → Has (after (codes "NAME") id values) values
-moved_after id one both values none = go (has (codes "at") values) refl
+moved_after id one both values none = go (has (codes "at") values) (met _ _ parts.1)
   where
-    named : Has (codes "NAME") values
-    named = moved_named id one both values none
+    parts : Has (codes "NAME") values × ((if has (codes "at") values || has id values then None else Some one) ≡ None)
+    parts = moved_parts id one both values none
 
-    told : (at own : Bool) → at ≡ false → (if at || own then None else Some one) ≡ None → own ≡ true
-    told true own is none = absurd (true≢false is)
-    told false true is none = refl
-    told false false is none = absurd (some_what one none)
-
-    go : (at : Bool) → has (codes "at") values ≡ at → is_some (first_of (if at then codes "NAME" else id) values) ≡ true
-    go true at_is = named
-    go false at_is =
-        told (has (codes "at") values) (has id values) at_is
-        (sym (ap (λ b. if not b then (if has (codes "at") values then Some one else Some both)
-        else if has (codes "at") values || has id values then None else Some one) named) ∙ none)
+    go : (at : Bool) → (at || has id values) ≡ true → is_some (first_of (if at then codes "NAME" else id) values) ≡ true
+    go true is = parts.0
+    go false is = is
 
 -- the first value of an argument is the first of its values
 pub some_values : (id : Text) (values : List Row) → has id values ≡ true → 1 ≤ length (values_of id values)
@@ -134,87 +123,50 @@ some_values id values is = go (find (λ r. bytes_eq r.id id) values) is
     go None is = absurd (true≢false (sym is))
     go (Some r) is = by_values r.values is
 
-length_map : {X Y : Type 0} (f : X → Y) (xs : List X) → length (map f xs) ≡ length xs
-length_map f [] = refl
-length_map f (x ∷ xs) = ap suc (length_map f xs)
-
 -- at least one file is taken out
 pub some_deleted : {X Y : Type 0} (values : List Row) (names : List X) (places : List Y) (text_of : X → Text) (read : Text → Option Y)
     → missing_of verb.Delete values ≡ None → names_in (codes "NAME") values ≡ map text_of names
     → map read (values_of (codes "at") values) ≡ map (λ place. Some place) places → 1 ≤ length names + length places
-some_deleted values names places text_of read none named placed = go (has (codes "NAME") values) (has (codes "at") values) refl refl none
+some_deleted values names places text_of read none named placed = go (has (codes "NAME") values) refl (met _ _ none)
   where
-    go : (a b : Bool) → has (codes "NAME") values ≡ a → has (codes "at") values ≡ b → (if a || b then None else Some what.Name) ≡ None
-        → 1 ≤ length names + length places
-    go true b a_is b_is none =
-        let count : length (values_of (codes "NAME") values) ≡ length names =
-        sym (length_map capitals (values_of (codes "NAME") values)) ∙ (ap length named ∙ length_map text_of names) in
-        omega (arith, some_values (codes "NAME") values a_is, count)
-    go false true a_is b_is none =
-        let count : length (values_of (codes "at") values) ≡ length places =
-        sym (length_map read (values_of (codes "at") values)) ∙ (ap length placed ∙ length_map (λ place. Some place) places) in
-        omega (arith, some_values (codes "at") values b_is, count)
-    go false false a_is b_is none = absurd (some_what what.Name none)
+    named_count : length (values_of (codes "NAME") values) ≡ length names
+    named_count = sym (length-map (values_of (codes "NAME") values) capitals) ∙ (ap length named ∙ length-map names text_of)
+
+    placed_count : length (values_of (codes "at") values) ≡ length places
+    placed_count = sym (length-map (values_of (codes "at") values) read) ∙ (ap length placed ∙ length-map places (λ place. Some place))
+
+    go : (a : Bool) → has (codes "NAME") values ≡ a → (a || has (codes "at") values) ≡ true → 1 ≤ length names + length places
+    go true is some = omega (arith, some_values (codes "NAME") values is, named_count)
+    go false is some = omega (arith, some_values (codes "at") values some, placed_count)
 
 -- a new volume with no number of blocks is that of a DECtape
 pub sized_tape : (values : List Row) → missing_of verb.Create values ≡ None → option_map number_of (one_of (codes "BLOCKS") values) ≡ None → is_set (codes "dectape") values ≡ true
-sized_tape values none unnumbered = go (has (codes "BLOCKS") values) (is_set (codes "dectape") values) refl none
+sized_tape values none unnumbered = right_true _ _ (met _ _ none) (no_row (find (λ r. bytes_eq r.id (codes "BLOCKS")) values) unnumbered)
   where
-    no_text : (o : Option Text) → option_map number_of o ≡ None → o ≡ None
-    no_text None is = refl
-    no_text (Some text) is = absurd (cc)
+    no_value : (how : Reading) (o : Option Text) → option_map number_of (option_map (read_as how) o) ≡ None → is_some o ≡ false
+    no_value how None is = refl
+    no_value how (Some text) is = absurd (cc)
 
-    unsized : one_of (codes "BLOCKS") values ≡ None
-    unsized = no_text (one_of (codes "BLOCKS") values) unnumbered
-
-    no_first : (o : Option Row) → option_and_then row_text o ≡ None
-        → is_some (option_and_then (λ (r : Row). slice_get r.values 0) o) ≡ true → ⊥
-    no_first None is has = true≢false (sym has)
-    no_first (Some r) is has = by_value (slice_get r.values 0) is has
-      where
-        by_value : (o : Option Text) → option_map (read_as r.reading) o ≡ None → is_some o ≡ true → ⊥
-        by_value None is has = true≢false (sym has)
-        by_value (Some text) is has = cc
-
-    go : (blocks tape : Bool) → has (codes "BLOCKS") values ≡ blocks → (if blocks || tape then None else Some what.Blocks) ≡ None → tape ≡ true
-    go blocks true sized none = refl
-    go true false sized none = absurd (no_first (find (λ r. bytes_eq r.id (codes "BLOCKS")) values) unsized sized)
-    go false false sized none = absurd (some_what what.Blocks none)
+    no_row : (o : Option Row) → option_map number_of (option_and_then row_text o) ≡ None → is_some (option_and_then (λ (r : Row). slice_get r.values 0) o) ≡ false
+    no_row None is = refl
+    no_row (Some r) is = no_value r.reading (slice_get r.values 0) is
 
 -- the argument after a file takes a text
 pub after_takes : (takes : Option Kind → Bool) (which : Verb) (moved own : Text) (values : List Row) → takes (kind_at moved (rows_for which)) ≡ true
     → takes (kind_at own (rows_for which)) ≡ true → takes (kind_at (after moved own values) (rows_for which)) ≡ true
-after_takes takes which moved own values one other = go (has (codes "at") values)
-  where
-    go : (at : Bool) → takes (kind_at (if at then moved else own) (rows_for which)) ≡ true
-    go true = one
-    go false = other
+after_takes takes which moved own values one other =
+    elim (has (codes "at") values) as (λ at. takes (kind_at (if at then moved else own) (rows_for which)) ≡ true) [ true ↦ one | false ↦ other ]
 
 -- the two numbers of blocks are some
-pub first_read : (values : List Row) → is_set (codes "blocks") values ≡ true → bad_block values ≡ None
-    → is_some (number_in 0 4094 (blocks_word 0 values)) ≡ true
-first_read values blocks none = go (is_some (number_in 0 4094 (blocks_word 0 values))) (sym (ap (λ b. if not b then None else if not (is_some (number_in 0 4094 (blocks_word 0 values)))
-    then Some (codes "<FIRST>", codes "not a block, 0 to 4094", blocks_word 0 values) else later) blocks) ∙ none)
+pub blocks_read : (values : List Row) → is_set (codes "blocks") values ≡ true → bad_block values ≡ None
+    → (is_some (number_in 0 4094 (blocks_word 0 values)) ≡ true) × (is_some (number_in 1 4095 (blocks_word 1 values)) ≡ true)
+blocks_read values blocks none =
+    let first = passed _ _ _ (got (is_set (codes "blocks") values) _ blocks none) in
+    (first.0, (passed _ _ _ first.1).0)
   where
-    later : Option Bad
-    later = if not (is_some (number_in 1 4095 (blocks_word 1 values))) then Some (codes "<COUNT>", codes "not a number of blocks, 1 to 4095", blocks_word 1 values) else None
-
-    go : (b : Bool) → (if not b then Some (codes "<FIRST>", codes "not a block, 0 to 4094", blocks_word 0 values) else later) ≡ None → b ≡ true
-    go true is = refl
-    go false is = absurd (cc)
-
-pub count_read : (values : List Row) → is_set (codes "blocks") values ≡ true → bad_block values ≡ None
-    → is_some (number_in 1 4095 (blocks_word 1 values)) ≡ true
-count_read values blocks none = go (is_some (number_in 1 4095 (blocks_word 1 values))) (sym (ap (λ b. if not b then Some (codes "<FIRST>", codes "not a block, 0 to 4094", blocks_word 0 values) else later (is_some (number_in 1 4095 (blocks_word 1 values)))) (first_read values blocks none))
-    ∙ (sym (ap (λ b. if not b then None else if not (is_some (number_in 0 4094 (blocks_word 0 values)))
-    then Some (codes "<FIRST>", codes "not a block, 0 to 4094", blocks_word 0 values) else later (is_some (number_in 1 4095 (blocks_word 1 values)))) blocks) ∙ none))
-  where
-    later : Bool → Option Bad
-    later b = if not b then Some (codes "<COUNT>", codes "not a number of blocks, 1 to 4095", blocks_word 1 values) else None
-
-    go : (b : Bool) → later b ≡ None → b ≡ true
-    go true is = refl
-    go false is = absurd (cc)
+    got : (b : Bool) (later : Option Bad) → b ≡ true → (if not b then None else later) ≡ None → later ≡ None
+    got true later is none = none
+    got false later is none = absurd (true≢false (sym is))
 
 -- what gives no block was not given
 pub not_placed : (o : Option Text) → option_map place_of o ≡ None → is_some o ≡ false

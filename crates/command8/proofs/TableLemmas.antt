@@ -1,20 +1,10 @@
 -- Each subcommand of a sound table, as clap builds it: words in which it finds no fault give each argument what the table says of it.
-use Rattle.std.proofs.Common.{◌≡◌, ◌∙◌, ◌||◌, ◌≤◌, ◌⊎◌, ℕ, Bool, cond, codes, true, false, not, refl, sym, ap, arith, subst, true≢false, inl, inr, List, [], ◌∷◌, ◌++◌, map, Option, Some, None, length}
-use Rattle.std.specs.Prelude.{⊤, ◌==◌, find, option_map, unwrap_or}
-use Rattle.std.specs.List.{list_all, list_any}
-use Rattle.std.specs.Str.{bytes_eq}
-use Rattle.std.proofs.lemmas.Bool.Decides.{nat_tests}
-use Rattle.std.proofs.lemmas.Slice.Eq.{bytes_eq-Decides}
-use Rattle.clap.proofs.WalkLemmas.{both}
-use Rattle.clap.specs.Lexer.{usize_max}
-use Rattle.clap.specs.Walk.{Row, Rule, Text, action_of, arg_by_id, rows_after}
-use Rattle.clap.specs.Simple.{Shape, filled, filled_from, help_rule, index_after, with_index}
+use Rattle.command8.proofs.Names.{or_parts, is_false, ◌≡◌, ◌∙◌, ◌||◌, ◌≤◌, ◌⊎◌, ℕ, Bool, cond, codes, true, false, not, refl, sym, ap, arith, subst, true≢false, inl, inr, List, [], ◌∷◌, ◌++◌, map, Option, Some, None, length, ⊤, ◌==◌, find, option_map, unwrap_or, list_all, list_any, bytes_eq, nat_tests, bytes_eq-Decides, both, usize_max, Row, Rule, Text, action_of, arg_by_id, rows_after, Shape, filled, filled_from, help_rule, index_after, with_index}
 use Rattle.clap.specs.declared.builder.action.ArgAction.TheVariants.{Append, Set, SetTrue}
 use Rattle.command8.specs.declared.table.Kind.{Kind}
 use Rattle.command8.specs.declared.table.Kind.TheVariants.{Word, Value, Words, Size, Flag, One, Many, Count}
 use Rattle.command8.specs.Tables.{Argument, Entry, are_distinct, kind_rule, leaf_shape, rule_with_letter, most_steps, rows_for, rule_for, rules_for}
-use Rattle.command8.specs.TableSteps.{can_be_required, fits, ids_of, is_fit, is_sound}
-use Rattle.command8.specs.FoundSteps.{AllHold, HasSomeWhere, HasWhere, IsTaken}
+use Rattle.command8.specs.Steps.{can_be_required, fits, ids_of, is_fit, is_sound, AllHold, HasSomeWhere, HasWhere, IsTaken}
 use Rattle.command8.proofs.LeafLemmas.{Faultless, IsLeaf, below, fit, has_number, has_word, one_up_to}
 use Rattle.command8.proofs.RefusalLemmas.{some_values}
 use Rattle.command8.proofs.WalkLemmas.{AllRules, Fits, TakesSome}
@@ -32,31 +22,19 @@ same_text text = (bytes_eq-Decides text text).1 refl
 -- a rule in front of others, of which it has the name of none
 own_behind : (x : Rule) (c rest : List Rule) → list_any (λ other. bytes_eq other x.id) (map (λ r. r.id) rest) ≡ false → AllOwn c rest → AllOwn (x ∷ c) rest
 own_behind x c [] none all = tt
-own_behind x c (a ∷ rest) none all = (here (bytes_eq x.id a.id) refl, own_behind x c rest (right_false _ _ none) all.1)
+own_behind x c (a ∷ rest) none all = (here (bytes_eq x.id a.id) refl, own_behind x c rest (or_parts _ _ none).1 all.1)
   where
-    right_false : (a b : Bool) → (a || b) ≡ false → b ≡ false
-    right_false true b none = absurd (true≢false none)
-    right_false false b none = none
-
-    left_false : (a b : Bool) → (a || b) ≡ false → a ≡ false
-    left_false true b none = absurd (true≢false none)
-    left_false false b none = refl
-
     here : (b : Bool) → bytes_eq x.id a.id ≡ b → cond b (Some x) (arg_by_id c a.id) ≡ Some a
     here false other = all.0
     here true same =
         let named : x.id ≡ a.id = (bytes_eq-Decides x.id a.id).0 same in
-        absurd (true≢false (sym (subst (λ (t : Text). bytes_eq a.id t ≡ true) (sym named) (same_text a.id)) ∙ left_false _ _ none))
-
-not_true : (b : Bool) → not b ≡ true → b ≡ false
-not_true true is = absurd (true≢false (sym is))
-not_true false is = refl
+        absurd (true≢false (sym (subst (λ (t : Text). bytes_eq a.id t ≡ true) (sym named) (same_text a.id)) ∙ (or_parts _ _ none).0))
 
 all_own : (c : List Rule) → are_distinct (map (λ r. r.id) c) ≡ true → AllOwn c c
 all_own [] distinct = tt
 all_own (x ∷ xs) distinct =
     let parts = both _ _ distinct in
-    (ap (λ b. cond b (Some x) (arg_by_id xs x.id)) (same_text x.id), own_behind x xs xs (not_true _ parts.0) (all_own xs parts.1))
+    (ap (λ b. cond b (Some x) (arg_by_id xs x.id)) (same_text x.id), own_behind x xs xs (is_false _ parts.0) (all_own xs parts.1))
 
 ids_filled : (i : ℕ) (rules : List Rule) → map (λ (r : Rule). r.id) (filled_from i rules) ≡ map (λ (r : Rule). r.id) rules
 ids_filled i [] = refl

@@ -1,34 +1,18 @@
 -- Words in which clap finds no fault name a subcommand of the table, with what its arguments say.
-use Rattle.std.proofs.Common.{◌≡◌, ◌≢◌, Result, Ok, Err, IfErr, ◌∙◌, ◌||◌, Bool, cond, codes, true, false, refl, sym, ap, subst, inl, inr, true≢false, List, [], ◌∷◌, ◌++◌, map, Option, Some, None, is_some}
-use Rattle.std.specs.Prelude.{find, option_map}
-use Rattle.std.specs.List.{list_all}
-use Rattle.std.specs.Option.{option_map_or}
-use Rattle.std.specs.Str.{bytes_eq}
-use Rattle.std.proofs.lemmas.List.{map-append}
-use Rattle.std.proofs.lemmas.Simd.{map-map}
-use Rattle.std.proofs.lemmas.Slice.Eq.{bytes_eq-Decides}
-use Rattle.clap.proofs.WalkLemmas.{both}
-use Rattle.clap.specs.Walk.{Row, Text, answers_to, nothing_held, walk}
-use Rattle.clap.specs.Simple.{App, Shape, argument_words, built, built_leaf, entered, help_shape, inherited, label_of, marked_built, names_of, rows_at, subcommand_of}
-use Rattle.clap.specs.Kinds.{HasKind, IsAmong}
-use Rattle.clap.specs.Faults.{entered_fault, fault_of, level_fault}
-use Rattle.clap.specs.Words.{HasMatchesOf, is_simple, is_simple_and_free, kind_of, subcommand_rows_of, app_of, takes}
+use Rattle.command8.proofs.Names.{or-false, ◌≡◌, ◌≢◌, Result, Ok, Err, IfErr, ◌∙◌, Bool, cond, codes, true, false, refl, sym, ap, subst, inl, inr, true≢false, List, [], ◌∷◌, ◌++◌, map, Option, Some, None, is_some, find, option_map, list_all, option_map_or, bytes_eq, map-append, map-map, bytes_eq-Decides, both, Row, Text, answers_to, nothing_held, walk, App, Shape, argument_words, built, built_leaf, entered, help_shape, inherited, label_of, marked_built, names_of, rows_at, subcommand_of, HasKind, IsAmong, entered_fault, fault_of, level_fault, HasMatchesOf, is_simple, is_simple_and_free, kind_of, subcommand_rows_of, app_of, takes}
 use Rattle.clap.specs.declared.builder.command.Command.{Command}
 use Rattle.clap.specs.declared.parser.matches.ArgMatches.{ArgMatches}
 use Rattle.clap.specs.declared.error.Error.{Error}
 use Rattle.clap.specs.declared.error.kind.ErrorKind.TheVariants.{OutOfMemory}
 use Rattle.task8.specs.declared.tasks.Task.{Task}
-use Rattle.command8.specs.CommandSteps.{IsCommand}
+use Rattle.command8.specs.Steps.{IsCommand, is_sound, GivesMet, HasMet, IsWhole}
 use Rattle.command8.specs.declared.faults.TaskFault.{TaskFault}
 use Rattle.command8.specs.declared.faults.TaskFault.TheVariants.{Words, Memory, Refused}
 use Rattle.command8.specs.Tables.{Entry, entry_named, leaf_shape, pdp8, table}
-use Rattle.command8.specs.TableSteps.{is_sound}
 use Rattle.command8.specs.Tasks.{Answers, Asks, IsFaultOf, IsPastClap, Refuses}
-use Rattle.command8.specs.TaskSteps.{GivesMet, HasMet, IsWhole}
 use Rattle.command8.proofs.LeafLemmas.{above, below}
 use Rattle.command8.proofs.TableLemmas.{entry_holds}
-use Rattle.command8.proofs.StopLemmas.{IsNoHelp, level_stops}
-use Rattle.command8.proofs.WalkLemmas.{some_eq}
+use Rattle.command8.proofs.WalkLemmas.{AllRules, IsNoHelp, level_stops, some_eq}
 
 -- ## The table
 
@@ -64,19 +48,15 @@ same_way a b = go (bytes_eq a b) (bytes_eq b a) refl refl
     go true false one other = absurd (true≢false (sym ((bytes_eq-Decides b a).1 (sym ((bytes_eq-Decides a b).0 one))) ∙ other))
     go false true one other = absurd (true≢false (sym ((bytes_eq-Decides a b).1 (sym ((bytes_eq-Decides b a).0 other))) ∙ one))
 
-or_false : (b : Bool) → (b || false) ≡ b
-or_false true = refl
-or_false false = refl
-
 -- a word but `help` names the subcommand of its entry
 pub subs_found : (word : Text) (entries : List Entry) → bytes_eq word (codes "help") ≡ false
     → find (λ s. answers_to word (label_of s)) (map below (map leaf_shape entries) ++ below help_shape ∷ [])
     ≡ option_map (λ entry. below (leaf_shape entry)) (find (λ entry. bytes_eq word entry.word) entries)
 subs_found word [] no_help =
-    ap (λ b. cond b (Some (below help_shape)) None) (or_false (bytes_eq (codes "help") word) ∙ (same_way (codes "help") word ∙ no_help))
+    ap (λ b. cond b (Some (below help_shape)) None) (or-false (bytes_eq (codes "help") word) ∙ (same_way (codes "help") word ∙ no_help))
 subs_found word (x ∷ xs) no_help =
     ap (λ b. cond b (Some (below (leaf_shape x))) (find (λ s. answers_to word (label_of s)) (map below (map leaf_shape xs) ++ below help_shape ∷ [])))
-    (or_false (bytes_eq x.word word) ∙ same_way x.word word) ∙ go (bytes_eq word x.word) (subs_found word xs no_help)
+    (or-false (bytes_eq x.word word) ∙ same_way x.word word) ∙ go (bytes_eq word x.word) (subs_found word xs no_help)
   where
     go : (b : Bool) → find (λ s. answers_to word (label_of s)) (map below (map leaf_shape xs) ++ below help_shape ∷ [])
         ≡ option_map (λ entry. below (leaf_shape entry)) (find (λ entry. bytes_eq word entry.word) xs)
@@ -117,13 +97,17 @@ entered_whole (Some p) past met none = subst Fits (sym found) (go (find (λ entr
         let had = found_entry p.0 table entry sound is in
         (entry, subst (λ (word : Text). entry_named word ≡ Some entry) (sym had.0) is, entry_holds entry had.1 p.1 none)
 
+-- the program's own arguments take no value
+top_rules : AllRules (built pdp8).top.rules (built pdp8).top.rules
+top_rules = (record { own = refl; takes = inr (λ set. cc) }, (record { own = refl; takes = inr (λ set. cc) }, tt))
+
 -- words with no fault ask for a subcommand that has what it needs
 pub task_whole : (words : List Text) → fault_of pdp8 words ≡ [] → HasMet (subcommand_of pdp8 words)
 task_whole words none =
     let top = (built pdp8).top in
     let names = names_of (built pdp8) in
     let stop = (walk top.rules names nothing_held (argument_words pdp8 words)).stopped in
-    let stops = level_stops top names nothing_held (argument_words pdp8 words) (is_some (entered (built pdp8) stop)) (entered_fault (built pdp8) stop) refl refl none in
+    let stops = level_stops top refl refl refl top_rules names (argument_words pdp8 words) (is_some (entered (built pdp8) stop)) (entered_fault (built pdp8) stop) none in
     entered_whole stop stops.0 stops.1 stops.2
 
 -- ## What a parse says of the words

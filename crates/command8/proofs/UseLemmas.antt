@@ -1,18 +1,5 @@
 -- Plain words and long options, as a subcommand takes them one after the other.
-use Rattle.std.proofs.Common.{◌≡◌, ◌∙◌, ◌&&◌, ◌||◌, if◌then◌else◌, ℕ, Bool, cond, true, false, not, refl, ap, sym, List, [], ◌∷◌, Option, Some, None, is_some, true≢false}
-use Rattle.std.specs.Prelude.{⊤, fold, nat_lt, option_and_then, ◌==◌}
-use Rattle.std.specs.List.{list_all}
-use Rattle.std.specs.Option.{option_map_or}
-use Rattle.std.specs.Str.{bytes_eq}
-use Rattle.std.proofs.lemmas.Bool.{ne_eqb}
-use Rattle.std.proofs.lemmas.Slice.Eq.{bytes_eq-Decides}
-use Rattle.clap.proofs.WalkLemmas.{both}
-use Rattle.clap.specs.Lexer.{long_of, long_of_rest, short_of, short_of_rest, strip_byte}
-use Rattle.clap.specs.Walk.{Held, Row, Rule, Step, Text, Waiting, Walk}
-use Rattle.clap.specs.Walk.{idle, option, positional, next, trailing, value}
-use Rattle.clap.specs.Walk.{after_flag, after_step, arg_by_id, arg_by_index, arg_by_long, finished, flag_met, is_multiple, long_met, long_or_other, most_values, next_position, nothing_held, option_met, option_word, pending_count, plain_word, positional_held, pushed, reacted, rows_after, settled, short_or_plain, subcommand_met, subcommand_or_other, takes_values, to_positional, walked, word_met}
-use Rattle.clap.specs.Simple.{Shape}
-use Rattle.clap.specs.Takes.{bundle_passes, default_passes, flag_word_passes, is_valid, level_passes, long_passes, option_passes, other_passes, positional_passes, react_passes, settle_passes, step_passes, walk_passes, word_passes}
+use Rattle.command8.proofs.Names.{is_false, ◌≡◌, ◌∙◌, ◌&&◌, ◌||◌, if◌then◌else◌, ℕ, Bool, cond, true, false, not, refl, ap, sym, List, [], ◌∷◌, Option, Some, None, is_some, true≢false, ⊤, fold, nat_lt, option_and_then, ◌==◌, list_all, option_map_or, bytes_eq, ne_eqb, bytes_eq-Decides, both, long_of, long_of_rest, short_of, short_of_rest, strip_byte, Held, Row, Rule, Step, Text, Waiting, Walk, idle, option, positional, next, trailing, value, after_flag, after_step, arg_by_id, arg_by_index, arg_by_long, finished, flag_met, is_multiple, long_met, long_or_other, most_values, next_position, nothing_held, option_met, option_word, pending_count, plain_word, positional_held, pushed, reacted, rows_after, settled, short_or_plain, subcommand_met, subcommand_or_other, takes_values, to_positional, walked, word_met, Shape, bundle_passes, default_passes, flag_word_passes, is_valid, level_passes, long_passes, option_passes, other_passes, positional_passes, react_passes, settle_passes, step_passes, walk_passes, word_passes}
 use Rattle.command8.specs.Plain.{ArePlain, IsPlain, Use, alone, in_place, with_value, words_of}
 use Rattle.command8.proofs.EnterLemmas.{both_true}
 use Rattle.command8.proofs.NumberLemmas.{none_some}
@@ -216,10 +203,6 @@ if_some : {X : Type 0} (b : Bool) (o : Option X) (x : X) → (if b then o else N
 if_some true o x is = (refl, is)
 if_some false o x is = absurd (none_some x is)
 
-not_true : (b : Bool) → not b ≡ true → b ≡ false
-not_true true is = absurd (true≢false (sym is))
-not_true false is = refl
-
 all_go : (s : Shape) (uses : List Use) (h : Held) (waiting : Waiting) (position : ℕ) (last : Held) → IsFree waiting → ArePlain uses
     → comes s h position uses ≡ Some last → Goes s h waiting position (words_of uses) last
 unfolding walk_passes
@@ -238,7 +221,7 @@ all_go s (in_place id word ∷ rest) h waiting position last free plain is =
     go later (Some a) found is =
         let had = if_some _ _ last is in
         let tests = both _ _ had.0 in
-        place_goes s a word (words_of rest) h waiting position last free (no_option word plain.0) found tests.0 (not_true a.trailing_var_arg tests.1) (later a had.1)
+        place_goes s a word (words_of rest) h waiting position last free (no_option word plain.0) found tests.0 (is_false a.trailing_var_arg tests.1) (later a had.1)
 all_go s (alone id ∷ rest) h waiting position last free plain is =
     go (λ a. all_go s rest (reacted s.rules a [] h) idle position last tt plain) (arg_by_long s.rules id) refl is
   where
@@ -252,7 +235,7 @@ all_go s (alone id ∷ rest) h waiting position last free plain is =
         let had = if_some _ _ last is in
         let reads = both _ _ had.0 in
         let tests = both _ _ reads.1 in
-        flag_goes s a id (words_of rest) h waiting position last (named_as s a id false reads.0 found (not_true (takes_values a) tests.0)) tests.1 (later a had.1)
+        flag_goes s a id (words_of rest) h waiting position last (named_as s a id false reads.0 found (is_false (takes_values a) tests.0)) tests.1 (later a had.1)
 all_go s (with_value id word ∷ rest) h waiting position last free plain is =
     go (λ a. all_go s rest (option_held s.rules a word h) idle position last tt plain.1) (arg_by_long s.rules id) refl is
   where

@@ -129,10 +129,6 @@ wait_of values = unwrap_or (option_and_then (number_in 0 3600) (first_of (codes 
 abbrev pub number_of : Text → ℕ
 number_of text = digits_value 10 (without_leading_plus text)
 
--- a limit is 1 up, if there is one
-abbrev pub is_limit : Option ℕ → Bool
-is_limit steps = option_map_or (λ count. nat_le 1 count) steps true
-
 -- what was given is read as this number, if it was given
 abbrev pub IsReadAs : (Text → Option ℕ) → Option Text → Option ℕ → Type 0
 IsReadAs read given number = option_and_then read given ≡ number

@@ -1,7 +1,7 @@
 -- What is refused of a command line that `clap` takes: the first that is wrong with it, in this order. First come two arguments that exclude
 -- each other, then one that is missing, then standard input named twice, and then an argument too many. Then comes a value that is none of its
 -- kind, by the order of the table. The two numbers of `get --blocks` come last.
-use Rattle.std.specs.Prelude.{◌+◌, ◌&&◌, ◌||◌, not, Bool, false, if◌then◌else◌, ℕ, nat_lt, codes, is_some, List, [], ◌∷◌, Option, None, Some, option_map, unwrap_or}
+use Rattle.std.specs.Prelude.{◌+◌, ◌&&◌, ◌||◌, not, Bool, if◌then◌else◌, ℕ, nat_lt, codes, is_some, List, [], ◌∷◌, Option, None, Some, option_map, unwrap_or}
 use Rattle.std.specs.Str.{bytes_eq}
 use Rattle.clap.specs.Words.{Row, Text, first_of}
 use Rattle.word12.specs.declared.sizes.TheConstants.{MOST_BLOCKS}
@@ -90,10 +90,14 @@ blocks_missing values =
 abbrev pub puts_many : List Row → Bool
 puts_many values = not (has (codes "as") values)
 
+-- how many of the names are that of standard input
+abbrev pub input_count : List Text → ℕ
+input_count [] = 0
+input_count (name ∷ names) = (if bytes_eq name (codes "-") then 1 else 0) + input_count names
+
 -- standard input is among these files
 abbrev pub names_input : List Text → Bool
-names_input [] = false
-names_input (name ∷ names) = bytes_eq name (codes "-") || names_input names
+names_input names = nat_lt 0 (input_count names)
 
 -- of a file and the argument after it, which stands in the place of the name where `--at` gives the file
 abbrev pub moved_missing : Text → What → What → List Row → Option What
@@ -140,11 +144,6 @@ missing_of verb.Copy values = moved_missing (codes "TO") what.To what.NameAndTo 
 missing_of which values = None
 
 -- ## Standard input named twice
-
--- how many of the names are that of standard input
-abbrev pub input_count : List Text → ℕ
-input_count [] = 0
-input_count (name ∷ names) = (if bytes_eq name (codes "-") then 1 else 0) + input_count names
 
 abbrev pub names_input_twice : List Row → Bool
 names_input_twice values = nat_lt 1 (input_count (values_of (codes "FILE") values))

@@ -37,24 +37,24 @@ Entry = EntryOf Text
 abbrev pub TextAnd : Type 0 → Type 0
 TextAnd A = record { now : A }
 
-abbrev pub declared_row : ArgumentOf (TextAnd Text) → Argument
-declared_row row = record {
-  id = row.id.now;
+-- a row and an entry whose texts are read so
+abbrev pub row_with : {T : Type 0} → (T → Text) → ArgumentOf T → Argument
+row_with text row = record {
+  id = text row.id;
   letter = row.letter;
   kind = row.kind;
   is_required = row.is_required;
   is_hidden = row.is_hidden;
-  value = row.value.now;
-  title = row.title.now;
-  help = row.help.now;
+  value = text row.value;
+  title = text row.title;
+  help = text row.help;
 }
 
-abbrev pub declared_entry : EntryOf (TextAnd Text) → Entry
-declared_entry entry = record {
-  verb = entry.verb;
-  word = entry.word.now;
-  usage = entry.usage.now;
-}
+abbrev pub entry_with : {T : Type 0} → (T → Text) → EntryOf T → Entry
+entry_with text entry = record { verb = entry.verb; word = text entry.word; usage = text entry.usage }
+
+abbrev declared_row : ArgumentOf (TextAnd Text) → Argument
+declared_row row = row_with (λ text. text.now) row
 
 -- the arguments of a subcommand
 abbrev pub rows_for : Verb → List Argument
@@ -83,13 +83,10 @@ rows_for verb.Scan = map declared_row SCAN.now
 
 -- the subcommands
 abbrev pub table : List Entry
-table = map declared_entry COMMANDS.now
-
-abbrev declared_pair : TextAnd Text × TextAnd Text → Text × Text
-declared_pair pair = (pair.0.now, pair.1.now)
+table = map (entry_with (λ (text : TextAnd Text). text.now)) COMMANDS.now
 
 abbrev pub pairs : List (Text × Text)
-pairs = map declared_pair PAIRS.now
+pairs = map (λ (pair : TextAnd Text × TextAnd Text). (pair.0.now, pair.1.now)) PAIRS.now
 
 -- ## The kinds of argument
 

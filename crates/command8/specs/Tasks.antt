@@ -1,6 +1,6 @@
 -- What a command line asks of the program. The words are read as the library `clap` reads them: its own definitions say which words a command
 -- takes, what they mean, and the kinds of error that others meet.
-use Rattle.std.specs.Prelude.{◌≡◌, ◌≢◌, ◌≤◌, ◌<◌, ◌+◌, ⊤, true, false, if◌then◌else◌, ℕ, codes, List, [], ◌∷◌, Option, None, Some, Result, Ok, Err, is_some, length, map, option_and_then, option_map}
+use Rattle.std.specs.Prelude.{◌≡◌, ◌≢◌, ◌≤◌, ◌<◌, ◌+◌, ⊤, true, false, if◌then◌else◌, ℕ, codes, List, [], ◌∷◌, Option, None, Some, Result, Ok, Err, is_some, length, map, IfSome, option_and_then, option_map}
 use Rattle.clap.specs.Words.{Row, Text, all_of, first_of, fault_of, kind_of, one_of, subcommand_of, IsAmong}
 use Rattle.clap.specs.declared.error.Error.{Error}
 use Rattle.clap.specs.declared.error.kind.ErrorKind.TheVariants.{OutOfMemory}
@@ -9,34 +9,18 @@ use Rattle.char_pack.specs.declared.forms.GetForm.TheVariants as get_as
 use Rattle.char_pack.specs.declared.forms.PutForm.{PutForm}
 use Rattle.char_pack.specs.declared.forms.PutForm.TheVariants as put_as
 use Rattle.word12.specs.declared.sizes.TheConstants.{MOST_BLOCKS}
-use Rattle.task8.specs.declared.archives.BlockSpan.{BlockSpan}
-use Rattle.task8.specs.declared.archives.PatchForm.{PatchForm}
-use Rattle.task8.specs.declared.archives.IndexForm.{IndexForm}
 use Rattle.task8.specs.declared.archives.LineForm.{LineForm}
 use Rattle.task8.specs.declared.archives.LineForm.TheVariants.{Columns, Json}
-use Rattle.task8.specs.declared.archives.RescueForm.{RescueForm}
-use Rattle.task8.specs.declared.archives.ScanForm.{ScanForm}
-use Rattle.task8.specs.declared.forms.BlocksForm.{BlocksForm}
-use Rattle.task8.specs.declared.forms.CheckForm.{CheckForm}
-use Rattle.task8.specs.declared.forms.CopyForm.{CopyForm}
 use Rattle.task8.specs.declared.forms.CreateForm.{CreateForm}
-use Rattle.task8.specs.declared.forms.DeleteForm.{DeleteForm}
 use Rattle.task8.specs.declared.forms.FileForm.{FileForm}
 use Rattle.task8.specs.declared.forms.FileForm.TheVariants.{Name, At}
-use Rattle.task8.specs.declared.forms.GetManyForm.{GetManyForm}
 use Rattle.task8.specs.declared.forms.ImageForm.{ImageForm}
-use Rattle.task8.specs.declared.forms.PutManyForm.{PutManyForm}
-use Rattle.task8.specs.declared.forms.PutOneForm.{PutOneForm}
 use Rattle.task8.specs.declared.forms.TapeForm.{TapeForm}
 use Rattle.task8.specs.declared.forms.TapeForm.TheVariants.{File, Member}
 use Rattle.task8.specs.declared.forms.TextsForm.{TextsForm}
-use Rattle.task8.specs.declared.tasks.AssembleForm.{AssembleForm}
-use Rattle.task8.specs.declared.tasks.TeletypeForm.{TeletypeForm}
 use Rattle.task8.specs.declared.tasks.TraceForm.{TraceForm}
 use Rattle.task8.specs.declared.tasks.RimForm.{RimForm}
 use Rattle.task8.specs.declared.tasks.RimForm.TheVariants.{Lines, Bin}
-use Rattle.task8.specs.declared.tasks.RunForm.{RunForm}
-use Rattle.task8.specs.declared.tasks.SourceForm.{SourceForm}
 use Rattle.task8.specs.declared.tasks.Saving.{Saving}
 use Rattle.task8.specs.declared.tasks.Saving.TheVariants.{AtEnd, Never, Always}
 use Rattle.task8.specs.declared.tasks.Task.{Task}
@@ -48,7 +32,7 @@ use Rattle.command8.specs.declared.refusals.Refusal.{Refusal}
 use Rattle.command8.specs.declared.table.TheConstants.{MOST_IMAGES}
 use Rattle.command8.specs.declared.table.Verb.{Verb}
 use Rattle.command8.specs.declared.table.Verb.TheVariants as verb
-use Rattle.command8.specs.Found.{IsReadAs, bits_of, cell_of, date_word, has, is_limit, is_set, layout_of, name_in, names_in, number_in, number_of, place_of, span_of, values_of, wait_of, word_of, year_of}
+use Rattle.command8.specs.Found.{IsReadAs, bits_of, cell_of, date_word, has, is_set, layout_of, name_in, names_in, number_in, number_of, place_of, span_of, values_of, wait_of, word_of, year_of}
 use Rattle.command8.specs.Refusals.{blocks_word, input_count, puts_many, refusal_of, saying_of}
 use Rattle.command8.specs.Tables.{Entry, entry_named, pdp8}
 
@@ -70,57 +54,31 @@ put_form values = if is_set (codes "text") values then put_as.Text else put_as.F
 abbrev pub saving_of : List Row → Saving
 saving_of values = if is_set (codes "look") values then Never else if is_set (codes "keep") values then Always else AtEnd
 
--- a script is run so
-abbrev pub IsRunForm : List Row → RunForm → Type 0
-IsRunForm values form = (form.saving ≡ saving_of values) × (form.is_strict ≡ is_set (codes "strict") values)
+-- the volume in the file that an argument names, where in it, and how many seconds are waited for it
+abbrev pub IsImage : Text → ℕ → List Row → ImageForm → Type 0
+IsImage id wait values image = (first_of id values ≡ Some image.file.bytes.items)
+    × (layout_of (codes "volume") (codes "dectape") values ≡ image.layout) × (image.wait ≡ wait)
 
 -- ## The sources and the Teletype
 
 -- the volume that has the sources, if one is named, and how long it is waited for
 abbrev pub IsFrom : List Row → Option ImageForm → Type 0
 IsFrom values None = has (codes "from") values ≡ false
-IsFrom values (Some image) = (first_of (codes "from") values ≡ Some image.file.bytes.items)
-    × (layout_of (codes "volume") (codes "dectape") values ≡ image.layout) × (image.wait ≡ wait_of values)
+IsFrom values (Some image) = IsImage (codes "from") (wait_of values) values image
 
 -- the sources: files of that volume, else of the host
 abbrev pub source_names : List Row → List Text
 source_names values = if has (codes "from") values then names_in (codes "FILE") values else values_of (codes "FILE") values
 
--- sources are assembled so
-abbrev pub IsAssembleForm : List Row → AssembleForm → Type 0
-IsAssembleForm values form =
-    (source_names values ≡ map (λ file. file.bytes.items) form.sources.items)
-    × IsFrom values form.from × (name_in (codes "onto") values ≡ option_map (λ name. name.bytes.items) form.onto)
-    × (first_of (codes "output") values ≡ option_map (λ file. file.bytes.items) form.output)
-    × (first_of (codes "list") values ≡ option_map (λ file. file.bytes.items) form.list)
-    × (form.is_cross ≡ is_set (codes "cross") values)
-    × (form.is_pal8 ≡ is_set (codes "pal8") values)
-
 -- a tape: a file of the host, or the file of a volume where one is named
 abbrev pub IsTape : List Row → TapeForm → Type 0
 IsTape values (File file) = (has (codes "NAME") values ≡ false) × (first_of (codes "TAPE") values ≡ Some file.bytes.items)
-IsTape values (Member image name) = (first_of (codes "TAPE") values ≡ Some image.file.bytes.items)
-    × (layout_of (codes "volume") (codes "dectape") values ≡ image.layout) × (image.wait ≡ 0)
-    × (name_in (codes "NAME") values ≡ Some name.bytes.items)
+IsTape values (Member image name) = IsImage (codes "TAPE") 0 values image × (name_in (codes "NAME") values ≡ Some name.bytes.items)
 
 -- and where none is named, that of standard input
 abbrev pub IsTapeOrInput : List Row → Option TapeForm → Type 0
 IsTapeOrInput values None = has (codes "TAPE") values ≡ false
 IsTapeOrInput values (Some tape) = IsTape values tape
-
--- the source of a tape is written so
-abbrev pub IsSourceForm : List Row → SourceForm → Type 0
-IsSourceForm values form = IsTapeOrInput values form.tape
-    × (map cell_of (values_of (codes "start") values) ≡ map (λ start. Some start) form.starts.items)
-    × (first_of (codes "names") values ≡ option_map (λ names. names.bytes.items) form.names)
-
--- the Teletype is run so
-abbrev pub IsTeletypeForm : List Row → TeletypeForm → Type 0
-IsTeletypeForm values form = IsTape values form.tape
-    × IsReadAs cell_of (first_of (codes "start") values) form.start
-    × IsReadAs word_of (first_of (codes "switches") values) form.switches
-    × (option_map number_of (one_of (codes "steps") values) ≡ form.steps)
-    × (form.is_raw ≡ is_set (codes "raw") values) × (form.is_live ≡ is_set (codes "live") values)
 
 -- a tape is traced or profiled so
 abbrev pub IsTraceForm : List Row → TraceForm → Type 0
@@ -132,17 +90,12 @@ IsTraceForm values form = IsTape values form.tape
 
 -- ## The files of volumes
 
--- the file of a volume, where in it, and how many seconds are waited for it
-abbrev pub IsImage : ℕ → List Row → ImageForm → Type 0
-IsImage wait values image = (first_of (codes "IMAGE") values ≡ Some image.file.bytes.items)
-    × (layout_of (codes "volume") (codes "dectape") values ≡ image.layout) × (image.wait ≡ wait)
-
 -- one that is only looked at, and one that may be changed
 abbrev pub IsSeen : List Row → ImageForm → Type 0
-IsSeen values image = IsImage 0 values image
+IsSeen values image = IsImage (codes "IMAGE") 0 values image
 
 abbrev pub IsChanged : List Row → ImageForm → Type 0
-IsChanged values image = IsImage (wait_of values) values image
+IsChanged values image = IsImage (codes "IMAGE") (wait_of values) values image
 
 -- the file whose first block `--at` gives, else that of the name
 abbrev pub IsFile : List Row → FileForm → Type 0
@@ -176,90 +129,16 @@ abbrev pub IsInfo : List Row → Option (List ℕ) → Type 0
 IsInfo values info = info_or (first_of (codes "date") values) (given_info values)
     ≡ option_map (map (λ word. Some word)) info
 
--- files are got so
-abbrev pub IsGetManyForm : List Row → GetManyForm → Type 0
-IsGetManyForm values form = IsSeen values form.image
-    × (names_in (codes "NAME") values ≡ map (λ name. name.bytes.items) form.names.items)
-    × ArePlaces values form.places.items × (form.is_all ≡ is_set (codes "all") values)
-    × (first_of (codes "into") values ≡ Some form.folder.bytes.items) × AreTexts values form.texts
-    × (form.is_forced ≡ is_set (codes "force") values)
-
--- blocks are got so
-abbrev pub IsBlocksForm : List Row → BlocksForm → Type 0
-IsBlocksForm values form = IsSeen values form.image × (number_in 0 4094 (blocks_word 0 values) ≡ Some form.first)
-    × (number_in 1 MOST_BLOCKS (blocks_word 1 values) ≡ Some form.count) × (form.form ≡ get_form values)
-
--- a file is put so under a name that is given
-abbrev pub IsPutOneForm : List Row → PutOneForm → Type 0
-IsPutOneForm values form = IsChanged values form.image × (first_of (codes "FILE") values ≡ Some form.file.bytes.items)
-    × (name_in (codes "as") values ≡ Some form.name.bytes.items) × (form.form ≡ put_form values)
-    × (form.may_empty ≡ is_set (codes "empty") values) × IsInfo values (option_map (λ words. words.items) form.info)
-
--- files of the host are put so
-abbrev pub IsPutManyForm : List Row → PutManyForm → Type 0
-IsPutManyForm values form = IsChanged values form.image
-    × (values_of (codes "FILE") values ≡ map (λ file. file.bytes.items) form.files.items)
-    × AreTexts values form.texts × (form.may_empty ≡ is_set (codes "empty") values)
-    × IsInfo values (option_map (λ words. words.items) form.info)
-
--- files are taken out so
-abbrev pub IsDeleteForm : List Row → DeleteForm → Type 0
-IsDeleteForm values form = IsChanged values form.image
-    × (names_in (codes "NAME") values ≡ map (λ name. name.bytes.items) form.names.items)
-    × ArePlaces values form.places.items
-
--- a file is copied so
-abbrev pub IsCopyForm : List Row → CopyForm → Type 0
-IsCopyForm values form = IsSeen values form.image × IsFile values form.file
-    × (first_of (after (codes "NAME") (codes "TO") values) values ≡ Some form.to.file.bytes.items)
-    × (layout_of (codes "to-volume") (codes "to-dectape") values ≡ form.to.layout) × (form.to.wait ≡ wait_of values)
-    × (name_in (after (codes "TO") (codes "NEW") values) values ≡ option_map (λ name. name.bytes.items) form.new)
-
--- volumes are checked so
-abbrev pub IsCheckForm : List Row → CheckForm → Type 0
-IsCheckForm values form = (values_of (codes "IMAGE") values ≡ map (λ image. image.bytes.items) form.images.items)
-    × (layout_of (codes "volume") (codes "dectape") values ≡ form.layout) × (form.is_all ≡ is_set (codes "all") values)
-
 -- a new volume is written so
 abbrev pub IsCreateForm : List Row → CreateForm → Type 0
 IsCreateForm values form = (first_of (codes "IMAGE") values ≡ Some form.file.bytes.items)
     × (form.is_new ≡ is_set (codes "new") values) × (form.wait ≡ wait_of values)
-
--- ## The blocks of volumes
-
--- blocks are shown so
-abbrev pub IsBlockSpan : List Row → BlockSpan → Type 0
-IsBlockSpan values form = IsSeen values form.image × (form.span ≡ option_and_then span_of (first_of (codes "BLOCK") values))
-    × (form.is_sixbit ≡ is_set (codes "sixbit") values)
-
--- a word is patched so
-abbrev pub IsPatchForm : List Row → PatchForm → Type 0
-IsPatchForm values form = IsChanged values form.image
-    × (option_and_then place_of (first_of (codes "BLOCK") values) ≡ Some form.block)
-    × (option_and_then (number_in 0 0o377) (first_of (codes "WORD") values) ≡ Some form.number)
-    × (option_and_then bits_of (first_of (codes "OLD") values) ≡ Some form.old)
-    × (option_and_then word_of (first_of (codes "NEW") values) ≡ Some form.new)
 
 -- ## Whole archives, and what damaged volumes hold
 
 -- the lines of an index: JSON objects, else columns
 abbrev pub line_form : List Row → LineForm
 line_form values = if is_set (codes "json") values then Json else Columns
-
--- an index is made so
-abbrev pub IsIndexForm : List Row → IndexForm → Type 0
-IsIndexForm values form = (values_of (codes "IMAGE") values ≡ map (λ image. image.bytes.items) form.images.items)
-    × (layout_of (codes "volume") (codes "dectape") values ≡ form.layout) × (form.year ≡ year_of values)
-    × (form.form ≡ line_form values) × (name_in (codes "find") values ≡ option_map (λ pattern. pattern.bytes.items) form.find)
-    × (first_of (codes "grep") values ≡ option_map (λ text. text.bytes.items) form.grep)
-
--- files are rescued so
-abbrev pub IsRescueForm : List Row → RescueForm → Type 0
-IsRescueForm values form = IsSeen values form.image × (first_of (codes "NEW") values ≡ Some form.new.bytes.items)
-
--- blocks are scanned so
-abbrev pub IsScanForm : List Row → ScanForm → Type 0
-IsScanForm values form = IsSeen values form.image × (first_of (codes "into") values ≡ option_map (λ folder. folder.bytes.items) form.into)
 
 -- ## The task
 
@@ -271,8 +150,11 @@ GetsOne values = (is_set (codes "blocks") values ≡ false) × (has (codes "into
 abbrev pub AsksFor : Verb → List Row → Task → Type 0
 AsksFor which values (Tape tape) = (which ≡ verb.Tape) × IsTapeOrInput values tape
 AsksFor which values (Rim tape form) = (which ≡ verb.Rim) × IsTapeOrInput values tape × (form ≡ rim_form values)
-AsksFor which values (Source form) = (which ≡ verb.Source) × IsSourceForm values form
-AsksFor which values (Run image form) = (which ≡ verb.Run) × IsChanged values image × IsRunForm values form
+AsksFor which values (Source form) = (which ≡ verb.Source) × IsTapeOrInput values form.tape
+    × (map cell_of (values_of (codes "start") values) ≡ map (λ start. Some start) form.starts.items)
+    × (first_of (codes "names") values ≡ option_map (λ names. names.bytes.items) form.names)
+AsksFor which values (Run image form) = (which ≡ verb.Run) × IsChanged values image × (form.saving ≡ saving_of values)
+    × (form.is_strict ≡ is_set (codes "strict") values)
 AsksFor which values (Create form blocks) = (which ≡ verb.Create) × IsCreateForm values form
     × (is_set (codes "dectape") values ≡ false) × (option_map number_of (one_of (codes "BLOCKS") values) ≡ Some blocks)
 AsksFor which values (CreateTape form) = (which ≡ verb.Create) × IsCreateForm values form
@@ -285,24 +167,58 @@ AsksFor which values (Get image file form) = (which ≡ verb.Get) × GetsOne val
 AsksFor which values (GetBin image file) = (which ≡ verb.Get) × GetsOne values × IsSeen values image
     × IsFile values file × (is_set (codes "bin") values ≡ true)
 AsksFor which values (GetMany form) = (which ≡ verb.Get) × (is_set (codes "blocks") values ≡ false)
-    × IsGetManyForm values form
+    × IsSeen values form.image
+    × (names_in (codes "NAME") values ≡ map (λ name. name.bytes.items) form.names.items)
+    × ArePlaces values form.places.items × (form.is_all ≡ is_set (codes "all") values)
+    × (first_of (codes "into") values ≡ Some form.folder.bytes.items) × AreTexts values form.texts
+    × (form.is_forced ≡ is_set (codes "force") values)
 AsksFor which values (GetBlocks form) = (which ≡ verb.Get) × (is_set (codes "blocks") values ≡ true)
-    × IsBlocksForm values form
-AsksFor which values (Put form) = (which ≡ verb.Put) × (puts_many values ≡ false) × IsPutOneForm values form
-AsksFor which values (PutMany form) = (which ≡ verb.Put) × (puts_many values ≡ true) × IsPutManyForm values form
-AsksFor which values (Delete form) = (which ≡ verb.Delete) × IsDeleteForm values form
+    × IsSeen values form.image × (number_in 0 4094 (blocks_word 0 values) ≡ Some form.first)
+    × (number_in 1 MOST_BLOCKS (blocks_word 1 values) ≡ Some form.count) × (form.form ≡ get_form values)
+AsksFor which values (Put form) = (which ≡ verb.Put) × (puts_many values ≡ false) × IsChanged values form.image
+    × (first_of (codes "FILE") values ≡ Some form.file.bytes.items)
+    × (name_in (codes "as") values ≡ Some form.name.bytes.items) × (form.form ≡ put_form values)
+    × (form.may_empty ≡ is_set (codes "empty") values) × IsInfo values (option_map (λ words. words.items) form.info)
+AsksFor which values (PutMany form) = (which ≡ verb.Put) × (puts_many values ≡ true) × IsChanged values form.image
+    × (values_of (codes "FILE") values ≡ map (λ file. file.bytes.items) form.files.items)
+    × AreTexts values form.texts × (form.may_empty ≡ is_set (codes "empty") values)
+    × IsInfo values (option_map (λ words. words.items) form.info)
+AsksFor which values (Delete form) = (which ≡ verb.Delete) × IsChanged values form.image
+    × (names_in (codes "NAME") values ≡ map (λ name. name.bytes.items) form.names.items)
+    × ArePlaces values form.places.items
 AsksFor which values (Rename image file new) = (which ≡ verb.Rename) × IsChanged values image × IsFile values file
     × (name_in (after (codes "NAME") (codes "NEW") values) values ≡ Some new.bytes.items)
-AsksFor which values (Copy form) = (which ≡ verb.Copy) × IsCopyForm values form
+AsksFor which values (Copy form) = (which ≡ verb.Copy) × IsSeen values form.image × IsFile values form.file
+    × (first_of (after (codes "NAME") (codes "TO") values) values ≡ Some form.to.file.bytes.items)
+    × (layout_of (codes "to-volume") (codes "to-dectape") values ≡ form.to.layout) × (form.to.wait ≡ wait_of values)
+    × (name_in (after (codes "TO") (codes "NEW") values) values ≡ option_map (λ name. name.bytes.items) form.new)
 AsksFor which values (Squeeze image) = (which ≡ verb.Squeeze) × IsChanged values image
-AsksFor which values (Check form) = (which ≡ verb.Check) × IsCheckForm values form
-AsksFor which values (Dump form) = (which ≡ verb.Dump) × IsBlockSpan values form
-AsksFor which values (Patch form) = (which ≡ verb.Patch) × IsPatchForm values form
-AsksFor which values (Index form) = (which ≡ verb.Index) × IsIndexForm values form
-AsksFor which values (Rescue form) = (which ≡ verb.Rescue) × IsRescueForm values form
-AsksFor which values (Scan form) = (which ≡ verb.Scan) × IsScanForm values form
-AsksFor which values (Assemble form) = (which ≡ verb.Assemble) × IsAssembleForm values form
-AsksFor which values (Teletype form) = (which ≡ verb.Teletype) × IsTeletypeForm values form
+AsksFor which values (Check form) = (which ≡ verb.Check) × (values_of (codes "IMAGE") values ≡ map (λ image. image.bytes.items) form.images.items)
+    × (layout_of (codes "volume") (codes "dectape") values ≡ form.layout) × (form.is_all ≡ is_set (codes "all") values)
+AsksFor which values (Dump form) = (which ≡ verb.Dump) × IsSeen values form.image × (form.span ≡ option_and_then span_of (first_of (codes "BLOCK") values))
+    × (form.is_sixbit ≡ is_set (codes "sixbit") values)
+AsksFor which values (Patch form) = (which ≡ verb.Patch) × IsChanged values form.image
+    × (option_and_then place_of (first_of (codes "BLOCK") values) ≡ Some form.block)
+    × (option_and_then (number_in 0 0o377) (first_of (codes "WORD") values) ≡ Some form.number)
+    × (option_and_then bits_of (first_of (codes "OLD") values) ≡ Some form.old)
+    × (option_and_then word_of (first_of (codes "NEW") values) ≡ Some form.new)
+AsksFor which values (Index form) = (which ≡ verb.Index) × (values_of (codes "IMAGE") values ≡ map (λ image. image.bytes.items) form.images.items)
+    × (layout_of (codes "volume") (codes "dectape") values ≡ form.layout) × (form.year ≡ year_of values)
+    × (form.form ≡ line_form values) × (name_in (codes "find") values ≡ option_map (λ pattern. pattern.bytes.items) form.find)
+    × (first_of (codes "grep") values ≡ option_map (λ text. text.bytes.items) form.grep)
+AsksFor which values (Rescue form) = (which ≡ verb.Rescue) × IsSeen values form.image × (first_of (codes "NEW") values ≡ Some form.new.bytes.items)
+AsksFor which values (Scan form) = (which ≡ verb.Scan) × IsSeen values form.image × (first_of (codes "into") values ≡ option_map (λ folder. folder.bytes.items) form.into)
+AsksFor which values (Assemble form) = (which ≡ verb.Assemble) × (source_names values ≡ map (λ file. file.bytes.items) form.sources.items)
+    × IsFrom values form.from × (name_in (codes "onto") values ≡ option_map (λ name. name.bytes.items) form.onto)
+    × (first_of (codes "output") values ≡ option_map (λ file. file.bytes.items) form.output)
+    × (first_of (codes "list") values ≡ option_map (λ file. file.bytes.items) form.list)
+    × (form.is_cross ≡ is_set (codes "cross") values)
+    × (form.is_pal8 ≡ is_set (codes "pal8") values)
+AsksFor which values (Teletype form) = (which ≡ verb.Teletype) × IsTape values form.tape
+    × IsReadAs cell_of (first_of (codes "start") values) form.start
+    × IsReadAs word_of (first_of (codes "switches") values) form.switches
+    × (option_map number_of (one_of (codes "steps") values) ≡ form.steps)
+    × (form.is_raw ≡ is_set (codes "raw") values) × (form.is_live ≡ is_set (codes "live") values)
 AsksFor which values (Trace form) = (which ≡ verb.Trace) × IsTraceForm values form
 AsksFor which values (Profile form) = (which ≡ verb.Profile) × IsTraceForm values form
 
@@ -339,9 +255,9 @@ HasFitBlocks (Index form) = (1 ≤ length form.images.items) × (length form.ima
 HasFitBlocks (Assemble form) = (1 ≤ length form.sources.items) × (length form.sources.items ≤ 8)
     × (form.from ≡ None → input_count (map (λ file. file.bytes.items) form.sources.items) ≤ 1)
     × (form.is_cross ≡ true → is_some form.list ≡ true) × (is_some form.onto ≡ true → is_some form.from ≡ true)
-HasFitBlocks (Teletype form) = is_limit form.steps ≡ true
-HasFitBlocks (Trace form) = is_limit form.steps ≡ true
-HasFitBlocks (Profile form) = is_limit form.steps ≡ true
+HasFitBlocks (Teletype form) = IfSome form.steps (λ steps. 1 ≤ steps)
+HasFitBlocks (Trace form) = IfSome form.steps (λ steps. 1 ≤ steps)
+HasFitBlocks (Profile form) = IfSome form.steps (λ steps. 1 ≤ steps)
 HasFitBlocks task = ⊤
 
 -- an error of `clap` as a fault: its want of memory is the program's

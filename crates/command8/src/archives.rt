@@ -1,31 +1,30 @@
 //! What is asked of whole archives, and of volumes whose directories may be damaged.
 ghost use Rattle.std.specs.Prelude.{◌≡◌, ◌≤◌, codes, option_and_then, IfOk, Some};
-ghost use Rattle.clap.specs.Words.{first_of, found_of, rows_of};
+ghost use Rattle.clap.specs.Words.{first_of};
 ghost use Rattle.command8.specs.Found as spec;
-ghost use Rattle.command8.specs.FoundSteps.{Has, IsFirst};
+ghost use Rattle.command8.specs.Steps.{Has, IsFirst, IsAskedBy, Needs, values_in};
 ghost use Rattle.command8.specs.Tasks as tasks;
-ghost use Rattle.command8.specs.TaskSteps.{IsAskedBy, Needs};
 ghost use Rattle.command8.specs.declared.table.Form.TheVariants as form;
 ghost use Rattle.command8.specs.declared.table.Verb.TheVariants as verb;
 
 use crate::found::{
-    flag, layout_of, name_if_given, span_of, text_given, value_if_given, value_of, values_of,
+    Read, flag, layout_of, name_if_given, span_of, text_given, value_if_given, value_of, values_of,
     year_of,
 };
 use crate::numbers::{bits_in, number_of, word_in};
 use crate::table::Verb;
 use crate::volumes::{changed_image, image_of};
 use clap::ArgMatches;
-use std::alloc::{AllocError, Global};
+use std::alloc::Global;
 use task8::{BlockSpan, IndexForm, LineForm, PatchForm, RescueForm, ScanForm, Task};
 use word12::{MOST_BLOCKS, Word};
 
 /// The blocks that are to be shown.
-pub fn dump(alloc: Global, found: &ArgMatches<'_>) -> Result<Task, AllocError>
-    requires { Needs verb.Dump (rows_of (found_of found.now)) }
-    ensures { IfOk result (IsAskedBy verb.Dump (rows_of (found_of found.now))) }
+pub fn dump(alloc: Global, found: &ArgMatches<'_>) -> Read<Task>
+    requires { Needs verb.Dump (values_in found.now) }
+    ensures { IfOk result (IsAskedBy verb.Dump (values_in found.now)) }
 {
-    let image = image_of(alloc, found, Verb::Dump)?;
+    let image = image_of(alloc, found, Verb::Dump, "IMAGE")?;
     Ok(Task::Dump(BlockSpan {
         image,
         span: span_of(found, Verb::Dump, "BLOCK"),
@@ -34,11 +33,11 @@ pub fn dump(alloc: Global, found: &ArgMatches<'_>) -> Result<Task, AllocError>
 }
 
 /// The word that is to be put in place of another.
-pub fn patch(alloc: Global, found: &ArgMatches<'_>) -> Result<Task, AllocError>
-    requires { Needs verb.Patch (rows_of (found_of found.now)) }
-    ensures { IfOk result (IsAskedBy verb.Patch (rows_of (found_of found.now))) }
+pub fn patch(alloc: Global, found: &ArgMatches<'_>) -> Read<Task>
+    requires { Needs verb.Patch (values_in found.now) }
+    ensures { IfOk result (IsAskedBy verb.Patch (values_in found.now)) }
 {
-    let image = changed_image(alloc, found, Verb::Patch)?;
+    let image = changed_image(alloc, found, Verb::Patch, "IMAGE")?;
     let form = PatchForm {
         image,
         block: block_given(found),
@@ -50,9 +49,9 @@ pub fn patch(alloc: Global, found: &ArgMatches<'_>) -> Result<Task, AllocError>
 }
 
 /// The images of which an index is to be made.
-pub fn index(alloc: Global, found: &ArgMatches<'_>) -> Result<Task, AllocError>
-    requires { Needs verb.Index (rows_of (found_of found.now)) }
-    ensures { IfOk result (IsAskedBy verb.Index (rows_of (found_of found.now))) }
+pub fn index(alloc: Global, found: &ArgMatches<'_>) -> Read<Task>
+    requires { Needs verb.Index (values_in found.now) }
+    ensures { IfOk result (IsAskedBy verb.Index (values_in found.now)) }
 {
     let images = values_of(alloc, found, Verb::Index, "IMAGE")?;
     let find = name_if_given(alloc, found, Verb::Index, "find")?;
@@ -69,7 +68,7 @@ pub fn index(alloc: Global, found: &ArgMatches<'_>) -> Result<Task, AllocError>
 
 /// How the lines of an index are to be written.
 fn line_form(found: &ArgMatches<'_>) -> LineForm
-    ensures { result ≡ tasks.line_form (rows_of (found_of found.now)) }
+    ensures { result ≡ tasks.line_form (values_in found.now) }
 {
     if flag(found, Verb::Index, "json") {
         return LineForm::Json;
@@ -78,39 +77,39 @@ fn line_form(found: &ArgMatches<'_>) -> LineForm
 }
 
 /// The volume whose files are to be rescued.
-pub fn rescue(alloc: Global, found: &ArgMatches<'_>) -> Result<Task, AllocError>
-    requires { Needs verb.Rescue (rows_of (found_of found.now)) }
-    ensures { IfOk result (IsAskedBy verb.Rescue (rows_of (found_of found.now))) }
+pub fn rescue(alloc: Global, found: &ArgMatches<'_>) -> Read<Task>
+    requires { Needs verb.Rescue (values_in found.now) }
+    ensures { IfOk result (IsAskedBy verb.Rescue (values_in found.now)) }
 {
-    let image = image_of(alloc, found, Verb::Rescue)?;
+    let image = image_of(alloc, found, Verb::Rescue, "IMAGE")?;
     let new = value_of(alloc, found, Verb::Rescue, "NEW")?;
     Ok(Task::Rescue(RescueForm { image, new }))
 }
 
 /// The volume whose blocks are to be scanned.
-pub fn scan(alloc: Global, found: &ArgMatches<'_>) -> Result<Task, AllocError>
-    requires { Needs verb.Scan (rows_of (found_of found.now)) }
-    ensures { IfOk result (IsAskedBy verb.Scan (rows_of (found_of found.now))) }
+pub fn scan(alloc: Global, found: &ArgMatches<'_>) -> Read<Task>
+    requires { Needs verb.Scan (values_in found.now) }
+    ensures { IfOk result (IsAskedBy verb.Scan (values_in found.now)) }
 {
-    let image = image_of(alloc, found, Verb::Scan)?;
+    let image = image_of(alloc, found, Verb::Scan, "IMAGE")?;
     let into = value_if_given(alloc, found, Verb::Scan, "into")?;
     Ok(Task::Scan(ScanForm { image, into }))
 }
 
 /// The block of the word.
 fn block_given(found: &ArgMatches<'_>) -> usize
-    requires given { Has (codes "BLOCK") (rows_of (found_of found.now)) }
-    requires first { IsFirst form.Block (codes "BLOCK") (rows_of (found_of found.now)) }
-    ensures { option_and_then spec.place_of (first_of (codes "BLOCK") (rows_of (found_of found.now))) ≡ Some result }
+    requires given { Has (codes "BLOCK") (values_in found.now) }
+    requires first { IsFirst form.Block (codes "BLOCK") (values_in found.now) }
+    ensures { option_and_then spec.place_of (first_of (codes "BLOCK") (values_in found.now)) ≡ Some result }
 {
     number_of(text_given(found, "BLOCK").as_bytes(), 0, MOST_BLOCKS)
 }
 
 /// The number of the word in its block.
 fn number_given(found: &ArgMatches<'_>) -> usize
-    requires given { Has (codes "WORD") (rows_of (found_of found.now)) }
-    requires first { IsFirst form.Index (codes "WORD") (rows_of (found_of found.now)) }
-    ensures value { option_and_then (spec.number_in 0 0o377) (first_of (codes "WORD") (rows_of (found_of found.now))) ≡ Some result }
+    requires given { Has (codes "WORD") (values_in found.now) }
+    requires first { IsFirst form.Index (codes "WORD") (values_in found.now) }
+    ensures value { option_and_then (spec.number_in 0 0o377) (first_of (codes "WORD") (values_in found.now)) ≡ Some result }
     ensures range { result ≤ 0o377 }
 {
     number_of(text_given(found, "WORD").as_bytes(), 0, 0o377)
@@ -118,9 +117,9 @@ fn number_given(found: &ArgMatches<'_>) -> usize
 
 /// The word that stands there.
 fn old_given(found: &ArgMatches<'_>) -> u16
-    requires given { Has (codes "OLD") (rows_of (found_of found.now)) }
-    requires first { IsFirst form.Bits (codes "OLD") (rows_of (found_of found.now)) }
-    ensures { option_and_then spec.bits_of (first_of (codes "OLD") (rows_of (found_of found.now))) ≡ Some result }
+    requires given { Has (codes "OLD") (values_in found.now) }
+    requires first { IsFirst form.Bits (codes "OLD") (values_in found.now) }
+    ensures { option_and_then spec.bits_of (first_of (codes "OLD") (values_in found.now)) ≡ Some result }
 {
     match bits_in(text_given(found, "OLD").as_bytes()) {
         Some(bits) => bits,
@@ -130,9 +129,9 @@ fn old_given(found: &ArgMatches<'_>) -> u16
 
 /// The word that is put there.
 fn new_given(found: &ArgMatches<'_>) -> Word
-    requires given { Has (codes "NEW") (rows_of (found_of found.now)) }
-    requires first { IsFirst form.Octal (codes "NEW") (rows_of (found_of found.now)) }
-    ensures { option_and_then spec.word_of (first_of (codes "NEW") (rows_of (found_of found.now))) ≡ Some result }
+    requires given { Has (codes "NEW") (values_in found.now) }
+    requires first { IsFirst form.Octal (codes "NEW") (values_in found.now) }
+    ensures { option_and_then spec.word_of (first_of (codes "NEW") (values_in found.now)) ≡ Some result }
 {
     match word_in(text_given(found, "NEW").as_bytes()) {
         Some(word) => word,

@@ -2,14 +2,13 @@
 ghost use Rattle.std.specs.Prelude.{◌≡◌, ◌<◌, true, codes, map, None};
 ghost use Rattle.std.specs.List.{list_all};
 ghost use Rattle.clap.specs.Words.{new_app};
-ghost use Rattle.command8.specs.CommandSteps.{IsArgument, IsCommand, IsDraft};
+ghost use Rattle.command8.specs.Steps.{IsArgument, IsCommand, IsDraft, entry_of, fits, is_fit, is_sound, row_of, option_rule, options_rule};
 ghost use Rattle.command8.specs.Tables.{bare_app, kind_rule, leaf_app, rule_with_letter, pdp8, rule_for};
-ghost use Rattle.command8.specs.TableSteps.{entry_of, fits, is_fit, is_sound, row_of, option_rule, options_rule};
 ghost use Rattle.command8.specs.Tables as spec;
 ghost use Rattle.command8.specs.declared.table.Kind.TheVariants as kind;
 
 use crate::table::{Argument, Entry, Kind, arguments_of, table};
-use crate::texts::{HELP, about_of, examples_of, long_about_of};
+use crate::texts::{HELP, texts_of};
 use clap::{Arg, ArgAction, Command};
 use std::alloc::{AllocError, Global};
 use word12::MOST_BLOCKS;
@@ -102,10 +101,11 @@ fn leaf_of<'a>(alloc: Global, entry: &'a Entry) -> Draft<'a>
 fn bare_leaf<'a>(alloc: Global, entry: &'a Entry) -> Command<'a>
     ensures { IsCommand result (new_app entry.now.word.now) }
 {
+    let texts = texts_of(entry.verb);
     Command::new(alloc, entry.word)
-        .about(about_of(entry.verb))
-        .long_about(long_about_of(entry.verb))
-        .after_long_help(examples_of(entry.verb))
+        .about(texts.about)
+        .long_about(texts.long_about)
+        .after_long_help(texts.examples)
 }
 
 /// The command `pdp8` with its subcommands.

@@ -1,21 +1,18 @@
 //! What is asked of the files of volumes.
 ghost use Rattle.std.specs.Prelude.{◌≡◌, ◌≤◌, codes, false, true, if◌then◌else◌, is_some, IfOk, Some};
-ghost use Rattle.clap.specs.Words.{found_of, rows_of};
 ghost use Rattle.command8.specs.Found.{has, is_set, number_in};
-ghost use Rattle.command8.specs.FoundSteps.{Has, IsFirst};
+ghost use Rattle.command8.specs.Steps.{Has, IsFirst, has_text, kind_at, takes_block, takes_texts, IsAskedBy, Needs, values_in};
 ghost use Rattle.command8.specs.Refusals as refusals;
 ghost use Rattle.command8.specs.Tables.{rows_for};
-ghost use Rattle.command8.specs.TableSteps.{has_text, kind_at, takes_block, takes_texts};
 ghost use Rattle.command8.specs.Tasks.{AreTexts, IsFile};
 ghost use Rattle.command8.specs.Tasks as spec;
-ghost use Rattle.command8.specs.TaskSteps.{IsAskedBy, Needs};
 ghost use Rattle.command8.specs.declared.table.Form.TheVariants as form;
 ghost use Rattle.command8.specs.declared.table.Kind.TheVariants as kind;
 ghost use Rattle.command8.specs.declared.table.Verb.TheVariants as verb;
 
 use crate::found::{
-    block_of, first_value_of, flag, has, layout_of, name_if_given, name_of, names_of, value_of,
-    values_of, wait_of,
+    Read, block_of, flag, has, layout_of, name_if_given, name_of, names_of, value_of, values_of,
+    wait_of,
 };
 use crate::judging::blocks_word;
 use crate::lists::{blocks_of, info_of};
@@ -25,7 +22,7 @@ use crate::table::Verb;
 use crate::volumes::{changed_image, image_of};
 use char_pack::{GetForm, PutForm};
 use clap::ArgMatches;
-use std::alloc::{AllocError, Global};
+use std::alloc::Global;
 use task8::{
     BlocksForm, CopyForm, DeleteForm, FileForm, GetManyForm, ImageForm, PutManyForm, PutOneForm,
     Task, TextsForm,
@@ -33,9 +30,9 @@ use task8::{
 use word12::MOST_BLOCKS;
 
 /// The files that are to be got, and how.
-pub fn get(alloc: Global, found: &ArgMatches<'_>) -> Result<Task, AllocError>
-    requires { Needs verb.Get (rows_of (found_of found.now)) }
-    ensures { IfOk result (IsAskedBy verb.Get (rows_of (found_of found.now))) }
+pub fn get(alloc: Global, found: &ArgMatches<'_>) -> Read<Task>
+    requires { Needs verb.Get (values_in found.now) }
+    ensures { IfOk result (IsAskedBy verb.Get (values_in found.now)) }
 {
     if flag(found, Verb::Get, "blocks") {
         return get_blocks(alloc, found);
@@ -47,12 +44,12 @@ pub fn get(alloc: Global, found: &ArgMatches<'_>) -> Result<Task, AllocError>
 }
 
 /// The blocks that are to be got.
-fn get_blocks(alloc: Global, found: &ArgMatches<'_>) -> Result<Task, AllocError>
-    requires needs { Needs verb.Get (rows_of (found_of found.now)) }
-    requires blocks { is_set (codes "blocks") (rows_of (found_of found.now)) ≡ true }
-    ensures { IfOk result (IsAskedBy verb.Get (rows_of (found_of found.now))) }
+fn get_blocks(alloc: Global, found: &ArgMatches<'_>) -> Read<Task>
+    requires needs { Needs verb.Get (values_in found.now) }
+    requires blocks { is_set (codes "blocks") (values_in found.now) ≡ true }
+    ensures { IfOk result (IsAskedBy verb.Get (values_in found.now)) }
 {
-    let image = image_of(alloc, found, Verb::Get)?;
+    let image = image_of(alloc, found, Verb::Get, "IMAGE")?;
     let first = block_number(found, 0, 0, 4094);
     let count = block_number(found, 1, 1, MOST_BLOCKS);
     Ok(Task::GetBlocks(BlocksForm {
@@ -65,21 +62,21 @@ fn get_blocks(alloc: Global, found: &ArgMatches<'_>) -> Result<Task, AllocError>
 
 /// An argument after the image, which is a number within these limits.
 fn block_number(found: &ArgMatches<'_>, index: usize, least: usize, most: usize) -> usize
-    requires { is_some (number_in least most (refusals.blocks_word index (rows_of (found_of found.now)))) ≡ true }
-    ensures value { number_in least most (refusals.blocks_word index (rows_of (found_of found.now))) ≡ Some result }
+    requires { is_some (number_in least most (refusals.blocks_word index (values_in found.now))) ≡ true }
+    ensures value { number_in least most (refusals.blocks_word index (values_in found.now)) ≡ Some result }
     ensures range { (least ≤ result) × (result ≤ most) }
 {
     number_of(blocks_word(found, index).as_bytes(), least, most)
 }
 
 /// The files that are to be got to a folder.
-fn get_many(alloc: Global, found: &ArgMatches<'_>) -> Result<Task, AllocError>
-    requires needs { Needs verb.Get (rows_of (found_of found.now)) }
-    requires no_blocks { is_set (codes "blocks") (rows_of (found_of found.now)) ≡ false }
-    requires many { has (codes "into") (rows_of (found_of found.now)) ≡ true }
-    ensures { IfOk result (IsAskedBy verb.Get (rows_of (found_of found.now))) }
+fn get_many(alloc: Global, found: &ArgMatches<'_>) -> Read<Task>
+    requires needs { Needs verb.Get (values_in found.now) }
+    requires no_blocks { is_set (codes "blocks") (values_in found.now) ≡ false }
+    requires many { has (codes "into") (values_in found.now) ≡ true }
+    ensures { IfOk result (IsAskedBy verb.Get (values_in found.now)) }
 {
-    let image = image_of(alloc, found, Verb::Get)?;
+    let image = image_of(alloc, found, Verb::Get, "IMAGE")?;
     let names = names_of(alloc, found, Verb::Get, "NAME")?;
     let places = blocks_of(alloc, found, Verb::Get, "at")?;
     let folder = value_of(alloc, found, Verb::Get, "into")?;
@@ -96,13 +93,13 @@ fn get_many(alloc: Global, found: &ArgMatches<'_>) -> Result<Task, AllocError>
 }
 
 /// The file that is to be got, and how.
-fn get_one(alloc: Global, found: &ArgMatches<'_>) -> Result<Task, AllocError>
-    requires needs { Needs verb.Get (rows_of (found_of found.now)) }
-    requires no_blocks { is_set (codes "blocks") (rows_of (found_of found.now)) ≡ false }
-    requires one { has (codes "into") (rows_of (found_of found.now)) ≡ false }
-    ensures { IfOk result (IsAskedBy verb.Get (rows_of (found_of found.now))) }
+fn get_one(alloc: Global, found: &ArgMatches<'_>) -> Read<Task>
+    requires needs { Needs verb.Get (values_in found.now) }
+    requires no_blocks { is_set (codes "blocks") (values_in found.now) ≡ false }
+    requires one { has (codes "into") (values_in found.now) ≡ false }
+    ensures { IfOk result (IsAskedBy verb.Get (values_in found.now)) }
 {
-    let image = image_of(alloc, found, Verb::Get)?;
+    let image = image_of(alloc, found, Verb::Get, "IMAGE")?;
     let file = file_of(alloc, found, Verb::Get)?;
     if flag(found, Verb::Get, "bin") {
         return Ok(Task::GetBin(image, file));
@@ -112,7 +109,7 @@ fn get_one(alloc: Global, found: &ArgMatches<'_>) -> Result<Task, AllocError>
 
 /// What is asked of a file.
 fn get_form(found: &ArgMatches<'_>) -> GetForm
-    ensures { result ≡ spec.get_form (rows_of (found_of found.now)) }
+    ensures { result ≡ spec.get_form (values_in found.now) }
 {
     if flag(found, Verb::Get, "tape") {
         return GetForm::Tape;
@@ -124,10 +121,10 @@ fn get_form(found: &ArgMatches<'_>) -> GetForm
 }
 
 /// Which files are texts.
-fn texts_of(alloc: Global, found: &ArgMatches<'_>, verb: Verb) -> Result<TextsForm, AllocError>
+fn texts_of(alloc: Global, found: &ArgMatches<'_>, verb: Verb) -> Read<TextsForm>
     requires extensions { takes_texts (kind_at (codes "text-of") (rows_for verb)) ≡ true }
     requires usual { kind_at (codes "text") (rows_for verb) ≡ Some kind.Flag }
-    ensures { IfOk result (AreTexts (rows_of (found_of found.now))) }
+    ensures { IfOk result (AreTexts (values_in found.now)) }
 {
     let extensions = names_of(alloc, found, verb, "text-of")?;
     let is_usual = flag(found, verb, "text");
@@ -138,11 +135,11 @@ fn texts_of(alloc: Global, found: &ArgMatches<'_>, verb: Verb) -> Result<TextsFo
 }
 
 /// The files of this system that are to be put, and how.
-pub fn put(alloc: Global, found: &ArgMatches<'_>) -> Result<Task, AllocError>
-    requires { Needs verb.Put (rows_of (found_of found.now)) }
-    ensures { IfOk result (IsAskedBy verb.Put (rows_of (found_of found.now))) }
+pub fn put(alloc: Global, found: &ArgMatches<'_>) -> Read<Task>
+    requires { Needs verb.Put (values_in found.now) }
+    ensures { IfOk result (IsAskedBy verb.Put (values_in found.now)) }
 {
-    let image = changed_image(alloc, found, Verb::Put)?;
+    let image = changed_image(alloc, found, Verb::Put, "IMAGE")?;
     let info = info_of(alloc, found, Verb::Put)?;
     let may_empty = flag(found, Verb::Put, "empty");
     if puts_many(found) {
@@ -156,7 +153,7 @@ pub fn put(alloc: Global, found: &ArgMatches<'_>) -> Result<Task, AllocError>
             may_empty,
         }));
     }
-    let file = first_value_of(alloc, found, Verb::Put, "FILE")?;
+    let file = value_of(alloc, found, Verb::Put, "FILE")?;
     let name = name_of(alloc, found, Verb::Put, "as")?;
     Ok(Task::Put(PutOneForm {
         image,
@@ -170,7 +167,7 @@ pub fn put(alloc: Global, found: &ArgMatches<'_>) -> Result<Task, AllocError>
 
 /// What bytes are to become in a file.
 fn put_form(found: &ArgMatches<'_>) -> PutForm
-    ensures { result ≡ spec.put_form (rows_of (found_of found.now)) }
+    ensures { result ≡ spec.put_form (values_in found.now) }
 {
     if flag(found, Verb::Put, "text") {
         return PutForm::Text;
@@ -179,11 +176,11 @@ fn put_form(found: &ArgMatches<'_>) -> PutForm
 }
 
 /// The files that are to be taken out.
-pub fn delete(alloc: Global, found: &ArgMatches<'_>) -> Result<Task, AllocError>
-    requires { Needs verb.Delete (rows_of (found_of found.now)) }
-    ensures { IfOk result (IsAskedBy verb.Delete (rows_of (found_of found.now))) }
+pub fn delete(alloc: Global, found: &ArgMatches<'_>) -> Read<Task>
+    requires { Needs verb.Delete (values_in found.now) }
+    ensures { IfOk result (IsAskedBy verb.Delete (values_in found.now)) }
 {
-    let image = changed_image(alloc, found, Verb::Delete)?;
+    let image = changed_image(alloc, found, Verb::Delete, "IMAGE")?;
     let names = names_of(alloc, found, Verb::Delete, "NAME")?;
     let places = blocks_of(alloc, found, Verb::Delete, "at")?;
     Ok(Task::Delete(DeleteForm {
@@ -194,22 +191,22 @@ pub fn delete(alloc: Global, found: &ArgMatches<'_>) -> Result<Task, AllocError>
 }
 
 /// The file that is to get another name.
-pub fn rename(alloc: Global, found: &ArgMatches<'_>) -> Result<Task, AllocError>
-    requires { Needs verb.Rename (rows_of (found_of found.now)) }
-    ensures { IfOk result (IsAskedBy verb.Rename (rows_of (found_of found.now))) }
+pub fn rename(alloc: Global, found: &ArgMatches<'_>) -> Read<Task>
+    requires { Needs verb.Rename (values_in found.now) }
+    ensures { IfOk result (IsAskedBy verb.Rename (values_in found.now)) }
 {
-    let image = changed_image(alloc, found, Verb::Rename)?;
+    let image = changed_image(alloc, found, Verb::Rename, "IMAGE")?;
     let file = file_of(alloc, found, Verb::Rename)?;
     let new = name_of(alloc, found, Verb::Rename, after(found, "NAME", "NEW"))?;
     Ok(Task::Rename(image, file, new))
 }
 
 /// The file that is to be copied.
-pub fn copy(alloc: Global, found: &ArgMatches<'_>) -> Result<Task, AllocError>
-    requires { Needs verb.Copy (rows_of (found_of found.now)) }
-    ensures { IfOk result (IsAskedBy verb.Copy (rows_of (found_of found.now))) }
+pub fn copy(alloc: Global, found: &ArgMatches<'_>) -> Read<Task>
+    requires { Needs verb.Copy (values_in found.now) }
+    ensures { IfOk result (IsAskedBy verb.Copy (values_in found.now)) }
 {
-    let image = image_of(alloc, found, Verb::Copy)?;
+    let image = image_of(alloc, found, Verb::Copy, "IMAGE")?;
     let file = file_of(alloc, found, Verb::Copy)?;
     let to = value_of(alloc, found, Verb::Copy, after(found, "NAME", "TO"))?;
     let new = name_if_given(alloc, found, Verb::Copy, after(found, "TO", "NEW"))?;
@@ -227,13 +224,13 @@ pub fn copy(alloc: Global, found: &ArgMatches<'_>) -> Result<Task, AllocError>
 }
 
 /// The file whose first block `--at` gives, or else that of the name.
-fn file_of(alloc: Global, found: &ArgMatches<'_>, verb: Verb) -> Result<FileForm, AllocError>
+fn file_of(alloc: Global, found: &ArgMatches<'_>, verb: Verb) -> Read<FileForm>
     requires at { takes_block (kind_at (codes "at") (rows_for verb)) ≡ true }
     requires name { has_text (kind_at (codes "NAME") (rows_for verb)) ≡ true }
-    requires first { IsFirst form.Block (codes "at") (rows_of (found_of found.now)) }
-    requires given { has (codes "at") (rows_of (found_of found.now)) ≡ false
-        → Has (codes "NAME") (rows_of (found_of found.now)) }
-    ensures { IfOk result (IsFile (rows_of (found_of found.now))) }
+    requires first { IsFirst form.Block (codes "at") (values_in found.now) }
+    requires given { has (codes "at") (values_in found.now) ≡ false
+        → Has (codes "NAME") (values_in found.now) }
+    ensures { IfOk result (IsFile (values_in found.now)) }
 {
     match block_of(found, verb, "at") {
         Some(place) => Ok(FileForm::At(place)),
@@ -246,7 +243,7 @@ fn file_of(alloc: Global, found: &ArgMatches<'_>, verb: Verb) -> Result<FileForm
 
 /// The argument after a file, which stands in the place of the name where `--at` gives the file.
 fn after<'a>(found: &ArgMatches<'_>, moved: &'a str, own: &'a str) -> &'a str
-    ensures { result.now ≡ (if has (codes "at") (rows_of (found_of found.now))
+    ensures { result.now ≡ (if has (codes "at") (values_in found.now)
         then moved.entry.now else own.entry.now) }
 {
     if has(found, "at") {

@@ -1,16 +1,14 @@
 //! What is wrong with the arguments of a subcommand, as `clap` takes them.
-ghost use Rattle.std.specs.Prelude.{◌≡◌, ◌≤◌, length, map, option_map, IfErr, IfOk, None};
-ghost use Rattle.clap.specs.Words.{found_of, rows_of};
+ghost use Rattle.std.specs.Prelude.{◌≡◌, map, option_map, IfErr, IfOk, None};
 ghost use Rattle.command8.specs.Found.{first_not, form_of, passes};
 ghost use Rattle.command8.specs.Refusals.{refusal_of};
 ghost use Rattle.command8.specs.Refusals as spec;
 ghost use Rattle.command8.specs.Tables.{rows_for};
-ghost use Rattle.command8.specs.TableSteps.{entry_of, pair_of, row_of};
-ghost use Rattle.command8.specs.TaskSteps.{IsRefusedBy};
+ghost use Rattle.command8.specs.Steps.{entry_of, pair_of, row_of, IsRefusedBy, values_in};
 
 use crate::TaskFault;
 use crate::found::{has, is_set, text_of, texts_in, word_at};
-use crate::missing::missing_of;
+use crate::missing::{input_count, missing_of};
 use crate::numbers::{bits_in, cell_in, date_in, number_in, span_in, word_in};
 use crate::refusals::Refusal;
 use crate::table::{Argument, Entry, Form, Kind, Pair, Verb, arguments_of, pairs};
@@ -25,8 +23,8 @@ pub fn judge_arguments(
     found: &ArgMatches<'_>,
     entry: &'static Entry,
 ) -> Result<(), TaskFault>
-    ensures passed { IfOk result (λ _. refusal_of entry.now.verb (rows_of (found_of found.now)) ≡ None) }
-    ensures refused { IfErr result (IsRefusedBy (entry_of entry.now) (rows_of (found_of found.now))) }
+    ensures passed { IfOk result (λ _. refusal_of entry.now.verb (values_in found.now) ≡ None) }
+    ensures refused { IfErr result (IsRefusedBy (entry_of entry.now) (values_in found.now)) }
 {
     if let Some((one, other)) = both_given(found, entry.verb) {
         return Err(TaskFault::Refused(entry.usage, Refusal::Together(one, other)));
@@ -54,7 +52,7 @@ pub fn judge_arguments(
 
 /// The first two arguments of a subcommand that were given and exclude each other.
 fn both_given(found: &ArgMatches<'_>, verb: Verb) -> Option<Pair>
-    ensures { option_map pair_of result ≡ spec.both_given verb (rows_of (found_of found.now)) }
+    ensures { option_map pair_of result ≡ spec.both_given verb (values_in found.now) }
 {
     first_pair(found, pairs(), arguments_of(verb))
 }
@@ -66,7 +64,7 @@ fn first_pair(
     rows: &'static [Argument],
 ) -> Option<Pair>
     ensures { option_map pair_of result
-        ≡ spec.first_pair (map pair_of pairs.now) (map row_of rows.now) (rows_of (found_of found.now)) }
+        ≡ spec.first_pair (map pair_of pairs.now) (map row_of rows.now) (values_in found.now) }
 {
     for pair in pairs {
         if let Some(both) = both_of(title_in(found, rows, pair.0), title_in(found, rows, pair.1)) {
@@ -93,7 +91,7 @@ fn both_of(one: Option<&'static str>, other: Option<&'static str>) -> Option<Pai
 /// What the argument of a name is called in refusals, if it was given.
 fn title_in(found: &ArgMatches<'_>, rows: &'static [Argument], id: &str) -> Option<&'static str>
     ensures { option_map (λ text. text.now) result
-        ≡ spec.title_in (map row_of rows.now) id.now (rows_of (found_of found.now)) }
+        ≡ spec.title_in (map row_of rows.now) id.now (values_in found.now) }
 {
     for row in rows {
         if row.id == id {
@@ -105,7 +103,7 @@ fn title_in(found: &ArgMatches<'_>, rows: &'static [Argument], id: &str) -> Opti
 
 /// What an argument is called in refusals, if it was given.
 fn title_of(found: &ArgMatches<'_>, row: &'static Argument) -> Option<&'static str>
-    ensures { option_map (λ text. text.now) result ≡ spec.title_of (row_of row.now) (rows_of (found_of found.now)) }
+    ensures { option_map (λ text. text.now) result ≡ spec.title_of (row_of row.now) (values_in found.now) }
 {
     if is_given(found, row.id, row.kind) {
         return Some(row.title);
@@ -115,7 +113,7 @@ fn title_of(found: &ArgMatches<'_>, row: &'static Argument) -> Option<&'static s
 
 /// Whether an argument of a kind was given.
 fn is_given(found: &ArgMatches<'_>, id: &str, kind: Kind) -> bool
-    ensures { result ≡ spec.is_given id.now kind (rows_of (found_of found.now)) }
+    ensures { result ≡ spec.is_given id.now kind (values_in found.now) }
 {
     match kind {
         Kind::Flag => is_set(found, id),
@@ -135,7 +133,7 @@ type Bad<'a> = (&'static str, &'static str, &'a str);
 /// The first value of a subcommand that is none of its argument's kind.
 fn bad_value<'a>(found: &ArgMatches<'a>, verb: Verb) -> Option<Bad<'a>>
     ensures { option_map (λ bad. (bad.0.now, bad.1.now, bad.2.now)) result
-        ≡ spec.first_bad (rows_for verb) (rows_of (found_of found.now)) }
+        ≡ spec.first_bad (rows_for verb) (values_in found.now) }
 {
     first_bad(found, arguments_of(verb))
 }
@@ -143,7 +141,7 @@ fn bad_value<'a>(found: &ArgMatches<'a>, verb: Verb) -> Option<Bad<'a>>
 /// The first value of these arguments that is none of its kind.
 fn first_bad<'a>(found: &ArgMatches<'a>, rows: &'static [Argument]) -> Option<Bad<'a>>
     ensures { option_map (λ bad. (bad.0.now, bad.1.now, bad.2.now)) result
-        ≡ spec.first_bad (map row_of rows.now) (rows_of (found_of found.now)) }
+        ≡ spec.first_bad (map row_of rows.now) (values_in found.now) }
 {
     for row in rows {
         let form = form_of(row.kind);
@@ -219,7 +217,7 @@ fn why(form: Form) -> &'static str
 /// The number of the two of `get --blocks` that is none.
 fn bad_block<'a>(found: &ArgMatches<'a>) -> Option<Bad<'a>>
     ensures { option_map (λ bad. (bad.0.now, bad.1.now, bad.2.now)) result
-        ≡ spec.bad_block (rows_of (found_of found.now)) }
+        ≡ spec.bad_block (values_in found.now) }
 {
     if !is_set(found, "blocks") {
         return None;
@@ -237,7 +235,7 @@ fn bad_block<'a>(found: &ArgMatches<'a>) -> Option<Bad<'a>>
 
 /// An argument after the image, an empty text where there is none.
 pub fn blocks_word<'a>(found: &ArgMatches<'a>, index: usize) -> &'a str
-    ensures { result.now ≡ spec.blocks_word index (rows_of (found_of found.now)) }
+    ensures { result.now ≡ spec.blocks_word index (values_in found.now) }
 {
     match word_at(found, "NAME", index) {
         Some(text) => text,
@@ -248,7 +246,7 @@ pub fn blocks_word<'a>(found: &ArgMatches<'a>, index: usize) -> &'a str
 /// An argument too many. It is the third after an image whose blocks are got, the last where `--at` stands for a name, or the second file
 /// where one is given a name.
 fn extra_argument<'a>(found: &ArgMatches<'a>) -> Option<&'a str>
-    ensures { option_map (λ text. text.now) result ≡ spec.extra_argument (rows_of (found_of found.now)) }
+    ensures { option_map (λ text. text.now) result ≡ spec.extra_argument (values_in found.now) }
 {
     if is_set(found, "blocks") {
         return word_at(found, "NAME", 2);
@@ -264,21 +262,7 @@ fn extra_argument<'a>(found: &ArgMatches<'a>) -> Option<&'a str>
 
 /// Whether standard input is named twice among files.
 fn names_input_twice(found: &ArgMatches<'_>) -> bool
-    ensures { result ≡ spec.names_input_twice (rows_of (found_of found.now)) }
+    ensures { result ≡ spec.names_input_twice (values_in found.now) }
 {
     input_count(texts_in(found, "FILE")) > 1
-}
-
-/// How many of the names are that of standard input.
-fn input_count(names: &[&str]) -> usize
-    ensures value { result ≡ spec.input_count (map (λ name. name.now) names.now) }
-    ensures range { result ≤ length names.now }
-{
-    let mut count = 0;
-    for name in names {
-        if *name == "-" {
-            count += 1;
-        }
-    }
-    count
 }

@@ -1,39 +1,32 @@
 //! What `clap` found for an option that is given several times, where each value is a number.
 ghost use Rattle.std.specs.Prelude.{◌≡◌, ◌++◌, ◌∷◌, [], codes, map, option_map, IfOk, None, OnOk, Some};
-ghost use Rattle.clap.specs.Words.{found_of, rows_of};
 ghost use Rattle.command8.specs.Found.{cell_of, first_not, place_of, word_of};
-ghost use Rattle.command8.specs.FoundSteps.{IsFirst, IsWell};
+ghost use Rattle.command8.specs.Steps.{IsFirst, IsWell, kind_at, values_in};
 ghost use Rattle.command8.specs.Found as spec;
 ghost use Rattle.command8.specs.Tables.{rows_for};
-ghost use Rattle.command8.specs.TableSteps.{kind_at};
 ghost use Rattle.command8.specs.Tasks.{IsInfo, given_info};
 ghost use Rattle.command8.specs.declared.table.Form.TheVariants as form;
 ghost use Rattle.command8.specs.declared.table.Kind.TheVariants as kind;
 
-use crate::found::{date_of, texts_in};
+use crate::found::{Read, date_of, texts_in};
 use crate::numbers::{cell_in, number_in, word_in};
 use crate::table::Verb;
 use clap::ArgMatches;
-use std::alloc::{AllocError, Global};
+use std::alloc::Global;
 use word12::{Cell, MOST_BLOCKS, Word};
 
 /// The cells of an option.
-pub fn cells_of(
-    alloc: Global,
-    found: &ArgMatches<'_>,
-    _verb: Verb,
-    id: &str,
-) -> Result<Vec<Cell>, AllocError>
+pub fn cells_of(alloc: Global, found: &ArgMatches<'_>, _verb: Verb, id: &str) -> Read<Vec<Cell>>
     requires kind { kind_at id.now (rows_for _verb) ≡ Some (kind.Many form.Cell) }
-    requires well { IsWell form.Cell id.now (rows_of (found_of found.now)) }
-    ensures { IfOk result (λ cells. map cell_of (spec.values_of id.now (rows_of (found_of found.now)))
+    requires well { IsWell form.Cell id.now (values_in found.now) }
+    ensures { IfOk result (λ cells. map cell_of (spec.values_of id.now (values_in found.now))
         ≡ map (λ cell. Some cell) cells.items) }
 {
     cells_in(alloc, texts_in(found, id))
 }
 
 /// The cells of texts, each a cell.
-fn cells_in(alloc: Global, texts: &[&str]) -> Result<Vec<Cell>, AllocError>
+fn cells_in(alloc: Global, texts: &[&str]) -> Read<Vec<Cell>>
     requires { first_not form.Cell (map (λ text. text.now) texts.now) ≡ None }
     ensures { IfOk result (λ cells. map cell_of (map (λ text. text.now) texts.now)
         ≡ map (λ cell. Some cell) cells.items) }
@@ -49,7 +42,7 @@ fn cells_in(alloc: Global, texts: &[&str]) -> Result<Vec<Cell>, AllocError>
 }
 
 /// Puts a cell after others.
-fn put_cell(cells: &mut Vec<Cell>, cell: Cell) -> Result<(), AllocError>
+fn put_cell(cells: &mut Vec<Cell>, cell: Cell) -> Read<()>
     ensures { OnOk result (cells.new.items ≡ cells.old.items ++ cell ∷ []) }
 {
     cells.push(cell)?;
@@ -57,22 +50,17 @@ fn put_cell(cells: &mut Vec<Cell>, cell: Cell) -> Result<(), AllocError>
 }
 
 /// The blocks of an option.
-pub fn blocks_of(
-    alloc: Global,
-    found: &ArgMatches<'_>,
-    _verb: Verb,
-    id: &str,
-) -> Result<Vec<usize>, AllocError>
+pub fn blocks_of(alloc: Global, found: &ArgMatches<'_>, _verb: Verb, id: &str) -> Read<Vec<usize>>
     requires kind { kind_at id.now (rows_for _verb) ≡ Some (kind.Many form.Block) }
-    requires well { IsWell form.Block id.now (rows_of (found_of found.now)) }
-    ensures { IfOk result (λ blocks. map place_of (spec.values_of id.now (rows_of (found_of found.now)))
+    requires well { IsWell form.Block id.now (values_in found.now) }
+    ensures { IfOk result (λ blocks. map place_of (spec.values_of id.now (values_in found.now))
         ≡ map (λ block. Some block) blocks.items) }
 {
     blocks_in(alloc, texts_in(found, id))
 }
 
 /// The blocks of texts, each 0 to 4095.
-fn blocks_in(alloc: Global, texts: &[&str]) -> Result<Vec<usize>, AllocError>
+fn blocks_in(alloc: Global, texts: &[&str]) -> Read<Vec<usize>>
     requires { first_not form.Block (map (λ text. text.now) texts.now) ≡ None }
     ensures { IfOk result (λ blocks. map place_of (map (λ text. text.now) texts.now)
         ≡ map (λ block. Some block) blocks.items) }
@@ -88,7 +76,7 @@ fn blocks_in(alloc: Global, texts: &[&str]) -> Result<Vec<usize>, AllocError>
 }
 
 /// Puts a block after others.
-fn put_block(blocks: &mut Vec<usize>, block: usize) -> Result<(), AllocError>
+fn put_block(blocks: &mut Vec<usize>, block: usize) -> Read<()>
     ensures { OnOk result (blocks.new.items ≡ blocks.old.items ++ block ∷ []) }
 {
     blocks.push(block)?;
@@ -96,17 +84,13 @@ fn put_block(blocks: &mut Vec<usize>, block: usize) -> Result<(), AllocError>
 }
 
 /// The information words, if any is given: that of a date, or those that are given themselves.
-pub fn info_of(
-    alloc: Global,
-    found: &ArgMatches<'_>,
-    verb: Verb,
-) -> Result<Option<Vec<Word>>, AllocError>
+pub fn info_of(alloc: Global, found: &ArgMatches<'_>, verb: Verb) -> Read<Option<Vec<Word>>>
     requires kind { kind_at (codes "info") (rows_for verb) ≡ Some (kind.Many form.Octal) }
-    requires well { IsWell form.Octal (codes "info") (rows_of (found_of found.now)) }
+    requires well { IsWell form.Octal (codes "info") (values_in found.now) }
     requires date { kind_at (codes "date") (rows_for verb) ≡ Some (kind.One form.Date) }
-    requires first_date { IsFirst form.Date (codes "date") (rows_of (found_of found.now)) }
+    requires first_date { IsFirst form.Date (codes "date") (values_in found.now) }
     ensures { IfOk result (λ info.
-        IsInfo (rows_of (found_of found.now)) (option_map (λ words. words.items) info)) }
+        IsInfo (values_in found.now) (option_map (λ words. words.items) info)) }
 {
     match date_of(found, verb) {
         Some(word) => {
@@ -119,14 +103,10 @@ pub fn info_of(
 }
 
 /// The information words that are given themselves.
-fn given_info(
-    alloc: Global,
-    found: &ArgMatches<'_>,
-    _verb: Verb,
-) -> Result<Option<Vec<Word>>, AllocError>
+fn given_info(alloc: Global, found: &ArgMatches<'_>, _verb: Verb) -> Read<Option<Vec<Word>>>
     requires kind { kind_at (codes "info") (rows_for _verb) ≡ Some (kind.Many form.Octal) }
-    requires well { IsWell form.Octal (codes "info") (rows_of (found_of found.now)) }
-    ensures { IfOk result (λ info. given_info (rows_of (found_of found.now))
+    requires well { IsWell form.Octal (codes "info") (values_in found.now) }
+    ensures { IfOk result (λ info. given_info (values_in found.now)
         ≡ option_map (map (λ word. Some word)) (option_map (λ words. words.items) info)) }
 {
     match found.get_strs("info") {
@@ -139,7 +119,7 @@ fn given_info(
 }
 
 /// The words of texts, each a word.
-fn words_in(alloc: Global, texts: &[&str]) -> Result<Vec<Word>, AllocError>
+fn words_in(alloc: Global, texts: &[&str]) -> Read<Vec<Word>>
     requires { first_not form.Octal (map (λ text. text.now) texts.now) ≡ None }
     ensures { IfOk result (λ words. map word_of (map (λ text. text.now) texts.now)
         ≡ map (λ word. Some word) words.items) }
@@ -155,7 +135,7 @@ fn words_in(alloc: Global, texts: &[&str]) -> Result<Vec<Word>, AllocError>
 }
 
 /// Puts a word after others.
-fn put_word(words: &mut Vec<Word>, word: Word) -> Result<(), AllocError>
+fn put_word(words: &mut Vec<Word>, word: Word) -> Read<()>
     ensures { OnOk result (words.new.items ≡ words.old.items ++ word ∷ []) }
 {
     words.push(word)?;

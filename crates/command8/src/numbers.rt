@@ -60,10 +60,7 @@ pub fn cell_in(text: &[u8]) -> Option<Cell>
 {
     match text {
         [field, b':', address @ ..] => cell_at(*field, address),
-        _ => match octal_to(text, 0o77777) {
-            Some(number) => Some(Cell::of(number)),
-            None => None,
-        },
+        _ => Some(Cell::of(octal_to(text, 0o77777)?)),
     }
 }
 
@@ -72,10 +69,7 @@ fn cell_at(digit: u8, address: &[u8]) -> Option<Cell>
     ensures { result ≡ spec.cell_at digit address.now }
 {
     match digit {
-        b'0'..=b'7' => match word_in(address) {
-            Some(word) => Some(Cell::at(digit - b'0', word)),
-            None => None,
-        },
+        b'0'..=b'7' => Some(Cell::at(digit - b'0', word_in(address)?)),
         _ => None,
     }
 }
@@ -84,10 +78,7 @@ fn cell_at(digit: u8, address: &[u8]) -> Option<Cell>
 pub fn word_in(text: &[u8]) -> Option<Word>
     ensures { result ≡ spec.word_of text.now }
 {
-    match octal_to(text, 0o7777) {
-        Some(number) => Word::new(number as u16),
-        None => None,
-    }
+    Word::new(octal_to(text, 0o7777)? as u16)
 }
 
 /// An octal number of 1 to 5 digits, up to this one.
@@ -111,10 +102,7 @@ pub fn bits_in(text: &[u8]) -> Option<u16>
     if text.len() == 6 {
         return with_top_bit(text);
     }
-    match octal_to(text, 0o77777) {
-        Some(number) => Some(number as u16),
-        None => None,
-    }
+    Some(octal_to(text, 0o77777)? as u16)
 }
 
 /// An octal number of a digit 0 or 1 and up to five more.
@@ -122,10 +110,10 @@ fn with_top_bit(text: &[u8]) -> Option<u16>
     ensures { result ≡ spec.with_top_bit text.now }
 {
     match text {
-        [digit, digits @ ..] if *digit >= b'0' && *digit < b'2' => match octal_to(digits, 0o77777) {
-            Some(low) => Some(0o100000 * u16::from(*digit - b'0') + low as u16),
-            None => None,
-        },
+        [digit, digits @ ..] if *digit >= b'0' && *digit < b'2' => {
+            let low = octal_to(digits, 0o77777)?;
+            Some(0o100000 * u16::from(*digit - b'0') + low as u16)
+        }
         _ => None,
     }
 }
@@ -134,10 +122,7 @@ fn with_top_bit(text: &[u8]) -> Option<u16>
 pub fn date_in(text: &[u8]) -> Option<Word>
     ensures { result ≡ spec.date_word text.now }
 {
-    match parse_date(text) {
-        Some(date) => date_word(date),
-        None => None,
-    }
+    date_word(parse_date(text)?)
 }
 
 /// Blocks of a volume, the first and the last: one, or two numbers with a hyphen between.

@@ -2,7 +2,7 @@
 //! line does is read from here.
 ghost use Rattle.std.specs.Prelude.{◌≡◌, map};
 ghost use Rattle.command8.specs.Tables.{rows_for};
-ghost use Rattle.command8.specs.TableSteps.{entry_of, pair_of, row_of};
+ghost use Rattle.command8.specs.Steps.{entry_of, pair_of, row_of};
 ghost use Rattle.command8.specs.Tables as spec;
 
 use word12::MOST_BLOCKS;

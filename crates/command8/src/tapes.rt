@@ -1,41 +1,38 @@
 //! What is asked of tapes and of sources.
-ghost use Rattle.std.specs.Prelude.{◌≡◌, codes, map, true, IfOk, Some};
-ghost use Rattle.clap.specs.Words.{found_of, rows_of};
+ghost use Rattle.std.specs.Prelude.{◌≡◌, ◌≤◌, codes, map, true, IfOk, IfSome, Some};
 ghost use Rattle.command8.specs.Tasks.{IsTape, IsTapeOrInput, IsTraceForm};
-ghost use Rattle.command8.specs.Found.{is_limit};
-ghost use Rattle.command8.specs.FoundSteps.{Has};
+ghost use Rattle.command8.specs.Steps.{Has, has_text, kind_at, IsAskedBy, Needs, values_in};
 ghost use Rattle.command8.specs.Tables.{rows_for};
-ghost use Rattle.command8.specs.TableSteps.{has_text, kind_at, takes_text};
 ghost use Rattle.command8.specs.declared.table.Form.TheVariants as form;
 ghost use Rattle.command8.specs.declared.table.Kind.TheVariants as kind;
 ghost use Rattle.command8.specs.Tasks as spec;
-ghost use Rattle.command8.specs.TaskSteps.{IsAskedBy, Needs};
 ghost use Rattle.command8.specs.declared.table.Verb.TheVariants as verb;
 
 use crate::found::{
-    cell_of, count_of, flag, has, layout_of, name_if_given, name_of, names_of, octal_of,
-    value_if_given, value_of, values_of, wait_of,
+    Read, cell_of, count_of, flag, has, name_if_given, name_of, names_of, octal_of, value_if_given,
+    value_of, values_of,
 };
 use crate::lists::cells_of;
 use crate::table::Verb;
+use crate::volumes::{changed_image, image_of};
 use clap::ArgMatches;
-use std::alloc::{AllocError, Global};
+use std::alloc::Global;
 use task8::{
     AssembleForm, ImageForm, RimForm, SourceForm, TapeForm, Task, TeletypeForm, TraceForm,
 };
 
 /// What is to be listed.
-pub fn tape(alloc: Global, found: &ArgMatches<'_>) -> Result<Task, AllocError>
-    requires { Needs verb.Tape (rows_of (found_of found.now)) }
-    ensures { IfOk result (IsAskedBy verb.Tape (rows_of (found_of found.now))) }
+pub fn tape(alloc: Global, found: &ArgMatches<'_>) -> Read<Task>
+    requires { Needs verb.Tape (values_in found.now) }
+    ensures { IfOk result (IsAskedBy verb.Tape (values_in found.now)) }
 {
     Ok(Task::Tape(tape_if_given(alloc, found, Verb::Tape)?))
 }
 
 /// What is to be written of a RIM tape.
-pub fn rim(alloc: Global, found: &ArgMatches<'_>) -> Result<Task, AllocError>
-    requires { Needs verb.Rim (rows_of (found_of found.now)) }
-    ensures { IfOk result (IsAskedBy verb.Rim (rows_of (found_of found.now))) }
+pub fn rim(alloc: Global, found: &ArgMatches<'_>) -> Read<Task>
+    requires { Needs verb.Rim (values_in found.now) }
+    ensures { IfOk result (IsAskedBy verb.Rim (values_in found.now)) }
 {
     let tape = tape_if_given(alloc, found, Verb::Rim)?;
     Ok(Task::Rim(tape, rim_form(found)))
@@ -43,7 +40,7 @@ pub fn rim(alloc: Global, found: &ArgMatches<'_>) -> Result<Task, AllocError>
 
 /// In which form a RIM tape is to be written.
 fn rim_form(found: &ArgMatches<'_>) -> RimForm
-    ensures { result ≡ spec.rim_form (rows_of (found_of found.now)) }
+    ensures { result ≡ spec.rim_form (values_in found.now) }
 {
     if flag(found, Verb::Rim, "bin") {
         return RimForm::Bin;
@@ -52,16 +49,12 @@ fn rim_form(found: &ArgMatches<'_>) -> RimForm
 }
 
 /// The tape that is named, if one is.
-fn tape_if_given(
-    alloc: Global,
-    found: &ArgMatches<'_>,
-    verb: Verb,
-) -> Result<Option<TapeForm>, AllocError>
-    requires tape { takes_text (kind_at (codes "TAPE") (rows_for verb)) ≡ true }
+fn tape_if_given(alloc: Global, found: &ArgMatches<'_>, verb: Verb) -> Read<Option<TapeForm>>
+    requires tape { has_text (kind_at (codes "TAPE") (rows_for verb)) ≡ true }
     requires name { has_text (kind_at (codes "NAME") (rows_for verb)) ≡ true }
     requires volume { kind_at (codes "volume") (rows_for verb) ≡ Some (kind.One form.Volume) }
     requires dectape { kind_at (codes "dectape") (rows_for verb) ≡ Some kind.Flag }
-    ensures { IfOk result (IsTapeOrInput (rows_of (found_of found.now))) }
+    ensures { IfOk result (IsTapeOrInput (values_in found.now)) }
 {
     if has(found, "TAPE") {
         let tape = tape_of(alloc, found, verb)?;
@@ -71,31 +64,26 @@ fn tape_if_given(
 }
 
 /// The tape that is named.
-fn tape_of(alloc: Global, found: &ArgMatches<'_>, verb: Verb) -> Result<TapeForm, AllocError>
-    requires tape { takes_text (kind_at (codes "TAPE") (rows_for verb)) ≡ true }
+fn tape_of(alloc: Global, found: &ArgMatches<'_>, verb: Verb) -> Read<TapeForm>
+    requires tape { has_text (kind_at (codes "TAPE") (rows_for verb)) ≡ true }
     requires name { has_text (kind_at (codes "NAME") (rows_for verb)) ≡ true }
     requires volume { kind_at (codes "volume") (rows_for verb) ≡ Some (kind.One form.Volume) }
     requires dectape { kind_at (codes "dectape") (rows_for verb) ≡ Some kind.Flag }
-    requires given { Has (codes "TAPE") (rows_of (found_of found.now)) }
-    ensures { IfOk result (IsTape (rows_of (found_of found.now))) }
+    requires given { Has (codes "TAPE") (values_in found.now) }
+    ensures { IfOk result (IsTape (values_in found.now)) }
 {
-    let file = value_of(alloc, found, verb, "TAPE")?;
     if has(found, "NAME") {
         let name = name_of(alloc, found, verb, "NAME")?;
-        let image = ImageForm {
-            file,
-            layout: layout_of(found, verb, "volume", "dectape"),
-            wait: 0,
-        };
+        let image = image_of(alloc, found, verb, "TAPE")?;
         return Ok(TapeForm::Member(image, name));
     }
-    Ok(TapeForm::File(file))
+    Ok(TapeForm::File(value_of(alloc, found, verb, "TAPE")?))
 }
 
 /// The source that is to be written.
-pub fn source(alloc: Global, found: &ArgMatches<'_>) -> Result<Task, AllocError>
-    requires { Needs verb.Source (rows_of (found_of found.now)) }
-    ensures { IfOk result (IsAskedBy verb.Source (rows_of (found_of found.now))) }
+pub fn source(alloc: Global, found: &ArgMatches<'_>) -> Read<Task>
+    requires { Needs verb.Source (values_in found.now) }
+    ensures { IfOk result (IsAskedBy verb.Source (values_in found.now)) }
 {
     Ok(Task::Source(SourceForm {
         tape: tape_if_given(alloc, found, Verb::Source)?,
@@ -105,9 +93,9 @@ pub fn source(alloc: Global, found: &ArgMatches<'_>) -> Result<Task, AllocError>
 }
 
 /// The assembly that is asked for.
-pub fn assemble(alloc: Global, found: &ArgMatches<'_>) -> Result<Task, AllocError>
-    requires { Needs verb.Assemble (rows_of (found_of found.now)) }
-    ensures { IfOk result (IsAskedBy verb.Assemble (rows_of (found_of found.now))) }
+pub fn assemble(alloc: Global, found: &ArgMatches<'_>) -> Read<Task>
+    requires { Needs verb.Assemble (values_in found.now) }
+    ensures { IfOk result (IsAskedBy verb.Assemble (values_in found.now)) }
 {
     let sources = sources_of(alloc, found)?;
     let from = volume_of_sources(alloc, found)?;
@@ -126,8 +114,8 @@ pub fn assemble(alloc: Global, found: &ArgMatches<'_>) -> Result<Task, AllocErro
 }
 
 /// The sources: files of the volume that is named, or else of the host.
-fn sources_of(alloc: Global, found: &ArgMatches<'_>) -> Result<Vec<String>, AllocError>
-    ensures { IfOk result (λ texts. spec.source_names (rows_of (found_of found.now))
+fn sources_of(alloc: Global, found: &ArgMatches<'_>) -> Read<Vec<String>>
+    ensures { IfOk result (λ texts. spec.source_names (values_in found.now)
         ≡ map (λ text. text.bytes.items) texts.items) }
 {
     if has(found, "from") {
@@ -137,24 +125,20 @@ fn sources_of(alloc: Global, found: &ArgMatches<'_>) -> Result<Vec<String>, Allo
 }
 
 /// The volume that has the sources, if one is named.
-fn volume_of_sources(alloc: Global, found: &ArgMatches<'_>) -> Result<Option<ImageForm>, AllocError>
-    ensures { IfOk result (spec.IsFrom (rows_of (found_of found.now))) }
+fn volume_of_sources(alloc: Global, found: &ArgMatches<'_>) -> Read<Option<ImageForm>>
+    ensures { IfOk result (spec.IsFrom (values_in found.now)) }
 {
     if !has(found, "from") {
         return Ok(None);
     }
-    let file = value_of(alloc, found, Verb::Assemble, "from")?;
-    Ok(Some(ImageForm {
-        file,
-        layout: layout_of(found, Verb::Assemble, "volume", "dectape"),
-        wait: wait_of(found, Verb::Assemble),
-    }))
+    let image = changed_image(alloc, found, Verb::Assemble, "from")?;
+    Ok(Some(image))
 }
 
 /// The run with the terminal as the Teletype.
-pub fn teletype(alloc: Global, found: &ArgMatches<'_>) -> Result<Task, AllocError>
-    requires { Needs verb.Teletype (rows_of (found_of found.now)) }
-    ensures { IfOk result (IsAskedBy verb.Teletype (rows_of (found_of found.now))) }
+pub fn teletype(alloc: Global, found: &ArgMatches<'_>) -> Read<Task>
+    requires { Needs verb.Teletype (values_in found.now) }
+    ensures { IfOk result (IsAskedBy verb.Teletype (values_in found.now)) }
 {
     Ok(Task::Teletype(TeletypeForm {
         tape: tape_of(alloc, found, Verb::Teletype)?,
@@ -167,10 +151,10 @@ pub fn teletype(alloc: Global, found: &ArgMatches<'_>) -> Result<Task, AllocErro
 }
 
 /// How a tape is to be traced or profiled.
-pub fn trace_form(alloc: Global, found: &ArgMatches<'_>) -> Result<TraceForm, AllocError>
-    requires { Needs verb.Trace (rows_of (found_of found.now)) }
-    ensures form { IfOk result (IsTraceForm (rows_of (found_of found.now))) }
-    ensures limit { IfOk result (λ form. is_limit form.steps ≡ true) }
+pub fn trace_form(alloc: Global, found: &ArgMatches<'_>) -> Read<TraceForm>
+    requires { Needs verb.Trace (values_in found.now) }
+    ensures form { IfOk result (IsTraceForm (values_in found.now)) }
+    ensures limit { IfOk result (λ form. IfSome form.steps (λ steps. 1 ≤ steps)) }
 {
     let tape = tape_of(alloc, found, Verb::Trace)?;
     let keys = value_if_given(alloc, found, Verb::Trace, "keys")?;

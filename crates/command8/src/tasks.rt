@@ -1,21 +1,21 @@
 ghost use Rattle.std.specs.Prelude.{◌≡◌, true, find, map, option_map, IfErr, IfOk};
 ghost use Rattle.std.specs.Str.{bytes_eq};
-ghost use Rattle.clap.specs.Words.{found_of, rows_of, subcommand_rows_of, takes};
+ghost use Rattle.clap.specs.Words.{subcommand_rows_of, takes};
 ghost use Rattle.command8.specs.Tables.{pdp8};
-ghost use Rattle.command8.specs.TableSteps.{entry_of};
+ghost use Rattle.command8.specs.Steps.{entry_of, Gives, GivesMet, HasMet, IsAskedBy, IsWhole, Needs, values_in};
 ghost use Rattle.command8.specs.Tasks.{Answers, IsPastClap};
-ghost use Rattle.command8.specs.TaskSteps.{Gives, GivesMet, HasMet, IsAskedBy, IsWhole, Needs};
 
 use crate::TaskFault;
 use crate::archives::{dump, index, patch, rescue, scan};
 use crate::build::command_line;
 use crate::files::{copy, delete, get, put, rename};
+use crate::found::Read;
 use crate::judging::judge_arguments;
 use crate::table::{Entry, Verb, table};
 use crate::tapes::{assemble, rim, source, tape, teletype, trace_form};
 use crate::volumes::{changed_image, check, create, list, run};
 use clap::ArgMatches;
-use std::alloc::{AllocError, Global};
+use std::alloc::Global;
 use task8::Task;
 
 /// What the arguments of a command line ask for, the program's own name first (this project's profile). The table of `table.rt` says which
@@ -44,8 +44,8 @@ fn task_of_matches(alloc: Global, matches: &ArgMatches<'_>) -> Result<Task, Task
 
 /// The result of the subcommand of a name, with what was found for it.
 fn task_of_name(alloc: Global, name: &str, found: &ArgMatches<'_>) -> Result<Task, TaskFault>
-    requires { IsWhole name.now (rows_of (found_of found.now)) }
-    ensures { Gives name.now (rows_of (found_of found.now)) result }
+    requires { IsWhole name.now (values_in found.now) }
+    ensures { Gives name.now (values_in found.now) result }
 {
     match entry_of_name(table(), name) {
         Some(entry) => {
@@ -71,9 +71,9 @@ fn entry_of_name(entries: &'static [Entry], name: &str) -> Option<&'static Entry
 }
 
 /// What a subcommand asks for, with what was found for it.
-fn task_of_verb(alloc: Global, verb: Verb, found: &ArgMatches<'_>) -> Result<Task, AllocError>
-    requires { Needs verb (rows_of (found_of found.now)) }
-    ensures { IfOk result (IsAskedBy verb (rows_of (found_of found.now))) }
+fn task_of_verb(alloc: Global, verb: Verb, found: &ArgMatches<'_>) -> Read<Task>
+    requires { Needs verb (values_in found.now) }
+    ensures { IfOk result (IsAskedBy verb (values_in found.now)) }
 {
     match verb {
         Verb::Tape => tape(alloc, found),
@@ -91,7 +91,10 @@ fn task_of_verb(alloc: Global, verb: Verb, found: &ArgMatches<'_>) -> Result<Tas
         Verb::Delete => delete(alloc, found),
         Verb::Rename => rename(alloc, found),
         Verb::Copy => copy(alloc, found),
-        Verb::Squeeze => Ok(Task::Squeeze(changed_image(alloc, found, Verb::Squeeze)?)),
+        Verb::Squeeze => {
+            let image = changed_image(alloc, found, Verb::Squeeze, "IMAGE")?;
+            Ok(Task::Squeeze(image))
+        }
         Verb::Check => check(alloc, found),
         Verb::Dump => dump(alloc, found),
         Verb::Patch => patch(alloc, found),

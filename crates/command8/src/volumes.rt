@@ -1,32 +1,29 @@
 //! What is asked of volumes as a whole.
 ghost use Rattle.std.specs.Prelude.{◌≡◌, codes, true, IfOk, Some};
-ghost use Rattle.clap.specs.Words.{found_of, rows_of};
 ghost use Rattle.command8.specs.Found.{wait_of};
-ghost use Rattle.command8.specs.FoundSteps.{Has};
+ghost use Rattle.command8.specs.Steps.{Has, has_text, kind_at, IsAskedBy, Needs, values_in};
 ghost use Rattle.command8.specs.Tables.{rows_for};
-ghost use Rattle.command8.specs.TableSteps.{kind_at, takes_text};
 ghost use Rattle.command8.specs.Tasks.{IsImage};
 ghost use Rattle.command8.specs.Tasks as spec;
-ghost use Rattle.command8.specs.TaskSteps.{IsAskedBy, Needs};
 ghost use Rattle.command8.specs.declared.table.Form.TheVariants as form;
 ghost use Rattle.command8.specs.declared.table.Kind.TheVariants as kind;
 ghost use Rattle.command8.specs.declared.table.Verb.TheVariants as verb;
 
-use crate::found::{flag, layout_of, size_of, value_of, values_of, wait_of, year_of};
+use crate::found::{Read, flag, layout_of, size_of, value_of, values_of, wait_of, year_of};
 use crate::table::Verb;
 use clap::ArgMatches;
-use std::alloc::{AllocError, Global};
+use std::alloc::Global;
 use task8::{CheckForm, CreateForm, ImageForm, RunForm, Saving, Task};
 
-/// The volume that a subcommand looks at.
-pub fn image_of(alloc: Global, found: &ArgMatches<'_>, verb: Verb) -> Result<ImageForm, AllocError>
-    requires image { takes_text (kind_at (codes "IMAGE") (rows_for verb)) ≡ true }
+/// The volume in the file that an argument names, which is not waited for.
+pub fn image_of(alloc: Global, found: &ArgMatches<'_>, verb: Verb, id: &str) -> Read<ImageForm>
+    requires image { has_text (kind_at id.now (rows_for verb)) ≡ true }
     requires volume { kind_at (codes "volume") (rows_for verb) ≡ Some (kind.One form.Volume) }
     requires dectape { kind_at (codes "dectape") (rows_for verb) ≡ Some kind.Flag }
-    requires given { Has (codes "IMAGE") (rows_of (found_of found.now)) }
-    ensures { IfOk result (IsImage 0 (rows_of (found_of found.now))) }
+    requires given { Has id.now (values_in found.now) }
+    ensures { IfOk result (IsImage id.now 0 (values_in found.now)) }
 {
-    let file = value_of(alloc, found, verb, "IMAGE")?;
+    let file = value_of(alloc, found, verb, id)?;
     let layout = layout_of(found, verb, "volume", "dectape");
     Ok(ImageForm {
         file,
@@ -35,31 +32,27 @@ pub fn image_of(alloc: Global, found: &ArgMatches<'_>, verb: Verb) -> Result<Ima
     })
 }
 
-/// The volume that a subcommand changes.
-pub fn changed_image(
-    alloc: Global,
-    found: &ArgMatches<'_>,
-    verb: Verb,
-) -> Result<ImageForm, AllocError>
-    requires image { takes_text (kind_at (codes "IMAGE") (rows_for verb)) ≡ true }
+/// The volume in the file that an argument names, which a subcommand may change.
+pub fn changed_image(alloc: Global, found: &ArgMatches<'_>, verb: Verb, id: &str) -> Read<ImageForm>
+    requires image { has_text (kind_at id.now (rows_for verb)) ≡ true }
     requires volume { kind_at (codes "volume") (rows_for verb) ≡ Some (kind.One form.Volume) }
     requires dectape { kind_at (codes "dectape") (rows_for verb) ≡ Some kind.Flag }
     requires wait { kind_at (codes "wait") (rows_for verb) ≡ Some (kind.One form.Seconds) }
-    requires given { Has (codes "IMAGE") (rows_of (found_of found.now)) }
-    ensures { IfOk result (IsImage (wait_of (rows_of (found_of found.now))) (rows_of (found_of found.now))) }
+    requires given { Has id.now (values_in found.now) }
+    ensures { IfOk result (IsImage id.now (wait_of (values_in found.now)) (values_in found.now)) }
 {
-    let file = value_of(alloc, found, verb, "IMAGE")?;
+    let file = value_of(alloc, found, verb, id)?;
     let layout = layout_of(found, verb, "volume", "dectape");
     let wait = wait_of(found, verb);
     Ok(ImageForm { file, layout, wait })
 }
 
 /// The run of a script.
-pub fn run(alloc: Global, found: &ArgMatches<'_>) -> Result<Task, AllocError>
-    requires { Needs verb.Run (rows_of (found_of found.now)) }
-    ensures { IfOk result (IsAskedBy verb.Run (rows_of (found_of found.now))) }
+pub fn run(alloc: Global, found: &ArgMatches<'_>) -> Read<Task>
+    requires { Needs verb.Run (values_in found.now) }
+    ensures { IfOk result (IsAskedBy verb.Run (values_in found.now)) }
 {
-    let image = changed_image(alloc, found, Verb::Run)?;
+    let image = changed_image(alloc, found, Verb::Run, "IMAGE")?;
     let form = RunForm {
         saving: saving(found),
         is_strict: flag(found, Verb::Run, "strict"),
@@ -69,7 +62,7 @@ pub fn run(alloc: Global, found: &ArgMatches<'_>) -> Result<Task, AllocError>
 
 /// When the image is written.
 fn saving(found: &ArgMatches<'_>) -> Saving
-    ensures { result ≡ spec.saving_of (rows_of (found_of found.now)) }
+    ensures { result ≡ spec.saving_of (values_in found.now) }
 {
     if flag(found, Verb::Run, "look") {
         return Saving::Never;
@@ -81,9 +74,9 @@ fn saving(found: &ArgMatches<'_>) -> Saving
 }
 
 /// The new volume that is asked for.
-pub fn create(alloc: Global, found: &ArgMatches<'_>) -> Result<Task, AllocError>
-    requires { Needs verb.Create (rows_of (found_of found.now)) }
-    ensures { IfOk result (IsAskedBy verb.Create (rows_of (found_of found.now))) }
+pub fn create(alloc: Global, found: &ArgMatches<'_>) -> Read<Task>
+    requires { Needs verb.Create (values_in found.now) }
+    ensures { IfOk result (IsAskedBy verb.Create (values_in found.now)) }
 {
     let form = CreateForm {
         file: value_of(alloc, found, Verb::Create, "IMAGE")?,
@@ -100,11 +93,11 @@ pub fn create(alloc: Global, found: &ArgMatches<'_>) -> Result<Task, AllocError>
 }
 
 /// The volume whose files are to be listed.
-pub fn list(alloc: Global, found: &ArgMatches<'_>) -> Result<Task, AllocError>
-    requires { Needs verb.List (rows_of (found_of found.now)) }
-    ensures { IfOk result (IsAskedBy verb.List (rows_of (found_of found.now))) }
+pub fn list(alloc: Global, found: &ArgMatches<'_>) -> Read<Task>
+    requires { Needs verb.List (values_in found.now) }
+    ensures { IfOk result (IsAskedBy verb.List (values_in found.now)) }
 {
-    let image = image_of(alloc, found, Verb::List)?;
+    let image = image_of(alloc, found, Verb::List, "IMAGE")?;
     if flag(found, Verb::List, "long") {
         return Ok(Task::ListLong(image, year_of(found, Verb::List)));
     }
@@ -112,9 +105,9 @@ pub fn list(alloc: Global, found: &ArgMatches<'_>) -> Result<Task, AllocError>
 }
 
 /// The volumes that are to be checked.
-pub fn check(alloc: Global, found: &ArgMatches<'_>) -> Result<Task, AllocError>
-    requires { Needs verb.Check (rows_of (found_of found.now)) }
-    ensures { IfOk result (IsAskedBy verb.Check (rows_of (found_of found.now))) }
+pub fn check(alloc: Global, found: &ArgMatches<'_>) -> Read<Task>
+    requires { Needs verb.Check (values_in found.now) }
+    ensures { IfOk result (IsAskedBy verb.Check (values_in found.now)) }
 {
     let images = values_of(alloc, found, Verb::Check, "IMAGE")?;
     Ok(Task::Check(CheckForm {

@@ -1,6 +1,6 @@
 use Rattle.std.proofs.Common.{refl}
 use Rattle.command8.specs.Tables.{kind_rule}
-use Rattle.command8.specs.TableSteps.{row_of}
+use Rattle.command8.specs.Steps.{row_of}
 use Rattle.command8.proofs.CommandLemmas.{helped_too, hidden_as, required_as}
 use Rattle.command8.proofs.build.argument_of.Goals as goal
 

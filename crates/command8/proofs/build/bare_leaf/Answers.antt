@@ -1,6 +1,5 @@
-use Rattle.std.proofs.Common.{refl, Some}
+use Rattle.std.proofs.Common.{refl}
 use Rattle.clap.specs.Words.{new_app}
-use Rattle.clap.specs.declared.builder.command.Command.TheViews.{out-Command as fields_of}
 use Rattle.command8.proofs.CommandLemmas.{named_command, text_too}
 use Rattle.command8.proofs.build.bare_leaf.Goals as goal
 
@@ -8,7 +7,6 @@ pub returns : goal.returns
 returns c =
     let app = new_app c.args.entry.now.word.now in
     let new = named_command c.new.result app c.new.ensures.app c.new.ensures.local in
-    let about = text_too c.new.result c.about.result app (record (fields_of c.new.result) { about = Some c.about_of.result }) c.about.ensures refl refl new in
-    let long = text_too c.about.result c.long_about.result app (record (fields_of c.about.result) { long_about = Some c.long_about_of.result }) c.long_about.ensures refl refl about in
-    text_too c.long_about.result c.after_long_help.result app (record (fields_of c.long_about.result) { after_long_help = Some c.examples_of.result }) c.after_long_help.ensures refl refl
-    long
+    let about = text_too c.new.result c.about.result app _ c.about.ensures refl refl new in
+    let long = text_too c.about.result c.long_about.result app _ c.long_about.ensures refl refl about in
+    text_too c.long_about.result c.after_long_help.result app _ c.after_long_help.ensures refl refl long

@@ -1,4 +1,4 @@
-use Rattle.command8.specs.CommandSteps.{IsDraft}
+use Rattle.command8.specs.Steps.{IsDraft}
 use Rattle.command8.specs.Tables.{app_of_table}
 use Rattle.std.proofs.Common.{subst}
 use Rattle.command8.proofs.build.command_line.Goals as goal

@@ -1,5 +1,5 @@
 use Rattle.std.proofs.Common.{subst}
-use Rattle.command8.specs.CommandSteps.{IsCommand}
+use Rattle.command8.specs.Steps.{IsCommand}
 use Rattle.command8.specs.Tables.{leaf_with, rules_for}
 use Rattle.command8.proofs.CommandLemmas.{row_fits, row_more, rows_all}
 use Rattle.command8.proofs.build.leaf_of.Goals as goal

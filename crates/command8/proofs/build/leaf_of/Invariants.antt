@@ -1,7 +1,6 @@
 use Rattle.std.proofs.Common.{map, take}
-use Rattle.command8.specs.CommandSteps.{IsCommand}
+use Rattle.command8.specs.Steps.{IsCommand, row_of}
 use Rattle.command8.specs.Tables.{leaf_with, rule_for}
-use Rattle.command8.specs.TableSteps.{row_of}
 use Rattle.command8.proofs.build.leaf_of.Given as goal
 
 -- the command has the arguments of the rows so far

@@ -1,5 +1,4 @@
-use Rattle.std.proofs.Common.{codes}
-use Rattle.clap.specs.Words.{new_app}
+use Rattle.command8.proofs.Names.{codes, new_app}
 use Rattle.command8.proofs.CommandLemmas.{named_command, named_draft}
 use Rattle.command8.proofs.build.named_command_line.Goals as goal
 

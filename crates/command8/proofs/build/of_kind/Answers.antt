@@ -1,10 +1,8 @@
-use Rattle.std.proofs.Common.{◌≡◌, ◌<◌, sym, subst, Some, true}
-use Rattle.clap.specs.Words.{new_rule}
+use Rattle.command8.proofs.Names.{◌≡◌, ◌<◌, sym, subst, Some, true, new_rule}
 use Rattle.clap.specs.declared.builder.arg.Arg.{Arg}
 use Rattle.clap.specs.declared.builder.action.ArgAction.TheVariants.{SetTrue}
-use Rattle.command8.specs.CommandSteps.{IsArgument}
+use Rattle.command8.specs.Steps.{IsArgument, fits}
 use Rattle.command8.specs.Tables.{kind_rule}
-use Rattle.command8.specs.TableSteps.{fits}
 use Rattle.command8.specs.declared.table.Kind.{Kind}
 use Rattle.command8.proofs.CommandLemmas.{action_too, fits_some, fresh, long_too, one_to, range_too}
 use Rattle.command8.proofs.build.of_kind.Goals as goal

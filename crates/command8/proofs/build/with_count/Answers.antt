@@ -1,8 +1,7 @@
-use Rattle.std.proofs.Common.{◌∙◌, ap, refl, Some}
-use Rattle.std.specs.Prelude.{pos}
+use Rattle.command8.proofs.Names.{◌∙◌, ap, refl, Some, pos}
 use Rattle.clap.specs.declared.builder.value_parser.ValueParser.TheVariants.{Unsigned}
 use Rattle.command8.specs.Tables.{most_steps}
-use Rattle.command8.specs.TableSteps.{option_rule}
+use Rattle.command8.specs.Steps.{option_rule}
 use Rattle.command8.proofs.CommandLemmas.{parser_too, unsigned_from}
 use Rattle.command8.proofs.build.with_count.Goals as goal
 

@@ -1,7 +1,6 @@
 use Rattle.std.proofs.Common.{map, take}
-use Rattle.command8.specs.CommandSteps.{IsCommand}
+use Rattle.command8.specs.Steps.{IsCommand, entry_of}
 use Rattle.command8.specs.Tables.{app_with, leaf_shape}
-use Rattle.command8.specs.TableSteps.{entry_of}
 use Rattle.command8.proofs.build.with_leaves.Given as goal
 
 -- the command has the subcommands of the entries so far

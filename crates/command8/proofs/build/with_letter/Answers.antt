@@ -1,5 +1,5 @@
 use Rattle.std.proofs.Common.{subst, sym}
-use Rattle.command8.specs.CommandSteps.{IsArgument}
+use Rattle.command8.specs.Steps.{IsArgument}
 use Rattle.command8.specs.Tables.{rule_with_letter}
 use Rattle.command8.proofs.CommandLemmas.{letter_too, unlettered}
 use Rattle.command8.proofs.build.with_letter.Goals as goal

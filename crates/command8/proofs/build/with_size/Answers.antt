@@ -1,5 +1,4 @@
-use Rattle.std.proofs.Common.{◌∙◌, ap, Some}
-use Rattle.clap.specs.Words.{new_rule}
+use Rattle.command8.proofs.Names.{◌∙◌, ap, Some, new_rule}
 use Rattle.clap.specs.declared.builder.value_parser.ValueParser.TheVariants.{Unsigned}
 use Rattle.command8.proofs.CommandLemmas.{fresh, parser_too, unsigned_between}
 use Rattle.command8.proofs.build.with_size.Goals as goal

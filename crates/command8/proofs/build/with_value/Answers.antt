@@ -1,5 +1,4 @@
-use Rattle.std.proofs.Common.{Some}
-use Rattle.clap.specs.Words.{new_rule}
+use Rattle.command8.proofs.Names.{Some, new_rule}
 use Rattle.command8.proofs.CommandLemmas.{fresh, long_too, value_too}
 use Rattle.command8.proofs.build.with_value.Goals as goal
 

@@ -1,5 +1,5 @@
 use Rattle.clap.specs.declared.builder.action.ArgAction.TheVariants.{Append}
-use Rattle.command8.specs.TableSteps.{option_rule}
+use Rattle.command8.specs.Steps.{option_rule}
 use Rattle.command8.proofs.CommandLemmas.{action_too}
 use Rattle.command8.proofs.build.with_values.Goals as goal
 

@@ -1,5 +1,4 @@
-use Rattle.std.proofs.Common.{codes}
-use Rattle.clap.specs.Words.{new_app}
+use Rattle.command8.proofs.Names.{codes, new_app}
 use Rattle.command8.proofs.CommandLemmas.{subcommand_too, version_too}
 use Rattle.command8.proofs.build.with_version.Goals as goal
 

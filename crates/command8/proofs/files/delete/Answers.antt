@@ -1,5 +1,5 @@
 use Rattle.std.proofs.Common.{refl, sym}
-use Rattle.clap.specs.Words.{found_of, rows_of}
+use Rattle.command8.specs.Steps.{values_in}
 use Rattle.command8.specs.Found.{place_of}
 use Rattle.command8.proofs.RefusalLemmas.{some_deleted}
 use Rattle.command8.proofs.files.delete.Goals as goal
@@ -8,7 +8,7 @@ pub returns : goal.returns
 returns c =
     let names = sym c.in_ok-names.ensures in
     let places = c.in_ok-places.ensures in (
-      (refl, (c.in_ok-image.ensures, names, places)),
-      some_deleted (rows_of (found_of c.args.found.now)) c.in_ok-names.names.items c.in_ok-places.places.items (λ name. name.bytes.items) place_of
+      (refl, c.in_ok-image.ensures, names, places),
+      some_deleted (values_in c.args.found.now) c.in_ok-names.names.items c.in_ok-places.places.items (λ name. name.bytes.items) place_of
           c.requires.2 names places,
     )

@@ -1,6 +1,6 @@
-use Rattle.clap.specs.Words.{found_of, rows_of}
+use Rattle.command8.specs.Steps.{values_in}
 use Rattle.command8.proofs.RefusalLemmas.{one_named}
 use Rattle.command8.proofs.files.get_one.Goals as goal
 
 pub file_of-requires-clause-given : goal.file_of-requires-clause-given
-file_of-requires-clause-given c = one_named (rows_of (found_of c.args.found.now)) c.requires.needs.2 c.requires.no_blocks c.requires.one
+file_of-requires-clause-given c = one_named (values_in c.args.found.now) c.requires.needs.2 c.requires.no_blocks c.requires.one

@@ -1,8 +1,5 @@
-use Rattle.std.proofs.Common.{◌≡◌, ◌∙◌, option_map, sym, Option, None, Some}
-use Rattle.std.specs.Borrow.{Bor}
-use Rattle.clap.proofs.WalkLemmas.{first_value-rows}
-use Rattle.clap.specs.Words.{Text, first_of, found_of, rows_of}
-use Rattle.command8.specs.FoundSteps.{IsText}
+use Rattle.command8.proofs.Names.{◌≡◌, ◌∙◌, option_map, sym, Option, None, Some, Bor, first_value-rows, Text, first_of, found_of}
+use Rattle.command8.specs.Steps.{IsText, values_in}
 use Rattle.command8.proofs.found.text_of.Goals as goal
 
 text_is : (text : Option (Bor Text)) (given : Option Text) → option_map (λ text. text.now) text ≡ given → IsText text given
@@ -14,5 +11,5 @@ returns-clause-value c = c.get_str.ensures ∙ first_value-rows (found_of c.args
 
 pub returns-clause-text : goal.returns-clause-text
 returns-clause-text c =
-    text_is c.get_str.result (first_of c.args.id.now (rows_of (found_of c.args.found.now)))
+    text_is c.get_str.result (first_of c.args.id.now (values_in c.args.found.now))
     (c.get_str.ensures ∙ first_value-rows (found_of c.args.found.now) c.args.id.now)

@@ -1,7 +1,4 @@
-use Rattle.std.proofs.Common.{◌∙◌, ap, []}
-use Rattle.std.specs.Prelude.{unwrap_or}
-use Rattle.clap.proofs.WalkLemmas.{raw_values-rows}
-use Rattle.clap.specs.Words.{found_of}
+use Rattle.command8.proofs.Names.{◌∙◌, ap, [], unwrap_or, raw_values-rows, found_of}
 use Rattle.command8.proofs.found.texts_in.Goals as goal
 
 pub returns : goal.returns

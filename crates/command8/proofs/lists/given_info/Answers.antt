@@ -1,8 +1,4 @@
-use Rattle.std.proofs.Common.{◌∙◌, ap, sym, map, option_map, []}
-use Rattle.std.proofs.Common.{codes, Some}
-use Rattle.std.specs.Prelude.{unwrap_or}
-use Rattle.clap.proofs.WalkLemmas.{raw_values-rows}
-use Rattle.clap.specs.Words.{found_of}
+use Rattle.command8.proofs.Names.{◌∙◌, ap, sym, map, option_map, [], codes, Some, unwrap_or, raw_values-rows, found_of}
 use Rattle.command8.specs.Found.{first_not, word_of}
 use Rattle.command8.specs.declared.table.Form.TheVariants.{Octal}
 use Rattle.command8.proofs.lists.given_info.Goals as goal

@@ -1,7 +1,5 @@
-use Rattle.std.proofs.Common.{◌≡◌, drop, map}
-use Rattle.std.specs.Prelude.{find}
-use Rattle.std.specs.Str.{bytes_eq}
-use Rattle.command8.specs.TableSteps.{entry_of}
+use Rattle.command8.proofs.Names.{◌≡◌, drop, map, find, bytes_eq}
+use Rattle.command8.specs.Steps.{entry_of}
 use Rattle.command8.proofs.tasks.entry_of_name.Given as goal
 
 -- no entry so far has the name

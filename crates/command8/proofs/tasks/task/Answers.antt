@@ -1,7 +1,5 @@
-use Rattle.std.proofs.Common.{map, subst, sym}
-use Rattle.std.proofs.lemmas.Result.{err_from_is_err_and}
-use Rattle.clap.specs.Words.{app_of, subcommand_rows_of}
-use Rattle.command8.specs.TaskSteps.{HasMet}
+use Rattle.command8.proofs.Names.{map, subst, sym, err_from_is_err_and, app_of, subcommand_rows_of}
+use Rattle.command8.specs.Steps.{HasMet}
 use Rattle.command8.proofs.TaskLemmas.{asked_answer, asked_kind, fault_answer, is_pdp8, met_rows, no_fault, taken_fault, task_whole}
 use Rattle.command8.proofs.tasks.task.Goals as goal
 

@@ -1,9 +1,6 @@
-use Rattle.std.proofs.Common.{◌∙◌, List, ap, option_map, sym}
-use Rattle.std.specs.Prelude.{find}
-use Rattle.std.specs.Str.{bytes_eq}
-use Rattle.clap.specs.Words.{found_of, rows_of}
+use Rattle.command8.proofs.Names.{◌∙◌, List, ap, option_map, sym, find, bytes_eq}
 use Rattle.command8.specs.Tables.{Entry}
-use Rattle.command8.specs.TableSteps.{entry_of}
+use Rattle.command8.specs.Steps.{entry_of, values_in}
 use Rattle.command8.proofs.RefusalLemmas.{entry_needs}
 use Rattle.command8.proofs.tasks.task_of_name.Goals as goal
 
@@ -11,4 +8,4 @@ pub task_of_verb-requires : goal.task_of_verb-requires
 task_of_verb-requires c =
     let is = ap (λ (entries : List Entry). find (λ entry. bytes_eq c.args.name.now entry.word) entries) (sym c.table.ensures)
     ∙ (sym c.entry_of_name.ensures ∙ ap (option_map (λ entry. entry_of entry.now)) c.in-Some.is) in
-    entry_needs c.args.name.now (rows_of (found_of c.args.found.now)) (entry_of c.in-Some.entry.now) is c.requires c.in_ok-judge_arguments-in-Some.ensures.passed
+    entry_needs c.args.name.now (values_in c.args.found.now) (entry_of c.in-Some.entry.now) is c.requires c.in_ok-judge_arguments-in-Some.ensures.passed

@@ -1,6 +1,6 @@
 use Rattle.std.proofs.Common.{◌≡◌, ◌≤◌, ◌+◌, drop, map}
 use Rattle.command8.specs.Refusals.{input_count}
-use Rattle.command8.proofs.judging.input_count.Given as goal
+use Rattle.command8.proofs.missing.input_count.Given as goal
 
 -- the names so far are counted
 abbrev pub invariant-loop-name : goal.invariant-loop-name
