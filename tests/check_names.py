@@ -14,7 +14,7 @@ sys.dont_write_bytecode = True
 TOP = os.path.dirname(os.path.dirname(os.path.abspath(__file__)))
 sys.path.insert(0, TOP)
 from tests.check_documents import END, MOST_WORDS_OF_A_SENTENCE, words
-from tests.rattle_sources import Source, crate_of, definition_files, definitions, files_of, source
+from tests.rattle_sources import comments, crate_of, definition_files, definitions, files_of, source
 
 # Participles that don't end in -ed. Those that a verb's own form is too, as `read` and `put`, are verbs here.
 PARTICIPLES = set(
@@ -39,10 +39,6 @@ STAY = {
     ("session8", "stopped"): "of a session: the state of that name",
 }
 UNPLAIN = re.compile(r"\b(?:behind|tells?|told|telling)\b", re.I)
-COMMENT = re.compile(r"^\s*(?:///?|//!|--)(?:\s|$)")
-FIELDS = re.compile(r"(?m)^\s*(?:pub(?:\([\w: ]+\))? )?(\w+)\s*:")
-STRUCT = re.compile(r"(?m)^ *(?:pub(?:\([\w: ]+\))? )?struct \w+[^{;(]*\{")
-CONSTANT = re.compile(r"(?m)^ *(?:pub(?:\([\w: ]+\))? )?(?:const|static) (\w+):")
 
 
 def is_participle(word: str) -> bool:
@@ -55,34 +51,12 @@ def is_bare(name: str) -> bool:
     return bool(parts) and is_participle(parts[0]) and all(it in SMALL or is_participle(it) for it in parts[1:])
 
 
-def names_of(text: Source) -> Iterator[str]:
-    """The functions, constants and fields that a source declares."""
-    yield from (it.name for it in text.functions)
-    yield from (it[1].lower() for it in CONSTANT.finditer(text.mask))
-    for it in STRUCT.finditer(text.mask):
-        yield from FIELDS.findall(text.mask[it.end() : text.mask.find("}", it.end())])
-
-
 def all_names() -> Iterator[tuple[str, str, str]]:
     """Each name with its crate and its file."""
     for path in files_of("*"):
-        yield from ((crate_of(path), os.path.relpath(path, TOP), it) for it in names_of(source(path)))
+        yield from ((crate_of(path), os.path.relpath(path, TOP), it) for it in source(path).names())
     for crate, file in definition_files():
         yield from ((crate, f"crates/{crate}/specs/{file}.antt", it) for it in definitions(crate, file).texts)
-
-
-def comments(path: str) -> Iterator[tuple[int, str]]:
-    """The comments of a file, each with its first line's number; lines that follow one another are one."""
-    first, kept = 0, list[str]()
-    with open(path, encoding="utf-8") as text:
-        for number, line in enumerate([*text.read().split("\n"), ""], 1):
-            is_comment = bool(COMMENT.match(line))
-            if kept and not is_comment:
-                yield first, " ".join(kept)
-                kept = []
-            if is_comment:
-                first = first if kept else number
-                kept.append(COMMENT.sub("", line, count=1).strip())
 
 
 def unplain(path: str) -> tuple[int, list[str]]:

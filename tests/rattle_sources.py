@@ -25,6 +25,10 @@ BLOCK = re.compile(
 PROMISE = re.compile(r"(?m)^    ghost \w+ = \{")
 DECLARED = re.compile(rf"(?m)^ *({VISIBLE})(?:const )?(fn|struct|enum|union|trait|type|const|static|mod) (\w+)")
 CONSTANT = re.compile(r"\bconst (\w+): \w+ = ([0-9a-fxo_]+);")
+STRUCT = re.compile(rf"(?m)^ *{VISIBLE}struct \w+[^{{;(]*\{{")
+FIELD = re.compile(rf"(?m)^\s*{VISIBLE}(\w+)\s*:")
+NAMED_VALUE = re.compile(rf"(?m)^ *{VISIBLE}(?:const|static) (\w+):")
+COMMENT = re.compile(r"^\s*(?:///?|//!|--)(?:\s|$)")
 GHOST = re.compile(r"(requires|ensures|ghost)\b")
 
 
@@ -179,6 +183,13 @@ class Source:
         """What the source declares: kinds and names."""
         return {(kind, name) for _, kind, name in DECLARED.findall(self.mask)}
 
+    def names(self) -> Iterator[str]:
+        """The functions, constants and fields that the source declares."""
+        yield from (it.name for it in self.functions)
+        yield from NAMED_VALUE.findall(self.mask)
+        for it in STRUCT.finditer(self.mask):
+            yield from FIELD.findall(self.mask[it.end() : closing(self.mask, it.end() - 1)])
+
     def constants(self) -> dict[str, int]:
         """The constants whose values are plain numbers."""
         return {name: int(value.replace("_", ""), 0) for name, value in CONSTANT.findall(self.mask)}
@@ -189,6 +200,20 @@ def source(path: str) -> Source:
     """The source in a file."""
     with open(path, encoding="utf-8") as text:
         return Source(path, text.read())
+
+
+def comments(path: str) -> Iterator[tuple[int, str]]:
+    """The comments of a source or of a file of definitions, each with its first line's number; lines that follow one another are one."""
+    first, kept = 0, list[str]()
+    with open(path, encoding="utf-8") as text:
+        for number, line in enumerate([*text.read().split("\n"), ""], 1):
+            is_comment = bool(COMMENT.match(line))
+            if kept and not is_comment:
+                yield first, " ".join(kept)
+                kept = []
+            if is_comment:
+                first = first if kept else number
+                kept.append(COMMENT.sub("", line, count=1).strip())
 
 
 def crates(top: str = TOP) -> list[str]:
