@@ -20,7 +20,7 @@ PAGE = 4096
 WANT = r"(?:(?:\w+::)?\w+\()?(?:\(_, )?\w+::(?:Out[oO]f)?Memory\)*"
 # The functions that write one, by file, with how many they write and why.
 PLACES: dict[str, dict[str, tuple[int, str]]] = {
-    "archive8/src/deleting.rt": {
+    "archive_files/src/deleting.rt": {
         "delete": (1, "the file service's own, on a line behind its pattern"),
     },
     "volume_index/src/choosing.rt": {
@@ -39,19 +39,19 @@ PLACES: dict[str, dict[str, tuple[int, str]]] = {
     "archive_many/src/putting.rt": {
         "put_all": (1, "a session's own, on a line behind its pattern"),
     },
-    "archive8/src/opening.rt": {
+    "archive_files/src/opening.rt": {
         "image_of": (1, "`to_bytes` can fail for nothing else"),
     },
-    "archive8/src/renaming.rt": {
+    "archive_files/src/renaming.rt": {
         "give_name": (1, "the file service's own, on a line behind its pattern"),
     },
-    "disk8/src/copies.rt": {
+    "disk_layouts/src/copies.rt": {
         "tape_volume": (1, "the image of a DECtape's volume, which is asked for once"),
     },
-    "report8/src/given.rt": {
+    "program_reports/src/given.rt": {
         "flags_of": (1, "a flag for each cell of core, which is asked for once"),
     },
-    "salvage8/src/salvages.rt": {
+    "volume_salvage/src/salvages.rt": {
         "fitted_volume": (1, "a volume of as many blocks as one that is there can be refused for nothing else"),
     },
     "os8_files/src/service/changes.rt": {
@@ -63,18 +63,18 @@ PLACES: dict[str, dict[str, tuple[int, str]]] = {
     "tape_source/src/tags.rt": {
         "named_cells": (1, "a flag for each cell of core, asked for once"),
     },
-    "session8/src/consoles.rt": {
+    "system_session/src/consoles.rt": {
         "new": (1, "`Core::new` can fail for nothing else"),
     },
-    "session8/src/endings.rt": {
+    "system_session/src/endings.rt": {
         "": (1, "the type of how a run ends"),
         "from": (2, "its `From<AllocError>`; of its calls' faults all but the reader's are want of memory"),
     },
-    "session8/src/sessions.rt": {
+    "system_session/src/sessions.rt": {
         "mount": (1, "the line or the console was refused, and the store is handed back"),
         "run": (1, "the entry's answer is want of memory"),
     },
-    "session8/src/sessions/scripts.rt": {
+    "system_session/src/sessions/scripts.rt": {
         "run_entry": (1, "the entry's answer is want of memory"),
         "run_turn": (1, "the turn's answer is want of memory"),
     },

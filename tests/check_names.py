@@ -30,13 +30,13 @@ SMALL = set("of by at in with to from on for as off up out into after before ove
 STAY = {
     ("cpu8", "held_off"): "interrupts that ION holds off: the handbook's word",
     ("cpu8", "left"): "the direction of a rotation",
-    ("jobs8", "done"): "of a job: how many blocks it has read",
-    ("jobs8", "left"): "of a job: how many turns it has left",
+    ("volume_jobs", "done"): "of a job: how many blocks it has read",
+    ("volume_jobs", "left"): "of a job: how many turns it has left",
     ("os8_files", "stopped"): "of a file service: the state of that name",
     ("os8_files", "written"): "of a new file: its blocks that are written",
     ("pal8_pools", "punched"): "of a cell: it goes to the tape, as ENPUNCH says",
-    ("session8", "printed"): "of a console: the characters that it printed",
-    ("session8", "stopped"): "of a session: the state of that name",
+    ("system_session", "printed"): "of a console: the characters that it printed",
+    ("system_session", "stopped"): "of a session: the state of that name",
 }
 UNPLAIN = re.compile(r"\b(?:behind|tells?|told|telling)\b", re.I)
 

@@ -10,9 +10,9 @@ use Rattle.os8_dir.specs.Found.{FilePlace, files_at, free_blocks}
 use Rattle.os8_dir.specs.Reading.{directory_of}
 use Rattle.script8.specs.Replies.{free_line}
 use Rattle.script8.specs.Shown.{name_text}
-use Rattle.archive8.specs.declared.faults.ArchiveFault.{ArchiveFault}
-use Rattle.archive8.specs.LongListing.{information_text}
-use Rattle.archive8.specs.Opening.{IsUnopened}
+use Rattle.archive_files.specs.declared.faults.ArchiveFault.{ArchiveFault}
+use Rattle.archive_files.specs.LongListing.{information_text}
+use Rattle.archive_files.specs.Opening.{IsUnopened}
 use Rattle.volume_index.specs.Years.{last_in}
 
 -- ## The lines

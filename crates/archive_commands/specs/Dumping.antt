@@ -9,11 +9,11 @@ use Rattle.block_dump.specs.declared.dumping.DumpForm.TheVariants.{Sixbit, Text}
 use Rattle.volume_image.specs.Image.{image_word}
 use Rattle.script8.specs.Shown.{name_text}
 use Rattle.script8.specs.declared.faults.SessionFault.TheVariants.{Memory}
-use Rattle.archive8.specs.declared.faults.ArchiveFault.{ArchiveFault}
+use Rattle.archive_files.specs.declared.faults.ArchiveFault.{ArchiveFault}
 use Rattle.archive_many.specs.Opened.{OpensVolume, files_on}
 use Rattle.archive_many.specs.declared.opened.VolumeFile.{VolumeFile}
-use Rattle.report8.specs.declared.programs.ProgramLine.TheVariants as line
-use Rattle.task8.specs.declared.forms.ImageForm.{ImageForm}
+use Rattle.program_reports.specs.declared.programs.ProgramLine.TheVariants as line
+use Rattle.program_tasks.specs.declared.forms.ImageForm.{ImageForm}
 use Rattle.outcome.specs.declared.endings.Ending.{Ending}
 use Rattle.outcome.specs.declared.endings.Ending.TheVariants.{Line, Fault}
 use Rattle.volume_commands.specs.Work.{Then, Purely}

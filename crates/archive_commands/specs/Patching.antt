@@ -7,7 +7,7 @@ use Rattle.image_patch.specs.Patching.{Patches}
 use Rattle.image_patch.specs.declared.faults.PatchFault.{PatchFault}
 use Rattle.image_patch.specs.declared.faults.PatchFault.TheVariants.{NoBlock, NoWord, OtherWord}
 use Rattle.script8.specs.declared.faults.SessionFault.TheVariants.{Memory}
-use Rattle.task8.specs.declared.forms.ImageForm.{ImageForm}
+use Rattle.program_tasks.specs.declared.forms.ImageForm.{ImageForm}
 use Rattle.outcome.specs.declared.endings.Ending.{Ending}
 use Rattle.outcome.specs.declared.endings.Ending.TheVariants.{Fault}
 use Rattle.volume_commands.specs.Work.{Then, Purely}

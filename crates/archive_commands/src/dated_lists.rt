@@ -5,22 +5,22 @@ ghost use Rattle.os8_dates.specs.declared.years.TheConstants.{LAST_YEAR, LEAST_L
 ghost use Rattle.os8_dir.specs.Entries.{total};
 ghost use Rattle.script8.specs.Replies.{free_line};
 ghost use Rattle.script8.specs.Shown.{name_text};
-ghost use Rattle.archive8.specs.LongListing.{information_text};
+ghost use Rattle.archive_files.specs.LongListing.{information_text};
 ghost use Rattle.volume_commands.specs.Answers.{Answers};
 ghost use Rattle.volume_commands.specs.Showing.{Shows};
 ghost use Rattle.archive_commands.specs.Dates.{ListsDates, date_of_word, date_text, dated_lines};
 ghost use Rattle.archive_commands.specs.DateSteps.{line_of_entry, lines_of_entries};
 
 use crate::lines::{put_number, put_shown};
-use archive8::ArchiveFault;
-use archive8::parts::volume_of;
+use archive_files::ArchiveFault;
+use archive_files::parts::volume_of;
 use hosts::Host;
 use os8_dates::{date_of, put_date};
 use os8_dir::{DirEntry, DirFault, Directory, Name};
 use outcome::Ending;
+use program_tasks::ImageForm;
 use script8::SessionFault;
 use std::alloc::{AllocError, Global};
-use task8::ImageForm;
 use volume_commands::{look_at, print, refuse_image};
 use volume_index::last_in;
 use word12::Word;
@@ -55,7 +55,7 @@ fn listing<H: Host>(
     }
 }
 
-/// The list of an image, which is refused as `archive8::list` does it.
+/// The list of an image, which is refused as `archive_files::list` does it.
 fn list_dated(alloc: Global, image: &[u8], year: Option<usize>) -> Result<Vec<u8>, ArchiveFault>
     ensures { ListsDates year image.now result }
 {

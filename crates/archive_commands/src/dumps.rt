@@ -10,9 +10,9 @@ use block_dump::{DumpForm, put_words};
 use hosts::Host;
 use image_patch::word_at;
 use outcome::Ending;
-use report8::ProgramLine;
+use program_reports::ProgramLine;
+use program_tasks::ImageForm;
 use std::alloc::{AllocError, Global};
-use task8::ImageForm;
 use volume_commands::{look_at, print};
 use word12::{BLOCK, Word};
 

@@ -4,8 +4,8 @@ ghost use Rattle.archive_commands.specs.DumpSteps.{HasNone};
 ghost use Rattle.archive_commands.specs.Dumping.{HasFiles};
 ghost use Rattle.archive_commands.specs.Dumping as spec;
 
+use archive_files::ArchiveFault;
 use archive_many::{VolumeFile, open};
-use archive8::ArchiveFault;
 use os8_dir::Name;
 use outcome::Ending;
 use std::alloc::Global;

@@ -9,8 +9,8 @@ use crate::refusals::refuse_with;
 use hosts::Host;
 use image_patch::{PatchFault, patch};
 use outcome::Ending;
+use program_tasks::ImageForm;
 use std::alloc::{AllocError, Global};
-use task8::ImageForm;
 use volume_commands::{Image, store};
 use word12::Word;
 

@@ -18,10 +18,10 @@ use Rattle.os8_dir.specs.declared.file_faults.FileFault.TheVariants.{NotFound, N
 use Rattle.os8_dir.specs.declared.file_faults.FileFault.TheVariants as file-fault
 use Rattle.script8.specs.declared.faults.SessionFault.{SessionFault}
 use Rattle.script8.specs.declared.faults.SessionFault.TheVariants.{BadLine, NoJob, TooManyJobs, File, Asm, Tape, BadText, Reader, Writer, Memory, TooManyBreaks}
-use Rattle.archive8.specs.declared.faults.ArchiveFault.{ArchiveFault}
-use Rattle.archive8.specs.declared.faults.ArchiveFault.TheVariants.{Image, Directory, Refused}
-use Rattle.archive8.specs.Opening.{IsUnopened}
-use Rattle.archive8.specs.Parts.{GivesFile}
+use Rattle.archive_files.specs.declared.faults.ArchiveFault.{ArchiveFault}
+use Rattle.archive_files.specs.declared.faults.ArchiveFault.TheVariants.{Image, Directory, Refused}
+use Rattle.archive_files.specs.Opening.{IsUnopened}
+use Rattle.archive_files.specs.Parts.{GivesFile}
 use Rattle.archive_many.specs.Opened.{GetsFile, LiesOn, file_at, files_on, files_or}
 use Rattle.archive_many.specs.Raw.{BlocksRefused, GetsBlocks, HasBlocks}
 use Rattle.archive_many.specs.Steps.{IsNoVolume, files_of_entries}

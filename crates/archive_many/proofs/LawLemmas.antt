@@ -20,9 +20,9 @@ use Rattle.os8_dir.specs.declared.faults.DirFault.{DirFault}
 use Rattle.os8_files.specs.Mounted.{MountState}
 use Rattle.os8_files.specs.Failed.{extent_or}
 use Rattle.os8_files.specs.Puts.{blocks_filled, file_with}
-use Rattle.archive8.specs.Opening.{IsOpened}
-use Rattle.archive8.specs.Getting.{IsGiven}
-use Rattle.archive8.specs.Putting.{information_for, put_words}
+use Rattle.archive_files.specs.Opening.{IsOpened}
+use Rattle.archive_files.specs.Getting.{IsGiven}
+use Rattle.archive_files.specs.Putting.{information_for, put_words}
 use Rattle.archive_many.specs.Opened.{GetsFile, LiesOn}
 use Rattle.archive_many.specs.Putting.{ArePut, HasPutAll, words_in}
 use Rattle.archive_many.specs.Laws.{HoldsFile, IsNoneOf}

@@ -19,7 +19,7 @@ use Rattle.os8_dir.specs.declared.file_faults.FileFault.TheVariants.{NotFound, N
 use Rattle.os8_dir.specs.declared.file_faults.FileFault.TheVariants as file
 use Rattle.script8.specs.declared.faults.SessionFault.{SessionFault}
 use Rattle.script8.specs.declared.faults.SessionFault.TheVariants.{BadLine, NoJob, TooManyJobs, File, Asm, Tape, BadText, Reader, Writer, Memory, TooManyBreaks}
-use Rattle.archive8.specs.Putting.{information_for}
+use Rattle.archive_files.specs.Putting.{information_for}
 use Rattle.archive_many.specs.Putting.{ArePut, HasPutFile, IsRefusedAt, IsRefusedFile, KeepsUncovered, blocks_in, words_in}
 use Rattle.archive_many.specs.PutSteps.{IsRefusedAfter, PutsFile, PutsFiles}
 use Rattle.archive_many.specs.declared.putting.NewFile.{NewFile}

@@ -8,9 +8,9 @@ use Rattle.char_pack.specs.declared.forms.GetForm.TheVariants as get_as
 use Rattle.char_pack.specs.declared.forms.PutForm.TheVariants as put_as
 use Rattle.os8_dir.specs.Names.{parsed_name}
 use Rattle.os8_dir.specs.Files.{FileData, files_of}
-use Rattle.archive8.specs.Opening.{IsOpened}
-use Rattle.archive8.specs.Getting.{IsGiven}
-use Rattle.archive8.specs.Laws.{whole_blocks}
+use Rattle.archive_files.specs.Opening.{IsOpened}
+use Rattle.archive_files.specs.Getting.{IsGiven}
+use Rattle.archive_files.specs.Laws.{whole_blocks}
 use Rattle.archive_many.specs.Opened.{GetsFile, LiesOn, OpensVolume, files_on}
 use Rattle.archive_many.specs.Putting.{PutsAll, words_in}
 use Rattle.archive_many.specs.Patterns.{is_choice, matches}

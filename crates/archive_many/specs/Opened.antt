@@ -16,9 +16,9 @@ use Rattle.os8_dir.specs.declared.file_faults.FileFault.TheVariants.{NotFound}
 use Rattle.script8.specs.declared.faults.SessionFault.{SessionFault}
 use Rattle.script8.specs.declared.faults.SessionFault.TheVariants.{File, Memory}
 use Rattle.script8.specs.declared.faults.SessionFault.TheVariants as session
-use Rattle.archive8.specs.declared.faults.ArchiveFault.{ArchiveFault}
-use Rattle.archive8.specs.Opening.{IsOpened, IsUnopened}
-use Rattle.archive8.specs.Getting.{IsGiven}
+use Rattle.archive_files.specs.declared.faults.ArchiveFault.{ArchiveFault}
+use Rattle.archive_files.specs.Opening.{IsOpened, IsUnopened}
+use Rattle.archive_files.specs.Getting.{IsGiven}
 use Rattle.archive_many.specs.declared.opened.VolumeFile.{VolumeFile}
 
 -- ## The files

@@ -9,9 +9,9 @@ use Rattle.char_pack.specs.declared.forms.GetForm.TheVariants.{Tape}
 use Rattle.os8_dir.specs.Files.{run}
 use Rattle.script8.specs.declared.faults.SessionFault.{SessionFault}
 use Rattle.script8.specs.declared.faults.SessionFault.TheVariants as session
-use Rattle.archive8.specs.declared.faults.ArchiveFault.TheVariants.{Image, Directory, Refused}
-use Rattle.archive8.specs.Opening.{IsUnopened}
-use Rattle.archive8.specs.Getting.{IsGiven}
+use Rattle.archive_files.specs.declared.faults.ArchiveFault.TheVariants.{Image, Directory, Refused}
+use Rattle.archive_files.specs.Opening.{IsUnopened}
+use Rattle.archive_files.specs.Getting.{IsGiven}
 use Rattle.archive_many.specs.declared.faults.BlocksFault.{BlocksFault}
 use Rattle.archive_many.specs.declared.faults.BlocksFault.TheVariants.{Archive, NoBlocks}
 

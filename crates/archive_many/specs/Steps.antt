@@ -3,9 +3,9 @@ use Rattle.std.specs.Prelude.{ℕ, ◌+◌, List, [], ◌∷◌, ◌++◌}
 use Rattle.os8_dir.specs.declared.entries.DirEntry.{DirEntry}
 use Rattle.os8_dir.specs.declared.entries.DirEntry.TheVariants.{File, Empty}
 use Rattle.os8_dir.specs.Entries.{size_of}
-use Rattle.archive8.specs.declared.faults.ArchiveFault.{ArchiveFault}
-use Rattle.archive8.specs.declared.faults.ArchiveFault.TheVariants.{Image, Directory, Refused}
-use Rattle.archive8.specs.Opening.{IsUnopened}
+use Rattle.archive_files.specs.declared.faults.ArchiveFault.{ArchiveFault}
+use Rattle.archive_files.specs.declared.faults.ArchiveFault.TheVariants.{Image, Directory, Refused}
+use Rattle.archive_files.specs.Opening.{IsUnopened}
 use Rattle.archive_many.specs.declared.opened.VolumeFile.{VolumeFile}
 
 -- bytes are no image, or memory is wanted for the volume of one

@@ -1,11 +1,11 @@
 ghost use Rattle.std.specs.Prelude.{◌≡◌};
-ghost use Rattle.archive8.specs.declared.faults.ArchiveFault.TheVariants.{Refused};
+ghost use Rattle.archive_files.specs.declared.faults.ArchiveFault.TheVariants.{Refused};
 ghost use Rattle.script8.specs.declared.faults.SessionFault.TheVariants.{Memory};
 ghost use Rattle.archive_many.specs.declared.faults.BlocksFault.TheVariants as blocks;
 ghost use Rattle.archive_many.specs.declared.faults.ChoiceFault.TheVariants as choice;
 ghost use Rattle.archive_many.specs.declared.faults.ManyFault.TheVariants as many;
 
-use archive8::ArchiveFault;
+use archive_files::ArchiveFault;
 use script8::SessionFault;
 use std::alloc::AllocError;
 use thiserror::Error;

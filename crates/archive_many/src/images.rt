@@ -2,7 +2,7 @@ ghost use Rattle.std.specs.Prelude.{IfErr, IfOk};
 ghost use Rattle.volume_image.specs.Image.{IsImageOf};
 ghost use Rattle.archive_many.specs.Steps.{IsNoVolume};
 
-use archive8::ArchiveFault;
+use archive_files::ArchiveFault;
 use script8::SessionFault;
 use std::alloc::Global;
 use volume_image::{ImageFault, MemoryVolume};

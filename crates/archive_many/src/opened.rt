@@ -6,8 +6,8 @@ ghost use Rattle.archive_many.specs.Opened.{GetsFile, OpensVolume, files_on};
 ghost use Rattle.archive_many.specs.Steps.{file_of_entry, files_of_entries};
 
 use crate::images::volume_of;
-use archive8::parts::content_of_words;
-use archive8::{ArchiveFault, GetForm};
+use archive_files::parts::content_of_words;
+use archive_files::{ArchiveFault, GetForm};
 use os8_dir::laws::{files_found, files_inside, sound_directory};
 use os8_dir::{DirEntry, DirFault, Directory, Name};
 use os8_files::FileFault;
@@ -71,7 +71,7 @@ impl OpenVolume {
         Ok(files)
     }
 
-    /// What one of the volume's files has: its frames, its text, or the tape that it begins with, as `archive8::get` gives it. One
+    /// What one of the volume's files has: its frames, its text, or the tape that it begins with, as `archive_files::get` gives it. One
     /// that does not lie where it is said to is `NotFound` (OS/8 Software Support Manual; the faults are this project's profile).
     pub fn get(
         &self,

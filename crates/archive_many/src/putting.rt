@@ -5,8 +5,8 @@ ghost use Rattle.archive_many.specs.Putting.{PutsAll};
 ghost use Rattle.archive_many.specs.PutSteps.{PutsFile, PutsFiles};
 
 use crate::ManyFault;
-use archive8::parts::{image_of, mount_image, put_informed, stored_words};
-use archive8::{ArchiveFault, PutForm};
+use archive_files::parts::{image_of, mount_image, put_informed, stored_words};
+use archive_files::{ArchiveFault, PutForm};
 use os8_dir::Name;
 use os8_dir::laws::{directory_numbers, rooms};
 use os8_files::{FileFault, FileService};
@@ -31,7 +31,7 @@ pub struct ManyImage {
     pub blocks: Vec<usize>,
 }
 
-/// The image with some files, put one after the other as `archive8::put` does it, all or none. Each is in place of an older file of
+/// The image with some files, put one after the other as `archive_files::put` does it, all or none. Each is in place of an older file of
 /// its name, whose information words it keeps where none are given. The image that is handed in stays as it is (OS/8 Software
 /// Support Manual; the faults and their order are this project's profile). The place of the first file that is refused is given.
 pub fn put_all(

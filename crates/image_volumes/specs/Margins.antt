@@ -1,7 +1,7 @@
 -- Which bytes of a file are those of its volumes: not those that other programs put before or after them (this project's profile).
 use Rattle.std.specs.Prelude.{ℕ, ◌-◌, Bool, true, false, if◌then◌else◌, Option, Some, None, List, drop, length, take}
-use Rattle.disk8.specs.declared.layouts.Layout.{Layout}
-use Rattle.disk8.specs.declared.layouts.Layout.TheVariants as layout
+use Rattle.disk_layouts.specs.declared.layouts.Layout.{Layout}
+use Rattle.disk_layouts.specs.declared.layouts.Layout.TheVariants as layout
 use Rattle.image_kind.specs.Kinds.{kind_of}
 use Rattle.image_kind.specs.declared.kinds.Form.{Form}
 use Rattle.image_kind.specs.declared.kinds.Form.TheVariants as form

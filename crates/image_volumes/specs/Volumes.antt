@@ -1,7 +1,7 @@
 -- Which volumes of a file are meant (OS/8's use of the RK05 disk and of the DECtape; that what is given decides is this project's profile).
 use Rattle.std.specs.Prelude.{ℕ, Option, Some, None, List}
-use Rattle.disk8.specs.declared.layouts.Layout.{Layout}
-use Rattle.disk8.specs.declared.layouts.Layout.TheVariants as layout
+use Rattle.disk_layouts.specs.declared.layouts.Layout.{Layout}
+use Rattle.disk_layouts.specs.declared.layouts.Layout.TheVariants as layout
 use Rattle.image_kind.specs.Kinds.{kind_of}
 use Rattle.image_kind.specs.declared.kinds.Form.{Form}
 use Rattle.image_kind.specs.declared.kinds.Form.TheVariants as form

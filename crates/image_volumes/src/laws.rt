@@ -1,6 +1,6 @@
 //! What holds of the parts of a file.
 ghost use Rattle.std.specs.Prelude.{◌≡◌, ◌++◌, ℕ, List, Option};
-ghost use Rattle.disk8.specs.declared.layouts.Layout.{Layout as Where};
+ghost use Rattle.disk_layouts.specs.declared.layouts.Layout.{Layout as Where};
 ghost use Rattle.image_volumes.specs.Margins.{after_of, before_of, body_of};
 
 /// A file is the bytes before its volumes, those of the volumes, and those after them.

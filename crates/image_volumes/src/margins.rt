@@ -2,7 +2,7 @@
 ghost use Rattle.std.specs.Prelude.{◌≡◌};
 ghost use Rattle.image_volumes.specs.Margins as spec;
 
-use disk8::Layout;
+use disk_layouts::Layout;
 use image_kind::{Form, ImageKind, kind_of};
 
 /// How many bytes before the volumes of a file, and how many after them, are none of theirs.

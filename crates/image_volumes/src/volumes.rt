@@ -2,7 +2,7 @@
 ghost use Rattle.std.specs.Prelude.{◌≡◌};
 ghost use Rattle.image_volumes.specs.Volumes as spec;
 
-use disk8::Layout;
+use disk_layouts::Layout;
 use image_kind::{Form, kind_of};
 
 /// Which volumes of a file are meant.

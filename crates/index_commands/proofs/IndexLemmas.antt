@@ -4,7 +4,7 @@ use Rattle.std.specs.Result.{IsErr}
 use Rattle.std.specs.declared.alloc.Global.{Global}
 use Rattle.std.proofs.lemmas.List.{take_all}
 use Rattle.hosts.specs.Event.{Event}
-use Rattle.disk8.specs.declared.layouts.Layout.{Layout}
+use Rattle.disk_layouts.specs.declared.layouts.Layout.{Layout}
 use Rattle.outcome.specs.declared.endings.Ending.{Ending}
 use Rattle.volume_index.specs.declared.styles.IndexStyle.{IndexStyle}
 use Rattle.index_commands.specs.Indexing.{IndexesImage, IndexesImages}

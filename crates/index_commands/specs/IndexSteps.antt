@@ -1,7 +1,7 @@
 -- What steps of the code that indexes images do. No contract of a public function cites these.
 use Rattle.std.specs.Prelude.{ℕ, ◌-◌, Some, Result, Ok, Err, List, drop, length, take}
 use Rattle.std.specs.Global.{Vec}
-use Rattle.disk8.specs.declared.layouts.Layout.{Layout}
+use Rattle.disk_layouts.specs.declared.layouts.Layout.{Layout}
 use Rattle.outcome.specs.declared.endings.Ending.{Ending}
 use Rattle.index_commands.specs.Volumes.{IsImageAt, IsNoImage}
 

@@ -2,8 +2,8 @@
 use Rattle.std.specs.Prelude.{◌≡◌, ℕ, Bool, true, codes, decimal, Option, Some, None, Result, Ok, Err, List, [], ◌∷◌, ◌++◌}
 use Rattle.hosts.specs.Event.{Event}
 use Rattle.script8.specs.declared.faults.SessionFault.TheVariants.{Memory}
-use Rattle.report8.specs.Program.{program_line}
-use Rattle.report8.specs.Prefixes.{with_prefixes}
+use Rattle.program_reports.specs.Program.{program_line}
+use Rattle.program_reports.specs.Prefixes.{with_prefixes}
 use Rattle.outcome.specs.declared.endings.Ending.{Ending}
 use Rattle.outcome.specs.declared.endings.Ending.TheVariants as ending
 use Rattle.volume_commands.specs.Ending.{TellsLine}

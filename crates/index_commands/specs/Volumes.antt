@@ -1,16 +1,16 @@
 -- The volumes of an image file of unknown origin (this project's profile; the layouts are those of OS/8).
 use Rattle.std.specs.Prelude.{◌≡◌, ℕ, ◌-◌, Option, Some, None, List, [], ◌∷◌, Err, drop, length, take}
-use Rattle.disk8.specs.Disks.{FitsLayout, IsImageIn}
-use Rattle.disk8.specs.Files.{Opens}
-use Rattle.disk8.specs.declared.faults.DiskFault.TheVariants as disk
-use Rattle.disk8.specs.declared.layouts.Layout.{Layout}
-use Rattle.disk8.specs.declared.layouts.Layout.TheVariants as layout
+use Rattle.disk_layouts.specs.Disks.{FitsLayout, IsImageIn}
+use Rattle.disk_layouts.specs.Files.{Opens}
+use Rattle.disk_layouts.specs.declared.faults.DiskFault.TheVariants as disk
+use Rattle.disk_layouts.specs.declared.layouts.Layout.{Layout}
+use Rattle.disk_layouts.specs.declared.layouts.Layout.TheVariants as layout
 use Rattle.image_kind.specs.declared.kinds.Form.{Form}
 use Rattle.image_kind.specs.declared.kinds.Form.TheVariants as form
 use Rattle.image_kind.specs.declared.kinds.ImageKind.{ImageKind}
 use Rattle.image_kind.specs.Kinds.{kind_of}
 use Rattle.script8.specs.declared.faults.SessionFault.TheVariants.{Memory}
-use Rattle.report8.specs.declared.programs.ProgramLine.TheVariants as line
+use Rattle.program_reports.specs.declared.programs.ProgramLine.TheVariants as line
 use Rattle.outcome.specs.declared.endings.Ending.{Ending}
 use Rattle.outcome.specs.declared.endings.Ending.TheVariants.{Line, Fault}
 

@@ -6,12 +6,12 @@ ghost use Rattle.index_commands.specs.Volumes.{body_of, layouts_in, layouts_of};
 use crate::refusals::pass_over;
 use crate::volumes::{body_in, number_of, volume_at};
 use archive_many::{ChoiceFault, choose_files};
-use disk8::Layout;
+use disk_layouts::Layout;
 use hosts::Host;
 use image_kind::{Form, kind_of};
 use outcome::Ending;
+use program_tasks::ImageForm;
 use std::alloc::Global;
-use task8::ImageForm;
 use volume_commands::{look_at, print};
 use volume_index::{IndexStyle, index_volume};
 

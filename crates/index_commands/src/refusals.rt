@@ -1,14 +1,14 @@
 //! Images that are passed over.
 ghost use Rattle.std.specs.Prelude.{◌≡◌, ◌++◌, OnOk};
-ghost use Rattle.report8.specs.Prefixes.{with_prefixes};
-ghost use Rattle.report8.specs.Program.{program_line};
+ghost use Rattle.program_reports.specs.Prefixes.{with_prefixes};
+ghost use Rattle.program_reports.specs.Program.{program_line};
 ghost use Rattle.volume_commands.specs.Answers.{AreLines};
 ghost use Rattle.volume_commands.specs.Ending.{TellsLine};
 ghost use Rattle.index_commands.specs.Refusing.{PassesOver, number_text, prefix_of};
 
 use hosts::Host;
 use outcome::Ending;
-use report8::{ProgramLine, put_program, with_prefix};
+use program_reports::{ProgramLine, put_program, with_prefix};
 use std::alloc::{AllocError, Global};
 
 /// Says on standard error why a volume is refused, and that one is; what is no refusal ends the command.

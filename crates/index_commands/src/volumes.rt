@@ -4,10 +4,10 @@ ghost use Rattle.index_commands.specs.IndexSteps.{FindsImage, inner};
 ghost use Rattle.index_commands.specs.Volumes.{body_in};
 ghost use Rattle.index_commands.specs.Volumes as spec;
 
-use disk8::{DiskFault, DiskFile, Layout};
+use disk_layouts::{DiskFault, DiskFile, Layout};
 use image_kind::ImageKind;
 use outcome::Ending;
-use report8::ProgramLine;
+use program_reports::ProgramLine;
 use script8::SessionFault;
 use std::alloc::Global;
 

@@ -8,10 +8,10 @@ use Rattle.outcome.specs.declared.contents.Content.TheVariants as content
 use Rattle.outcome.specs.declared.endings.Ending.{Ending}
 use Rattle.outcome.specs.declared.endings.Ending.TheVariants.{Line, Fault, Failure, Busy, NotWritten, FullOutput, NoReader, Misuse}
 use Rattle.outcome.specs.declared.notes.PlainNote.{PlainNote}
-use Rattle.archive8.specs.declared.faults.ArchiveFault.{ArchiveFault}
-use Rattle.report8.specs.declared.programs.ProgramLine.TheVariants as line
+use Rattle.archive_files.specs.declared.faults.ArchiveFault.{ArchiveFault}
+use Rattle.program_reports.specs.declared.programs.ProgramLine.TheVariants as line
 use Rattle.script8.specs.declared.faults.SessionFault.TheVariants as fault
-use Rattle.task8.specs.declared.forms.ImageForm.{ImageForm}
+use Rattle.program_tasks.specs.declared.forms.ImageForm.{ImageForm}
 use Rattle.volume_commands.specs.Answers.{Answers, Refuses}
 use Rattle.volume_commands.specs.Notes.{Tells}
 use Rattle.volume_commands.specs.Reading.{FindsVolume, Holds, HoldsAt, Looks, LooksAt, MakesImage, Opens, hold_calls, looked_name, with_lock_note}

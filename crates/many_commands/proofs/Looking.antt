@@ -3,18 +3,18 @@ use Rattle.std.proofs.Common.{◌≡◌, ◌∙◌, ◌+◌, ℕ, Bool, true, fa
 use Rattle.std.specs.Global.{Vec}
 use Rattle.hosts.specs.Event.{Event}
 use Rattle.char_pack.specs.declared.forms.GetForm.TheVariants.{Frames}
-use Rattle.disk8.specs.declared.layouts.Layout.{Layout}
+use Rattle.disk_layouts.specs.declared.layouts.Layout.{Layout}
 use Rattle.outcome.specs.declared.endings.Ending.{Ending}
-use Rattle.archive8.specs.declared.faults.ArchiveFault.{ArchiveFault}
-use Rattle.archive8.specs.Getting.{Gets}
+use Rattle.archive_files.specs.declared.faults.ArchiveFault.{ArchiveFault}
+use Rattle.archive_files.specs.Getting.{Gets}
 use Rattle.archive_many.specs.declared.faults.BlocksFault.{BlocksFault}
 use Rattle.archive_many.specs.declared.faults.BlocksFault.TheVariants.{Archive, NoBlocks}
-use Rattle.report8.specs.Program.{program_line}
-use Rattle.report8.specs.declared.programs.ProgramLine.TheVariants as line
-use Rattle.task8.specs.declared.forms.BlocksForm.{BlocksForm}
-use Rattle.task8.specs.declared.forms.CheckForm.{CheckForm}
-use Rattle.task8.specs.declared.forms.FileForm.{FileForm}
-use Rattle.task8.specs.declared.forms.ImageForm.{ImageForm}
+use Rattle.program_reports.specs.Program.{program_line}
+use Rattle.program_reports.specs.declared.programs.ProgramLine.TheVariants as line
+use Rattle.program_tasks.specs.declared.forms.BlocksForm.{BlocksForm}
+use Rattle.program_tasks.specs.declared.forms.CheckForm.{CheckForm}
+use Rattle.program_tasks.specs.declared.forms.FileForm.{FileForm}
+use Rattle.program_tasks.specs.declared.forms.ImageForm.{ImageForm}
 use Rattle.volume_commands.specs.Answers.{Answers, AreLines}
 use Rattle.volume_commands.specs.Ending.{TellsLine}
 use Rattle.volume_commands.specs.Reading.{LooksAt}

@@ -7,8 +7,8 @@ use Rattle.outcome.specs.declared.endings.Ending.{Ending}
 use Rattle.outcome.specs.declared.endings.Ending.TheVariants.{Fault}
 use Rattle.archive_many.specs.HostNames.{NamesVolume}
 use Rattle.archive_many.specs.declared.putting.NewFile.{NewFile}
-use Rattle.task8.specs.declared.forms.ImageForm.{ImageForm}
-use Rattle.task8.specs.declared.forms.TextsForm.{TextsForm}
+use Rattle.program_tasks.specs.declared.forms.ImageForm.{ImageForm}
+use Rattle.program_tasks.specs.declared.forms.TextsForm.{TextsForm}
 use Rattle.volume_commands.specs.Work.{Then, Purely}
 use Rattle.many_commands.specs.Checking.{IsImageOf}
 use Rattle.many_commands.specs.NameSteps.{KnowsNames, has_key}

@@ -1,14 +1,14 @@
 -- The command that puts several files has changed none where it is refused.
 use Rattle.std.proofs.Common.{◌∙◌, ◌||◌, ◌++◌, ℕ, Bool, true, false, not, Option, None, Some, Ok, Err, List, [], ◌∷◌, inl, inr, length, slice_get}
 use Rattle.hosts.specs.Event.{Event}
-use Rattle.archive8.specs.declared.places.TextPlace.{TextPlace}
+use Rattle.archive_files.specs.declared.places.TextPlace.{TextPlace}
 use Rattle.archive_many.specs.declared.faults.ManyFault.{ManyFault}
 use Rattle.archive_many.specs.declared.faults.ManyFault.TheVariants as many
 use Rattle.archive_many.specs.declared.putting.NewFile.{NewFile}
 use Rattle.outcome.specs.declared.endings.Ending.{Ending}
-use Rattle.task8.specs.declared.forms.ImageForm.{ImageForm}
-use Rattle.task8.specs.declared.forms.PutManyForm.{PutManyForm}
-use Rattle.task8.specs.declared.forms.TextsForm.{TextsForm}
+use Rattle.program_tasks.specs.declared.forms.ImageForm.{ImageForm}
+use Rattle.program_tasks.specs.declared.forms.PutManyForm.{PutManyForm}
+use Rattle.program_tasks.specs.declared.forms.TextsForm.{TextsForm}
 use Rattle.volume_commands.specs.Answers.{AreLines}
 use Rattle.volume_commands.specs.Putting.{TellsPlace, is_bad}
 use Rattle.volume_commands.specs.Reading.{Opens}

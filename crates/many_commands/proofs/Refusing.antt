@@ -4,20 +4,20 @@ use Rattle.hosts.specs.Event.{Event}
 use Rattle.outcome.specs.declared.endings.Ending.{Ending}
 use Rattle.outcome.specs.declared.endings.Ending.TheVariants as ending
 use Rattle.script8.specs.declared.faults.SessionFault.TheVariants as session
-use Rattle.archive8.specs.Asking.{Target, target_of}
-use Rattle.archive8.specs.declared.faults.ArchiveFault.{ArchiveFault}
-use Rattle.archive8.specs.declared.faults.CopyFault.{CopyFault}
-use Rattle.archive8.specs.declared.faults.CopyFault.TheVariants.{From, To}
-use Rattle.archive8.specs.declared.faults.DeleteFault.{DeleteFault}
-use Rattle.archive8.specs.declared.faults.DeleteFault.TheVariants.{Archive, Name}
-use Rattle.archive8.specs.declared.faults.RenameFault.{RenameFault}
-use Rattle.archive8.specs.declared.faults.RenameFault.TheVariants as rename
-use Rattle.archive8.specs.declared.places.TextPlace.{TextPlace}
-use Rattle.archive8.specs.Squeezing.{SqueezesFiles}
-use Rattle.task8.specs.declared.forms.CopyForm.{CopyForm}
-use Rattle.task8.specs.declared.forms.DeleteForm.{DeleteForm}
-use Rattle.task8.specs.declared.forms.ImageForm.{ImageForm}
-use Rattle.task8.specs.declared.forms.PutOneForm.{PutOneForm}
+use Rattle.archive_files.specs.Asking.{Target, target_of}
+use Rattle.archive_files.specs.declared.faults.ArchiveFault.{ArchiveFault}
+use Rattle.archive_files.specs.declared.faults.CopyFault.{CopyFault}
+use Rattle.archive_files.specs.declared.faults.CopyFault.TheVariants.{From, To}
+use Rattle.archive_files.specs.declared.faults.DeleteFault.{DeleteFault}
+use Rattle.archive_files.specs.declared.faults.DeleteFault.TheVariants.{Archive, Name}
+use Rattle.archive_files.specs.declared.faults.RenameFault.{RenameFault}
+use Rattle.archive_files.specs.declared.faults.RenameFault.TheVariants as rename
+use Rattle.archive_files.specs.declared.places.TextPlace.{TextPlace}
+use Rattle.archive_files.specs.Squeezing.{SqueezesFiles}
+use Rattle.program_tasks.specs.declared.forms.CopyForm.{CopyForm}
+use Rattle.program_tasks.specs.declared.forms.DeleteForm.{DeleteForm}
+use Rattle.program_tasks.specs.declared.forms.ImageForm.{ImageForm}
+use Rattle.program_tasks.specs.declared.forms.PutOneForm.{PutOneForm}
 use Rattle.volume_commands.specs.Answers.{Answers, AreLines}
 use Rattle.volume_commands.specs.Asking.{MeansFile, MeansFiles}
 use Rattle.volume_commands.specs.Changing.{Changes, GivesName, RefusesName, Renames, Squeezes}

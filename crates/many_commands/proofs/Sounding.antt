@@ -4,12 +4,12 @@ use Rattle.std.specs.Global.{Vec}
 use Rattle.std.proofs.lemmas.Bool.Decides.{nat_tests}
 use Rattle.hosts.specs.Event.{Event, look_call, print_call, seconds_call, tell_call, terminal_call}
 use Rattle.hosts.specs.Streams.{read}
-use Rattle.disk8.specs.declared.layouts.Layout.{Layout}
+use Rattle.disk_layouts.specs.declared.layouts.Layout.{Layout}
 use Rattle.outcome.specs.Endings.{ending_of_archive}
 use Rattle.outcome.specs.declared.endings.Ending.{Ending}
-use Rattle.report8.specs.declared.programs.ProgramLine.{ProgramLine}
-use Rattle.task8.specs.declared.forms.CheckForm.{CheckForm}
-use Rattle.task8.specs.declared.forms.ImageForm.{ImageForm}
+use Rattle.program_reports.specs.declared.programs.ProgramLine.{ProgramLine}
+use Rattle.program_tasks.specs.declared.forms.CheckForm.{CheckForm}
+use Rattle.program_tasks.specs.declared.forms.ImageForm.{ImageForm}
 use Rattle.volume_commands.specs.Answers.{Answers}
 use Rattle.volume_commands.specs.Reading.{FindsVolume, LooksAt}
 use Rattle.volume_commands.specs.Saving.{Prints}

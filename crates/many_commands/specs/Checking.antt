@@ -2,25 +2,25 @@
 use Rattle.std.specs.Prelude.{◌≡◌, ◌⊎◌, ℕ, ◌+◌, Bool, true, false, nat_eq, Option, None, Some, Result, Ok, Err, List, [], ◌∷◌, ◌++◌, codes, length, map}
 use Rattle.std.specs.Global.{Vec}
 use Rattle.hosts.specs.Event.{Event}
-use Rattle.disk8.specs.declared.layouts.Layout.{Layout}
+use Rattle.disk_layouts.specs.declared.layouts.Layout.{Layout}
 use Rattle.volume_image.specs.Image.{ReadsImage}
 use Rattle.volume_image.specs.declared.faults.ImageFault.{ImageFault}
 use Rattle.volume_image.specs.declared.faults.ImageFault.TheVariants as image
 use Rattle.script8.specs.declared.faults.SessionFault.TheVariants.{Memory}
-use Rattle.archive8.specs.Checking.{Checks}
-use Rattle.archive8.specs.declared.faults.ArchiveFault.{ArchiveFault}
-use Rattle.archive8.specs.declared.faults.ArchiveFault.TheVariants as archive
+use Rattle.archive_files.specs.Checking.{Checks}
+use Rattle.archive_files.specs.declared.faults.ArchiveFault.{ArchiveFault}
+use Rattle.archive_files.specs.declared.faults.ArchiveFault.TheVariants as archive
 use Rattle.archive_survey.specs.Surveying.{IsSurveyed}
 use Rattle.archive_survey.specs.declared.answers.Survey.{Survey}
-use Rattle.report8.specs.Prefixes.{with_prefixes}
-use Rattle.report8.specs.Program.{program_line}
-use Rattle.report8.specs.declared.programs.ProgramLine.{ProgramLine}
-use Rattle.report8.specs.declared.programs.ProgramLine.TheVariants as line
+use Rattle.program_reports.specs.Prefixes.{with_prefixes}
+use Rattle.program_reports.specs.Program.{program_line}
+use Rattle.program_reports.specs.declared.programs.ProgramLine.{ProgramLine}
+use Rattle.program_reports.specs.declared.programs.ProgramLine.TheVariants as line
 use Rattle.outcome.specs.Endings.{ending_of_archive}
 use Rattle.outcome.specs.declared.endings.Ending.{Ending}
 use Rattle.outcome.specs.declared.endings.Ending.TheVariants.{Line, Fault, Failure, Busy, NotWritten, FullOutput, NoReader, Misuse}
-use Rattle.task8.specs.declared.forms.CheckForm.{CheckForm}
-use Rattle.task8.specs.declared.forms.ImageForm.{ImageForm}
+use Rattle.program_tasks.specs.declared.forms.CheckForm.{CheckForm}
+use Rattle.program_tasks.specs.declared.forms.ImageForm.{ImageForm}
 use Rattle.volume_commands.specs.Work.{Then, Purely}
 use Rattle.volume_commands.specs.Reading.{LooksAt}
 use Rattle.volume_commands.specs.Answers.{Answers, AreLines}

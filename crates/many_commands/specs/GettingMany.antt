@@ -16,11 +16,11 @@ use Rattle.script8.specs.declared.faults.SessionFault.TheVariants.{File, Memory}
 use Rattle.archive_many.specs.HostNames.{NamesHost, is_slash}
 use Rattle.archive_many.specs.Opened.{GetsFile, OpensVolume, files_on}
 use Rattle.archive_many.specs.declared.opened.VolumeFile.{VolumeFile}
-use Rattle.report8.specs.Program.{program_line}
-use Rattle.report8.specs.declared.programs.ProgramLine.TheVariants as line
+use Rattle.program_reports.specs.Program.{program_line}
+use Rattle.program_reports.specs.declared.programs.ProgramLine.TheVariants as line
 use Rattle.outcome.specs.declared.endings.Ending.{Ending}
 use Rattle.outcome.specs.declared.endings.Ending.TheVariants.{Line, Fault}
-use Rattle.task8.specs.declared.forms.GetManyForm.{GetManyForm}
+use Rattle.program_tasks.specs.declared.forms.GetManyForm.{GetManyForm}
 use Rattle.volume_commands.specs.Work.{Then, Purely}
 use Rattle.volume_commands.specs.Reading.{LooksAt}
 use Rattle.volume_commands.specs.Answers.{Answers, AreLines}

@@ -6,7 +6,7 @@ use Rattle.hosts.specs.Place.{about}
 use Rattle.hosts.specs.Saving.{replacements}
 use Rattle.outcome.specs.declared.endings.Ending.{Ending}
 use Rattle.outcome.specs.declared.endings.Ending.TheVariants.{Line, Fault, Failure, Busy, NotWritten, FullOutput, NoReader, Misuse}
-use Rattle.disk8.specs.declared.layouts.Layout.{Layout}
+use Rattle.disk_layouts.specs.declared.layouts.Layout.{Layout}
 use Rattle.volume_commands.specs.Reading.{FindsVolume}
 use Rattle.many_commands.specs.Checking.{Reports}
 use Rattle.many_commands.specs.GettingMany.{path_in}

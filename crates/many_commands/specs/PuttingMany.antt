@@ -6,7 +6,7 @@ use Rattle.os8_dir.specs.declared.file_faults.FileFault.TheVariants.{BadName, No
 use Rattle.script8.specs.Replies.{line_of, line_reply_text}
 use Rattle.script8.specs.declared.faults.SessionFault.TheVariants.{File, Memory}
 use Rattle.script8.specs.declared.replies.LineReply.TheVariants.{Stored}
-use Rattle.archive8.specs.declared.faults.ArchiveFault.{ArchiveFault}
+use Rattle.archive_files.specs.declared.faults.ArchiveFault.{ArchiveFault}
 use Rattle.archive_many.specs.Emptying.{empties}
 use Rattle.archive_many.specs.HostNames.{NamesVolume}
 use Rattle.archive_many.specs.Opened.{OpensVolume, files_on}
@@ -16,15 +16,15 @@ use Rattle.archive_many.specs.declared.faults.ManyFault.TheVariants as many
 use Rattle.archive_many.specs.declared.opened.VolumeFile.{VolumeFile}
 use Rattle.archive_many.specs.declared.putting.ManyImage.{ManyImage}
 use Rattle.archive_many.specs.declared.putting.NewFile.{NewFile}
-use Rattle.report8.specs.declared.programs.ProgramLine.TheVariants.{SameName}
+use Rattle.program_reports.specs.declared.programs.ProgramLine.TheVariants.{SameName}
 use Rattle.outcome.specs.Notes.{name_text, plain_text}
 use Rattle.outcome.specs.declared.notes.NameNote.TheVariants.{NotPut, Empty}
 use Rattle.outcome.specs.declared.notes.PlainNote.TheVariants.{FileNames}
 use Rattle.outcome.specs.declared.endings.Ending.{Ending}
 use Rattle.outcome.specs.declared.endings.Ending.TheVariants.{Line, Fault}
-use Rattle.task8.specs.declared.forms.ImageForm.{ImageForm}
-use Rattle.task8.specs.declared.forms.PutManyForm.{PutManyForm}
-use Rattle.task8.specs.declared.forms.TextsForm.{TextsForm}
+use Rattle.program_tasks.specs.declared.forms.ImageForm.{ImageForm}
+use Rattle.program_tasks.specs.declared.forms.PutManyForm.{PutManyForm}
+use Rattle.program_tasks.specs.declared.forms.TextsForm.{TextsForm}
 use Rattle.volume_commands.specs.Work.{Then, Purely}
 use Rattle.volume_commands.specs.Reading.{LooksAt, Opens}
 use Rattle.volume_commands.specs.Answers.{AreLines, Refuses}

@@ -11,7 +11,7 @@ use Rattle.outcome.specs.Notes.{name_text}
 use Rattle.outcome.specs.declared.notes.NameNote.TheVariants.{BadExtensions}
 use Rattle.outcome.specs.declared.endings.Ending.{Ending}
 use Rattle.outcome.specs.declared.endings.Ending.TheVariants.{Fault, Misuse}
-use Rattle.task8.specs.declared.forms.TextsForm.{TextsForm}
+use Rattle.program_tasks.specs.declared.forms.TextsForm.{TextsForm}
 
 -- the lists of extensions that are given
 abbrev pub lists_of : TextsForm → List (List ℕ)

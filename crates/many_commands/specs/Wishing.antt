@@ -6,7 +6,7 @@ use Rattle.archive_many.specs.Patterns.{beginning_at, files_like, is_choice}
 use Rattle.archive_many.specs.declared.opened.VolumeFile.{VolumeFile}
 use Rattle.outcome.specs.declared.endings.Ending.{Ending}
 use Rattle.outcome.specs.declared.endings.Ending.TheVariants.{Fault}
-use Rattle.task8.specs.declared.forms.GetManyForm.{GetManyForm}
+use Rattle.program_tasks.specs.declared.forms.GetManyForm.{GetManyForm}
 use Rattle.many_commands.specs.declared.wishes.Wish.{Wish}
 use Rattle.many_commands.specs.declared.wishes.Wish.TheVariants as wish
 

@@ -1,7 +1,7 @@
 //! The command that reports on the volumes in image files. No file changes.
 ghost use Rattle.std.specs.Prelude.{◌≡◌, ◌<◌, length, map};
-ghost use Rattle.report8.specs.Program.{program_line};
-ghost use Rattle.report8.specs.declared.programs.ProgramLine.TheVariants as line;
+ghost use Rattle.program_reports.specs.Program.{program_line};
+ghost use Rattle.program_reports.specs.declared.programs.ProgramLine.TheVariants as line;
 ghost use Rattle.volume_commands.specs.Answers.{AreLines};
 ghost use Rattle.many_commands.specs.Checking as spec;
 ghost use Rattle.many_commands.specs.Checking.{ChecksEach, ChecksFiles, ChecksImages, ChecksNext, ChecksOne, ChecksSeveral, EndsSound, PrintsCount, PrintsNamed, PrintsReport};
@@ -10,12 +10,12 @@ ghost use Rattle.many_commands.specs.Progressing.{WithProgress};
 use crate::images::image_of;
 use crate::progress::Progress;
 use crate::reports::{Report, report_among, report_on};
-use disk8::Layout;
+use disk_layouts::Layout;
 use hosts::Host;
 use outcome::Ending;
-use report8::{ProgramLine, put_program, with_prefix};
+use program_reports::{ProgramLine, put_program, with_prefix};
+use program_tasks::CheckForm;
 use std::alloc::Global;
-use task8::CheckForm;
 use volume_commands::{look_at, print};
 
 /// Reports on the volumes in image files. Of several each line has the name of the file before it, and the last line counts them.

@@ -4,7 +4,7 @@ ghost use Rattle.archive_many.specs.Opened.{OpensVolume};
 ghost use Rattle.script8.specs.Replies.{fault_line};
 ghost use Rattle.os8_dir.specs.declared.file_faults.FileFault.TheVariants.{NotFound};
 ghost use Rattle.outcome.specs.declared.endings.Ending.TheVariants.{Line, Fault};
-ghost use Rattle.report8.specs.declared.programs.ProgramLine.TheVariants.{HostWrite};
+ghost use Rattle.program_reports.specs.declared.programs.ProgramLine.TheVariants.{HostWrite};
 ghost use Rattle.script8.specs.declared.faults.SessionFault.TheVariants as session;
 ghost use Rattle.volume_commands.specs.Answers.{Answers};
 ghost use Rattle.many_commands.specs.Checking.{named_lines};
@@ -22,10 +22,10 @@ use archive_many::{OpenVolume, VolumeFile, open};
 use hosts::{Host, HostFault};
 use os8_dir::FileFault;
 use outcome::Ending;
-use report8::ProgramLine;
+use program_reports::ProgramLine;
+use program_tasks::GetManyForm;
 use script8::SessionFault;
 use std::alloc::{AllocError, Global};
-use task8::GetManyForm;
 use volume_commands::{look_at, refuse_image};
 
 /// Writes files of the volume in an image file to a folder, and reports each. The image file doesn't change.

@@ -1,7 +1,7 @@
 //! A file of a volume that is laid into a folder of the host, and what is printed of it.
 ghost use Rattle.std.specs.Prelude.{◌≡◌, false, true};
-ghost use Rattle.report8.specs.Program.{program_line};
-ghost use Rattle.report8.specs.declared.programs.ProgramLine.TheVariants.{Got};
+ghost use Rattle.program_reports.specs.Program.{program_line};
+ghost use Rattle.program_reports.specs.declared.programs.ProgramLine.TheVariants.{Got};
 ghost use Rattle.script8.specs.Replies.{fault_line};
 ghost use Rattle.script8.specs.declared.faults.SessionFault.TheVariants.{File};
 ghost use Rattle.volume_commands.specs.Answers.{AreLines};
@@ -11,15 +11,15 @@ ghost use Rattle.many_commands.specs.GettingMany.{GivesFile, IsPath, LaysAndTell
 
 use crate::checks::named_lines;
 use crate::texts::get_form;
+use archive_files::GetForm;
 use archive_many::{OpenVolume, VolumeFile, host_name};
-use archive8::GetForm;
 use hosts::{Host, HostFault, lay};
 use os8_dir::FileFault;
 use outcome::Ending;
-use report8::{ProgramLine, put_program};
+use program_reports::{ProgramLine, put_program};
+use program_tasks::GetManyForm;
 use script8::{SessionFault, put_reply};
 use std::alloc::Global;
-use task8::GetManyForm;
 use volume_commands::print;
 
 /// Writes a file of a volume to the folder and reports it, and answers whether it is there.

@@ -12,11 +12,11 @@ use archive_many::{NewFile, volume_name};
 use hosts::Host;
 use os8_dir::{FileFault, Name};
 use outcome::{Ending, NameNote, Note, PlainNote};
-use report8::ProgramLine;
+use program_reports::ProgramLine;
+use program_tasks::{ImageForm, TextsForm};
 use script8::SessionFault;
 use std::alloc::{AllocError, Global};
 use std::collections::BTreeSet;
-use task8::{ImageForm, TextsForm};
 use volume_commands::{look_at, tell_note};
 
 /// The files of these paths, which are read in their order.

@@ -1,10 +1,10 @@
 //! The files of images.
 ghost use Rattle.many_commands.specs.Checking.{IsImageOf};
 
-use disk8::Layout;
+use disk_layouts::Layout;
 use outcome::Ending;
+use program_tasks::ImageForm;
 use std::alloc::Global;
-use task8::ImageForm;
 
 /// The image in a file of this name.
 pub(crate) fn image_of(

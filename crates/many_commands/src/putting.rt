@@ -12,14 +12,14 @@ ghost use Rattle.many_commands.specs.PutManySteps.{IsFileRefused, IsNotPut, IsTe
 
 use crate::host_files::read_files;
 use crate::texts::take_lists;
+use archive_files::bad_text_at;
 use archive_many::{ManyFault, ManyImage, NewFile, VolumeFile, empties, open, put_all};
-use archive8::bad_text_at;
 use hosts::Host;
 use os8_dir::FileFault;
 use outcome::{Ending, NameNote, Note};
+use program_tasks::PutManyForm;
 use script8::{LineReply, Reply, SessionFault, put_reply};
 use std::alloc::{AllocError, Global};
-use task8::PutManyForm;
 use volume_commands::{Image, refuse_image, store, tell_note};
 use word12::Word;
 

@@ -5,14 +5,14 @@ ghost use Rattle.outcome.specs.declared.endings.Ending.TheVariants.{Line};
 ghost use Rattle.many_commands.specs.Checking as spec;
 ghost use Rattle.many_commands.specs.Checking.{ChecksSound, LooksAmong, Reports, ReportsAmong, SurveysAll, TellsRefusal};
 
+use archive_files::{ArchiveFault, check};
 use archive_survey::survey;
-use archive8::{ArchiveFault, check};
 use hosts::Host;
 use outcome::Ending;
-use report8::{ProgramLine, put_program};
+use program_reports::{ProgramLine, put_program};
+use program_tasks::ImageForm;
 use script8::SessionFault;
 use std::alloc::Global;
-use task8::ImageForm;
 use volume_commands::{look_at, refuse_image};
 use volume_image::ImageFault;
 

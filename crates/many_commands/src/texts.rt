@@ -3,13 +3,13 @@ ghost use Rattle.std.specs.Prelude.{◌≡◌, map, slice_get, OnOk, OnErr};
 ghost use Rattle.many_commands.specs.Texts as spec;
 ghost use Rattle.many_commands.specs.Texts.{TakesLists, TellsBadList};
 
+use archive_files::{GetForm, PutForm};
 use archive_many::{bad_extensions, is_text};
-use archive8::{GetForm, PutForm};
 use hosts::Host;
 use os8_dir::Name;
 use outcome::{Ending, NameNote, Note};
+use program_tasks::TextsForm;
 use std::alloc::{AllocError, Global};
-use task8::TextsForm;
 use volume_commands::tell_note;
 
 /// Refuses words that are no lists of extensions, and prints the first of them.

@@ -7,9 +7,9 @@ ghost use Rattle.many_commands.specs.Wishing.{AreWishes, wishes_for_all, wish_of
 
 use archive_many::{ChoiceFault, VolumeFile, at_place, choose_files};
 use outcome::Ending;
+use program_tasks::GetManyForm;
 use std::alloc::{AllocError, Global};
 use std::collections::BTreeSet;
-use task8::GetManyForm;
 
 /// What is asked for.
 #[derive(Clone, Copy)]

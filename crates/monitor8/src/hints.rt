@@ -1,6 +1,6 @@
 //! What is printed at a terminal for a line of a script that is none.
 
-use command8::SCRIPT_LINES;
+use command_table::SCRIPT_LINES;
 use outcome::command_hint;
 
 /// What is printed for a line of a script that is none. It is the form of the command that its first word names, in letters of

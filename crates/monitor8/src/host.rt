@@ -3,12 +3,13 @@
 
 use crate::runs::run_image;
 use archive_commands::{WordPatch, dump_blocks, list_dates, patch_word};
-use command8::{TaskFault, task};
+use command_table::{TaskFault, task};
+use host_inputs::{tell_bad_argument, texts_of};
 use hosts::Host;
-use image_file8::{tell_bad_argument, texts_of};
 use index_commands::index_images;
 use many_commands::{check_images, get_files, put_files};
 use outcome::{Content, Ending, ending_of_output, gives_data, no_memory_line};
+use program_tasks::{IndexForm, LineForm, ScanForm, Task};
 use salvage_commands::{rescue_image, scan_blocks, scan_into};
 use script8::SessionFault;
 use std::alloc::{AllocError, Global};
@@ -19,10 +20,9 @@ use std::process::ExitCode;
 use std::thread;
 use std::time::{Clock, Duration};
 use system::System;
-use tape_host8::{
+use tape_commands::{
     assemble_files, list_tape, profile_tape, run_teletype, trace_tape, write_rim, write_source,
 };
-use task8::{IndexForm, LineForm, ScanForm, Task};
 use volume_commands::{
     Rooms, copy_file, create_image, create_tape, delete_files, end, file_asked, get_bin,
     get_blocks, get_file, list_files, put_file, rename_file, squeeze_files,
@@ -48,7 +48,7 @@ macro_rules! wait_for_image {
     }};
 }
 
-/// Does what the words of the command line ask for, as `command8::task` reads them: a subcommand, and the files that it works on.
+/// Does what the words of the command line ask for, as `command_table::task` reads them: a subcommand, and the files that it works on.
 /// The exit status is 0, 1 after a fault, and 2 for words that are refused; `outcome::outcome_of` says which line goes to which stream
 /// (this project's profile). The memory for the last line is taken before anything else.
 pub fn program<R: Env + Files<File = File> + Input + Print + Eprint + Clock + AllocGlobal>(
@@ -227,7 +227,7 @@ enum WordsFault {
 
 impl From<AllocError> for WordsFault {
     ghost use Rattle.std.specs.Prelude.{◌≡◌};
-    ghost use Rattle.command8.specs.declared.faults.TaskFault.TheVariants.{Memory};
+    ghost use Rattle.command_table.specs.declared.faults.TaskFault.TheVariants.{Memory};
     ghost use Rattle.monitor8.specs.declared.host.WordsFault.TheVariants.{Task};
 
     ghost from_gives = { λ _ fault. fault ≡ Task Memory };

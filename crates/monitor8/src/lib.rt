@@ -1,4 +1,4 @@
-//! The whole programming system: what the command line asks for, over the files of the host and the session of `session8`. It also shows
+//! The whole programming system: what the command line asks for, over the files of the host and the session of `system_session`. It also shows
 //! the public calls of the crates below that a program may want.
 #![tactic(auto)]
 
@@ -6,12 +6,12 @@ mod hints;
 mod host;
 mod runs;
 
-pub use command8::{TaskFault, plain_words, task};
+pub use command_table::{TaskFault, plain_words, task};
 pub use host::program;
-pub use report8::{
+pub use program_reports::{
     ProgramLine, RimTextFault, SourceFault, core_tape, first_cell, given_cells, put_program,
     put_source, put_tape_text, rim_text, source_text, tape_text, with_line_feeds, with_prefix,
 };
+pub use program_tasks::Task;
 pub use script8::SessionFault;
-pub use session8::{Ran, Session, laws};
-pub use task8::Task;
+pub use system_session::{Ran, Session, laws};

@@ -1,15 +1,15 @@
 //! Runs of scripts over the volume of an image file.
 
 use crate::hints::line_hint;
-use archive8::ArchiveFault;
-use image_file8::{CountedInput, Image, Output, refusal, tell};
+use archive_files::ArchiveFault;
+use host_inputs::{CountedInput, Image, Output, refusal, tell};
 use outcome::{Ending, NameNote, Note};
+use program_tasks::{ImageForm, RunForm, Saving};
 use script8::{LineReply, Reply, SessionFault};
-use session8::{Session, Watcher};
 use std::fs::{File, Files};
 use std::io::{BufWriter, Input, IsTerminal};
 use std::time::Clock;
-use task8::{ImageForm, RunForm, Saving};
+use system_session::{Session, Watcher};
 use volume_image::MemoryVolume;
 
 /// Runs the script on standard input over the volume of an image file, and writes the image back when it is to be, if it changed. The

@@ -4,13 +4,13 @@ use Rattle.std.specs.declared.io.ErrorKind.TheVariants.{OutOfMemory}
 use Rattle.bin_tape.specs.declared.faults.TapeFault.{TapeFault}
 use Rattle.script8.specs.Faults.{fault_of_tape}
 use Rattle.script8.specs.declared.faults.SessionFault.TheVariants.{Memory, Reader}
-use Rattle.archive8.specs.declared.faults.ArchiveFault.{ArchiveFault}
-use Rattle.archive8.specs.declared.faults.ArchiveFault.TheVariants as archive
-use Rattle.report8.specs.declared.programs.ProgramLine.TheVariants as line
-use Rattle.report8.specs.declared.sources.SourceFault.{SourceFault}
-use Rattle.report8.specs.declared.sources.SourceFault.TheVariants as source
-use Rattle.report8.specs.declared.rims.RimTextFault.{RimTextFault}
-use Rattle.report8.specs.declared.rims.RimTextFault.TheVariants as rim
+use Rattle.archive_files.specs.declared.faults.ArchiveFault.{ArchiveFault}
+use Rattle.archive_files.specs.declared.faults.ArchiveFault.TheVariants as archive
+use Rattle.program_reports.specs.declared.programs.ProgramLine.TheVariants as line
+use Rattle.program_reports.specs.declared.sources.SourceFault.{SourceFault}
+use Rattle.program_reports.specs.declared.sources.SourceFault.TheVariants as source
+use Rattle.program_reports.specs.declared.rims.RimTextFault.{RimTextFault}
+use Rattle.program_reports.specs.declared.rims.RimTextFault.TheVariants as rim
 use Rattle.outcome.specs.declared.endings.Ending.{Ending}
 use Rattle.outcome.specs.declared.endings.Ending.TheVariants.{Line, Fault}
 

@@ -1,14 +1,14 @@
 -- What may help where an image is refused (this project's profile).
 use Rattle.std.specs.Prelude.{ℕ, nat_eq, nat_lt, if◌then◌else◌, Option, Some, None}
-use Rattle.disk8.specs.Disks.{guess_of}
-use Rattle.disk8.specs.declared.layouts.Layout.{Layout}
-use Rattle.disk8.specs.declared.layouts.Layout.TheVariants.{First, Second, Dectape}
+use Rattle.disk_layouts.specs.Disks.{guess_of}
+use Rattle.disk_layouts.specs.declared.layouts.Layout.{Layout}
+use Rattle.disk_layouts.specs.declared.layouts.Layout.TheVariants.{First, Second, Dectape}
 use Rattle.file_kind.specs.declared.kinds.FileKind.{FileKind}
 use Rattle.file_kind.specs.declared.kinds.FileKind.TheVariants as kind
 use Rattle.os8_dir.specs.declared.faults.DirFault.{DirFault}
 use Rattle.os8_dir.specs.declared.faults.DirFault.TheVariants as directory
-use Rattle.archive8.specs.declared.faults.ArchiveFault.{ArchiveFault}
-use Rattle.archive8.specs.declared.faults.ArchiveFault.TheVariants.{Image, Directory, Refused}
+use Rattle.archive_files.specs.declared.faults.ArchiveFault.{ArchiveFault}
+use Rattle.archive_files.specs.declared.faults.ArchiveFault.TheVariants.{Image, Directory, Refused}
 use Rattle.outcome.specs.declared.hints.TheConstants.{IMAGE}
 use Rattle.outcome.specs.declared.notes.PlainNote.{PlainNote}
 use Rattle.outcome.specs.declared.notes.PlainNote.TheVariants as plain

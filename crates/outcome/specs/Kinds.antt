@@ -1,13 +1,13 @@
 -- How a command ends by the kind of a fault of the host (this project's profile).
 use Rattle.std.specs.declared.io.ErrorKind.{ErrorKind}
 use Rattle.std.specs.declared.io.ErrorKind.TheVariants as kind
-use Rattle.host8.specs.declared.faults.HoldFault.{HoldFault}
-use Rattle.host8.specs.declared.faults.HoldFault.TheVariants as hold
-use Rattle.host8.specs.declared.faults.LayFault.{LayFault}
-use Rattle.host8.specs.declared.faults.LayFault.TheVariants as lay
-use Rattle.host8.specs.declared.faults.Unwritten.TheVariants.{AsItWas}
+use Rattle.host_images.specs.declared.faults.HoldFault.{HoldFault}
+use Rattle.host_images.specs.declared.faults.HoldFault.TheVariants as hold
+use Rattle.host_images.specs.declared.faults.LayFault.{LayFault}
+use Rattle.host_images.specs.declared.faults.LayFault.TheVariants as lay
+use Rattle.host_images.specs.declared.faults.Unwritten.TheVariants.{AsItWas}
 use Rattle.script8.specs.declared.faults.SessionFault.TheVariants.{Memory}
-use Rattle.report8.specs.declared.programs.ProgramLine.TheVariants.{HostRead, HostWrite, HostExists}
+use Rattle.program_reports.specs.declared.programs.ProgramLine.TheVariants.{HostRead, HostWrite, HostExists}
 use Rattle.outcome.specs.declared.contents.Content.{Content}
 use Rattle.outcome.specs.declared.contents.Content.TheVariants.{Image}
 use Rattle.outcome.specs.declared.endings.Ending.{Ending}

@@ -1,12 +1,12 @@
 -- The table of outcomes: what each stream gets at the end of a command, and the exit status (this project's profile).
 use Rattle.std.specs.Prelude.{ℕ, Bool, true, false, List, [], ◌++◌, Result, Ok, Err}
-use Rattle.host8.specs.declared.faults.Unwritten.{Unwritten}
-use Rattle.host8.specs.declared.faults.Unwritten.TheVariants as unwritten
+use Rattle.host_images.specs.declared.faults.Unwritten.{Unwritten}
+use Rattle.host_images.specs.declared.faults.Unwritten.TheVariants as unwritten
 use Rattle.script8.specs.Replies.{fault_line}
 use Rattle.script8.specs.declared.faults.SessionFault.{SessionFault}
 use Rattle.script8.specs.declared.faults.SessionFault.TheVariants.{BadLine, NoJob, TooManyJobs, File, Asm, Tape, BadText, Reader, Writer, Memory, TooManyBreaks}
-use Rattle.report8.specs.Program.{program_line}
-use Rattle.report8.specs.declared.programs.ProgramLine.TheVariants.{HostWrite, HostBusy}
+use Rattle.program_reports.specs.Program.{program_line}
+use Rattle.program_reports.specs.declared.programs.ProgramLine.TheVariants.{HostWrite, HostBusy}
 use Rattle.outcome.specs.Contents.{content_name}
 use Rattle.outcome.specs.Notes.{file_text}
 use Rattle.outcome.specs.declared.contents.Content.{Content}

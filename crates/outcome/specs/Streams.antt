@@ -1,9 +1,9 @@
 -- Which commands put data on standard output, and which put lines there (this project's profile).
 use Rattle.std.specs.Prelude.{Bool, true, false, is_some, not}
-use Rattle.task8.specs.declared.tasks.Task.{Task}
-use Rattle.task8.specs.declared.tasks.Task.TheVariants as task
-use Rattle.task8.specs.declared.tasks.RimForm.{RimForm}
-use Rattle.task8.specs.declared.tasks.RimForm.TheVariants.{Lines, Bin}
+use Rattle.program_tasks.specs.declared.tasks.Task.{Task}
+use Rattle.program_tasks.specs.declared.tasks.Task.TheVariants as task
+use Rattle.program_tasks.specs.declared.tasks.RimForm.{RimForm}
+use Rattle.program_tasks.specs.declared.tasks.RimForm.TheVariants.{Lines, Bin}
 
 -- A BIN tape is data, and the words of a RIM tape are lines. What is assembled onto a volume is reported by a line.
 abbrev pub rim_is_data : RimForm → Bool

@@ -1,11 +1,11 @@
 //! What may help where something is refused.
 ghost use Rattle.std.specs.Prelude.{◌≡◌, codes};
-ghost use Rattle.disk8.specs.Disks.{guess_of};
+ghost use Rattle.disk_layouts.specs.Disks.{guess_of};
 ghost use Rattle.outcome.specs.Hints as spec;
 
 use crate::notes::PlainNote;
-use archive8::ArchiveFault;
-use disk8::{Layout, guess};
+use archive_files::ArchiveFault;
+use disk_layouts::{Layout, guess};
 use file_kind::FileKind;
 use os8_dir::DirFault;
 use word12::{BLOCK, Cell, MOST_BLOCKS};

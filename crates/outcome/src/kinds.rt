@@ -3,8 +3,8 @@ ghost use Rattle.outcome.specs.Kinds as spec;
 
 use crate::contents::Content;
 use crate::endings::Ending;
-use host8::{HoldFault, LayFault, Unwritten};
-use report8::ProgramLine;
+use host_images::{HoldFault, LayFault, Unwritten};
+use program_reports::ProgramLine;
 use script8::SessionFault;
 use std::io::ErrorKind;
 

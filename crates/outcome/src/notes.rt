@@ -6,7 +6,7 @@ ghost use Rattle.outcome.specs.declared.contents.Content.TheVariants.{Image, Tap
 ghost use Rattle.outcome.specs.Notes as spec;
 
 use crate::contents::Content;
-use archive8::TextPlace;
+use archive_files::TextPlace;
 use script8::readings::MOST;
 use std::fmt;
 

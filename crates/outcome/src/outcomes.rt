@@ -4,14 +4,14 @@ ghost use Rattle.outcome.specs.Notes.{text_on_file};
 ghost use Rattle.outcome.specs.Outcomes as spec;
 ghost use Rattle.outcome.specs.Shown.{writing_of};
 ghost use Rattle.outcome.specs.Steps.{refusal_stream};
-ghost use Rattle.report8.specs.Program.{program_line};
+ghost use Rattle.program_reports.specs.Program.{program_line};
 
 use crate::contents::Content;
 use crate::endings::Ending;
 use crate::notes::FileNote;
 use crate::rooms::LineRoom;
-use host8::Unwritten;
-use report8::ProgramLine;
+use host_images::Unwritten;
+use program_reports::ProgramLine;
 use script8::SessionFault;
 
 /// The status of a refusal.

@@ -2,9 +2,9 @@
 ghost use Rattle.std.specs.Prelude.{◌≡◌, ◌≤◌, [], vec_len, vec_capacity};
 ghost use Rattle.script8.specs.Replies.{fault_line};
 ghost use Rattle.script8.specs.declared.faults.SessionFault.TheVariants.{Memory};
-ghost use Rattle.report8.specs.Program.{program_line};
+ghost use Rattle.program_reports.specs.Program.{program_line};
 
-use report8::{ProgramLine, put_program};
+use program_reports::{ProgramLine, put_program};
 use script8::{SessionFault, put_reply};
 use std::alloc::{AllocError, Global};
 

@@ -2,7 +2,7 @@
 ghost use Rattle.std.specs.Prelude.{◌≡◌};
 ghost use Rattle.outcome.specs.Streams.{gives_data};
 
-use task8::{RimForm, Task};
+use program_tasks::{RimForm, Task};
 
 /// Whether what a task puts on standard output is data, so no refusal is printed there (this project's profile).
 pub fn gives_data(task: &Task) -> bool

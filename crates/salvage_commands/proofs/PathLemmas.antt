@@ -9,21 +9,21 @@ use Rattle.outcome.specs.declared.contents.Content.TheVariants as content
 use Rattle.outcome.specs.declared.endings.Ending.{Ending}
 use Rattle.outcome.specs.declared.endings.Ending.TheVariants.{Line, Fault, Failure, Busy, NotWritten, FullOutput, NoReader, Misuse}
 use Rattle.outcome.specs.declared.notes.PlainNote.{PlainNote}
-use Rattle.archive8.specs.declared.faults.ArchiveFault.{ArchiveFault}
+use Rattle.archive_files.specs.declared.faults.ArchiveFault.{ArchiveFault}
 use Rattle.archive_many.specs.declared.faults.BlocksFault.{BlocksFault}
 use Rattle.archive_many.specs.declared.faults.BlocksFault.TheVariants.{Archive, NoBlocks}
-use Rattle.report8.specs.declared.programs.ProgramLine.TheVariants as line
+use Rattle.program_reports.specs.declared.programs.ProgramLine.TheVariants as line
 use Rattle.script8.specs.declared.faults.SessionFault.TheVariants as fault
-use Rattle.task8.specs.declared.forms.ImageForm.{ImageForm}
+use Rattle.program_tasks.specs.declared.forms.ImageForm.{ImageForm}
 use Rattle.volume_commands.specs.Answers.{Answers, AreLines, Refuses}
 use Rattle.volume_commands.specs.Notes.{Tells}
 use Rattle.volume_commands.specs.Reading.{FindsVolume, Looks, LooksAt}
 use Rattle.volume_commands.specs.Saving.{Prints}
 use Rattle.volume_commands.specs.ShowingParts.{RefusesBlocks}
 use Rattle.volume_commands.specs.Work.{Then, Purely}
-use Rattle.salvage8.specs.Scanning.{Scans, piece_line, piece_name}
-use Rattle.salvage8.specs.declared.pieces.Piece.{Piece}
-use Rattle.salvage8.specs.declared.scans.Scan.{Scan}
+use Rattle.volume_salvage.specs.Scanning.{Scans, piece_line, piece_name}
+use Rattle.volume_salvage.specs.declared.pieces.Piece.{Piece}
+use Rattle.volume_salvage.specs.declared.scans.Scan.{Scan}
 use Rattle.salvage_commands.specs.Laws.{ChangesPiecesAlone, IsOfNone}
 use Rattle.salvage_commands.specs.ScanningBlocks.{GivesPiece, IsPath, LaysFirst, WritesEach, WritesPiece}
 

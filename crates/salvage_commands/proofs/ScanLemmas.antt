@@ -4,8 +4,8 @@ use Rattle.std.specs.Result.{IsErr}
 use Rattle.std.proofs.lemmas.List.{take_all}
 use Rattle.hosts.specs.Event.{Event}
 use Rattle.outcome.specs.declared.endings.Ending.{Ending}
-use Rattle.salvage8.specs.declared.pieces.Piece.{Piece}
-use Rattle.salvage8.specs.declared.scans.Scan.{Scan}
+use Rattle.volume_salvage.specs.declared.pieces.Piece.{Piece}
+use Rattle.volume_salvage.specs.declared.scans.Scan.{Scan}
 use Rattle.salvage_commands.specs.ScanningBlocks.{WritesEach, WritesPiece}
 
 first-one : {A : Type 0} (l : List A) (a d : A) → 1 ≤ length l → a ≡ get_or l 0 d → l ≡ a ∷ take (length l - 1) (drop 1 l)

@@ -4,11 +4,11 @@ use Rattle.std.specs.Global.{Vec}
 use Rattle.hosts.specs.Event.{Event}
 use Rattle.hosts.specs.Place.{about}
 use Rattle.outcome.specs.declared.endings.Ending.{Ending}
-use Rattle.task8.specs.declared.forms.ImageForm.{ImageForm}
+use Rattle.program_tasks.specs.declared.forms.ImageForm.{ImageForm}
 use Rattle.volume_commands.specs.Reading.{LooksAt}
-use Rattle.salvage8.specs.Scanning.{Scans, piece_name}
-use Rattle.salvage8.specs.declared.pieces.Piece.{Piece}
-use Rattle.salvage8.specs.declared.scans.Scan.{Scan}
+use Rattle.volume_salvage.specs.Scanning.{Scans, piece_name}
+use Rattle.volume_salvage.specs.declared.pieces.Piece.{Piece}
+use Rattle.volume_salvage.specs.declared.scans.Scan.{Scan}
 use Rattle.salvage_commands.specs.ScanningBlocks.{WritesPieces}
 
 -- a path is that of none of these pieces in a folder

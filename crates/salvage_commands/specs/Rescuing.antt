@@ -1,7 +1,7 @@
 -- The command that makes a new volume of what a damaged one still shows (this project's profile).
 use Rattle.std.specs.Prelude.{ℕ, Bool, true, false, Result, Ok, Err, List, length}
 use Rattle.hosts.specs.Event.{Event}
-use Rattle.task8.specs.declared.forms.ImageForm.{ImageForm}
+use Rattle.program_tasks.specs.declared.forms.ImageForm.{ImageForm}
 use Rattle.outcome.specs.declared.endings.Ending.{Ending}
 use Rattle.outcome.specs.declared.endings.Ending.TheVariants.{Failure, FullOutput, NoReader}
 use Rattle.volume_commands.specs.Answers.{Answers, AreLines}
@@ -9,7 +9,7 @@ use Rattle.volume_commands.specs.Making.{MakesFirst}
 use Rattle.volume_commands.specs.Reading.{LooksAt}
 use Rattle.volume_commands.specs.Saving.{Prints}
 use Rattle.volume_commands.specs.Work.{Then, Purely}
-use Rattle.salvage8.specs.Salvaging.{Salvages, is_complete, rescued_text}
+use Rattle.volume_salvage.specs.Salvaging.{Salvages, is_complete, rescued_text}
 
 -- lines are printed, and the command ends with the status of a refusal where something is lost
 abbrev pub Finishes : Bool → List ℕ → List Event → Result (Unit {0}) Ending → List Event → Type 0

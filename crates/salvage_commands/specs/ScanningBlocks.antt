@@ -8,10 +8,10 @@ use Rattle.hosts.specs.Streams.{errors, failures}
 use Rattle.hosts.specs.declared.faults.HostFault.{HostFault}
 use Rattle.hosts.specs.declared.faults.HostFault.TheVariants as host
 use Rattle.script8.specs.declared.faults.SessionFault.TheVariants.{Memory}
-use Rattle.report8.specs.declared.programs.ProgramLine.TheVariants.{HostExists, HostWrite}
+use Rattle.program_reports.specs.declared.programs.ProgramLine.TheVariants.{HostExists, HostWrite}
 use Rattle.outcome.specs.declared.endings.Ending.{Ending}
 use Rattle.outcome.specs.declared.endings.Ending.TheVariants.{Line, Fault}
-use Rattle.task8.specs.declared.forms.ImageForm.{ImageForm}
+use Rattle.program_tasks.specs.declared.forms.ImageForm.{ImageForm}
 use Rattle.archive_many.specs.Raw.{GetsBlocks}
 use Rattle.archive_many.specs.declared.faults.BlocksFault.{BlocksFault}
 use Rattle.volume_commands.specs.Answers.{Answers, AreLines}
@@ -19,9 +19,9 @@ use Rattle.volume_commands.specs.Reading.{LooksAt}
 use Rattle.volume_commands.specs.Saving.{Prints, TouchesOnly}
 use Rattle.volume_commands.specs.ShowingParts.{RefusesBlocks}
 use Rattle.volume_commands.specs.Work.{Then, Purely}
-use Rattle.salvage8.specs.Scanning.{Scans, piece_form, piece_line, piece_name, scan_text}
-use Rattle.salvage8.specs.declared.pieces.Piece.{Piece}
-use Rattle.salvage8.specs.declared.scans.Scan.{Scan}
+use Rattle.volume_salvage.specs.Scanning.{Scans, piece_form, piece_line, piece_name, scan_text}
+use Rattle.volume_salvage.specs.declared.pieces.Piece.{Piece}
+use Rattle.volume_salvage.specs.declared.scans.Scan.{Scan}
 
 -- An image file is only looked at, and the lines of its pieces are printed.
 abbrev pub ShowsPieces : ImageForm → List Event → Result (Unit {0}) Ending → List Event → Type 0

@@ -1,15 +1,15 @@
 //! The command that makes a new volume of what a damaged one still shows.
 ghost use Rattle.std.specs.Prelude.{length};
-ghost use Rattle.salvage8.specs.Salvaging.{Salvages, rescued_text};
+ghost use Rattle.volume_salvage.specs.Salvaging.{Salvages, rescued_text};
 ghost use Rattle.volume_commands.specs.Answers.{Answers, AreLines};
 ghost use Rattle.salvage_commands.specs.Rescuing.{Finishes, RescuesImage};
 
 use hosts::Host;
 use outcome::Ending;
-use salvage8::{Salvage, salvage_image};
+use program_tasks::ImageForm;
 use std::alloc::Global;
-use task8::ImageForm;
 use volume_commands::{look_at, make_first, print, refuse_image};
+use volume_salvage::{Salvage, salvage_image};
 
 /// Makes the file of a new volume with the files that the volume in an image file still shows, if there is none of its name. The image
 /// file is only looked at. What is lost is printed, and how many files are kept, once the new file is there whole. Where a line reports

@@ -1,18 +1,18 @@
 //! The command that finds what the blocks of a volume hold by their content alone.
 ghost use Rattle.std.specs.Prelude.{◌≡◌, length};
-ghost use Rattle.salvage8.specs.Scanning.{Scans, piece_line, scan_text};
+ghost use Rattle.volume_salvage.specs.Scanning.{Scans, piece_line, scan_text};
 ghost use Rattle.volume_commands.specs.Answers.{Answers, AreLines};
 ghost use Rattle.salvage_commands.specs.ScanningBlocks.{GivesPiece, IsPath, LaysFirst, ShowsPieces, WritesEach, WritesPiece, WritesPieces, ending_of_laid};
 
 use archive_many::{BlocksFault, blocks_of};
 use hosts::{Host, HostFault, lay};
 use outcome::Ending;
-use report8::ProgramLine;
-use salvage8::{Piece, Scan, form_of, piece_name, scan_image};
+use program_reports::ProgramLine;
+use program_tasks::ImageForm;
 use script8::SessionFault;
 use std::alloc::Global;
-use task8::ImageForm;
 use volume_commands::{look_at, print, refuse_image};
+use volume_salvage::{Piece, Scan, form_of, piece_name, scan_image};
 
 /// Lists the pieces that the blocks of the volume in an image file hold, whatever its directory says: whole texts, core images, BIN tapes
 /// and RIM tapes. No file changes.

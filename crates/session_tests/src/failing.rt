@@ -2,8 +2,8 @@
 
 use crate::items::{do_items, expand_text, tells_device};
 use os8_dir::{DirFault, Directory, Name};
-use session8::Session;
 use std::alloc::Global;
+use system_session::Session;
 use volume_image::{BlockStore, FuseVolume, MemoryVolume};
 
 /// A number of items or block calls that none reaches.

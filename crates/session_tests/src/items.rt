@@ -1,7 +1,7 @@
 //! Scripts that are done an item at a time.
 
-use session8::Session;
 use std::alloc::Global;
+use system_session::Session;
 use volume_image::BlockStore;
 
 /// The bytes of a script. In it `#` stands for 388 times the character before it, which with it takes more than a block, and `@`

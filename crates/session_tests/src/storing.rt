@@ -2,9 +2,9 @@
 
 use crate::items::{do_items, expand_text};
 use script8::{Entry, JobEntry};
-use session8::Session;
 use std::alloc::{AllocError, Global};
 use std::test::Fail;
+use system_session::Session;
 use volume_image::{CountVolume, MemoryVolume};
 
 /// Scripts, whose items `~` separates, and the reads and writes that a session over a fresh volume of 20 blocks has made when it is

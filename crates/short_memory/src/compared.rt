@@ -3,8 +3,8 @@
 use crate::fresh;
 use crate::items::{Done, run_item};
 use os8_dir::{Directory, Name};
-use session8::Session;
 use std::alloc::{AllocError, Global};
+use system_session::Session;
 use volume_image::MemoryVolume;
 use word12::Word;
 

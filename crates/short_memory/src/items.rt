@@ -2,8 +2,8 @@
 ghost use Rattle.std.specs.Prelude.{◌<◌, ◌≤◌, length, IfSome};
 
 use script8::{Next, next_item};
-use session8::Session;
 use std::alloc::Global;
+use system_session::Session;
 use volume_image::MemoryVolume;
 
 /// What became of an item.

@@ -11,11 +11,11 @@ mod items;
 
 use compared::{same_files, same_sessions};
 use items::{Done, next_bytes, run_item};
-use session8::Session;
 use std::alloc::Global;
 use std::env;
 use std::io::{self, Read, Write};
 use std::process::ExitCode;
+use system_session::Session;
 use volume_image::MemoryVolume;
 
 /// How many bytes a script may have, and so its replies.

@@ -1,7 +1,7 @@
 -- What steps of answers do. No contract of a public function cites these.
 use Rattle.std.specs.Prelude.{◌≡◌, ℕ, Result, Ok, Err, List}
 use Rattle.hosts.specs.Event.{Event}
-use Rattle.archive8.specs.declared.faults.ArchiveFault.{ArchiveFault}
+use Rattle.archive_files.specs.declared.faults.ArchiveFault.{ArchiveFault}
 use Rattle.outcome.specs.declared.endings.Ending.{Ending}
 use Rattle.volume_commands.specs.Answers.{Refuses}
 

@@ -1,13 +1,13 @@
 -- Which files of a volume the words of a command line mean.
 use Rattle.std.specs.Prelude.{◌≡◌, Result, Ok, Err, List, ◌++◌, map}
 use Rattle.std.specs.Global.{Vec}
-use Rattle.archive8.specs.Asking.{Target, OfName, AtBlock, target_of}
-use Rattle.archive8.specs.declared.asking.Asked.{Asked}
+use Rattle.archive_files.specs.Asking.{Target, OfName, AtBlock, target_of}
+use Rattle.archive_files.specs.declared.asking.Asked.{Asked}
 use Rattle.script8.specs.declared.faults.SessionFault.TheVariants.{Memory}
 use Rattle.outcome.specs.declared.endings.Ending.{Ending}
 use Rattle.outcome.specs.declared.endings.Ending.TheVariants.{Fault}
-use Rattle.task8.specs.declared.forms.DeleteForm.{DeleteForm}
-use Rattle.task8.specs.declared.forms.FileForm.{FileForm}
+use Rattle.program_tasks.specs.declared.forms.DeleteForm.{DeleteForm}
+use Rattle.program_tasks.specs.declared.forms.FileForm.{FileForm}
 use Rattle.volume_commands.specs.Showing.{wanted_file}
 
 -- the file that is meant, unless memory is wanted for its name

@@ -1,17 +1,17 @@
 -- The commands that change the files of a volume by their names.
 use Rattle.std.specs.Prelude.{◌≡◌, ℕ, Result, Ok, Err, List, length}
 use Rattle.hosts.specs.Event.{Event}
-use Rattle.archive8.specs.Asking.{Target}
-use Rattle.archive8.specs.Renaming.{RenamesFile}
-use Rattle.archive8.specs.Squeezing.{SqueezesFiles}
-use Rattle.archive8.specs.declared.faults.RenameFault.{RenameFault}
-use Rattle.archive8.specs.declared.faults.RenameFault.TheVariants.{Archive, Exists}
-use Rattle.archive8.specs.declared.renaming.RenamedImage.{RenamedImage}
-use Rattle.report8.specs.Program.{program_line}
-use Rattle.report8.specs.declared.programs.ProgramLine.TheVariants as line
+use Rattle.archive_files.specs.Asking.{Target}
+use Rattle.archive_files.specs.Renaming.{RenamesFile}
+use Rattle.archive_files.specs.Squeezing.{SqueezesFiles}
+use Rattle.archive_files.specs.declared.faults.RenameFault.{RenameFault}
+use Rattle.archive_files.specs.declared.faults.RenameFault.TheVariants.{Archive, Exists}
+use Rattle.archive_files.specs.declared.renaming.RenamedImage.{RenamedImage}
+use Rattle.program_reports.specs.Program.{program_line}
+use Rattle.program_reports.specs.declared.programs.ProgramLine.TheVariants as line
 use Rattle.outcome.specs.declared.endings.Ending.{Ending}
 use Rattle.outcome.specs.declared.endings.Ending.TheVariants.{Line}
-use Rattle.task8.specs.declared.forms.ImageForm.{ImageForm}
+use Rattle.program_tasks.specs.declared.forms.ImageForm.{ImageForm}
 use Rattle.volume_commands.specs.Work.{Then, Purely}
 use Rattle.volume_commands.specs.Reading.{Opens}
 use Rattle.volume_commands.specs.Answers.{Answers, AreLines, Refuses}

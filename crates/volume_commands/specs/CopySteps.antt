@@ -2,11 +2,11 @@
 use Rattle.std.specs.Prelude.{◌≡◌, ◌⊎◌, ℕ, List}
 use Rattle.hosts.specs.Event.{Event}
 use Rattle.script8.specs.declared.faults.SessionFault.TheVariants.{Memory}
-use Rattle.archive8.specs.declared.faults.ArchiveFault.{ArchiveFault}
-use Rattle.archive8.specs.declared.faults.CopyFault.{CopyFault}
+use Rattle.archive_files.specs.declared.faults.ArchiveFault.{ArchiveFault}
+use Rattle.archive_files.specs.declared.faults.CopyFault.{CopyFault}
 use Rattle.outcome.specs.declared.endings.Ending.{Ending}
 use Rattle.outcome.specs.declared.endings.Ending.TheVariants.{Fault}
-use Rattle.task8.specs.declared.forms.CopyForm.{CopyForm}
+use Rattle.program_tasks.specs.declared.forms.CopyForm.{CopyForm}
 use Rattle.volume_commands.specs.Copying.{RefusesOne, RefusesCopy}
 
 -- why no file is copied; where memory is wanted for the note, that

@@ -2,23 +2,23 @@
 use Rattle.std.specs.Prelude.{◌≡◌, ◌⊎◌, ℕ, Bool, true, false, ◌&&◌, Option, None, Some, Result, Ok, Err, List, ◌∷◌, length, option_map}
 use Rattle.std.specs.Str.{bytes_eq}
 use Rattle.hosts.specs.Event.{Event, tell_call}
-use Rattle.disk8.specs.declared.layouts.Layout.{Layout}
-use Rattle.disk8.specs.declared.layouts.Layout.TheVariants.{First, Second, Dectape}
+use Rattle.disk_layouts.specs.declared.layouts.Layout.{Layout}
+use Rattle.disk_layouts.specs.declared.layouts.Layout.TheVariants.{First, Second, Dectape}
 use Rattle.script8.specs.declared.faults.SessionFault.{SessionFault}
 use Rattle.script8.specs.declared.faults.SessionFault.TheVariants.{BadLine, NoJob, TooManyJobs, File, Asm, Tape, BadText, Reader, Writer, Memory, TooManyBreaks}
-use Rattle.archive8.specs.Asking.{Target, target_of}
-use Rattle.archive8.specs.Copying.{CopiesFile}
-use Rattle.archive8.specs.declared.faults.ArchiveFault.{ArchiveFault}
-use Rattle.archive8.specs.declared.faults.ArchiveFault.TheVariants as archive
-use Rattle.archive8.specs.declared.faults.CopyFault.{CopyFault}
-use Rattle.archive8.specs.declared.faults.CopyFault.TheVariants.{From, To}
-use Rattle.archive8.specs.declared.putting.NewImage.{NewImage}
+use Rattle.archive_files.specs.Asking.{Target, target_of}
+use Rattle.archive_files.specs.Copying.{CopiesFile}
+use Rattle.archive_files.specs.declared.faults.ArchiveFault.{ArchiveFault}
+use Rattle.archive_files.specs.declared.faults.ArchiveFault.TheVariants as archive
+use Rattle.archive_files.specs.declared.faults.CopyFault.{CopyFault}
+use Rattle.archive_files.specs.declared.faults.CopyFault.TheVariants.{From, To}
+use Rattle.archive_files.specs.declared.putting.NewImage.{NewImage}
 use Rattle.outcome.specs.Notes.{name_text}
 use Rattle.outcome.specs.declared.notes.NameNote.TheVariants as note
 use Rattle.outcome.specs.declared.endings.Ending.{Ending}
 use Rattle.outcome.specs.declared.endings.Ending.TheVariants.{Fault}
-use Rattle.task8.specs.declared.forms.CopyForm.{CopyForm}
-use Rattle.task8.specs.declared.forms.ImageForm.{ImageForm}
+use Rattle.program_tasks.specs.declared.forms.CopyForm.{CopyForm}
+use Rattle.program_tasks.specs.declared.forms.ImageForm.{ImageForm}
 use Rattle.volume_commands.specs.Work.{Then, Purely}
 use Rattle.volume_commands.specs.Reading.{Opens, LooksAt}
 use Rattle.volume_commands.specs.Answers.{AreLines, Refuses}

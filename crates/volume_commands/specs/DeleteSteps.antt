@@ -2,8 +2,8 @@
 use Rattle.std.specs.Prelude.{◌≡◌, ◌⊎◌, ℕ, List}
 use Rattle.hosts.specs.Event.{Event}
 use Rattle.script8.specs.declared.faults.SessionFault.TheVariants.{Memory}
-use Rattle.archive8.specs.Asking.{Target}
-use Rattle.archive8.specs.declared.faults.DeleteFault.{DeleteFault}
+use Rattle.archive_files.specs.Asking.{Target}
+use Rattle.archive_files.specs.declared.faults.DeleteFault.{DeleteFault}
 use Rattle.outcome.specs.declared.endings.Ending.{Ending}
 use Rattle.outcome.specs.declared.endings.Ending.TheVariants.{Fault}
 use Rattle.volume_commands.specs.Deleting.{RefusesFile}

@@ -4,17 +4,17 @@ use Rattle.hosts.specs.Event.{Event, tell_call}
 use Rattle.script8.specs.Replies.{line_of, line_reply_text}
 use Rattle.script8.specs.declared.faults.SessionFault.TheVariants.{File, Memory}
 use Rattle.script8.specs.declared.replies.LineReply.TheVariants.{Deleted}
-use Rattle.archive8.specs.Asking.{Target, OfName, AtBlock, target_of}
-use Rattle.archive8.specs.Deleting.{DeletesFiles}
-use Rattle.archive8.specs.declared.deleting.DeletedImage.{DeletedImage}
-use Rattle.archive8.specs.declared.faults.DeleteFault.{DeleteFault}
-use Rattle.archive8.specs.declared.faults.DeleteFault.TheVariants.{Archive, Name}
+use Rattle.archive_files.specs.Asking.{Target, OfName, AtBlock, target_of}
+use Rattle.archive_files.specs.Deleting.{DeletesFiles}
+use Rattle.archive_files.specs.declared.deleting.DeletedImage.{DeletedImage}
+use Rattle.archive_files.specs.declared.faults.DeleteFault.{DeleteFault}
+use Rattle.archive_files.specs.declared.faults.DeleteFault.TheVariants.{Archive, Name}
 use Rattle.outcome.specs.Notes.{block_text, name_text}
 use Rattle.outcome.specs.declared.notes.NameNote.TheVariants.{NotDeleted}
 use Rattle.outcome.specs.declared.endings.Ending.{Ending}
 use Rattle.outcome.specs.declared.endings.Ending.TheVariants.{Fault}
-use Rattle.task8.specs.declared.forms.DeleteForm.{DeleteForm}
-use Rattle.task8.specs.declared.forms.ImageForm.{ImageForm}
+use Rattle.program_tasks.specs.declared.forms.DeleteForm.{DeleteForm}
+use Rattle.program_tasks.specs.declared.forms.ImageForm.{ImageForm}
 use Rattle.volume_commands.specs.Work.{Then, Purely}
 use Rattle.volume_commands.specs.Answers.{Refuses}
 use Rattle.volume_commands.specs.Asking.{MeansFiles}

@@ -5,9 +5,9 @@ use Rattle.hosts.specs.declared.faults.PrintFault.{PrintFault}
 use Rattle.hosts.specs.declared.faults.PrintFault.TheVariants as print
 use Rattle.hosts.specs.declared.faults.Unwritten.{Unwritten}
 use Rattle.hosts.specs.declared.faults.Unwritten.TheVariants as write
-use Rattle.host8.specs.declared.faults.Unwritten.TheVariants as left
+use Rattle.host_images.specs.declared.faults.Unwritten.TheVariants as left
 use Rattle.script8.specs.declared.faults.SessionFault.TheVariants.{Memory}
-use Rattle.report8.specs.declared.programs.ProgramLine.TheVariants.{HostRead}
+use Rattle.program_reports.specs.declared.programs.ProgramLine.TheVariants.{HostRead}
 use Rattle.outcome.specs.declared.contents.Content.TheVariants.{Image}
 use Rattle.outcome.specs.declared.endings.Ending.{Ending}
 use Rattle.outcome.specs.declared.endings.Ending.TheVariants as ending

@@ -8,19 +8,19 @@ use Rattle.hosts.specs.Streams.{errors, failures, path_of_name, has_links}
 use Rattle.hosts.specs.declared.faults.Durability.{Durability}
 use Rattle.hosts.specs.declared.faults.HostFault.{HostFault}
 use Rattle.hosts.specs.declared.faults.HostFault.TheVariants as host
-use Rattle.host8.specs.declared.faults.Unwritten.TheVariants.{AsItWas}
+use Rattle.host_images.specs.declared.faults.Unwritten.TheVariants.{AsItWas}
 use Rattle.script8.specs.declared.faults.SessionFault.TheVariants.{Memory}
 use Rattle.outcome.specs.declared.contents.Content.TheVariants.{Image}
 use Rattle.outcome.specs.declared.endings.Ending.{Ending}
 use Rattle.outcome.specs.declared.endings.Ending.TheVariants.{Line, Fault, Busy, NotWritten}
-use Rattle.disk8.specs.Files.{IsBlankTape}
+use Rattle.disk_layouts.specs.Files.{IsBlankTape}
 use Rattle.volume_image.specs.Image.{Creates, IsImageOf}
 use Rattle.volume_image.specs.Stores.{InMemory}
 use Rattle.volume_image.specs.declared.faults.ImageFault.{ImageFault}
 use Rattle.volume_image.specs.declared.faults.ImageFault.TheVariants as image
-use Rattle.report8.specs.Program.{program_line}
-use Rattle.report8.specs.declared.programs.ProgramLine.TheVariants as line
-use Rattle.task8.specs.declared.forms.CreateForm.{CreateForm}
+use Rattle.program_reports.specs.Program.{program_line}
+use Rattle.program_reports.specs.declared.programs.ProgramLine.TheVariants as line
+use Rattle.program_tasks.specs.declared.forms.CreateForm.{CreateForm}
 use Rattle.volume_commands.specs.Work.{Then, Purely}
 use Rattle.volume_commands.specs.Answers.{AreLines}
 use Rattle.volume_commands.specs.declared.creating.TheConstants.{TAPE_BLOCKS}

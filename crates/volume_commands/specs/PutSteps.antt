@@ -4,7 +4,7 @@ use Rattle.std.specs.Global.{Vec}
 use Rattle.hosts.specs.Event.{Event, tell_call}
 use Rattle.os8_dir.specs.declared.file_faults.FileFault.TheVariants.{NothingWritten}
 use Rattle.script8.specs.declared.faults.SessionFault.TheVariants.{Memory, File}
-use Rattle.archive8.specs.declared.faults.ArchiveFault.{ArchiveFault}
+use Rattle.archive_files.specs.declared.faults.ArchiveFault.{ArchiveFault}
 use Rattle.archive_many.specs.Emptying.{is_among}
 use Rattle.archive_many.specs.Opened.{OpensVolume, files_on}
 use Rattle.archive_many.specs.declared.opened.VolumeFile.{VolumeFile}

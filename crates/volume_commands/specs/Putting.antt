@@ -10,12 +10,12 @@ use Rattle.script8.specs.declared.readings.TheConstants.{MOST}
 use Rattle.script8.specs.declared.faults.SessionFault.{SessionFault}
 use Rattle.script8.specs.declared.faults.SessionFault.TheVariants.{BadLine, NoJob, TooManyJobs, File, Asm, Tape, BadText, Reader, Writer, Memory, TooManyBreaks}
 use Rattle.script8.specs.declared.replies.LineReply.TheVariants.{Stored}
-use Rattle.archive8.specs.HostTexts.{FindsBad}
-use Rattle.archive8.specs.Putting.{PutsFile}
-use Rattle.archive8.specs.declared.faults.ArchiveFault.{ArchiveFault}
-use Rattle.archive8.specs.declared.faults.ArchiveFault.TheVariants as archive
-use Rattle.archive8.specs.declared.places.TextPlace.{TextPlace}
-use Rattle.archive8.specs.declared.putting.NewImage.{NewImage}
+use Rattle.archive_files.specs.HostTexts.{FindsBad}
+use Rattle.archive_files.specs.Putting.{PutsFile}
+use Rattle.archive_files.specs.declared.faults.ArchiveFault.{ArchiveFault}
+use Rattle.archive_files.specs.declared.faults.ArchiveFault.TheVariants as archive
+use Rattle.archive_files.specs.declared.places.TextPlace.{TextPlace}
+use Rattle.archive_files.specs.declared.putting.NewImage.{NewImage}
 use Rattle.archive_many.specs.Emptying.{is_among}
 use Rattle.archive_many.specs.Opened.{OpensVolume, files_on}
 use Rattle.outcome.specs.Endings.{ending_of_archive}
@@ -23,7 +23,7 @@ use Rattle.outcome.specs.Notes.{bad_text, name_text}
 use Rattle.outcome.specs.declared.notes.NameNote.TheVariants.{TooLong, Empty}
 use Rattle.outcome.specs.declared.endings.Ending.{Ending}
 use Rattle.outcome.specs.declared.endings.Ending.TheVariants.{Fault}
-use Rattle.task8.specs.declared.forms.PutOneForm.{PutOneForm}
+use Rattle.program_tasks.specs.declared.forms.PutOneForm.{PutOneForm}
 use Rattle.volume_commands.specs.Work.{Then, Purely}
 use Rattle.volume_commands.specs.Reading.{Looks, Opens}
 use Rattle.volume_commands.specs.Answers.{AreLines, Refuses}

@@ -4,13 +4,13 @@ use Rattle.std.specs.Global.{Vec}
 use Rattle.hosts.specs.Event.{Event, resolve_call, hold_call, drop_seconds_call, look_call, tell_call}
 use Rattle.hosts.specs.Place.{about}
 use Rattle.hosts.specs.Streams.{output, errors, read, failures}
-use Rattle.disk8.specs.Disks.{FitsLayout, IsImageIn}
-use Rattle.disk8.specs.Files.{Disk, Opens as OpensDisk}
-use Rattle.disk8.specs.declared.layouts.Layout.{Layout}
+use Rattle.disk_layouts.specs.Disks.{FitsLayout, IsImageIn}
+use Rattle.disk_layouts.specs.Files.{Disk, Opens as OpensDisk}
+use Rattle.disk_layouts.specs.declared.layouts.Layout.{Layout}
 use Rattle.script8.specs.declared.readings.TheConstants.{MOST}
 use Rattle.script8.specs.declared.faults.SessionFault.TheVariants.{Memory}
-use Rattle.report8.specs.declared.programs.ProgramLine.TheVariants.{HostRead}
-use Rattle.report8.specs.declared.programs.ProgramLine.TheVariants as line
+use Rattle.program_reports.specs.declared.programs.ProgramLine.TheVariants.{HostRead}
+use Rattle.program_reports.specs.declared.programs.ProgramLine.TheVariants as line
 use Rattle.outcome.specs.Contents.{content_name}
 use Rattle.outcome.specs.Notes.{file_text, name_text}
 use Rattle.outcome.specs.declared.contents.Content.TheVariants.{Image}
@@ -18,7 +18,7 @@ use Rattle.outcome.specs.declared.notes.FileNote.TheVariants.{NoLock}
 use Rattle.outcome.specs.declared.notes.NameNote.TheVariants.{TooLong}
 use Rattle.outcome.specs.declared.endings.Ending.{Ending}
 use Rattle.outcome.specs.declared.endings.Ending.TheVariants.{Line, Fault, Busy}
-use Rattle.task8.specs.declared.forms.ImageForm.{ImageForm}
+use Rattle.program_tasks.specs.declared.forms.ImageForm.{ImageForm}
 use Rattle.volume_commands.specs.Work.{Then, Purely}
 use Rattle.volume_commands.specs.declared.reading.ImagePlace.{ImagePlace}
 use Rattle.volume_commands.specs.declared.images.Image.{Image as Opened}

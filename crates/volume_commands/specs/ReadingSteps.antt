@@ -5,7 +5,7 @@ use Rattle.hosts.specs.Event.{Event, tell_call}
 use Rattle.hosts.specs.declared.faults.HostFault.{HostFault}
 use Rattle.script8.specs.declared.readings.TheConstants.{MOST}
 use Rattle.script8.specs.declared.faults.SessionFault.TheVariants.{Memory}
-use Rattle.report8.specs.declared.programs.ProgramLine.TheVariants.{HostRead}
+use Rattle.program_reports.specs.declared.programs.ProgramLine.TheVariants.{HostRead}
 use Rattle.outcome.specs.Notes.{name_text}
 use Rattle.outcome.specs.declared.notes.NameNote.TheVariants.{TooLong}
 use Rattle.outcome.specs.declared.endings.Ending.{Ending}

@@ -7,9 +7,9 @@ use Rattle.hosts.specs.Saving.{KeepsFile, StaysAsItWas, AnyMomentOf}
 use Rattle.hosts.specs.Streams.{output, errors, read, failures, may_replace}
 use Rattle.hosts.specs.declared.faults.Durability.{Durability}
 use Rattle.hosts.specs.declared.faults.Durability.TheVariants.{Certain, Unknown}
-use Rattle.host8.specs.declared.faults.Unwritten.TheVariants as unwritten
-use Rattle.disk8.specs.Disks.{image_size}
-use Rattle.disk8.specs.Files.{Disk, HasLaid}
+use Rattle.host_images.specs.declared.faults.Unwritten.TheVariants as unwritten
+use Rattle.disk_layouts.specs.Disks.{image_size}
+use Rattle.disk_layouts.specs.Files.{Disk, HasLaid}
 use Rattle.outcome.specs.Contents.{content_name}
 use Rattle.outcome.specs.Notes.{file_text}
 use Rattle.outcome.specs.declared.contents.Content.TheVariants as content

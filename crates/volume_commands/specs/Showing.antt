@@ -2,12 +2,12 @@
 use Rattle.std.specs.Prelude.{Result, List, length, ℕ}
 use Rattle.std.specs.Global.{Vec}
 use Rattle.hosts.specs.Event.{Event}
-use Rattle.archive8.specs.Asking.{Target, OfName, AtBlock}
-use Rattle.archive8.specs.declared.faults.ArchiveFault.{ArchiveFault}
+use Rattle.archive_files.specs.Asking.{Target, OfName, AtBlock}
+use Rattle.archive_files.specs.declared.faults.ArchiveFault.{ArchiveFault}
 use Rattle.outcome.specs.declared.endings.Ending.{Ending}
-use Rattle.task8.specs.declared.forms.ImageForm.{ImageForm}
-use Rattle.task8.specs.declared.forms.FileForm.{FileForm}
-use Rattle.task8.specs.declared.forms.FileForm.TheVariants.{Name, At}
+use Rattle.program_tasks.specs.declared.forms.ImageForm.{ImageForm}
+use Rattle.program_tasks.specs.declared.forms.FileForm.{FileForm}
+use Rattle.program_tasks.specs.declared.forms.FileForm.TheVariants.{Name, At}
 use Rattle.volume_commands.specs.Work.{Then}
 use Rattle.volume_commands.specs.Reading.{LooksAt}
 use Rattle.volume_commands.specs.Answers.{Answers}

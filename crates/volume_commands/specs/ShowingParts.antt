@@ -5,19 +5,19 @@ use Rattle.hosts.specs.Event.{Event}
 use Rattle.char_pack.specs.Packing.{words_of_bytes}
 use Rattle.core_image.specs.Converted.{IsBinOf}
 use Rattle.core_image.specs.declared.faults.CoreFault.{CoreFault}
-use Rattle.archive8.specs.Getting.{Gets}
+use Rattle.archive_files.specs.Getting.{Gets}
 use Rattle.char_pack.specs.declared.forms.GetForm.TheVariants.{Frames}
 use Rattle.archive_many.specs.Raw.{GetsBlocks}
 use Rattle.archive_many.specs.declared.faults.BlocksFault.{BlocksFault}
 use Rattle.archive_many.specs.declared.faults.BlocksFault.TheVariants.{Archive, NoBlocks}
-use Rattle.report8.specs.Cores.{IsCoreFault}
-use Rattle.report8.specs.Program.{program_line}
-use Rattle.report8.specs.declared.programs.ProgramLine.TheVariants as line
+use Rattle.program_reports.specs.Cores.{IsCoreFault}
+use Rattle.program_reports.specs.Program.{program_line}
+use Rattle.program_reports.specs.declared.programs.ProgramLine.TheVariants as line
 use Rattle.outcome.specs.declared.endings.Ending.{Ending}
 use Rattle.outcome.specs.declared.endings.Ending.TheVariants.{Line}
-use Rattle.task8.specs.declared.forms.BlocksForm.{BlocksForm}
-use Rattle.task8.specs.declared.forms.FileForm.{FileForm}
-use Rattle.task8.specs.declared.forms.ImageForm.{ImageForm}
+use Rattle.program_tasks.specs.declared.forms.BlocksForm.{BlocksForm}
+use Rattle.program_tasks.specs.declared.forms.FileForm.{FileForm}
+use Rattle.program_tasks.specs.declared.forms.ImageForm.{ImageForm}
 use Rattle.volume_commands.specs.Work.{Then, Purely}
 use Rattle.volume_commands.specs.Reading.{LooksAt}
 use Rattle.volume_commands.specs.Answers.{Answers, AreLines, Refuses}

@@ -1,13 +1,13 @@
 //! What calls on the bytes of an image answer, as a command takes it.
-ghost use Rattle.report8.specs.Program as report;
+ghost use Rattle.program_reports.specs.Program as report;
 ghost use Rattle.volume_commands.specs.Answers.{AreLines};
 ghost use Rattle.volume_commands.specs.AnswerSteps.{IsTaken};
 
 use crate::notes::refuse_image;
-use archive8::ArchiveFault;
+use archive_files::ArchiveFault;
 use hosts::Host;
 use outcome::Ending;
-use report8::{ProgramLine, put_program};
+use program_reports::{ProgramLine, put_program};
 use std::alloc::Global;
 
 /// What a call on an image of so many bytes answers. Where it or a file of it is refused, what may help is printed.

@@ -1,13 +1,13 @@
 //! Which files of a volume the words of a command line mean.
 ghost use Rattle.std.specs.Prelude.{◌≡◌, [], ◌∷◌, ◌++◌, map, OnOk};
-ghost use Rattle.archive8.specs.Asking.{OfName, AtBlock, target_of};
+ghost use Rattle.archive_files.specs.Asking.{OfName, AtBlock, target_of};
 ghost use Rattle.volume_commands.specs.Asking.{MeansFile, MeansFiles};
 ghost use Rattle.volume_commands.specs.Showing.{wanted_file};
 
-use archive8::Asked;
+use archive_files::Asked;
 use outcome::Ending;
+use program_tasks::{DeleteForm, FileForm};
 use std::alloc::{AllocError, Global};
-use task8::{DeleteForm, FileForm};
 
 /// The file that is meant by an argument.
 pub fn file_asked(file: FileForm) -> Asked

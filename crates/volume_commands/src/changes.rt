@@ -1,8 +1,8 @@
 //! Changes of the files of a volume by their names alone. Each writes an image file once, and only once the whole new image stands in
 //! memory; where a name is refused nothing is written.
 ghost use Rattle.std.specs.Prelude.{length};
-ghost use Rattle.archive8.specs.Asking.{target_of};
-ghost use Rattle.archive8.specs.Squeezing.{SqueezesFiles};
+ghost use Rattle.archive_files.specs.Asking.{target_of};
+ghost use Rattle.archive_files.specs.Squeezing.{SqueezesFiles};
 ghost use Rattle.volume_commands.specs.Answers.{Answers};
 ghost use Rattle.volume_commands.specs.Changing.{Squeezes, Renames, GivesName};
 
@@ -10,12 +10,12 @@ use crate::answers::{answer_of, program_line};
 use crate::images::Image;
 use crate::notes::refuse_image;
 use crate::printing::store;
-use archive8::{Asked, RenameFault, RenamedImage, SqueezedImage, rename, squeeze};
+use archive_files::{Asked, RenameFault, RenamedImage, SqueezedImage, rename, squeeze};
 use hosts::Host;
 use outcome::Ending;
-use report8::ProgramLine;
+use program_reports::ProgramLine;
+use program_tasks::ImageForm;
 use std::alloc::Global;
-use task8::ImageForm;
 
 /// Moves the files of the volume in an image file together.
 pub fn squeeze_files<H: Host>(host: &mut H, alloc: Global, form: &ImageForm) -> Result<(), Ending>

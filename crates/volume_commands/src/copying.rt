@@ -1,6 +1,6 @@
 //! The command that copies a file of the volume in an image file to the volume in another, or under a new name in the same one.
 ghost use Rattle.std.specs.Prelude.{◌≡◌, false, option_copied};
-ghost use Rattle.archive8.specs.Asking.{target_of};
+ghost use Rattle.archive_files.specs.Asking.{target_of};
 ghost use Rattle.volume_commands.specs.Copying as spec;
 ghost use Rattle.volume_commands.specs.Copying.{Copies, CopiesFrom, CopiesInto, MakesCopy};
 ghost use Rattle.volume_commands.specs.CopySteps.{IsNotCopied, IsOneRefused};
@@ -11,13 +11,13 @@ use crate::notes::{refuse_image, tell_note};
 use crate::printing::store;
 use crate::putting::line_of;
 use crate::reading::look_at;
-use archive8::{ArchiveFault, Asked, CopyFault, NewImage, copy};
-use disk8::Layout;
+use archive_files::{ArchiveFault, Asked, CopyFault, NewImage, copy};
+use disk_layouts::Layout;
 use hosts::Host;
 use outcome::{Ending, NameNote, Note};
+use program_tasks::{CopyForm, ImageForm};
 use script8::SessionFault;
 use std::alloc::Global;
-use task8::{CopyForm, ImageForm};
 
 /// Copies a file of the volume in an image file to the volume in another, or under a new name in the same one, and reports it.
 pub fn copy_file<H: Host>(host: &mut H, alloc: Global, form: &CopyForm) -> Result<(), Ending>

@@ -4,12 +4,12 @@ ghost use Rattle.volume_commands.specs.Making.{CreatesFile, IsBlankImage, IsBlan
 use crate::answers::program_line;
 use crate::making::{make_file, make_first};
 use crate::printing::print;
-use disk8::blank_tape;
+use disk_layouts::blank_tape;
 use hosts::Host;
 use outcome::Ending;
-use report8::ProgramLine;
+use program_reports::ProgramLine;
+use program_tasks::CreateForm;
 use std::alloc::Global;
-use task8::CreateForm;
 use volume_image::MemoryVolume;
 
 /// The blocks of the volume of a DECtape (OS/8 Software Support Manual).

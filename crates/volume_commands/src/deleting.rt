@@ -1,6 +1,6 @@
 //! The command that takes files out of the volume in an image file.
 ghost use Rattle.std.specs.Prelude.{◌≡◌, ◌++◌, map, OnOk, OnErr, IfErr, Some};
-ghost use Rattle.archive8.specs.Asking.{target_of};
+ghost use Rattle.archive_files.specs.Asking.{target_of};
 ghost use Rattle.script8.specs.declared.faults.SessionFault.TheVariants.{Memory};
 ghost use Rattle.outcome.specs.declared.endings.Ending.TheVariants.{Fault};
 ghost use Rattle.volume_commands.specs.Answers.{AreLines};
@@ -12,13 +12,13 @@ use crate::asking::files_meant;
 use crate::images::Image;
 use crate::notes::{refuse_image, tell_note};
 use crate::printing::store;
-use archive8::{Asked, DeleteFault, DeletedImage, delete};
+use archive_files::{Asked, DeleteFault, DeletedImage, delete};
 use hosts::Host;
 use os8_dir::Name;
 use outcome::{Ending, NameNote, Note};
+use program_tasks::{DeleteForm, ImageForm};
 use script8::{LineReply, Reply, SessionFault, put_reply};
 use std::alloc::{AllocError, Global};
-use task8::{DeleteForm, ImageForm};
 
 /// Takes files out of the volume in an image file, all or none, and reports each.
 pub fn delete_files<H: Host>(host: &mut H, alloc: Global, form: &DeleteForm) -> Result<(), Ending>

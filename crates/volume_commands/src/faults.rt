@@ -5,7 +5,7 @@ ghost use Rattle.volume_commands.specs.Making.{ending_of_file, ending_of_first};
 
 use hosts::{HostFault, PrintFault, Unwritten};
 use outcome::{Content, Ending};
-use report8::ProgramLine;
+use program_reports::ProgramLine;
 use script8::SessionFault;
 
 /// How a command ends if its image can't be held, or can't be read (this project's profile).
@@ -36,8 +36,8 @@ pub fn ending_of_write(left: Unwritten) -> Ending
     ensures { result ≡ spec.ending_of_write left }
 {
     match left {
-        Unwritten::AsItWas => Ending::NotWritten(Content::Image, host8::Unwritten::AsItWas),
-        Unwritten::InPart => Ending::NotWritten(Content::Image, host8::Unwritten::InPart),
+        Unwritten::AsItWas => Ending::NotWritten(Content::Image, host_images::Unwritten::AsItWas),
+        Unwritten::InPart => Ending::NotWritten(Content::Image, host_images::Unwritten::InPart),
     }
 }
 
@@ -49,7 +49,7 @@ pub fn ending_of_file(fault: HostFault) -> Ending
         HostFault::Busy => Ending::Busy(Content::Image),
         HostFault::Memory => Ending::Fault(SessionFault::Memory),
         HostFault::Absent | HostFault::Unwritable | HostFault::Failed => {
-            Ending::NotWritten(Content::Image, host8::Unwritten::AsItWas)
+            Ending::NotWritten(Content::Image, host_images::Unwritten::AsItWas)
         }
     }
 }
@@ -62,7 +62,7 @@ pub fn ending_of_first(fault: HostFault) -> Ending
         HostFault::Busy => Ending::Line(ProgramLine::HostExists),
         HostFault::Memory => Ending::Fault(SessionFault::Memory),
         HostFault::Absent | HostFault::Unwritable | HostFault::Failed => {
-            Ending::NotWritten(Content::Image, host8::Unwritten::AsItWas)
+            Ending::NotWritten(Content::Image, host_images::Unwritten::AsItWas)
         }
     }
 }

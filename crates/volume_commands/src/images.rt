@@ -8,11 +8,11 @@ ghost use Rattle.volume_commands.specs.Saving.{Saves};
 use crate::faults::ending_of_write;
 use crate::reading::{ImagePlace, hold, look};
 use crate::saving::write_file;
-use disk8::{DiskFile, Layout};
+use disk_layouts::{DiskFile, Layout};
 use hosts::{Host, Unwritten};
 use outcome::Ending;
+use program_tasks::ImageForm;
 use std::alloc::Global;
-use task8::ImageForm;
 
 /// The image in a file that a command may change.
 #[derive(Drop)]

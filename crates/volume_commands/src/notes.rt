@@ -6,7 +6,7 @@ ghost use Rattle.outcome.specs.Hints.{image_note};
 ghost use Rattle.outcome.specs.Notes.{note_text};
 ghost use Rattle.volume_commands.specs.Notes.{Tells};
 
-use archive8::ArchiveFault;
+use archive_files::ArchiveFault;
 use hosts::Host;
 use outcome::{Ending, Note, image_note};
 use std::alloc::{AllocError, Global};

@@ -9,14 +9,14 @@ use crate::images::Image;
 use crate::inputs::given_bytes;
 use crate::notes::{refuse_image, tell_note};
 use crate::printing::store;
+use archive_files::{ArchiveFault, NewImage, bad_text_at, put};
 use archive_many::{VolumeFile, empties, open};
-use archive8::{ArchiveFault, NewImage, bad_text_at, put};
 use hosts::Host;
 use os8_dir::{FileFault, Name};
 use outcome::{Ending, NameNote, Note};
+use program_tasks::PutOneForm;
 use script8::{LineReply, Reply, SessionFault, put_reply};
 use std::alloc::{AllocError, Global};
-use task8::PutOneForm;
 use word12::Word;
 
 /// Makes a file of the host, or standard input, a file of the volume in an image file, with a name that is given, and reports it.

@@ -7,13 +7,13 @@ ghost use Rattle.volume_commands.specs.ReadingSteps.{IsAnswer};
 
 use crate::faults::ending_of_image;
 use crate::notes::{tell, tell_note};
-use disk8::{DiskFile, Layout};
+use disk_layouts::{DiskFile, Layout};
 use hosts::{Host, HostFault, hold_file};
 use outcome::{Content, Ending, FileNote, NameNote, Note};
-use report8::ProgramLine;
+use program_reports::ProgramLine;
+use program_tasks::ImageForm;
 use script8::readings::MOST;
 use std::alloc::Global;
-use task8::ImageForm;
 
 /// Where an image file is held.
 #[derive(Drop)]

@@ -1,9 +1,9 @@
 //! The commands that print what the volume in an image file has. No file changes.
 ghost use Rattle.std.specs.Prelude.{length};
-ghost use Rattle.archive8.specs.Asking.{target_of};
-ghost use Rattle.archive8.specs.Getting.{Gets};
-ghost use Rattle.archive8.specs.Listing.{ListsFiles};
-ghost use Rattle.archive8.specs.LongListing.{ListsLong};
+ghost use Rattle.archive_files.specs.Asking.{target_of};
+ghost use Rattle.archive_files.specs.Getting.{Gets};
+ghost use Rattle.archive_files.specs.Listing.{ListsFiles};
+ghost use Rattle.archive_files.specs.LongListing.{ListsLong};
 ghost use Rattle.volume_commands.specs.Answers.{Answers};
 ghost use Rattle.volume_commands.specs.Showing.{Shows, wanted_file};
 
@@ -11,11 +11,11 @@ use crate::answers::answer_of;
 use crate::asking::file_asked;
 use crate::printing::print;
 use crate::reading::look_at;
-use archive8::{Asked, GetForm, get, list, list_long};
+use archive_files::{Asked, GetForm, get, list, list_long};
 use hosts::Host;
 use outcome::Ending;
+use program_tasks::{FileForm, ImageForm};
 use std::alloc::Global;
-use task8::{FileForm, ImageForm};
 
 /// Lists the files of the volume in an image file.
 pub fn list_files<H: Host>(host: &mut H, alloc: Global, form: &ImageForm) -> Result<(), Ending>

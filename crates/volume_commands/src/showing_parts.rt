@@ -8,13 +8,13 @@ use crate::notes::refuse_image;
 use crate::printing::print;
 use crate::reading::look_at;
 use crate::showing::show_file;
+use archive_files::GetForm;
 use archive_many::{BlocksFault, blocks_of};
-use archive8::GetForm;
 use hosts::Host;
 use outcome::Ending;
-use report8::{ProgramLine, core_tape};
+use program_reports::{ProgramLine, core_tape};
+use program_tasks::{BlocksForm, FileForm, ImageForm};
 use std::alloc::Global;
-use task8::{BlocksForm, FileForm, ImageForm};
 use word12::Cell;
 
 /// Writes blocks of an image file, whatever its directory says.

@@ -14,9 +14,9 @@ use Rattle.os8_dir.specs.Files.{run}
 use Rattle.os8_dir.specs.Reading.{directory_of}
 use Rattle.index_line.specs.Lines.{index_line}
 use Rattle.index_line.specs.declared.lines.IndexEntry.{IndexEntry}
-use Rattle.archive8.specs.declared.faults.ArchiveFault.{ArchiveFault}
-use Rattle.archive8.specs.Getting.{line_feeds}
-use Rattle.archive8.specs.Opening.{IsUnopened}
+use Rattle.archive_files.specs.declared.faults.ArchiveFault.{ArchiveFault}
+use Rattle.archive_files.specs.Getting.{line_feeds}
+use Rattle.archive_files.specs.Opening.{IsUnopened}
 use Rattle.archive_many.specs.Patterns.{is_choice, matches}
 use Rattle.volume_index.specs.Holding.{holds}
 use Rattle.volume_index.specs.Json.{lines_as}

@@ -1,15 +1,15 @@
 //! Which files an index has.
 ghost use Rattle.std.specs.Prelude.{◌≡◌, IfOk};
 ghost use Rattle.char_pack.specs.Texts.{text};
-ghost use Rattle.archive8.specs.Getting.{line_feeds};
+ghost use Rattle.archive_files.specs.Getting.{line_feeds};
 ghost use Rattle.volume_index.specs.Holding.{holds};
 ghost use Rattle.volume_index.specs.Indexing as spec;
 
 use crate::holding::holds;
 use crate::kinds::is_text;
+use archive_files::GetForm;
+use archive_files::parts::content_of_words;
 use archive_many::{ChoiceFault, VolumeFile, choose_files};
-use archive8::GetForm;
-use archive8::parts::content_of_words;
 use file_kind::FileKind;
 use os8_dir::Name;
 use std::alloc::{AllocError, Global};

@@ -11,8 +11,8 @@ use crate::kinds::kind_of_words;
 use crate::styles::IndexStyle;
 use crate::words::words_at;
 use crate::years::last_in;
-use archive8::ArchiveFault;
-use archive8::parts::volume_of;
+use archive_files::ArchiveFault;
+use archive_files::parts::volume_of;
 use index_line::{IndexEntry, put_index};
 use os8_dir::laws::sound_directory;
 use os8_dir::{DirEntry, DirFault, Directory};
@@ -22,7 +22,7 @@ use volume_image::{BlockStore, MemoryVolume};
 use word12::Word;
 
 /// The lines of the files that are wanted of the volume in an image, in the order of its directory. They have the name that is given as the
-/// image's, and the number as the volume's, none for a file of one volume. An image is refused as `archive8::list` does it (OS/8 Software
+/// image's, and the number as the volume's, none for a file of one volume. An image is refused as `archive_files::list` does it (OS/8 Software
 /// Support Manual; the lines are this project's profile).
 pub fn index_volume(
     alloc: Global,

@@ -1,5 +1,5 @@
 use Rattle.std.proofs.Common.{◌≡◌, ◌++◌, length}
-use Rattle.archive8.specs.LongListing.{information_text}
+use Rattle.archive_files.specs.LongListing.{information_text}
 use Rattle.archive_commands.proofs.dated_lists.put_words.Given as goal
 
 abbrev pub invariant-loop-rest : goal.invariant-loop-rest

@@ -1,5 +1,5 @@
-use Rattle.archive8.specs.Getting.{Gets}
-use Rattle.archive8.specs.Listing.{ListsFiles}
+use Rattle.archive_files.specs.Getting.{Gets}
+use Rattle.archive_files.specs.Listing.{ListsFiles}
 use Rattle.volume_commands.specs.Showing.{wanted_file}
 use Rattle.many_commands.proofs.Looking.{blocks-never, checks-never, shows-never, tape-never}
 use Rattle.many_commands.proofs.laws.shown_images.Goals as goal

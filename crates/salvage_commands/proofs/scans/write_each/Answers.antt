@@ -1,5 +1,5 @@
 use Rattle.std.proofs.Common.{refl}
-use Rattle.salvage8.specs.declared.pieces.PieceKind.TheVariants.{Text}
+use Rattle.volume_salvage.specs.declared.pieces.PieceKind.TheVariants.{Text}
 use Rattle.salvage_commands.proofs.ScanLemmas.{go-on, stop}
 use Rattle.salvage_commands.proofs.scans.write_each.Goals as goal
 

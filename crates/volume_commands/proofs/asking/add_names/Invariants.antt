@@ -1,5 +1,5 @@
 use Rattle.std.proofs.Common.{◌≡◌, ◌++◌, length, map}
-use Rattle.archive8.specs.Asking.{OfName, target_of}
+use Rattle.archive_files.specs.Asking.{OfName, target_of}
 use Rattle.volume_commands.proofs.asking.add_names.Given as goal
 
 abbrev pub invariant-loop-rest : goal.invariant-loop-rest

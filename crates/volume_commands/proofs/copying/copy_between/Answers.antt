@@ -1,6 +1,6 @@
 use Rattle.std.proofs.Common.{rules, inl, inr, refl, subst, Err}
 use Rattle.volume_commands.specs.Copying.{MakesCopy}
-use Rattle.archive8.specs.Asking.{target_of}
+use Rattle.archive_files.specs.Asking.{target_of}
 use Rattle.volume_commands.proofs.WorkLemmas.{ends_with}
 use Rattle.volume_commands.proofs.copying.copy_between.Goals as goal
 

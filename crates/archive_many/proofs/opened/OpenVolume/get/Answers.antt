@@ -1,7 +1,7 @@
 use Rattle.std.proofs.Common.{subst, List, ℕ, Err, refl}
 use Rattle.std.proofs.lemmas.Result.{err_from_is_err_and}
-use Rattle.archive8.specs.Getting.{IsGiven}
-use Rattle.archive8.specs.Parts.{GivesFile}
+use Rattle.archive_files.specs.Getting.{IsGiven}
+use Rattle.archive_files.specs.Parts.{GivesFile}
 use Rattle.archive_many.specs.Opened.{GetsFile, LiesOn}
 use Rattle.archive_many.proofs.FileLemmas.{file-refused, lies, lies-inside, words-lie}
 use Rattle.archive_many.proofs.opened.OpenVolume.get.Goals as goal

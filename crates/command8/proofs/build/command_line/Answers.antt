@@ -1,7 +1,0 @@
-use Rattle.command8.specs.Steps.{IsDraft}
-use Rattle.command8.specs.Tables.{app_of_table}
-use Rattle.std.proofs.Common.{subst}
-use Rattle.command8.proofs.build.command_line.Goals as goal
-
-pub returns : goal.returns
-returns c = subst (λ entries. IsDraft c.with_leaves.result (app_of_table entries)) c.table.ensures c.with_leaves.ensures

@@ -1,8 +1,0 @@
-use Rattle.std.proofs.Common.{map, take}
-use Rattle.command8.specs.Steps.{IsCommand, row_of}
-use Rattle.command8.specs.Tables.{leaf_with, rule_for}
-use Rattle.command8.proofs.build.leaf_of.Given as goal
-
--- the command has the arguments of the rows so far
-abbrev pub invariant-loop-row : goal.invariant-loop-row
-invariant-loop-row l = IsCommand l.command (leaf_with l.entry.word.now (map (λ row. rule_for (row_of row)) (take l.row-index l.row-items)))

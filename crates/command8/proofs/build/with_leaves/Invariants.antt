@@ -1,8 +1,0 @@
-use Rattle.std.proofs.Common.{map, take}
-use Rattle.command8.specs.Steps.{IsCommand, entry_of}
-use Rattle.command8.specs.Tables.{app_with, leaf_shape}
-use Rattle.command8.proofs.build.with_leaves.Given as goal
-
--- the command has the subcommands of the entries so far
-abbrev pub invariant-loop-entry : goal.invariant-loop-entry
-invariant-loop-entry l = IsCommand l.command (app_with (map (λ entry. leaf_shape (entry_of entry)) (take l.entry-index l.entries)))

@@ -1,0 +1,478 @@
+//! The subcommands and their arguments: what each takes, which exclude each other, and what help says of them. All else that the command
+//! line does is read from here.
+ghost use Rattle.std.specs.Prelude.{◌≡◌, map};
+ghost use Rattle.command_table.specs.Tables.{rows_for};
+ghost use Rattle.command_table.specs.Steps.{entry_of, pair_of, row_of};
+ghost use Rattle.command_table.specs.Tables as spec;
+
+use word12::MOST_BLOCKS;
+
+/// What a value is.
+#[derive(Clone, Copy)]
+pub enum Form {
+    Text,
+
+    /// A cell: an octal number up to 77777, or F:AAAA.
+    Cell,
+
+    /// A word: an octal number up to 7777.
+    Octal,
+
+    /// The number of a disk's volume, 1 or 2.
+    Volume,
+
+    /// A block, 0 to 4095.
+    Block,
+
+    /// A number of seconds, 0 to 3600.
+    Seconds,
+
+    /// A block, or the first and the last of several with `-` between.
+    Span,
+
+    /// The number of a word in its block, 0 to 255.
+    Index,
+
+    /// A word with all sixteen bits that it may have in an image: an octal number up to 177777.
+    Bits,
+
+    /// A date from 1970 on, as 1974-03-12.
+    Date,
+
+    /// The last of eight years, 1977 to 9999.
+    Year,
+}
+
+/// What an argument takes.
+#[derive(Clone, Copy)]
+pub enum Kind {
+    /// A text in its place.
+    Word,
+
+    /// A value of a form in its place.
+    Value(Form),
+
+    /// 1 to so many texts in one place.
+    Words(usize),
+
+    /// The number of a new volume's blocks in its place, 8 to 4095.
+    Size,
+
+    /// An option that takes no value.
+    Flag,
+
+    /// An option with a value.
+    One(Form),
+
+    /// An option with a value, which may be given several times.
+    Many(Form),
+
+    /// An option with a number from 1 up.
+    Count,
+}
+
+/// A subcommand.
+#[derive(Clone, Copy)]
+pub enum Verb {
+    Tape,
+    Rim,
+    Source,
+    Assemble,
+    Teletype,
+    Trace,
+    Profile,
+    Run,
+    Create,
+    List,
+    Get,
+    Put,
+    Delete,
+    Rename,
+    Copy,
+    Squeeze,
+    Check,
+    Dump,
+    Patch,
+    Index,
+    Rescue,
+    Scan,
+}
+
+/// The most images that an index takes.
+pub const MOST_IMAGES: usize = 1_000_000;
+
+/// An argument of a subcommand, with texts of the type `T`.
+pub struct ArgumentOf<T> {
+    /// Its name, which is also that of its option.
+    pub id: T,
+
+    /// The letter of its option, if it has one.
+    pub letter: Option<char>,
+
+    pub kind: Kind,
+    pub is_required: bool,
+
+    /// Whether help leaves it out.
+    pub is_hidden: bool,
+
+    /// What help calls its value.
+    pub value: T,
+
+    /// What refusals call it.
+    pub title: T,
+
+    pub help: T,
+}
+
+/// A row of the table.
+pub type Argument = ArgumentOf<&'static str>;
+
+/// A subcommand, with texts of the type `T`.
+pub struct EntryOf<T> {
+    pub verb: Verb,
+
+    /// Its name.
+    pub word: T,
+
+    /// The line on its usage.
+    pub usage: T,
+}
+
+/// A subcommand of the table.
+pub type Entry = EntryOf<&'static str>;
+
+/// Two arguments, by their names.
+pub type Pair = (&'static str, &'static str);
+
+/// The rows of a subcommand: an argument that must be given, one that may, an option with no value, one that help leaves out, and one with a
+/// value. A letter after the name is that of the option.
+macro_rules! rows {
+    (@letter) => { None };
+    (@letter $letter:literal) => { Some($letter) };
+    (@row $id:literal [$($letter:literal)?] must $kind:expr, $value:literal, $help:literal) => {
+        ArgumentOf { id: $id, letter: None, kind: $kind, is_required: true, is_hidden: false, value: $value, title: concat!("<", $id, ">"), help: $help }
+    };
+    (@row $id:literal [$($letter:literal)?] may $kind:expr, $value:literal, $help:literal) => {
+        ArgumentOf { id: $id, letter: None, kind: $kind, is_required: false, is_hidden: false, value: $value, title: concat!("[", $id, "]"), help: $help }
+    };
+    (@row $id:literal [$($letter:literal)?] flag $kind:expr, $value:literal, $help:literal) => {
+        ArgumentOf { id: $id, letter: rows!(@letter $($letter)?), kind: $kind, is_required: false, is_hidden: false, value: $value, title: concat!("--", $id), help: $help }
+    };
+    (@row $id:literal [$($letter:literal)?] hidden $kind:expr, $value:literal, $help:literal) => {
+        ArgumentOf { id: $id, letter: rows!(@letter $($letter)?), kind: $kind, is_required: false, is_hidden: true, value: $value, title: concat!("--", $id), help: $help }
+    };
+    (@row $id:literal [$($letter:literal)?] option $kind:expr, $value:literal, $help:literal) => {
+        ArgumentOf { id: $id, letter: rows!(@letter $($letter)?), kind: $kind, is_required: false, is_hidden: false, value: $value, title: concat!("--", $id, " <", $value, ">"), help: $help }
+    };
+    ($($id:literal $($letter:literal)? $form:ident $kind:expr, $value:literal, $help:literal;)*) => {
+        &[$(rows!(@row $id [$($letter)?] $form $kind, $value, $help)),*]
+    };
+}
+
+/// The subcommands: each its name and its usage.
+macro_rules! entries {
+    ($($verb:expr, $word:literal, $usage:literal;)*) => {
+        &[$(EntryOf { verb: $verb, word: $word, usage: $usage }),*]
+    };
+}
+
+/// The subcommands.
+pub const COMMANDS: &[Entry] = entries! {
+    Verb::Tape, "tape", "Usage: pdp8 tape [OPTIONS] [TAPE] [NAME]";
+    Verb::Rim, "rim", "Usage: pdp8 rim [OPTIONS] [TAPE] [NAME]";
+    Verb::Source, "source", "Usage: pdp8 source [OPTIONS] [TAPE] [NAME]";
+    Verb::Assemble, "assemble", "Usage: pdp8 assemble [OPTIONS] <FILE>...";
+    Verb::Teletype, "teletype", "Usage: pdp8 teletype [OPTIONS] <TAPE> [NAME]";
+    Verb::Trace, "trace", "Usage: pdp8 trace [OPTIONS] <TAPE> [NAME]";
+    Verb::Profile, "profile", "Usage: pdp8 profile [OPTIONS] <TAPE> [NAME]";
+    Verb::Run, "run", "Usage: pdp8 run [OPTIONS] <IMAGE>";
+    Verb::Create, "create", "Usage: pdp8 create [OPTIONS] <IMAGE> [BLOCKS]";
+    Verb::List, "list", "Usage: pdp8 list [OPTIONS] <IMAGE>";
+    Verb::Get, "get", "Usage: pdp8 get [OPTIONS] <IMAGE> [NAME]...";
+    Verb::Put, "put", "Usage: pdp8 put [OPTIONS] <IMAGE> <FILE>...";
+    Verb::Delete, "delete", "Usage: pdp8 delete [OPTIONS] <IMAGE> [NAME]...";
+    Verb::Rename, "rename", "Usage: pdp8 rename [OPTIONS] <IMAGE> [NAME] [NEW]";
+    Verb::Copy, "copy", "Usage: pdp8 copy [OPTIONS] <IMAGE> [NAME] [TO] [NEW]";
+    Verb::Squeeze, "squeeze", "Usage: pdp8 squeeze [OPTIONS] <IMAGE>";
+    Verb::Check, "check", "Usage: pdp8 check [OPTIONS] <IMAGE>...";
+    Verb::Index, "index", "Usage: pdp8 index [OPTIONS] <IMAGE>...";
+    Verb::Dump, "dump", "Usage: pdp8 dump [OPTIONS] <IMAGE> [BLOCK]";
+    Verb::Patch, "patch", "Usage: pdp8 patch [OPTIONS] <IMAGE> <BLOCK> <WORD> <OLD> <NEW>";
+    Verb::Rescue, "rescue", "Usage: pdp8 rescue [OPTIONS] <IMAGE> <NEW>";
+    Verb::Scan, "scan", "Usage: pdp8 scan [OPTIONS] <IMAGE>";
+};
+
+/// The arguments that exclude each other, in whatever subcommand they are.
+pub const PAIRS: &[Pair] = &[
+    ("volume", "dectape"),
+    ("to-volume", "to-dectape"),
+    ("BLOCKS", "dectape"),
+    ("blocks", "at"),
+    ("blocks", "into"),
+    ("blocks", "all"),
+    ("blocks", "force"),
+    ("blocks", "text-of"),
+    ("blocks", "tape"),
+    ("blocks", "bin"),
+    ("tape", "into"),
+    ("bin", "into"),
+    ("as", "text-of"),
+    ("list", "pal8"),
+    ("cross", "pal8"),
+    ("output", "onto"),
+    ("look", "keep"),
+    ("look", "wait"),
+    ("new", "wait"),
+    ("info", "date"),
+];
+
+pub const TAPE: &[Argument] = rows! {
+    "TAPE" may Kind::Word, "", "The file of the tape, or of the image that holds NAME; else standard input";
+    "NAME" may Kind::Word, "", "The name of the file on the volume";
+    "volume" 'v' option Kind::One(Form::Volume), "N", "The volume of an RK05 disk, 1 or 2, where TAPE is the file of one";
+    "dectape" flag Kind::Flag, "", "TAPE is the file of a DECtape, of 129 words a block";
+};
+
+pub const RIM: &[Argument] = rows! {
+    "TAPE" may Kind::Word, "", "The file of the tape, or of the image that holds NAME; else standard input";
+    "NAME" may Kind::Word, "", "The name of the file on the volume";
+    "bin" flag Kind::Flag, "", "Write the BIN tape of its words";
+    "volume" 'v' option Kind::One(Form::Volume), "N", "The volume of an RK05 disk, 1 or 2, where TAPE is the file of one";
+    "dectape" flag Kind::Flag, "", "TAPE is the file of a DECtape, of 129 words a block";
+};
+
+pub const SOURCE: &[Argument] = rows! {
+    "TAPE" may Kind::Word, "", "The file of the tape, or of the image that holds NAME; else standard input";
+    "NAME" may Kind::Word, "", "The name of the file on the volume";
+    "start" option Kind::Many(Form::Cell), "FAAAA", "A cell at which the program starts, in octal, as 10200 or 1:0200; it may be given several times";
+    "names" option Kind::One(Form::Text), "FILE", "A file of names, a line FAAAA NAME for each cell that gets one";
+    "volume" 'v' option Kind::One(Form::Volume), "N", "The volume of an RK05 disk, 1 or 2, where TAPE is the file of one";
+    "dectape" flag Kind::Flag, "", "TAPE is the file of a DECtape, of 129 words a block";
+};
+
+pub const ASSEMBLE: &[Argument] = rows! {
+    "FILE" must Kind::Words(8), "", "The 1 to 8 sources, which stand together; - is standard input, once at most; with --from names of files on the volume";
+    "output" 'o' option Kind::One(Form::Text), "TAPE", "The file that gets the tape, in place of standard output";
+    "list" 'l' option Kind::One(Form::Text), "LISTING", "Write a listing to the file LISTING too";
+    "cross" flag Kind::Flag, "", "Put a table of cross references after the listing; it needs --list";
+    "pal8" flag Kind::Flag, "", "Take the one source FILE as PAL8, the language of OS/8's assembler";
+    "from" option Kind::One(Form::Text), "IMAGE", "Take the sources from the volume that the file IMAGE holds";
+    "onto" option Kind::One(Form::Text), "NAME", "Put the tape on that volume as the file NAME, in place of standard output";
+    "volume" 'v' option Kind::One(Form::Volume), "N", "The volume of an RK05 disk, 1 or 2, where IMAGE is the file of one";
+    "dectape" flag Kind::Flag, "", "IMAGE is the file of a DECtape, of 129 words a block";
+    "wait" option Kind::One(Form::Seconds), "SECONDS", "With --onto wait so long while another program holds the image, 0 to 3600 seconds; else not at all";
+};
+
+pub const TELETYPE: &[Argument] = rows! {
+    "TAPE" must Kind::Word, "", "The file of the tape, or of the image that holds NAME";
+    "NAME" may Kind::Word, "", "The name of the file on the volume";
+    "start" option Kind::One(Form::Cell), "FAAAA", "The cell to start at, in octal, as 10200 or 1:0200; else 00200 if the tape has that cell, else its first word's";
+    "switches" option Kind::One(Form::Octal), "WWWW", "The word that the switches are set to, in octal; else 0000";
+    "steps" option Kind::Count, "N", "The most instructions that are done, 1 up; without it there is no limit";
+    "raw" flag Kind::Flag, "", "Strike each byte as it is, with no change of line ends and no top bit set";
+    "live" hidden Kind::Flag, "", "Take the keys as they are struck";
+    "volume" 'v' option Kind::One(Form::Volume), "N", "The volume of an RK05 disk, 1 or 2, where TAPE is the file of one";
+    "dectape" flag Kind::Flag, "", "TAPE is the file of a DECtape, of 129 words a block";
+};
+
+/// The arguments of `trace` and of `profile`.
+pub const TRACE: &[Argument] = rows! {
+    "TAPE" must Kind::Word, "", "The file of the tape, or of the image that holds NAME";
+    "NAME" may Kind::Word, "", "The name of the file on the volume";
+    "start" option Kind::One(Form::Cell), "FAAAA", "The cell to start at, in octal, as 10200 or 1:0200; else 00200 if the tape has that cell, else its first word's";
+    "switches" option Kind::One(Form::Octal), "WWWW", "The word that the switches are set to, in octal; else 0000";
+    "steps" option Kind::Count, "N", "The most steps that are made, 1 up";
+    "keys" option Kind::One(Form::Text), "TEXT", "The keys to strike, each where the program asks for one; a line's end is CR";
+    "volume" 'v' option Kind::One(Form::Volume), "N", "The volume of an RK05 disk, 1 or 2, where TAPE is the file of one";
+    "dectape" flag Kind::Flag, "", "TAPE is the file of a DECtape, of 129 words a block";
+};
+
+pub const RUN: &[Argument] = rows! {
+    "IMAGE" must Kind::Word, "", "The file that holds the volume";
+    "look" flag Kind::Flag, "", "Never write the image, whatever the script does";
+    "keep" flag Kind::Flag, "", "Write the image after each entry that changed it, before its reply";
+    "strict" flag Kind::Flag, "", "End with status 1 where a reply was a refusal";
+    "volume" 'v' option Kind::One(Form::Volume), "N", "The volume of an RK05 disk, 1 or 2, where IMAGE is the file of one";
+    "dectape" flag Kind::Flag, "", "IMAGE is the file of a DECtape, of 129 words a block";
+    "wait" option Kind::One(Form::Seconds), "SECONDS", "Wait so long while another program holds the image, 0 to 3600 seconds; else not at all";
+};
+
+pub const CREATE: &[Argument] = rows! {
+    "IMAGE" must Kind::Word, "", "The file that holds the volume";
+    "BLOCKS" may Kind::Size, "", "The number of blocks, 8 to 4095";
+    "dectape" flag Kind::Flag, "", "Write the file of a DECtape";
+    "new" flag Kind::Flag, "", "Refuse where there is a file of that name";
+    "wait" option Kind::One(Form::Seconds), "SECONDS", "Wait so long while another program holds the file, 0 to 3600 seconds; else not at all";
+};
+
+pub const LIST: &[Argument] = rows! {
+    "IMAGE" must Kind::Word, "", "The file that holds the volume";
+    "long" 'l' flag Kind::Flag, "", "Show where each file lies, its information words, in octal, and its date";
+    "year" option Kind::One(Form::Year), "N", "The last of the eight years that dates mean, 1977 to 9999; else the one that block 0 gives";
+    "volume" 'v' option Kind::One(Form::Volume), "N", "The volume of an RK05 disk, 1 or 2, where IMAGE is the file of one";
+    "dectape" flag Kind::Flag, "", "IMAGE is the file of a DECtape, of 129 words a block";
+};
+
+pub const GET: &[Argument] = rows! {
+    "IMAGE" must Kind::Word, "", "The file that holds the volume";
+    "NAME" may Kind::Words(MOST_BLOCKS), "", "The names of the files on the volume; with --blocks FIRST and COUNT";
+    "at" option Kind::Many(Form::Block), "BLOCK", "The first block of a file, 0 to 4095, where no typed name is its own; it may be given several times";
+    "text" 't' flag Kind::Flag, "", "Write its text, each line ended by LF; with --into of files whose extension says text";
+    "tape" flag Kind::Flag, "", "Write the BIN tape that it begins with, also where --text is given";
+    "bin" flag Kind::Flag, "", "Write the BIN tape of the core image that it is, also where others are given";
+    "into" option Kind::One(Form::Text), "FOLDER", "The folder that gets the files";
+    "all" 'a' flag Kind::Flag, "", "Get all files of the volume";
+    "force" 'f' flag Kind::Flag, "", "Write over older files of the folder";
+    "text-of" option Kind::Many(Form::Text), "LIST", "Extensions of files that are texts, as PA,TX; it may be given several times";
+    "blocks" flag Kind::Flag, "", "Write blocks of the volume: COUNT from block FIRST on";
+    "volume" 'v' option Kind::One(Form::Volume), "N", "The volume of an RK05 disk, 1 or 2, where IMAGE is the file of one";
+    "dectape" flag Kind::Flag, "", "IMAGE is the file of a DECtape, of 129 words a block";
+};
+
+pub const PUT: &[Argument] = rows! {
+    "IMAGE" must Kind::Word, "", "The file that holds the volume";
+    "FILE" must Kind::Words(MOST_BLOCKS), "", "The files of this system that are put; - is standard input";
+    "text" 't' flag Kind::Flag, "", "Keep as texts, each LF as CR and LF, control Z at the end, those whose extension says text; with --as the one";
+    "text-of" option Kind::Many(Form::Text), "LIST", "Extensions of files that are texts, as PA,TX; it may be given several times";
+    "files" flag Kind::Flag, "", "Changes nothing: FILE are files of this system";
+    "info" option Kind::Many(Form::Octal), "WWWW", "An information word of the file, in octal; it may be given several times";
+    "date" option Kind::One(Form::Date), "DATE", "The date of the file, as 1974-03-12, which is its first information word";
+    "as" option Kind::One(Form::Text), "NAME", "The name on the volume of the one file that is put";
+    "empty" flag Kind::Flag, "", "Let a file of no byte replace one that has words";
+    "volume" 'v' option Kind::One(Form::Volume), "N", "The volume of an RK05 disk, 1 or 2, where IMAGE is the file of one";
+    "dectape" flag Kind::Flag, "", "IMAGE is the file of a DECtape, of 129 words a block";
+    "wait" option Kind::One(Form::Seconds), "SECONDS", "Wait so long while another program holds the image, 0 to 3600 seconds; else not at all";
+};
+
+pub const DELETE: &[Argument] = rows! {
+    "IMAGE" must Kind::Word, "", "The file that holds the volume";
+    "NAME" may Kind::Words(MOST_BLOCKS), "", "The names of the files on the volume";
+    "at" option Kind::Many(Form::Block), "BLOCK", "The first block of a file, 0 to 4095; it may be given several times";
+    "volume" 'v' option Kind::One(Form::Volume), "N", "The volume of an RK05 disk, 1 or 2, where IMAGE is the file of one";
+    "dectape" flag Kind::Flag, "", "IMAGE is the file of a DECtape, of 129 words a block";
+    "wait" option Kind::One(Form::Seconds), "SECONDS", "Wait so long while another program holds the image, 0 to 3600 seconds; else not at all";
+};
+
+pub const RENAME: &[Argument] = rows! {
+    "IMAGE" must Kind::Word, "", "The file that holds the volume";
+    "NAME" may Kind::Word, "", "The name of the file on the volume, where --at does not give its block";
+    "NEW" may Kind::Word, "", "The new name of the file";
+    "at" option Kind::One(Form::Block), "BLOCK", "The first block of the file, 0 to 4095, in place of NAME";
+    "volume" 'v' option Kind::One(Form::Volume), "N", "The volume of an RK05 disk, 1 or 2, where IMAGE is the file of one";
+    "dectape" flag Kind::Flag, "", "IMAGE is the file of a DECtape, of 129 words a block";
+    "wait" option Kind::One(Form::Seconds), "SECONDS", "Wait so long while another program holds the image, 0 to 3600 seconds; else not at all";
+};
+
+pub const COPY: &[Argument] = rows! {
+    "IMAGE" must Kind::Word, "", "The file that holds the volume";
+    "NAME" may Kind::Word, "", "The name of the file on the volume, where --at does not give its block";
+    "TO" may Kind::Word, "", "The file that holds the volume that gets it";
+    "NEW" may Kind::Word, "", "The name of the file on that volume, if it is another";
+    "at" option Kind::One(Form::Block), "BLOCK", "The first block of the file, 0 to 4095, in place of NAME";
+    "to-volume" option Kind::One(Form::Volume), "N", "The volume of an RK05 disk, 1 or 2, where TO is the file of one";
+    "to-dectape" flag Kind::Flag, "", "TO is the file of a DECtape, of 129 words a block";
+    "volume" 'v' option Kind::One(Form::Volume), "N", "The volume of an RK05 disk, 1 or 2, where IMAGE is the file of one";
+    "dectape" flag Kind::Flag, "", "IMAGE is the file of a DECtape, of 129 words a block";
+    "wait" option Kind::One(Form::Seconds), "SECONDS", "Wait so long while another program holds TO, 0 to 3600 seconds; else not at all";
+};
+
+pub const SQUEEZE: &[Argument] = rows! {
+    "IMAGE" must Kind::Word, "", "The file that holds the volume";
+    "volume" 'v' option Kind::One(Form::Volume), "N", "The volume of an RK05 disk, 1 or 2, where IMAGE is the file of one";
+    "dectape" flag Kind::Flag, "", "IMAGE is the file of a DECtape, of 129 words a block";
+    "wait" option Kind::One(Form::Seconds), "SECONDS", "Wait so long while another program holds the image, 0 to 3600 seconds; else not at all";
+};
+
+pub const CHECK: &[Argument] = rows! {
+    "IMAGE" must Kind::Words(MOST_BLOCKS), "", "The files that hold the volumes";
+    "all" 'a' flag Kind::Flag, "", "Show each fault of the directory, and the files that are sound";
+    "volume" 'v' option Kind::One(Form::Volume), "N", "The volume of an RK05 disk, 1 or 2, where IMAGE is the file of one";
+    "dectape" flag Kind::Flag, "", "IMAGE is the file of a DECtape, of 129 words a block";
+};
+
+pub const DUMP: &[Argument] = rows! {
+    "IMAGE" must Kind::Word, "", "The file that holds the volume";
+    "BLOCK" may Kind::Value(Form::Span), "", "A block, 0 to 4095, or the first and the last of several, as 7-9; else all";
+    "sixbit" flag Kind::Flag, "", "Show the two characters of each word in sixbit; else three of each two words, as a text has them";
+    "volume" 'v' option Kind::One(Form::Volume), "N", "The volume of an RK05 disk, 1 or 2, where IMAGE is the file of one";
+    "dectape" flag Kind::Flag, "", "IMAGE is the file of a DECtape, of 129 words a block";
+};
+
+pub const PATCH: &[Argument] = rows! {
+    "IMAGE" must Kind::Word, "", "The file that holds the volume";
+    "BLOCK" must Kind::Value(Form::Block), "", "The block of the word, 0 to 4095";
+    "WORD" must Kind::Value(Form::Index), "", "The number of the word in its block, 0 to 255";
+    "OLD" must Kind::Value(Form::Bits), "", "The word that stands there, in octal, with more than four digits where it has more than twelve bits";
+    "NEW" must Kind::Value(Form::Octal), "", "The word that is put there, in octal";
+    "volume" 'v' option Kind::One(Form::Volume), "N", "The volume of an RK05 disk, 1 or 2, where IMAGE is the file of one";
+    "dectape" flag Kind::Flag, "", "IMAGE is the file of a DECtape, of 129 words a block";
+    "wait" option Kind::One(Form::Seconds), "SECONDS", "Wait so long while another program holds the image, 0 to 3600 seconds; else not at all";
+};
+
+pub const INDEX: &[Argument] = rows! {
+    "IMAGE" must Kind::Words(MOST_IMAGES), "", "The files that hold the volumes";
+    "find" option Kind::One(Form::Text), "PATTERN", "Only files whose names fit the pattern, as '*.PA'";
+    "grep" option Kind::One(Form::Text), "TEXT", "Only texts that hold TEXT";
+    "json" flag Kind::Flag, "", "Write each line as a JSON object";
+    "year" option Kind::One(Form::Year), "N", "The last of the eight years that dates mean, 1977 to 9999; else the one that block 0 gives";
+    "volume" 'v' option Kind::One(Form::Volume), "N", "The volume of an RK05 disk, 1 or 2, where IMAGE is the file of one";
+    "dectape" flag Kind::Flag, "", "IMAGE is the file of a DECtape, of 129 words a block";
+};
+
+pub const RESCUE: &[Argument] = rows! {
+    "IMAGE" must Kind::Word, "", "The file that holds the damaged volume";
+    "NEW" must Kind::Word, "", "The file that gets the new volume";
+    "volume" 'v' option Kind::One(Form::Volume), "N", "The volume of an RK05 disk, 1 or 2, where IMAGE is the file of one";
+    "dectape" flag Kind::Flag, "", "IMAGE is the file of a DECtape, of 129 words a block";
+};
+
+pub const SCAN: &[Argument] = rows! {
+    "IMAGE" must Kind::Word, "", "The file that holds the volume";
+    "into" option Kind::One(Form::Text), "FOLDER", "Write each piece to a file of FOLDER too, named by its block and what it is";
+    "volume" 'v' option Kind::One(Form::Volume), "N", "The volume of an RK05 disk, 1 or 2, where IMAGE is the file of one";
+    "dectape" flag Kind::Flag, "", "IMAGE is the file of a DECtape, of 129 words a block";
+};
+
+/// The arguments of a subcommand.
+pub fn arguments_of(verb: Verb) -> &'static [Argument]
+    ensures { map row_of result.now ≡ rows_for verb }
+{
+    match verb {
+        Verb::Tape => TAPE,
+        Verb::Rim => RIM,
+        Verb::Source => SOURCE,
+        Verb::Assemble => ASSEMBLE,
+        Verb::Teletype => TELETYPE,
+        Verb::Trace => TRACE,
+        Verb::Profile => TRACE,
+        Verb::Run => RUN,
+        Verb::Create => CREATE,
+        Verb::List => LIST,
+        Verb::Get => GET,
+        Verb::Put => PUT,
+        Verb::Delete => DELETE,
+        Verb::Rename => RENAME,
+        Verb::Copy => COPY,
+        Verb::Squeeze => SQUEEZE,
+        Verb::Check => CHECK,
+        Verb::Dump => DUMP,
+        Verb::Patch => PATCH,
+        Verb::Index => INDEX,
+        Verb::Rescue => RESCUE,
+        Verb::Scan => SCAN,
+    }
+}
+
+/// The subcommands.
+pub fn table() -> &'static [Entry]
+    ensures { map entry_of result.now ≡ spec.table }
+{
+    COMMANDS
+}
+
+/// The arguments that exclude each other.
+pub fn pairs() -> &'static [Pair]
+    ensures { map pair_of result.now ≡ spec.pairs }
+{
+    PAIRS
+}

@@ -1,0 +1,118 @@
+//! What is asked of volumes as a whole.
+ghost use Rattle.std.specs.Prelude.{◌≡◌, codes, true, IfOk, Some};
+ghost use Rattle.command_table.specs.Found.{wait_of};
+ghost use Rattle.command_table.specs.Steps.{Has, has_text, kind_at, IsAskedBy, Needs, values_in};
+ghost use Rattle.command_table.specs.Tables.{rows_for};
+ghost use Rattle.command_table.specs.Tasks.{IsImage};
+ghost use Rattle.command_table.specs.Tasks as spec;
+ghost use Rattle.command_table.specs.declared.table.Form.TheVariants as form;
+ghost use Rattle.command_table.specs.declared.table.Kind.TheVariants as kind;
+ghost use Rattle.command_table.specs.declared.table.Verb.TheVariants as verb;
+
+use crate::found::{Read, flag, layout_of, size_of, value_of, values_of, wait_of, year_of};
+use crate::table::Verb;
+use clap::ArgMatches;
+use program_tasks::{CheckForm, CreateForm, ImageForm, RunForm, Saving, Task};
+use std::alloc::Global;
+
+/// The volume in the file that an argument names, which is not waited for.
+pub fn image_of(alloc: Global, found: &ArgMatches<'_>, verb: Verb, id: &str) -> Read<ImageForm>
+    requires image { has_text (kind_at id.now (rows_for verb)) ≡ true }
+    requires volume { kind_at (codes "volume") (rows_for verb) ≡ Some (kind.One form.Volume) }
+    requires dectape { kind_at (codes "dectape") (rows_for verb) ≡ Some kind.Flag }
+    requires given { Has id.now (values_in found.now) }
+    ensures { IfOk result (IsImage id.now 0 (values_in found.now)) }
+{
+    let file = value_of(alloc, found, verb, id)?;
+    let layout = layout_of(found, verb, "volume", "dectape");
+    Ok(ImageForm {
+        file,
+        layout,
+        wait: 0,
+    })
+}
+
+/// The volume in the file that an argument names, which a subcommand may change.
+pub fn changed_image(alloc: Global, found: &ArgMatches<'_>, verb: Verb, id: &str) -> Read<ImageForm>
+    requires image { has_text (kind_at id.now (rows_for verb)) ≡ true }
+    requires volume { kind_at (codes "volume") (rows_for verb) ≡ Some (kind.One form.Volume) }
+    requires dectape { kind_at (codes "dectape") (rows_for verb) ≡ Some kind.Flag }
+    requires wait { kind_at (codes "wait") (rows_for verb) ≡ Some (kind.One form.Seconds) }
+    requires given { Has id.now (values_in found.now) }
+    ensures { IfOk result (IsImage id.now (wait_of (values_in found.now)) (values_in found.now)) }
+{
+    let file = value_of(alloc, found, verb, id)?;
+    let layout = layout_of(found, verb, "volume", "dectape");
+    let wait = wait_of(found, verb);
+    Ok(ImageForm { file, layout, wait })
+}
+
+/// The run of a script.
+pub fn run(alloc: Global, found: &ArgMatches<'_>) -> Read<Task>
+    requires { Needs verb.Run (values_in found.now) }
+    ensures { IfOk result (IsAskedBy verb.Run (values_in found.now)) }
+{
+    let image = changed_image(alloc, found, Verb::Run, "IMAGE")?;
+    let form = RunForm {
+        saving: saving(found),
+        is_strict: flag(found, Verb::Run, "strict"),
+    };
+    Ok(Task::Run(image, form))
+}
+
+/// When the image is written.
+fn saving(found: &ArgMatches<'_>) -> Saving
+    ensures { result ≡ spec.saving_of (values_in found.now) }
+{
+    if flag(found, Verb::Run, "look") {
+        return Saving::Never;
+    }
+    if flag(found, Verb::Run, "keep") {
+        return Saving::Always;
+    }
+    Saving::AtEnd
+}
+
+/// The new volume that is asked for.
+pub fn create(alloc: Global, found: &ArgMatches<'_>) -> Read<Task>
+    requires { Needs verb.Create (values_in found.now) }
+    ensures { IfOk result (IsAskedBy verb.Create (values_in found.now)) }
+{
+    let form = CreateForm {
+        file: value_of(alloc, found, Verb::Create, "IMAGE")?,
+        is_new: flag(found, Verb::Create, "new"),
+        wait: wait_of(found, Verb::Create),
+    };
+    if flag(found, Verb::Create, "dectape") {
+        return Ok(Task::CreateTape(form));
+    }
+    match size_of(found, Verb::Create, "BLOCKS") {
+        Some(blocks) => Ok(Task::Create(form, blocks)),
+        None => unreachable!(),
+    }
+}
+
+/// The volume whose files are to be listed.
+pub fn list(alloc: Global, found: &ArgMatches<'_>) -> Read<Task>
+    requires { Needs verb.List (values_in found.now) }
+    ensures { IfOk result (IsAskedBy verb.List (values_in found.now)) }
+{
+    let image = image_of(alloc, found, Verb::List, "IMAGE")?;
+    if flag(found, Verb::List, "long") {
+        return Ok(Task::ListLong(image, year_of(found, Verb::List)));
+    }
+    Ok(Task::List(image))
+}
+
+/// The volumes that are to be checked.
+pub fn check(alloc: Global, found: &ArgMatches<'_>) -> Read<Task>
+    requires { Needs verb.Check (values_in found.now) }
+    ensures { IfOk result (IsAskedBy verb.Check (values_in found.now)) }
+{
+    let images = values_of(alloc, found, Verb::Check, "IMAGE")?;
+    Ok(Task::Check(CheckForm {
+        images,
+        layout: layout_of(found, Verb::Check, "volume", "dectape"),
+        is_all: flag(found, Verb::Check, "all"),
+    }))
+}

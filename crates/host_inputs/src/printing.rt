@@ -1,0 +1,42 @@
+//! Lines on standard output and on standard error.
+
+use crate::Output;
+use outcome::{Ending, Note};
+use program_reports::{ProgramLine, put_program, with_prefix};
+use std::io::Write;
+
+/// Prints lines or data on standard output.
+pub fn print_bytes<R: Print>(rt: &R, bytes: &[u8]) -> Result<(), Ending> {
+    let mut output = Output::new(rt);
+    if output.write_all(bytes).is_err() {
+        return Err(output.ending());
+    }
+    Ok(())
+}
+
+/// Prints the line of the report of a name or of a file, with that before it.
+pub fn print_of<R: Print + AllocGlobal>(rt: &R, name: &str, text: &[u8]) -> Result<(), Ending> {
+    let prefix = format!(in rt.alloc(); "{name}: ")?;
+    let lines = with_prefix(rt.alloc(), prefix.as_bytes(), text)?;
+    print_bytes(rt, &lines)
+}
+
+/// Prints on standard error a line that is no fault.
+pub fn tell_line<R: Eprint + AllocGlobal>(rt: &R, line: &ProgramLine) -> Result<(), Ending> {
+    let mut text = Vec::new(rt.alloc());
+    put_program(line, &mut text)?;
+    tell_text(rt, &text);
+    Ok(())
+}
+
+/// Writes a text to standard error.
+pub fn tell_text<R: Eprint>(rt: &R, text: &[u8]) {
+    if let Ok(text) = str::from_utf8(text) {
+        let _ = rt.eprint(text);
+    }
+}
+
+/// Prints a note on standard error.
+pub fn tell<R: Eprint>(rt: &R, note: Note<'_>) {
+    let _ = rt.eprint(note);
+}

@@ -1,0 +1,111 @@
+-- The lines that the program prints beside those of a session (this project's profile).
+use Rattle.std.specs.Prelude.{ℕ, ◌/◌, codes, decimal, List, [], ◌∷◌, ◌++◌}
+use Rattle.word12.specs.Octal.{octal_digit, octal4, octal5}
+use Rattle.core_image.specs.declared.faults.CoreFault.{CoreFault}
+use Rattle.core_image.specs.declared.faults.CoreFault.TheVariants as core
+use Rattle.disk_layouts.specs.declared.faults.DiskFault.{DiskFault}
+use Rattle.disk_layouts.specs.declared.faults.DiskFault.TheVariants as disk
+use Rattle.source_names.specs.declared.faults.LineRefusal.{LineRefusal as Unnamed}
+use Rattle.source_names.specs.declared.faults.LineRefusal.TheVariants as unnamed
+use Rattle.rim_tape.specs.declared.faults.RimFault.{RimFault}
+use Rattle.rim_tape.specs.declared.faults.RimFault.TheVariants as rim
+use Rattle.terminal8.specs.declared.outcomes.Ended.{Ended}
+use Rattle.terminal8.specs.declared.outcomes.TerminalEnd.{TerminalEnd}
+use Rattle.terminal8.specs.declared.outcomes.TerminalEnd.TheVariants as why
+use Rattle.volume_image.specs.declared.faults.ImageFault.{ImageFault}
+use Rattle.volume_image.specs.declared.faults.ImageFault.TheVariants as image
+use Rattle.script8.specs.Faults.{directory_fault_text}
+use Rattle.script8.specs.Shown.{name_text}
+use Rattle.program_reports.specs.declared.programs.ProgramLine.{ProgramLine}
+use Rattle.program_reports.specs.declared.programs.ProgramLine.TheVariants as line
+
+abbrev pub image_text : ImageFault → List ℕ
+image_text image.NotWhole = codes "? IMAGE 1 NOT WHOLE"
+image_text image.TooSmall = codes "? IMAGE 2 TOO SMALL"
+image_text image.TooLarge = codes "? IMAGE 3 TOO LARGE"
+image_text (image.BadWord index) = codes "? IMAGE 4 BAD WORD " ++ decimal index
+image_text image.Memory = codes "? 10 MEMORY"
+
+-- the three octal digits of a frame
+abbrev pub frame_text : ℕ → List ℕ
+frame_text frame = octal_digit (frame / 0o100) ∷ octal_digit (frame / 8) ∷ octal_digit frame ∷ []
+
+abbrev pub rim_text : RimFault → List ℕ
+rim_text (rim.BadFrame place frame) = codes "? RIM 1 BAD FRAME " ++ decimal place ++ codes " " ++ frame_text frame
+rim_text rim.NoTrailer = codes "? RIM 2 NO TRAILER"
+rim_text rim.Memory = codes "? 10 MEMORY"
+
+abbrev pub core_text : CoreFault → List ℕ
+core_text (core.BadWord place word) = codes "? CORE 1 BAD WORD " ++ decimal place ++ codes " " ++ octal4 word
+core_text core.TooShort = codes "? CORE 2 TOO SHORT"
+core_text core.Memory = codes "? 10 MEMORY"
+
+-- where a machine halted: the cell before which it stands, AC and L
+abbrev pub halted_text : ℕ → ℕ → ℕ → List ℕ
+halted_text cell ac l = codes "HALT " ++ octal5 cell ++ codes " AC " ++ octal4 ac ++ codes " L " ++ octal_digit l ∷ []
+
+abbrev pub why_text : TerminalEnd → List ℕ
+why_text why.Halt = codes "HALT"
+why_text why.Unassigned = codes "UNASSIGNED"
+why_text why.Keys = codes "KEYS"
+why_text why.Limit = codes "LIMIT"
+
+-- how many steps a machine made, why no more, and the cell before which it stands
+abbrev pub steps_text : Ended → ℕ → List ℕ
+steps_text ended cell = codes "STEPS " ++ decimal ended.steps ++ codes " " ++ why_text ended.why ++ codes " " ++ octal5 cell
+
+-- the number and the words for why a line of names is refused
+abbrev pub refusal_text : Unnamed → List ℕ
+refusal_text unnamed.BadLine = codes "1 BAD LINE"
+refusal_text unnamed.NoName = codes "2 NO NAME"
+refusal_text unnamed.Permanent = codes "3 PERMANENT NAME"
+refusal_text unnamed.Tag = codes "4 FORM OF A TAG"
+refusal_text unnamed.Twice = codes "5 GIVEN TWICE"
+refusal_text unnamed.NoCell = codes "6 NO WORD"
+
+-- why a line of names is refused, and which it is, counted from 1
+abbrev pub names_text : ℕ → Unnamed → List ℕ
+names_text line why = codes "? NAMES " ++ refusal_text why ++ codes " " ++ decimal line
+
+-- of so many images so many were refused
+abbrev pub images_text : ℕ → ℕ → List ℕ
+images_text count refused = codes "IMAGES " ++ decimal count ++ codes " REFUSED " ++ decimal refused
+
+-- why a file holds no volume of a disk or of a DECtape
+abbrev pub disk_text : DiskFault → List ℕ
+disk_text disk.TooLong = codes "? DISK 1 TOO LONG"
+disk_text disk.NoTape = codes "? DISK 2 NO DECTAPE"
+disk_text disk.Memory = codes "? 10 MEMORY"
+
+abbrev pub program_text : ProgramLine → List ℕ
+program_text (line.Created blocks) = codes "CREATED " ++ decimal blocks
+program_text line.HostRead = codes "? HOST READ"
+program_text line.HostWrite = codes "? HOST WRITE"
+program_text line.HostBusy = codes "? HOST BUSY"
+program_text line.NoWord = codes "? SOURCE 1 NO WORD"
+program_text (line.NoStart cell) = codes "? SOURCE 2 NO WORD AT " ++ octal5 cell
+program_text (line.Names number why) = names_text number why
+program_text (line.Renamed old new) = codes "RENAMED " ++ name_text old ++ codes " " ++ name_text new
+program_text line.Exists = codes "? RENAME 1 FILE EXISTS"
+program_text (line.Squeezed moved) = codes "SQUEEZED " ++ decimal moved
+program_text (line.Got name blocks) = codes "GOT " ++ name_text name ++ codes " " ++ decimal blocks
+program_text line.HostExists = codes "? HOST EXISTS"
+program_text line.SameName = codes "? PUT 1 SAME NAME"
+program_text (line.OnlyBlocks blocks) = codes "? BLOCKS 1 ONLY " ++ decimal blocks
+program_text (line.Images count refused) = images_text count refused
+program_text (line.Disk fault) = disk_text fault
+program_text line.NothingToRun = codes "? TELETYPE 1 NO WORD"
+program_text (line.Halted cell ac l) = halted_text cell ac l
+program_text (line.Unassigned cell word) = codes "UNASSIGNED " ++ octal5 cell ++ codes " " ++ octal4 word
+program_text (line.KeysEnd cell) = codes "KEYS END " ++ octal5 cell
+program_text (line.Limit cell) = codes "LIMIT " ++ octal5 cell
+program_text (line.Steps ended cell) = steps_text ended cell
+program_text (line.Start cell) = codes "START " ++ octal5 cell
+program_text (line.Core fault) = core_text fault
+program_text (line.Rim fault) = rim_text fault
+program_text (line.Image fault) = image_text fault
+program_text (line.Directory fault) = directory_fault_text fault
+
+-- a line of the program
+abbrev pub program_line : ProgramLine → List ℕ
+program_line line = program_text line ++ 0o12 ∷ []

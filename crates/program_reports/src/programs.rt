@@ -1,0 +1,358 @@
+ghost use Rattle.std.specs.Prelude.{◌≡◌, ◌+◌, ◌≤◌, ◌++◌, length, OnOk, OnErr, IsOk, IsOkUnless, vec_len, vec_capacity};
+ghost use Rattle.arrayvec.specs.ArrayVec.{array_vec_len};
+ghost use Rattle.word12.specs.Octal.{octal5};
+ghost use Rattle.program_reports.specs.Program.{program_line, program_text, disk_text, image_text, halted_text, core_text, frame_text, names_text, steps_text, why_text};
+ghost use Rattle.program_reports.specs.Program as spec;
+ghost use Rattle.script8.specs.declared.faults.SessionFault.TheVariants.{Memory};
+
+use core_image::CoreFault;
+use disk_layouts::DiskFault;
+use os8_dir::{DirFault, Name};
+use rim_tape::RimFault;
+use script8::text_lines::{TextLine, put, put_name, put_number};
+use script8::{SessionFault, put_directory_fault};
+use source_names::LineRefusal as Unnamed;
+use terminal8::{Ended, TerminalEnd};
+use volume_image::ImageFault;
+use word12::{Cell, Word};
+
+/// What the program prints beside the lines of a session.
+#[derive(Clone, Copy)]
+pub enum ProgramLine {
+    /// A volume of so many blocks was written.
+    Created(usize),
+
+    /// The image file could not be read.
+    HostRead,
+
+    /// The image file could not be written.
+    HostWrite,
+
+    /// Another program holds the image file.
+    HostBusy,
+
+    /// The tape gives no cell a word, so it has no source.
+    NoWord,
+
+    /// The tape gives this cell no word, at which the program of a source is to start.
+    NoStart(Cell),
+
+    /// This line of the names of cells is the first that is refused, counted from 1, and why.
+    Names(u64, Unnamed),
+
+    /// A file of the first name has the second.
+    Renamed(Name, Name),
+
+    /// A file has the name that another is to get.
+    Exists,
+
+    /// So many files were moved together.
+    Squeezed(usize),
+
+    /// A file of so many blocks was written to a folder.
+    Got(Name, usize),
+
+    /// A file of the host is there that is not to be replaced.
+    HostExists,
+
+    /// Two files of the host have one name on the volume.
+    SameName,
+
+    /// The image has only so many blocks.
+    OnlyBlocks(usize),
+
+    /// Of so many images so many were refused.
+    Images { count: usize, refused: usize },
+
+    /// The file holds no volume of a disk or of a DECtape.
+    Disk(DiskFault),
+
+    /// The tape gives no cell a word, so there is nothing to run.
+    NothingToRun,
+
+    /// A machine at a terminal halted before this cell, with this AC and L.
+    Halted(Cell, Word, u8),
+
+    /// A machine at a terminal met a word in a cell that is unassigned.
+    Unassigned(Cell, Word),
+
+    /// No key is left for a machine at a terminal that waits for one at this cell.
+    KeysEnd(Cell),
+
+    /// A machine at a terminal made as many steps as it was to make, up to this cell.
+    Limit(Cell),
+
+    /// A machine at a terminal went so far, up to this cell.
+    Steps(Ended, Cell),
+
+    /// The program of a core image starts at this cell.
+    Start(Cell),
+
+    /// The words of the file are no core image.
+    Core(CoreFault),
+
+    /// The frames are no RIM tape.
+    Rim(RimFault),
+
+    /// The bytes of the image file are no image of a volume.
+    Image(ImageFault),
+
+    /// The volume's directory is not sound.
+    Directory(DirFault),
+}
+
+/// Appends a line of the program. Where the vector has room for 80 bytes, no memory is taken.
+pub fn put_program(line: &ProgramLine, out: &mut Vec<u8>) -> Result<(), SessionFault>
+    ensures ok { OnOk result (out.new.items ≡ out.old.items ++ program_line line.now) }
+    ensures err { OnErr result (out.new.items ≡ out.old.items) }
+    ensures room { vec_len out.old + 80 ≤ vec_capacity out.old → IsOk result }
+    ensures memory { IsOkUnless result Memory }
+{
+    let mut text = TextLine::new();
+    put_line(&mut text, *line);
+    put(&mut text, b"\n");
+    out.extend_from_slice(text.as_slice())?;
+    Ok(())
+}
+
+/// Puts the text of a line into an empty one.
+fn put_line(text: &mut TextLine, line: ProgramLine)
+    requires { array_vec_len text.old ≡ 0 }
+    ensures text { text.new.items ≡ text.old.items ++ program_text line }
+    ensures short { array_vec_len text.new ≤ 60 }
+{
+    match line {
+        ProgramLine::Created(blocks) => {
+            put(text, b"CREATED ");
+            put_number(text, blocks as u64);
+        }
+        ProgramLine::HostRead => put(text, b"? HOST READ"),
+        ProgramLine::HostWrite => put(text, b"? HOST WRITE"),
+        ProgramLine::HostBusy => put(text, b"? HOST BUSY"),
+        ProgramLine::NoWord => put(text, b"? SOURCE 1 NO WORD"),
+        ProgramLine::NoStart(cell) => {
+            put(text, b"? SOURCE 2 NO WORD AT ");
+            put_cell(text, cell);
+        }
+        ProgramLine::Names(line, why) => put_names(text, line, why),
+        ProgramLine::Renamed(old, new) => {
+            put(text, b"RENAMED ");
+            put_name(text, old);
+            put(text, b" ");
+            put_name(text, new);
+        }
+        ProgramLine::Exists => put(text, b"? RENAME 1 FILE EXISTS"),
+        ProgramLine::Squeezed(moved) => {
+            put(text, b"SQUEEZED ");
+            put_number(text, moved as u64);
+        }
+        ProgramLine::Got(name, blocks) => {
+            put(text, b"GOT ");
+            put_name(text, name);
+            put(text, b" ");
+            put_number(text, blocks as u64);
+        }
+        ProgramLine::HostExists => put(text, b"? HOST EXISTS"),
+        ProgramLine::SameName => put(text, b"? PUT 1 SAME NAME"),
+        ProgramLine::OnlyBlocks(blocks) => {
+            put(text, b"? BLOCKS 1 ONLY ");
+            put_number(text, blocks as u64);
+        }
+        ProgramLine::Images { count, refused } => put_images(text, count, refused),
+        ProgramLine::Disk(fault) => put(text, disk_words(fault)),
+        ProgramLine::NothingToRun => put(text, b"? TELETYPE 1 NO WORD"),
+        ProgramLine::Halted(cell, ac, l) => put_halted(text, cell, ac, l),
+        ProgramLine::Unassigned(cell, word) => {
+            put(text, b"UNASSIGNED ");
+            put_cell(text, cell);
+            put(text, b" ");
+            put(text, &word.octal4());
+        }
+        ProgramLine::KeysEnd(cell) => {
+            put(text, b"KEYS END ");
+            put_cell(text, cell);
+        }
+        ProgramLine::Limit(cell) => {
+            put(text, b"LIMIT ");
+            put_cell(text, cell);
+        }
+        ProgramLine::Steps(ended, cell) => put_steps(text, ended, cell),
+        ProgramLine::Start(cell) => {
+            put(text, b"START ");
+            put_cell(text, cell);
+        }
+        ProgramLine::Core(fault) => put_core(text, fault),
+        ProgramLine::Rim(fault) => put_rim(text, fault),
+        ProgramLine::Image(fault) => put_image(text, fault),
+        ProgramLine::Directory(fault) => put_directory_fault(text, fault),
+    }
+}
+
+/// Puts how many of how many images were refused into an empty line.
+fn put_images(text: &mut TextLine, count: usize, refused: usize)
+    requires { array_vec_len text.old ≡ 0 }
+    ensures text { text.new.items ≡ text.old.items ++ spec.images_text count refused }
+    ensures short { array_vec_len text.new ≤ 60 }
+{
+    put(text, b"IMAGES ");
+    put_number(text, count as u64);
+    put(text, b" REFUSED ");
+    put_number(text, refused as u64);
+}
+
+/// The line for why a file holds no volume of a disk or of a DECtape.
+fn disk_words(fault: DiskFault) -> &'static [u8]
+    ensures word { result.now ≡ disk_text fault }
+    ensures short { length result.now ≤ 20 }
+{
+    match fault {
+        DiskFault::TooLong => b"? DISK 1 TOO LONG",
+        DiskFault::NoTape => b"? DISK 2 NO DECTAPE",
+        DiskFault::Memory => b"? 10 MEMORY",
+    }
+}
+
+/// Puts where a machine halted, with its AC and L, into an empty line.
+fn put_halted(text: &mut TextLine, cell: Cell, ac: Word, l: u8)
+    requires { array_vec_len text.old ≡ 0 }
+    ensures text { text.new.items ≡ text.old.items ++ halted_text cell ac l }
+    ensures short { array_vec_len text.new ≤ 60 }
+{
+    put(text, b"HALT ");
+    put_cell(text, cell);
+    put(text, b" AC ");
+    put(text, &ac.octal4());
+    put(text, b" L ");
+    put(text, &[b'0' + l % 8]);
+}
+
+/// Puts how far a machine went, and why no further, into an empty line.
+fn put_steps(text: &mut TextLine, ended: Ended, cell: Cell)
+    requires { array_vec_len text.old ≡ 0 }
+    ensures text { text.new.items ≡ text.old.items ++ steps_text ended cell }
+    ensures short { array_vec_len text.new ≤ 60 }
+{
+    put(text, b"STEPS ");
+    put_number(text, ended.steps);
+    put(text, b" ");
+    put(text, word_of(ended.why));
+    put(text, b" ");
+    put_cell(text, cell);
+}
+
+/// The word for why a machine goes no further.
+fn word_of(why: TerminalEnd) -> &'static [u8]
+    ensures word { result.now ≡ why_text why }
+    ensures short { length result.now ≤ 10 }
+{
+    match why {
+        TerminalEnd::Halt => b"HALT",
+        TerminalEnd::Unassigned => b"UNASSIGNED",
+        TerminalEnd::Keys => b"KEYS",
+        TerminalEnd::Limit => b"LIMIT",
+    }
+}
+
+/// Puts which line of names is refused, and why, into an empty line.
+fn put_names(text: &mut TextLine, line: u64, why: Unnamed)
+    requires { array_vec_len text.old ≡ 0 }
+    ensures text { text.new.items ≡ text.old.items ++ names_text line why }
+    ensures short { array_vec_len text.new ≤ 60 }
+{
+    put(text, b"? NAMES ");
+    put(text, refusal_of(why));
+    put(text, b" ");
+    put_number(text, line);
+}
+
+/// The number and the words for why a line of names is refused.
+fn refusal_of(why: Unnamed) -> &'static [u8]
+    ensures word { result.now ≡ spec.refusal_text why }
+    ensures short { length result.now ≤ 20 }
+{
+    match why {
+        Unnamed::BadLine => b"1 BAD LINE",
+        Unnamed::NoName => b"2 NO NAME",
+        Unnamed::Permanent => b"3 PERMANENT NAME",
+        Unnamed::Tag => b"4 FORM OF A TAG",
+        Unnamed::Twice => b"5 GIVEN TWICE",
+        Unnamed::NoCell => b"6 NO WORD",
+    }
+}
+
+/// Puts a cell as its field and address in octal.
+fn put_cell(text: &mut TextLine, cell: Cell)
+    requires { array_vec_len text.old ≤ 40 }
+    ensures text { text.new.items ≡ text.old.items ++ octal5 cell }
+    ensures short { array_vec_len text.new ≡ array_vec_len text.old + 5 }
+{
+    put(text, &cell.octal5());
+}
+
+/// Puts the text of a fault of a core image into an empty line.
+fn put_core(text: &mut TextLine, fault: CoreFault)
+    requires { array_vec_len text.old ≡ 0 }
+    ensures text { text.new.items ≡ text.old.items ++ core_text fault }
+    ensures short { array_vec_len text.new ≤ 60 }
+{
+    match fault {
+        CoreFault::BadWord { place, word } => {
+            put(text, b"? CORE 1 BAD WORD ");
+            put_number(text, place as u64);
+            put(text, b" ");
+            put(text, &word.octal4());
+        }
+        CoreFault::TooShort => put(text, b"? CORE 2 TOO SHORT"),
+        CoreFault::Memory => put(text, b"? 10 MEMORY"),
+    }
+}
+
+/// Puts the text of a fault of a RIM tape into an empty line.
+fn put_rim(text: &mut TextLine, fault: RimFault)
+    requires { array_vec_len text.old ≡ 0 }
+    ensures text { text.new.items ≡ text.old.items ++ spec.rim_text fault }
+    ensures short { array_vec_len text.new ≤ 60 }
+{
+    match fault {
+        RimFault::BadFrame { place, frame } => {
+            put(text, b"? RIM 1 BAD FRAME ");
+            put_number(text, place as u64);
+            put(text, b" ");
+            put_frame(text, frame);
+        }
+        RimFault::NoTrailer => put(text, b"? RIM 2 NO TRAILER"),
+        RimFault::Memory => put(text, b"? 10 MEMORY"),
+    }
+}
+
+/// Puts a frame as three octal digits.
+fn put_frame(text: &mut TextLine, frame: u8)
+    requires { array_vec_len text.old ≤ 40 }
+    ensures text { text.new.items ≡ text.old.items ++ frame_text frame }
+    ensures short { array_vec_len text.new ≡ array_vec_len text.old + 3 }
+{
+    let digits = [
+        b'0' + frame / 0o100 % 8,
+        b'0' + frame / 8 % 8,
+        b'0' + frame % 8,
+    ];
+    put(text, &digits);
+}
+
+/// Puts the text of a fault of an image into an empty line.
+fn put_image(text: &mut TextLine, fault: ImageFault)
+    requires { array_vec_len text.old ≡ 0 }
+    ensures text { text.new.items ≡ text.old.items ++ image_text fault }
+    ensures short { array_vec_len text.new ≤ 60 }
+{
+    match fault {
+        ImageFault::NotWhole => put(text, b"? IMAGE 1 NOT WHOLE"),
+        ImageFault::TooSmall => put(text, b"? IMAGE 2 TOO SMALL"),
+        ImageFault::TooLarge => put(text, b"? IMAGE 3 TOO LARGE"),
+        ImageFault::BadWord(index) => {
+            put(text, b"? IMAGE 4 BAD WORD ");
+            put_number(text, index as u64);
+        }
+        ImageFault::Memory => put(text, b"? 10 MEMORY"),
+    }
+}

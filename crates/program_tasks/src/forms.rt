@@ -1,0 +1,170 @@
+//! What is asked of the files of volumes.
+use char_pack::{GetForm, PutForm};
+use disk_layouts::Layout;
+use word12::Word;
+
+/// The file of the host that holds a volume, and where in it.
+#[derive(Drop)]
+pub struct ImageForm {
+    pub file: String,
+
+    /// Where in it, if the file holds more than its image.
+    pub layout: Option<Layout>,
+
+    /// How many seconds are waited where another program holds the file, 0 to 3600.
+    pub wait: usize,
+}
+
+/// Where a paper tape, or a program that may stand for one, is.
+#[derive(Drop)]
+pub enum TapeForm {
+    /// In this file of the host.
+    File(String),
+
+    /// In the file of this name on a volume.
+    Member(ImageForm, String),
+}
+
+/// Where a new volume is written to.
+#[derive(Drop)]
+pub struct CreateForm {
+    pub file: String,
+
+    /// Whether a file that is there is left alone, and the command refused.
+    pub is_new: bool,
+
+    /// How many seconds are waited where another program holds the file, 0 to 3600.
+    pub wait: usize,
+}
+
+/// Which file of a volume is meant.
+#[derive(Drop)]
+pub enum FileForm {
+    /// The file of this name.
+    Name(String),
+
+    /// The file whose first block this is, 0 to 4095.
+    At(usize),
+}
+
+/// Which files are texts, where several are got or put.
+#[derive(Drop)]
+pub struct TextsForm {
+    /// Those with an extension that OS/8 uses for texts.
+    pub is_usual: bool,
+
+    /// Those with these extensions, each as it was typed.
+    pub extensions: Vec<String>,
+}
+
+/// Which files are got, and where to.
+#[derive(Drop)]
+pub struct GetManyForm {
+    pub image: ImageForm,
+
+    /// Their names on the volume.
+    pub names: Vec<String>,
+
+    /// The first blocks of others, 0 to 4095.
+    pub places: Vec<usize>,
+
+    /// Whether all files of the volume are got, also where others are named.
+    pub is_all: bool,
+
+    /// The folder of the host that gets them.
+    pub folder: String,
+
+    pub texts: TextsForm,
+
+    /// Whether older files of the folder may go.
+    pub is_forced: bool,
+}
+
+/// Which blocks are got, whatever the directory says.
+#[derive(Drop)]
+pub struct BlocksForm {
+    pub image: ImageForm,
+
+    /// The first of them, 0 to 4094.
+    pub first: usize,
+
+    /// Their number, 1 to 4095.
+    pub count: usize,
+
+    pub form: GetForm,
+}
+
+/// What a file of the host is put as, under a name that is given.
+#[derive(Drop)]
+pub struct PutOneForm {
+    pub image: ImageForm,
+
+    /// The file of the host; `-` is standard input.
+    pub file: String,
+
+    /// Its name on the volume.
+    pub name: String,
+
+    pub form: PutForm,
+
+    /// Its information words, if any are given.
+    pub info: Option<Vec<Word>>,
+
+    /// Whether an empty input may replace a file that has words.
+    pub may_empty: bool,
+}
+
+/// Which files of the host are put, under their own names.
+#[derive(Drop)]
+pub struct PutManyForm {
+    pub image: ImageForm,
+
+    /// Their names, at least one.
+    pub files: Vec<String>,
+
+    pub texts: TextsForm,
+
+    /// The information words of each, if any are given.
+    pub info: Option<Vec<Word>>,
+
+    /// Whether an empty file may replace one that has words.
+    pub may_empty: bool,
+}
+
+/// Which files are taken out, at least one.
+#[derive(Drop)]
+pub struct DeleteForm {
+    pub image: ImageForm,
+
+    /// Their names on the volume.
+    pub names: Vec<String>,
+
+    /// The first blocks of others, 0 to 4095.
+    pub places: Vec<usize>,
+}
+
+/// Which file is copied, and where to.
+#[derive(Drop)]
+pub struct CopyForm {
+    pub image: ImageForm,
+    pub file: FileForm,
+
+    /// The volume that gets it.
+    pub to: ImageForm,
+
+    /// Its name there, if it is another.
+    pub new: Option<String>,
+}
+
+/// Which volumes are reported.
+#[derive(Drop)]
+pub struct CheckForm {
+    /// The files of the host that hold them, 1 to 4095.
+    pub images: Vec<String>,
+
+    /// Where in each, if they hold more than images.
+    pub layout: Option<Layout>,
+
+    /// Whether each fault is reported, and not the first alone.
+    pub is_all: bool,
+}

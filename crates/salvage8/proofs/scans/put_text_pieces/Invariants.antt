@@ -1,9 +1,0 @@
-use Rattle.std.proofs.Common.{◌≡◌, ◌++◌, length, map}
-use Rattle.salvage8.specs.Scanning.{piece_of_text}
-use Rattle.salvage8.proofs.scans.put_text_pieces.Given as goal
-
-abbrev pub invariant-loop-rest : goal.invariant-loop-rest
-invariant-loop-rest l = l.out.items ++ map piece_of_text l.rest ≡ l.fn.out.items ++ map piece_of_text l.fn.texts
-
-abbrev pub decreases-loop-rest : goal.decreases-loop-rest
-decreases-loop-rest l = length l.rest

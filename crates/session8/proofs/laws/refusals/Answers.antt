@@ -1,8 +1,0 @@
-use Rattle.session8.proofs.RefusalLemmas.{refused_others, refused_all}
-use Rattle.session8.proofs.laws.refusals.Goals as goal
-
-pub returns-clause-others : goal.returns-clause-others
-returns-clause-others c = refused_others
-
-pub returns-clause-all : goal.returns-clause-all
-returns-clause-all c = refused_all

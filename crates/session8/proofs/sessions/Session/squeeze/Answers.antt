@@ -1,6 +1,0 @@
-use Rattle.std.proofs.Common.{refl}
-use Rattle.session8.proofs.JobLemmas.{squeeze_answered}
-use Rattle.session8.proofs.sessions.Session.squeeze.Goals as goal
-
-pub returns-clause-does : goal.returns-clause-does
-returns-clause-does g c = rw (c.job_reply.ensures, ← c.self.view_is) (squeeze_answered _ _ c.self.inside.jobs c.squeeze.new.self _ refl c.squeeze.ensures)

@@ -1,0 +1,31 @@
+-- What holds of each salvage.
+use Rattle.std.specs.Prelude.{◌≡◌, ℕ, false, Option, None, Some, List, [], ◌∷◌}
+use Rattle.std.specs.FinMap.{get}
+use Rattle.os8_dir.specs.Entries.{contains}
+use Rattle.os8_dir.specs.Files.{Files, files_of, run}
+use Rattle.os8_dir.specs.Names.{with_end_zeros}
+use Rattle.os8_files.specs.Calls.{info_of}
+use Rattle.rescue.specs.declared.faults.Refusal.{Refusal}
+use Rattle.archive_survey.specs.declared.answers.FoundFile.{FoundFile}
+use Rattle.archive_survey.specs.Findings.{findings, files_found}
+use Rattle.archive_survey.specs.Laws.{names_of_found}
+use Rattle.volume_salvage.specs.Salvaging.{IsSalvaged}
+use Rattle.volume_salvage.specs.declared.salvages.Salvage.{Salvage}
+
+-- each file that is not refused is there, with the words of its blocks and so many of its information words
+abbrev pub AreFilesThere : ℕ → Files → List (List ℕ) → List FoundFile → List (Option Refusal) → Type 0
+AreFilesThere info there blocks [] refusals = Unit {0}
+AreFilesThere info there blocks (f ∷ files) [] = ⊥
+AreFilesThere info there blocks (f ∷ files) (None ∷ refusals) =
+    (get there f.name ≡ Some (with_end_zeros info f.info, run blocks f.place f.size)) × AreFilesThere info there blocks files refusals
+AreFilesThere info there blocks (f ∷ files) (Some refusal ∷ refusals) = AreFilesThere info there blocks files refusals
+
+-- each file that a survey reports as sound, and that is not refused, is a file of the new volume with the same words
+abbrev pub EachFileIsThere : Type 0
+EachFileIsThere = (image : List ℕ) (salvage : Salvage) (s : IsSalvaged image salvage)
+    → AreFilesThere (info_of s.of_blocks.fitted.rescued.blocks) (files_of s.of_blocks.fitted.rescued.blocks) s.blocks (files_found (findings s.blocks)) s.of_blocks.volume.refusals.items
+
+-- the new volume has no file of another name
+abbrev pub OtherFilesAreNot : Type 0
+OtherFilesAreNot = (image : List ℕ) (salvage : Salvage) (s : IsSalvaged image salvage) (name : ℕ) → contains (names_of_found (files_found (findings s.blocks))) name ≡ false
+    → get (files_of s.of_blocks.fitted.rescued.blocks) name ≡ None

@@ -1,0 +1,52 @@
+//! The words of files, by where they lie.
+ghost use Rattle.std.specs.Prelude.{◌≡◌, ◌+◌, ◌≤◌, length, IfOk};
+ghost use Rattle.os8_dir.specs.Files.{run};
+ghost use Rattle.archive_survey.specs.Laws.{AreInside};
+ghost use Rattle.volume_salvage.specs.Salvaging.{AreFilesOf};
+
+use archive_survey::FoundFile;
+use rescue::KeptFile;
+use std::alloc::{AllocError, Global};
+use volume_image::{BlockStore, MemoryVolume};
+use word12::Word;
+
+/// Files that lie in a volume, each with its words.
+pub fn files_with_words(
+    alloc: Global,
+    volume: &MemoryVolume,
+    files: &[FoundFile],
+) -> Result<Vec<KeptFile>, AllocError>
+    requires { AreInside (length volume.now.blocks) files.now }
+    ensures { IfOk result (λ kept. AreFilesOf volume.now.blocks files.now kept.items) }
+{
+    let mut kept = Vec::new(alloc);
+    let mut rest = files;
+    while let [file, others @ ..] = rest {
+        let words = words_at(alloc, volume, file.place, file.size)?;
+        kept.push(KeptFile {
+            name: file.name,
+            words,
+            info: file.info,
+        })?;
+        rest = others;
+    }
+    Ok(kept)
+}
+
+/// The words of a run of blocks.
+pub(crate) fn words_at(
+    alloc: Global,
+    volume: &MemoryVolume,
+    place: usize,
+    blocks: usize,
+) -> Result<Vec<Word>, AllocError>
+    requires { place + blocks ≤ length volume.now.blocks }
+    ensures { IfOk result (λ words. words.items ≡ run volume.now.blocks place blocks) }
+{
+    let _blocks = volume.blocks();
+    let mut words = Vec::new(alloc);
+    for k in 0..blocks {
+        words.extend_from_slice(volume.block(place + k))?;
+    }
+    Ok(words)
+}
