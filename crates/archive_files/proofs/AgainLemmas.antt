@@ -39,14 +39,14 @@ record Begins (prefix whole : List ℕ) : Type 0 where
   rest : List ℕ
   whole_is : whole ≡ prefix ++ rest
 
--- two parts of a list, each with a frame behind it, are one, or the one goes past the other's frame
+-- two parts of a list, each with a frame after it, are one, or the one goes past the other's frame
 record AreOne (p q : List ℕ) (x y : ℕ) (r s : List ℕ) : Type 0 where
   prefixes : p ≡ q
   frames_are : x ≡ y
-  behind : r ≡ s
+  following : r ≡ s
 
 compared : (p q : List ℕ) (x y : ℕ) (r s : List ℕ) → p ++ x ∷ r ≡ q ++ y ∷ s → Begins (p ++ x ∷ []) q ⊎ Begins (q ++ y ∷ []) p ⊎ AreOne p q x y r s
-compared [] [] x y r s same = inr (inr (record { prefixes = refl; frames_are = cc; behind = cc }))
+compared [] [] x y r s same = inr (inr (record { prefixes = refl; frames_are = cc; following = cc }))
 compared [] (b ∷ q) x y r s same = inl (record { rest = q; whole_is = cc })
 compared (a ∷ p) [] x y r s same = inr (inl (record { rest = p; whole_is = cc }))
 compared (a ∷ p) (b ∷ q) x y r s same = go (heads same) (compared p q x y r s (tails same))
@@ -61,7 +61,7 @@ compared (a ∷ p) (b ∷ q) x y r s same = go (heads same) (compared p q x y r 
         → Begins (a ∷ (p ++ x ∷ [])) (b ∷ q) ⊎ Begins (b ∷ (q ++ y ∷ [])) (a ∷ p) ⊎ AreOne (a ∷ p) (b ∷ q) x y r s
     go is (inl begins) = inl (record { rest = begins.rest; whole_is = rw (is, begins.whole_is) refl })
     go is (inr (inl begins)) = inr (inl (record { rest = begins.rest; whole_is = rw (is, begins.whole_is) refl }))
-    go is (inr (inr one)) = inr (inr (record { prefixes = rw (is, one.prefixes) refl; frames_are = one.frames_are; behind = one.behind }))
+    go is (inr (inr one)) = inr (inr (record { prefixes = rw (is, one.prefixes) refl; frames_are = one.frames_are; following = one.following }))
 
 past : LongerTape → (prefix whole : List ℕ) (items : List Item) → IsTape prefix items → Begins prefix whole → ((others : List Item) → IsTape whole others → ⊥) → ⊥
 past longer prefix whole items is begins none = none items (rw begins.whole_is (longer prefix begins.rest items is))
@@ -69,17 +69,17 @@ past longer prefix whole items is begins none = none items (rw begins.whole_is (
 -- frames begin with one tape
 one_tape : LongerTape → (file one two : List ℕ) → IsTapeOf file one → IsTapeOf file two → two ≡ one
 one_tape longer file one two a b =
-    go (compared a.before b.before a.first b.first a.behind b.behind (sym a.file_is ∙ b.file_is))
+    go (compared a.before b.before a.first b.first a.following b.following (sym a.file_is ∙ b.file_is))
   where
-    go : Begins (a.before ++ a.first ∷ []) b.before ⊎ Begins (b.before ++ b.first ∷ []) a.before ⊎ AreOne a.before b.before a.first b.first a.behind b.behind → two ≡ one
+    go : Begins (a.before ++ a.first ∷ []) b.before ⊎ Begins (b.before ++ b.first ∷ []) a.before ⊎ AreOne a.before b.before a.first b.first a.following b.following → two ≡ one
     go (inl begins) = absurd (past longer (a.before ++ a.first ∷ []) b.before a.items a.is_tape begins b.none_before)
     go (inr (inl begins)) = absurd (past longer (b.before ++ b.first ∷ []) a.before b.items b.is_tape begins a.none_before)
-    go (inr (inr same)) = b.tape_is ∙ rw (← same.prefixes, ← same.frames_are, ← same.behind) (sym a.tape_is)
+    go (inr (inr same)) = b.tape_is ∙ rw (← same.prefixes, ← same.frames_are, ← same.following) (sym a.tape_is)
 
 -- frames that begin with a tape have no fault
 tape_is_sound : LongerTape → NoFault → (file tape : List ℕ) (fault : TapeFault) → IsTapeOf file tape → IsFault file fault → ⊥
 tape_is_sound longer none file tape fault is has =
-    none file is.items fault (rw (is.file_is, ← append_assoc is.before (is.first ∷ []) is.behind) (longer (is.before ++ is.first ∷ []) is.behind is.items is.is_tape)) has
+    none file is.items fault (rw (is.file_is, ← append_assoc is.before (is.first ∷ []) is.following) (longer (is.before ++ is.first ∷ []) is.following is.items is.is_tape)) has
 
 -- ## Files
 

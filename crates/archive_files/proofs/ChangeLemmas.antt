@@ -130,7 +130,7 @@ deleted-sound (name ∷ names) old new is sound = deleted-sound names is.0 new i
 deleted-opened : (image : List ℕ) (wanted : List Target) (new : DeletedImage) → (is : HasDeletedFrom image wanted new) → IsOpened new.bytes.items is.after.blocks
 deleted-opened image wanted new is = record { is_image = is.is_image; sound = deleted-sound new.names.items is.before is.after is.deleted is.mounted.opened.sound }
 
--- what is at a block behind a deletion was there before
+-- what is at a block after a deletion was there before
 missing-at : DirectoryIs → (names : List ℕ) (before after : MountState) (place n : ℕ) (found : Option ℕ) → asked_name after.blocks (AtBlock place) ≡ found → asked_name before.blocks (AtBlock place) ≡ Some n
     → contains names n ≡ true → ((other : ℕ) → contains names other ≡ true → get (files_of after.blocks) other ≡ None)
     → ((other : ℕ) → contains names other ≡ false → extent_on after other ≡ extent_on before other) → IsMissing after.blocks after.blocks (AtBlock place)
@@ -292,7 +292,7 @@ keeps-both : (old mid new : List (List ℕ)) → KeepsBlocks old mid 0 0 → Kee
 keeps-both old mid new one two = record {
   count = two.count ∙ one.count;
   first = two.first ∙ one.first;
-  behind = λ k high beside. two.behind k high beside ∙ one.behind k high beside;
+  following = λ k high beside. two.following k high beside ∙ one.following k high beside;
 }
 
 -- a list of entries with another name and the old one again
@@ -307,7 +307,7 @@ two-lists : BackAgain → (blocks mid again : List (List ℕ)) (name other : ℕ
 two-lists back blocks mid again name other d read neat none one two =
     two ∙ ap (with_list (λ (x : DirectoryState). with_new_name other name x.entries)) (one ∙ ap (with_list (λ (x : DirectoryState). with_new_name name other x.entries)) read) ∙ lists-back back name other d neat none ∙ sym read
 
--- two renamings, there and back, one behind the other
+-- two renamings, there and back, one after the other
 as-before : FoundIn → BackAgain → ((blocks : List (List ℕ)) (d : DirectoryState) → directory_of blocks ≡ Ok d → IsDirectory (length blocks) d)
     → (before mid from after : MountState) (name other : ℕ) → is_ok (directory_of before.blocks) ≡ true → from.blocks ≡ mid.blocks → HasRenamed before name other mid → HasRenamed from other name after
     → IsAsBefore before.blocks after.blocks

@@ -16,8 +16,8 @@ use Rattle.archive_files.proofs.LawLemmas.{put_file}
 
 -- ## Tapes
 
--- zeros behind a trailer don't belong to it
-trailer-zeros : (behind : List ℕ) (count : ℕ) → trailer (behind ++ replicate count 0) ≡ trailer behind
+-- zeros after a trailer don't belong to it
+trailer-zeros : (following : List ℕ) (count : ℕ) → trailer (following ++ replicate count 0) ≡ trailer following
 trailer-zeros [] zero = refl
 trailer-zeros [] (suc count) = refl
 trailer-zeros (frame ∷ others) count = go (nat_eq frame 128) (trailer-zeros others count)
@@ -27,17 +27,17 @@ trailer-zeros (frame ∷ others) count = go (nat_eq frame 128) (trailer-zeros ot
     go true rest = ap (λ l. frame ∷ l) rest
     go false rest = refl
 
--- frames begin with a tape also with zeros behind them
+-- frames begin with a tape also with zeros after them
 pub tape-zeros : (bytes tape : List ℕ) (count : ℕ) → IsTapeOf bytes tape → IsTapeOf (bytes ++ replicate count 0) tape
 tape-zeros bytes tape count is = record {
   before = is.before;
   first = is.first;
-  behind = is.behind ++ replicate count 0;
+  following = is.following ++ replicate count 0;
   items = is.items;
-  file_is = ap (λ l. l ++ replicate count 0) is.file_is ∙ append_assoc is.before (is.first ∷ is.behind) (replicate count 0);
+  file_is = ap (λ l. l ++ replicate count 0) is.file_is ∙ append_assoc is.before (is.first ∷ is.following) (replicate count 0);
   is_tape = is.is_tape;
   none_before = is.none_before;
-  tape_is = is.tape_is ∙ ap (λ l. is.before ++ is.first ∷ l) (sym (trailer-zeros is.behind count));
+  tape_is = is.tape_is ∙ ap (λ l. is.before ++ is.first ∷ l) (sym (trailer-zeros is.following count));
 }
 
 -- ## Texts

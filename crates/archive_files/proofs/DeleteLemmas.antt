@@ -24,7 +24,7 @@ pub first-refused : (was : List (List ℕ)) (old : MountState) (one : Target) (o
 first-refused was old one others fault refused = record {
   prefix = [];
   one = one;
-  behind = others;
+  following = others;
   wanted_are = refl;
   place_is = refl;
   numbers = [];
@@ -40,7 +40,7 @@ pub later-refused : (was : List (List ℕ)) (old next : MountState) (one : Targe
 later-refused was old next one others number place fault named deleted is = record {
   prefix = one ∷ is.prefix;
   one = is.one;
-  behind = is.behind;
+  following = is.following;
   wanted_are = ap (λ l. one ∷ l) is.wanted_are;
   place_is = omega (arith, is.place_is);
   numbers = number ∷ is.numbers;
@@ -56,7 +56,7 @@ pub none-there : (blocks : List (List ℕ)) (wanted : Target) (was : List (List 
 none-there blocks (OfName text) was number named none = (number, named, none)
 none-there blocks (AtBlock place) was number named none = inr (number, named, none)
 
--- a service is ready again behind a file that was taken out
+-- a service is ready again after a file that was taken out
 pub ready-again : (old new : MountState) (number : ℕ) → HasDeleted old number new → IsReady new
 ready-again old new number is = record {
   running = ap (λ (m : MountState). m.stopped) is.others ∙ is.ready.running;
@@ -148,12 +148,12 @@ pub deleted-blocks : (names : List ℕ) (old new : MountState) → AreDeleted ol
 deleted-blocks [] old new is = record {
   count = ap (λ (m : MountState). length m.blocks) is;
   first = ap (λ (m : MountState). block m.blocks 0) is;
-  behind = λ k high beside. ap (λ (m : MountState). block m.blocks k) is;
+  following = λ k high beside. ap (λ (m : MountState). block m.blocks k) is;
 }
 deleted-blocks (name ∷ names) old new is =
     let rest = deleted-blocks names is.0 new is.2 in
     record {
       count = rest.count ∙ is.1.blocks.count;
       first = rest.first ∙ is.1.blocks.first;
-      behind = λ k high beside. rest.behind k high beside ∙ is.1.blocks.behind k high beside;
+      following = λ k high beside. rest.following k high beside ∙ is.1.blocks.following k high beside;
     }

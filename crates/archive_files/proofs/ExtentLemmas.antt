@@ -61,7 +61,7 @@ none-below block from end (e ∷ es) is below =
 pub one-has : (block from end : ℕ) (es : List Extent) → FollowOneAnother from end es → from ≤ block → block < end → count_having block es ≡ 1
 one-has block from end [] is least most = absurd (omega (arith, is, least, most))
 one-has block from end (e ∷ es) is least most =
-    go (nat_le e.place block) refl (nat_lt block (e.place + e.size)) refl (λ behind. one-has block (from + e.size) end es is.2 behind most)
+    go (nat_le e.place block) refl (nat_lt block (e.place + e.size)) refl (λ following. one-has block (from + e.size) end es is.2 following most)
   where
     go : (b : Bool) → nat_le e.place block ≡ b → (c : Bool) → nat_lt block (e.place + e.size) ≡ c
         → (from + e.size ≤ block → count_having block es ≡ 1) → (if b && c then suc (count_having block es) else count_having block es) ≡ 1
@@ -105,8 +105,8 @@ pub lines-extents : (blocks : List (List ℕ)) (d : DirectoryState)
 lines-extents blocks d =
     let head = blocks_line (length blocks) ++ segment_lines 6 blocks 1 in
     let before = outside_line 7 (d.first - 7) in
-    let behind = outside_line (end_of d) (length blocks - end_of d) in
-    grouped head before (entry_lines d.first d.entries) behind
-    ∙ ap (λ l. head ++ l) (lines-parts before (entry_lines d.first d.entries) behind
+    let following = outside_line (end_of d) (length blocks - end_of d) in
+    grouped head before (entry_lines d.first d.entries) following
+    ∙ ap (λ l. head ++ l) (lines-parts before (entry_lines d.first d.entries) following
     (outside_extents 7 (d.first - 7)) (entry_extents d.first d.entries) (outside_extents (end_of d) (length blocks - end_of d))
     (lines-outside 7 (d.first - 7)) (lines-entries d.first d.entries) (lines-outside (end_of d) (length blocks - end_of d)))

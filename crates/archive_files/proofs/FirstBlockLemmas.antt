@@ -30,12 +30,12 @@ found-beginning place n (f ∷ fs) is = elim (either (f.place == place) f.name n
       )
 ]
 
--- a file that is found lies behind those before it
-found-behind : (from bound n : ℕ) (fs : List FilePlace) (f : FilePlace) → AreApart from bound fs → find n fs ≡ Some f → from ≤ f.place
-found-behind from bound n [] f apart is = cc
-found-behind from bound n (g ∷ gs) f apart is = elim (eqb_tells g.name n) [
+-- a file that is found lies after those before it
+found-following : (from bound n : ℕ) (fs : List FilePlace) (f : FilePlace) → AreApart from bound fs → find n fs ≡ Some f → from ≤ f.place
+found-following from bound n [] f apart is = cc
+found-following from bound n (g ∷ gs) f apart is = elim (eqb_tells g.name n) [
   | inl here ↦ (let same : g ≡ f = some_eq g f (rw here.0 at is) in subst (λ (h : FilePlace). from ≤ h.place) same apart.0)
-  | inr there ↦ (let rest = found-behind (g.place + g.size) bound n gs f apart.2 (rw there.0 at is) in omega (arith, rest, apart.0))
+  | inr there ↦ (let rest = found-following (g.place + g.size) bound n gs f apart.2 (rw there.0 at is) in omega (arith, rest, apart.0))
 ]
 
 -- it is the file that begins at its first block
@@ -48,8 +48,8 @@ beginning-found from bound n (g ∷ gs) f apart is = elim (eqb_tells g.name n) [
       )
   | inr there ↦ (
       let tail : find n gs ≡ Some f = rw there.0 at is in
-      let behind = found-behind (g.place + g.size) bound n gs f apart.2 tail in
-      rw (ne_eqb g.place f.place (λ same. omega (arith, behind, apart.1, same))) (beginning-found (g.place + g.size) bound n gs f apart.2 tail)
+      let following = found-following (g.place + g.size) bound n gs f apart.2 tail in
+      rw (ne_eqb g.place f.place (λ same. omega (arith, following, apart.1, same))) (beginning-found (g.place + g.size) bound n gs f apart.2 tail)
       )
 ]
 

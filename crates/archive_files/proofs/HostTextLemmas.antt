@@ -85,7 +85,7 @@ storable-file host storable = storable-returns (line_feeds host) (storable-feeds
 
 -- ## Lines
 
--- no LF comes next in a line, nor where CR stands behind it
+-- no LF comes next in a line, nor where CR stands after it
 unbroken-next : (line rest : List ℕ) → is_unbroken line ≡ true → is_before_lf (line ++ 13 ∷ rest) ≡ false
 unbroken-next [] rest is = refl
 unbroken-next (byte ∷ others) rest is = not-true (nat_eq byte 10) (and_parts (not (nat_eq byte 10)) (is_unbroken others) is).0
@@ -104,14 +104,14 @@ line-unbroken (byte ∷ next ∷ others) is =
     let parts = and_parts (not (nat_eq byte 10)) (is_line (next ∷ others)) is in
     rw parts.0 (line-unbroken (next ∷ others) parts.1)
 
--- a line behind which CR LF stands
+-- a line after which CR LF stands
 feeds-crlf : (line rest : List ℕ) → is_unbroken line ≡ true → line_feeds (line ++ 13 ∷ 10 ∷ rest) ≡ line ++ 10 ∷ line_feeds rest
 feeds-crlf [] rest is = refl
 feeds-crlf (byte ∷ others) rest is =
     let more = unbroken-rest byte others is in
     feeds-other byte (others ++ 13 ∷ 10 ∷ rest) (unbroken-next others (10 ∷ rest) more) ∙ ap (λ l. byte ∷ l) (feeds-crlf others rest more)
 
--- a line behind which LF stands
+-- a line after which LF stands
 feeds-lf : (line rest : List ℕ) → is_line line ≡ true → line_feeds (line ++ 10 ∷ rest) ≡ line ++ 10 ∷ line_feeds rest
 feeds-lf [] rest is = refl
 feeds-lf (byte ∷ []) rest is =

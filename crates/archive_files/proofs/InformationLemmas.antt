@@ -46,8 +46,8 @@ padded-none (suc n) = ap (λ l. 0 ∷ l) (padded-none n)
 
 -- ## Those of a volume
 
-abbrev pub ZerosBehind : Type 0
-ZerosBehind = (volume name : ℕ) (d : DirectoryState) (f : FilePlace) → IsDirectory volume d → find name (files_at d.first d.entries) ≡ Some f → with_end_zeros 10 (take d.info f.info) ≡ f.info
+abbrev pub ZerosAfter : Type 0
+ZerosAfter = (volume name : ℕ) (d : DirectoryState) (f : FilePlace) → IsDirectory volume d → find name (files_at d.first d.entries) ≡ Some f → with_end_zeros 10 (take d.info f.info) ≡ f.info
 
 few-words : DirectoryIs → (image : List ℕ) (blocks : List (List ℕ)) → IsOpened image blocks → info_of blocks ≤ 10
 few-words is-directory image blocks opened =
@@ -60,7 +60,7 @@ found-words : (blocks : List (List ℕ)) (info : ℕ) (found : Option FilePlace)
 found-words blocks info None file is = cc
 found-words blocks info (Some f) file is = (f, refl, ap (λ (h : FileData). h.0) (sym (some_eq _ file is)))
 
-file-words : FoundIn → DirectoryIs → ZerosBehind → (image : List ℕ) (blocks : List (List ℕ)) (number : ℕ) (file : FileData) → IsOpened image blocks → get (files_of blocks) number ≡ Some file
+file-words : FoundIn → DirectoryIs → ZerosAfter → (image : List ℕ) (blocks : List (List ℕ)) (number : ℕ) (file : FileData) → IsOpened image blocks → get (files_of blocks) number ≡ Some file
     → with_end_zeros (info_of blocks) (with_end_zeros 10 file.0) ≡ file.0
 file-words finds is-directory zeros image blocks number file opened there =
     let read = directory_in (directory_of blocks) opened.sound in
@@ -88,7 +88,7 @@ put-has image name words info new put = record {
 with-words : (image name one two words : List ℕ) → one ≡ two → HasFile image (OfName name) (one, words) → HasFile image (OfName name) (two, words)
 with-words image name one two words same has = subst (λ (l : List ℕ). HasFile image (OfName name) (l, words)) same has
 
-pub put_keeps : WrittenIsReadBack → FoundIn → DirectoryIs → ZerosBehind → (image name words : List ℕ) (file : FileData) (new : NewImage) → HasPutInto image name None words new
+pub put_keeps : WrittenIsReadBack → FoundIn → DirectoryIs → ZerosAfter → (image name words : List ℕ) (file : FileData) (new : NewImage) → HasPutInto image name None words new
     → HasFile image (OfName name) file → HasFile new.bytes.items (OfName name) (file.0, words)
 put_keeps law finds is-directory zeros image name words file new put has =
     let volume : has.blocks ≡ put.before.blocks = one_volume law image put.before.blocks has.blocks put.mounted.opened.is_image has.opened.is_image in

@@ -47,7 +47,7 @@ get-there m name h q other = elim (eqb_tells name q) [
   | inr p ↦ get-with m name h q ∙ ap (λ b. cond b (Some h) (get m q)) p.0
 ]
 
--- a service goes on behind a file that was put
+-- a service goes on after a file that was put
 pub goes-on : (name : ℕ) (given words : List ℕ) (old new : MountState) → HasPutWith old name given words new → new.stopped ≡ false
 goes-on name given words old new is = ap (λ (m : MountState). m.stopped) is.others ∙ is.ready.running
 

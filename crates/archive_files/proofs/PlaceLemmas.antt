@@ -34,9 +34,9 @@ unbroken-line (first ∷ lines) line are is = (are.0, unbroken-line lines line a
 one-more : {X : Type 0} (xs : List X) (x : X) (n : ℕ) → n ≡ length xs + 1 → n + 1 ≡ length (xs ++ x ∷ []) + 1
 one-more xs x n is = let size = length-append xs (x ∷ []) in omega (arith, size, is)
 
-pub behind-byte : (before : List ℕ) (byte : ℕ) (at new : TextPlace) → nat_eq byte 10 ≡ false → new.line ≡ at.line → new.byte ≡ at.byte + 1
+pub following-byte : (before : List ℕ) (byte : ℕ) (at new : TextPlace) → nat_eq byte 10 ≡ false → new.line ≡ at.line → new.byte ≡ at.byte + 1
     → IsPlaceAfter before at → IsPlaceAfter (before ++ byte ∷ []) new
-behind-byte before byte at new apart line_is byte_is is = record {
+following-byte before byte at new apart line_is byte_is is = record {
   lines = is.lines;
   begun = is.begun ++ byte ∷ [];
   before_are = ap (λ l. l ++ byte ∷ []) is.before_are ∙ lines-byte is.lines is.begun byte;
@@ -46,9 +46,9 @@ behind-byte before byte at new apart line_is byte_is is = record {
   byte_is = byte_is ∙ one-more is.begun byte at.byte is.byte_is;
 }
 
-pub behind-lf : (before : List ℕ) (at new : TextPlace) → new.line ≡ at.line + 1 → new.byte ≡ 1
+pub following-lf : (before : List ℕ) (at new : TextPlace) → new.line ≡ at.line + 1 → new.byte ≡ 1
     → IsPlaceAfter before at → IsPlaceAfter (before ++ 10 ∷ []) new
-behind-lf before at new line_is byte_is is = record {
+following-lf before at new line_is byte_is is = record {
   lines = is.lines ++ is.begun ∷ [];
   begun = [];
   before_are = ap (λ l. l ++ 10 ∷ []) is.before_are ∙ lines-end is.lines is.begun;
@@ -60,12 +60,12 @@ behind-lf before at new line_is byte_is is = record {
 
 -- ## The text so far
 
-storable-append : (before behind : List ℕ) → is_storable (before ++ behind) ≡ (is_storable before && is_storable behind)
-storable-append [] behind = refl
-storable-append (byte ∷ before) behind = go (may_stand byte) (storable-append before behind)
+storable-append : (before following : List ℕ) → is_storable (before ++ following) ≡ (is_storable before && is_storable following)
+storable-append [] following = refl
+storable-append (byte ∷ before) following = go (may_stand byte) (storable-append before following)
   where
-    go : (b : Bool) → is_storable (before ++ behind) ≡ (is_storable before && is_storable behind)
-        → (b && is_storable (before ++ behind)) ≡ ((b && is_storable before) && is_storable behind)
+    go : (b : Bool) → is_storable (before ++ following) ≡ (is_storable before && is_storable following)
+        → (b && is_storable (before ++ following)) ≡ ((b && is_storable before) && is_storable following)
     go true rest = rest
     go false rest = refl
 
@@ -93,7 +93,7 @@ so-far-bad bytes others byte at bad is = (
   record {
     before = is.before;
     bad = byte;
-    behind = others;
+    following = others;
     bytes_are = is.bytes_are;
     storable = is.storable;
     is_bad = bad;

@@ -10,7 +10,7 @@ use Rattle.archive_files.specs.Checking.{segment_line, segment_lines}
 use Rattle.archive_files.specs.Laws.{AreLinked, read_on, lines_of_segments}
 use Rattle.archive_files.proofs.CheckLemmas.{segment_step}
 
--- ## Results that are read one behind the other
+-- ## Results that are read one after the other
 
 bound : {A B : Type 0} (r : Result A DirFault) (f : A → Result B DirFault) (y : B) → (r >>= f) ≡ Ok y → (x : A) × (r ≡ Ok x) × (f x ≡ Ok y)
 bound (Ok x) f y is = (x, refl, is)

@@ -1,4 +1,4 @@
--- A name is one that a text spells just where its codes are those of letters and digits, with zeros behind.
+-- A name is one that a text spells just where its codes are those of letters and digits, with zeros after.
 use Rattle.std.proofs.Common.{◌≡◌, ◌∙◌, ℕ, zero, suc, ◌+◌, ◌-◌, ◌*◌, ◌/◌, ◌%◌, ◌<◌, ◌≤◌, ◌&&◌, ◌||◌, Bool, true, false, not, true≢false, nat_eq, nat_le, if◌then◌else◌, eqb, leb, Option, Some, None, List, [], ◌∷◌, ◌++◌, decimal, ◌⊎◌, length, map, refl, sym, ap, subst, arith, inl, inr, ne_eqb}
 use Rattle.std.proofs.lemmas.Bool.{le-leb}
 use Rattle.std.proofs.lemmas.Bool.Decides.{eqb_tells, leb_tells}
@@ -178,8 +178,8 @@ codes-of-coded (c ∷ cs) codes is = go (sixbit_code c) (codes_of cs) refl (λ r
     go : (o : Option ℕ) (r : Option (List ℕ)) → sixbit_code c ≡ o → ((rest : List ℕ) → r ≡ Some rest → AllCoded rest × (length rest ≡ length cs)) → with_code o r ≡ Some codes
         → AllCoded codes × (length codes ≡ suc (length cs))
     go (Some code) (Some rest) one others is =
-        let behind = others rest refl in
-        subst (λ (l : List ℕ). AllCoded l × (length l ≡ suc (length cs))) (some_eq (code ∷ rest) codes is) ((coded-code c code one, behind.0), ap suc behind.1)
+        let following = others rest refl in
+        subst (λ (l : List ℕ). AllCoded l × (length l ≡ suc (length cs))) (some_eq (code ∷ rest) codes is) ((coded-code c code one, following.0), ap suc following.1)
     go (Some code) None one others is = cc
     go None r one others is = cc
 
@@ -192,7 +192,7 @@ within-coded most text codes is = go (nat_le 1 (length text) && nat_le (length t
         (found.0, omega (arith, found.1, at-most 1 (length text) (both (nat_le 1 (length text)) (nat_le (length text) most) fits).0))
     go false fits is = cc
 
-extension-coded : (behind : Option (List ℕ)) (codes : List ℕ) → extension_codes behind ≡ Some codes → AllCoded codes
+extension-coded : (following : Option (List ℕ)) (codes : List ℕ) → extension_codes following ≡ Some codes → AllCoded codes
 extension-coded None codes is = subst (λ (l : List ℕ). AllCoded l) (some_eq [] codes is) tt
 extension-coded (Some text) codes is = (within-coded 2 text codes is).0
 

@@ -41,23 +41,23 @@ take-trailer (frame ∷ others) = go (nat_eq frame 128) (take-trailer others)
 count-more : (n : ℕ) (m : ℕ) → (n + 1) + m ≡ n + suc m
 count-more n m = omega arith
 
--- the first frames that are a tape, and the trailer frames behind them
+-- the first frames that are a tape, and the trailer frames after them
 pub first_tape : (file tape : List ℕ) (count more : ℕ) → IsFirstTape file count → more ≡ length (trailer (drop count file)) → tape ≡ take (count + more) file
     → IsTapeOf file tape
 first_tape file tape count more first is cut = record {
   before = first.before;
   first = first.frame;
-  behind = first.behind;
+  following = first.following;
   items = first.items;
   file_is = first.file_is;
   is_tape = first.is_tape;
   none_before = first.none_before;
-  tape_is = cut ∙ rw (size, first.count_is, first.file_is, count-more (length first.before) (length (trailer first.behind)))
-      (take-append-add first.before (first.frame ∷ first.behind) (suc (length (trailer first.behind))) ∙ ap (λ l. first.before ++ first.frame ∷ l) (take-trailer first.behind));
+  tape_is = cut ∙ rw (size, first.count_is, first.file_is, count-more (length first.before) (length (trailer first.following)))
+      (take-append-add first.before (first.frame ∷ first.following) (suc (length (trailer first.following))) ∙ ap (λ l. first.before ++ first.frame ∷ l) (take-trailer first.following));
 }
   where
-    behind : drop count file ≡ first.behind
-    behind = rw (first.count_is, first.file_is) (drop-append-add first.before (first.frame ∷ first.behind) 1)
+    following : drop count file ≡ first.following
+    following = rw (first.count_is, first.file_is) (drop-append-add first.before (first.frame ∷ first.following) 1)
 
-    size : more ≡ length (trailer first.behind)
-    size = is ∙ ap (λ l. length (trailer l)) behind
+    size : more ≡ length (trailer first.following)
+    size = is ∙ ap (λ l. length (trailer l)) following

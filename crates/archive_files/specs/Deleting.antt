@@ -51,8 +51,8 @@ IsRefusedName was m wanted fault = ⊥
 pub record IsRefusedAt (was : List (List ℕ)) (before : MountState) (wanted : List Target) (place : ℕ) (fault : FileFault) : Type 0 where
   pub prefix : List Target
   pub one : Target
-  pub behind : List Target
-  pub wanted_are : wanted ≡ prefix ++ one ∷ behind
+  pub following : List Target
+  pub wanted_are : wanted ≡ prefix ++ one ∷ following
   pub place_is : place ≡ length prefix
   pub numbers : List ℕ
   pub named : AreAsked was prefix numbers

@@ -64,12 +64,12 @@ trailer (frame ∷ others) = if nat_eq frame 0o200 then frame ∷ trailer others
 pub record IsTapeOf (file tape : List ℕ) : Type 0 where
   pub before : List ℕ
   pub first : ℕ
-  pub behind : List ℕ
+  pub following : List ℕ
   pub items : List Item
-  pub file_is : file ≡ before ++ first ∷ behind
+  pub file_is : file ≡ before ++ first ∷ following
   pub is_tape : IsTape (before ++ first ∷ []) items
   pub none_before : (others : List Item) → IsTape before others → ⊥
-  pub tape_is : tape ≡ before ++ first ∷ trailer behind
+  pub tape_is : tape ≡ before ++ first ∷ trailer following
 
 -- what is given of a file of these words
 abbrev pub IsGiven : GetForm → List ℕ → List ℕ → Type 0

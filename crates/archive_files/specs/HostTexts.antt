@@ -54,8 +54,8 @@ pub record IsPlaceAfter (before : List ℕ) (at : TextPlace) : Type 0 where
 pub record IsBadAt (bytes : List ℕ) (at : TextPlace) : Type 0 where
   pub before : List ℕ
   pub bad : ℕ
-  pub behind : List ℕ
-  pub bytes_are : bytes ≡ before ++ bad ∷ behind
+  pub following : List ℕ
+  pub bytes_are : bytes ≡ before ++ bad ∷ following
   pub storable : is_storable before ≡ true
   pub is_bad : may_stand bad ≡ false
   pub place : IsPlaceAfter before at

@@ -38,9 +38,9 @@ TakesFrame file frame (Err fault) reader = (rest : List ℕ) → IsFault (file +
 pub record IsFirstTape (file : List ℕ) (count : ℕ) : Type 0 where
   pub before : List ℕ
   pub frame : ℕ
-  pub behind : List ℕ
+  pub following : List ℕ
   pub items : List Item
-  pub file_is : file ≡ before ++ frame ∷ behind
+  pub file_is : file ≡ before ++ frame ∷ following
   pub is_tape : IsTape (before ++ frame ∷ []) items
   pub none_before : (others : List Item) → IsTape before others → ⊥
   pub count_is : count ≡ length before + 1

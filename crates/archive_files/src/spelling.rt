@@ -18,8 +18,8 @@ pub fn is_typable(name: Name) -> bool
         c / 0o100,
         c % 0o100,
     ];
-    let behind = [extension / 0o100, extension % 0o100];
-    a / 0o100 != 0 && are_spelled(&stem) && are_spelled(&behind)
+    let following = [extension / 0o100, extension % 0o100];
+    a / 0o100 != 0 && are_spelled(&stem) && are_spelled(&following)
 }
 
 /// Whether these are codes of letters and digits, and zeros after them.

@@ -20,8 +20,8 @@ pub fn tape_of(alloc: Global, words: &[Word]) -> Result<Vec<u8>, SessionFault>
 {
     let mut frames = frames_of(alloc, words)?;
     let count = first_tape(&frames)?;
-    let (_, behind) = frames.split_at(count);
-    let more = trailer_length(behind);
+    let (_, following) = frames.split_at(count);
+    let more = trailer_length(following);
     frames.truncate(count + more);
     Ok(frames)
 }

@@ -5,7 +5,7 @@ use Rattle.std.specs.Option.{is_some}
 use Rattle.std.proofs.lemmas.Bool.Decides.{nat_tests}
 use Rattle.os8_dir.specs.Names.{after_dot, before_dot, parsed_name}
 use Rattle.archive_many.specs.Patterns.{are_of_pattern, are_within, has_sign, is_choice, is_extension_pattern, is_pattern}
-use Rattle.archive_many.proofs.HostLemmas.{behind-dot, length-parts, none-if}
+use Rattle.archive_many.proofs.HostLemmas.{following-dot, length-parts, none-if}
 
 both-hold : (a b : Bool) → (a && b) ≡ true → (a ≡ true) × (b ≡ true)
 both-hold true b is = (refl, is)
@@ -19,7 +19,7 @@ short most part is =
     at-most (length part) most
     (both-hold (nat_le (length part) most) (are_of_pattern part) (both-hold (nat_le 1 (length part)) (nat_le (length part) most && are_of_pattern part) is).1).0
 
-short-extension : (o : Option (List ℕ)) → is_extension_pattern o ≡ true → behind-dot o ≤ 5
+short-extension : (o : Option (List ℕ)) → is_extension_pattern o ≡ true → following-dot o ≤ 5
 short-extension None is = omega arith
 short-extension (Some part) is = let few = short 4 part is in omega (arith, few)
 

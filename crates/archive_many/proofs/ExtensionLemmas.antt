@@ -21,7 +21,7 @@ comma-split : (comma : Bool) (c : ℕ) (cs : List ℕ) → items_of cs ≡ befor
 comma-split true c cs is = refl
 comma-split false c cs is = ap (with_first c) is
 
--- a list is its first item, and those behind it
+-- a list is its first item, and those after it
 pub items-are : (list : List ℕ) → items_of list ≡ before_comma list ∷ items_after (drop (length (before_comma list)) list)
 items-are [] = refl
 items-are (c ∷ cs) = comma-split (c == 0o54) c cs (items-are cs)
@@ -34,7 +34,7 @@ or-false : (a b : Bool) → a ≡ false → (a || b) ≡ b
 or-false true b is = absurd (true≢false is)
 or-false false b is = refl
 
--- a word is in a list where its first item spells it, or one behind that
+-- a word is in a list where its first item spells it, or one after that
 listed-split : (list item rest : List ℕ) (place word : ℕ) → place ≡ length (before_comma list) → item ≡ take place list → rest ≡ drop place list
     → (is_code (extension_word item) word || some_spells (items_after rest) word) ≡ is_listed list word
 listed-split list item rest place word at is_item is_rest =
@@ -47,23 +47,23 @@ pub listed-here : (list item rest : List ℕ) (place word : ℕ) (found : Bool) 
 listed-here list item rest place word found at is_item is_rest first holds =
     sym (or-true (is_code (extension_word item) word) (some_spells (items_after rest) word) (sym first ∙ holds)) ∙ listed-split list item rest place word at is_item is_rest
 
-behind-none : (rest : List ℕ) (word : ℕ) → length rest < 1 → some_spells (items_after rest) word ≡ false
-behind-none [] word none = refl
-behind-none (c ∷ rest) word none = absurd (omega (arith, none))
+following-none : (rest : List ℕ) (word : ℕ) → length rest < 1 → some_spells (items_after rest) word ≡ false
+following-none [] word none = refl
+following-none (c ∷ rest) word none = absurd (omega (arith, none))
 
 pub listed-none : (list item rest : List ℕ) (place word : ℕ) (found : Bool) → place ≡ length (before_comma list) → item ≡ take place list → rest ≡ drop place list
     → found ≡ is_code (extension_word item) word → found ≡ false → length rest < 1 → false ≡ is_listed list word
 listed-none list item rest place word found at is_item is_rest first fails none =
-    sym (behind-none rest word none) ∙ sym (or-false (is_code (extension_word item) word) (some_spells (items_after rest) word) (sym first ∙ fails)) ∙ listed-split list item rest place word at is_item is_rest
+    sym (following-none rest word none) ∙ sym (or-false (is_code (extension_word item) word) (some_spells (items_after rest) word) (sym first ∙ fails)) ∙ listed-split list item rest place word at is_item is_rest
 
-behind-more : (rest : List ℕ) (word : ℕ) → 1 ≤ length rest → is_listed (take (length rest - 1) (drop 1 rest)) word ≡ some_spells (items_after rest) word
-behind-more [] word more = absurd (omega (arith, more))
-behind-more (c ∷ rest) word more = ap (λ l. is_listed l word) (take_all (length (c ∷ rest) - 1) rest (omega arith))
+following-more : (rest : List ℕ) (word : ℕ) → 1 ≤ length rest → is_listed (take (length rest - 1) (drop 1 rest)) word ≡ some_spells (items_after rest) word
+following-more [] word more = absurd (omega (arith, more))
+following-more (c ∷ rest) word more = ap (λ l. is_listed l word) (take_all (length (c ∷ rest) - 1) rest (omega arith))
 
 pub listed-more : (list item rest : List ℕ) (place word : ℕ) (found later : Bool) → place ≡ length (before_comma list) → item ≡ take place list → rest ≡ drop place list
     → found ≡ is_code (extension_word item) word → found ≡ false → 1 ≤ length rest → later ≡ is_listed (take (length rest - 1) (drop 1 rest)) word → later ≡ is_listed list word
 listed-more list item rest place word found later at is_item is_rest first fails more so =
-    so ∙ behind-more rest word more ∙ sym (or-false (is_code (extension_word item) word) (some_spells (items_after rest) word) (sym first ∙ fails)) ∙ listed-split list item rest place word at is_item is_rest
+    so ∙ following-more rest word more ∙ sym (or-false (is_code (extension_word item) word) (some_spells (items_after rest) word) (sym first ∙ fails)) ∙ listed-split list item rest place word at is_item is_rest
 
 -- ## Lists of which the first bad one is told
 
@@ -84,13 +84,13 @@ split-at f xs k x inside is =
 length-so-far : {X : Type 0} (f : X → List ℕ) (xs : List X) (k : ℕ) → k < length xs → k ≡ length (map f (take k xs))
 length-so-far f xs k inside = omega (arith, length-map (take k xs) f, length-take k xs)
 
--- a list that is bad behind good ones is the first bad one
+-- a list that is bad after good ones is the first bad one
 pub first-bad : {X : Type 0} (f : X → List ℕ) (xs : List X) (k : ℕ) (x : X) (text : List ℕ) (good : Bool) → k < length xs → x ≡ get_or xs k x → text ≡ f x → good ≡ is_list text → good ≡ false
     → AreLists (map f (take k xs)) → IsFirstBad (map f xs) k
 first-bad f xs k x text good inside is text_is tells fails before = record {
   prefix = map f (take k xs);
   bad = f x;
-  behind = map f (drop (suc k) xs);
+  following = map f (drop (suc k) xs);
   lists_are = split-at f xs k x inside is;
   place_is = length-so-far f xs k inside;
   good = before;

@@ -51,16 +51,16 @@ at-other path part (c ∷ rest) some is so =
 
 -- ## Typed names are short
 
-abbrev pub behind-dot : Option (List ℕ) → ℕ
-behind-dot None = 0
-behind-dot (Some text) = suc (length text)
+abbrev pub following-dot : Option (List ℕ) → ℕ
+following-dot None = 0
+following-dot (Some text) = suc (length text)
 
-dot-length : (dot : Bool) (c : ℕ) (cs : List ℕ) → length cs ≡ length (before_dot cs) + behind-dot (after_dot cs)
-    → length (c ∷ cs) ≡ length (cond dot [] (c ∷ before_dot cs)) + behind-dot (cond dot (Some cs) (after_dot cs))
+dot-length : (dot : Bool) (c : ℕ) (cs : List ℕ) → length cs ≡ length (before_dot cs) + following-dot (after_dot cs)
+    → length (c ∷ cs) ≡ length (cond dot [] (c ∷ before_dot cs)) + following-dot (cond dot (Some cs) (after_dot cs))
 dot-length true c cs is = omega arith
 dot-length false c cs is = omega (arith, is)
 
-pub length-parts : (text : List ℕ) → length text ≡ length (before_dot text) + behind-dot (after_dot text)
+pub length-parts : (text : List ℕ) → length text ≡ length (before_dot text) + following-dot (after_dot text)
 length-parts [] = omega arith
 length-parts (c ∷ cs) = dot-length (c == 0o56) c cs (length-parts cs)
 
@@ -85,7 +85,7 @@ typed (Some stem) (Some extension) name is = record { codes = stem; others = ext
 typed (Some stem) None name is = absurd (cc)
 typed None extension name is = absurd (cc)
 
-extension-short : (o : Option (List ℕ)) (known : List ℕ) → extension_codes o ≡ Some known → behind-dot o ≤ 3
+extension-short : (o : Option (List ℕ)) (known : List ℕ) → extension_codes o ≡ Some known → following-dot o ≤ 3
 extension-short None known is = omega arith
 extension-short (Some text) known is = omega (arith, (within 2 text known is).0)
 
@@ -140,11 +140,11 @@ ascii-codes (c ∷ cs) known is =
     let all = coded (sixbit_code c) (codes_of cs) known is in
     ascii-cons c cs (code-low c all.code all.one_is) (ascii-codes cs all.others all.rest_is)
 
-abbrev AsciiBehind : Option (List ℕ) → Type 0
-AsciiBehind None = Unit {0}
-AsciiBehind (Some text) = IsAscii text
+abbrev AsciiAfter : Option (List ℕ) → Type 0
+AsciiAfter None = Unit {0}
+AsciiAfter (Some text) = IsAscii text
 
-ascii-extension : (o : Option (List ℕ)) (known : List ℕ) → extension_codes o ≡ Some known → AsciiBehind o
+ascii-extension : (o : Option (List ℕ)) (known : List ℕ) → extension_codes o ≡ Some known → AsciiAfter o
 ascii-extension None known is = tt
 ascii-extension (Some text) known is = ascii-codes text known (within 2 text known is).1
 
@@ -157,14 +157,14 @@ head-low c cs is = is 0
 tail-low : (c : ℕ) (cs : List ℕ) → IsAscii (c ∷ cs) → IsAscii cs
 tail-low c cs is i = is (suc i)
 
-dot-ascii : (dot : Bool) (c : ℕ) (cs : List ℕ) → (c == 0o56) ≡ dot → (IsAscii (before_dot cs) → AsciiBehind (after_dot cs) → IsAscii cs)
-    → IsAscii (cond dot [] (c ∷ before_dot cs)) → AsciiBehind (cond dot (Some cs) (after_dot cs)) → IsAscii (c ∷ cs)
-dot-ascii true c cs is parts stem behind = ascii-cons c cs (is-dot c is) behind
-dot-ascii false c cs is parts stem behind = ascii-cons c cs (head-low c (before_dot cs) stem) (parts (tail-low c (before_dot cs) stem) behind)
+dot-ascii : (dot : Bool) (c : ℕ) (cs : List ℕ) → (c == 0o56) ≡ dot → (IsAscii (before_dot cs) → AsciiAfter (after_dot cs) → IsAscii cs)
+    → IsAscii (cond dot [] (c ∷ before_dot cs)) → AsciiAfter (cond dot (Some cs) (after_dot cs)) → IsAscii (c ∷ cs)
+dot-ascii true c cs is parts stem following = ascii-cons c cs (is-dot c is) following
+dot-ascii false c cs is parts stem following = ascii-cons c cs (head-low c (before_dot cs) stem) (parts (tail-low c (before_dot cs) stem) following)
 
-ascii-parts : (text : List ℕ) → IsAscii (before_dot text) → AsciiBehind (after_dot text) → IsAscii text
-ascii-parts [] stem behind = ascii-nil
-ascii-parts (c ∷ cs) stem behind = dot-ascii (c == 0o56) c cs refl (ascii-parts cs) stem behind
+ascii-parts : (text : List ℕ) → IsAscii (before_dot text) → AsciiAfter (after_dot text) → IsAscii text
+ascii-parts [] stem following = ascii-nil
+ascii-parts (c ∷ cs) stem following = dot-ascii (c == 0o56) c cs refl (ascii-parts cs) stem following
 
 pub typed-ascii : (text : List ℕ) (name : ℕ) → parsed_name text ≡ Some name → IsAscii text
 typed-ascii text name is =

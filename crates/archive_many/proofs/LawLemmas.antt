@@ -81,14 +81,14 @@ stays old new info (f ∷ files) name put none =
     ∙ get-there (files_of old.blocks) f.name (file_with old (information_for old f.name info) (words_in f)) name none.0
 
 -- a file that was put is there, where no later one has its name
-there : (old new : MountState) (info : Option (List ℕ)) (before behind : List NewFile) (f : NewFile) → ArePut old info (before ++ f ∷ behind) new → IsNoneOf f.name behind
+there : (old new : MountState) (info : Option (List ℕ)) (before following : List NewFile) (f : NewFile) → ArePut old info (before ++ f ∷ following) new → IsNoneOf f.name following
     → (words : List ℕ) × (get (files_of new.blocks) f.name ≡ Some (words, words_in f))
-there old new info [] behind f put none = (
+there old new info [] following f put none = (
   (file_with old (information_for old f.name info) (words_in f)).0,
-  stays put.0 new info behind f.name put.2 none ∙ ap (λ (m : Files). get m f.name) put.1.put.files
+  stays put.0 new info following f.name put.2 none ∙ ap (λ (m : Files). get m f.name) put.1.put.files
       ∙ get-here (files_of old.blocks) f.name (file_with old (information_for old f.name info) (words_in f)),
 )
-there old new info (g ∷ before) behind f put none = there put.0 new info before behind f put.2 none
+there old new info (g ∷ before) following f put none = there put.0 new info before following f put.2 none
 
 -- ## Images
 
@@ -98,14 +98,14 @@ new-image image files info new put = record {
   sound = sound-again put.before put.after info files put.put put.mounted.opened.sound;
 }
 
-pub put-there : (image : List ℕ) (before behind : List NewFile) (f : NewFile) (info : Option (List ℕ)) (new : ManyImage) → HasPutAll image (before ++ f ∷ behind) info new → IsNoneOf f.name behind
+pub put-there : (image : List ℕ) (before following : List NewFile) (f : NewFile) (info : Option (List ℕ)) (new : ManyImage) → HasPutAll image (before ++ f ∷ following) info new → IsNoneOf f.name following
     → (words : List ℕ) × HoldsFile new.bytes.items f.name (words, words_in f)
-put-there image before behind f info new put none =
-    let is = there put.before put.after info before behind f put.put none in (
+put-there image before following f info new put none =
+    let is = there put.before put.after info before following f put.put none in (
       is.0,
       record {
         blocks = put.after.blocks;
-        opened = new-image image (before ++ f ∷ behind) info new put;
+        opened = new-image image (before ++ f ∷ following) info new put;
         there = is.1;
       },
     )
@@ -122,10 +122,10 @@ others-stay law image files info new name held put none was = record {
 second : {X Y : Type 0} (a : X × Y) (b : X × Y) → Some a ≡ Some b → a.1 ≡ b.1
 second a b is = ap (λ (p : _). p.1) (some-eq a b is)
 
-pub put-got : WrittenIsReadBack → (image : List ℕ) (before behind : List NewFile) (f : NewFile) (info : Option (List ℕ)) (new : ManyImage) (blocks : List (List ℕ)) (found : VolumeFile) (form : GetForm) (bytes : Vec ℕ)
-    → HasPutAll image (before ++ f ∷ behind) info new → IsNoneOf f.name behind → IsOpened new.bytes.items blocks → found.name ≡ f.name → GetsFile blocks found form (Ok bytes) → IsGiven form (words_in f) bytes.items
-put-got law image before behind f info new blocks found form bytes put none opened named gets =
-    let is = there put.before put.after info before behind f put.put none in
+pub put-got : WrittenIsReadBack → (image : List ℕ) (before following : List NewFile) (f : NewFile) (info : Option (List ℕ)) (new : ManyImage) (blocks : List (List ℕ)) (found : VolumeFile) (form : GetForm) (bytes : Vec ℕ)
+    → HasPutAll image (before ++ f ∷ following) info new → IsNoneOf f.name following → IsOpened new.bytes.items blocks → found.name ≡ f.name → GetsFile blocks found form (Ok bytes) → IsGiven form (words_in f) bytes.items
+put-got law image before following f info new blocks found form bytes put none opened named gets =
+    let is = there put.before put.after info before following f put.put none in
     let same = one-volume law new.bytes.items put.after.blocks blocks put.is_image opened.is_image in
     subst (λ (l : List ℕ). IsGiven form l bytes.items)
     (second gets.0 (is.0, words_in f)

@@ -60,15 +60,15 @@ and-false : (a b : Bool) → a ≡ false → (a && b) ≡ false
 and-false true b is = absurd (true≢false is)
 and-false false b is = refl
 
--- what a pattern binds behind its first is all that stands there
+-- what a pattern binds after its first is all that stands there
 tail-is : (c : ℕ) (l : List ℕ) → take (length (c ∷ l) - 1) l ≡ l
 tail-is c l = take_all (length (c ∷ l) - 1) l (omega arith)
 
-abbrev behind : List ℕ → List ℕ
-behind l = take (length l - 1) (drop 1 l)
+abbrev following : List ℕ → List ℕ
+following l = take (length l - 1) (drop 1 l)
 
--- what stands behind the sign is like the codes
-pub any-here : (pattern codes : List ℕ) (found : Bool) → 1 ≤ length pattern → get_or pattern 0 0 ≡ 0o52 → found ≡ like (behind pattern) codes → found ≡ true → found ≡ like pattern codes
+-- what stands after the sign is like the codes
+pub any-here : (pattern codes : List ℕ) (found : Bool) → 1 ≤ length pattern → get_or pattern 0 0 ≡ 0o52 → found ≡ like (following pattern) codes → found ≡ true → found ≡ like pattern codes
 any-here [] codes found some is here holds = absurd (omega (arith, some))
 any-here (c ∷ pattern) [] found some is here holds = rw (eq-true c 0o52 is) (rw (tail-is c pattern) at here)
 any-here (c ∷ pattern) (x ∷ codes) found some is here holds =
@@ -76,14 +76,14 @@ any-here (c ∷ pattern) (x ∷ codes) found some is here holds =
     rw (eq-true c 0o52 is) (holds ∙ sym (or-true (like pattern (x ∷ codes)) _ (sym so ∙ holds)))
 
 -- or no code is left
-pub any-none : (pattern codes : List ℕ) (found : Bool) → 1 ≤ length pattern → get_or pattern 0 0 ≡ 0o52 → found ≡ like (behind pattern) codes → found ≡ false → length codes < 1 → false ≡ like pattern codes
+pub any-none : (pattern codes : List ℕ) (found : Bool) → 1 ≤ length pattern → get_or pattern 0 0 ≡ 0o52 → found ≡ like (following pattern) codes → found ≡ false → length codes < 1 → false ≡ like pattern codes
 any-none [] codes found some is here fails none = absurd (omega (arith, some))
 any-none (c ∷ pattern) [] found some is here fails none = rw (eq-true c 0o52 is) (sym fails ∙ (rw (tail-is c pattern) at here))
 any-none (c ∷ pattern) (x ∷ codes) found some is here fails none = absurd (omega (arith, none))
 
--- or the whole pattern is like those behind the first
-pub any-more : (pattern codes : List ℕ) (found later : Bool) → 1 ≤ length pattern → get_or pattern 0 0 ≡ 0o52 → found ≡ like (behind pattern) codes → found ≡ false → 1 ≤ length codes
-    → later ≡ like pattern (behind codes) → later ≡ like pattern codes
+-- or the whole pattern is like those after the first
+pub any-more : (pattern codes : List ℕ) (found later : Bool) → 1 ≤ length pattern → get_or pattern 0 0 ≡ 0o52 → found ≡ like (following pattern) codes → found ≡ false → 1 ≤ length codes
+    → later ≡ like pattern (following codes) → later ≡ like pattern codes
 any-more [] codes found later some is here fails more also = absurd (omega (arith, some))
 any-more (c ∷ pattern) [] found later some is here fails more also = absurd (omega (arith, more))
 any-more (c ∷ pattern) (x ∷ codes) found later some is here fails more also =
@@ -99,7 +99,7 @@ one-none (c ∷ pattern) [] some is none = rw (eq-false c 0o52 is) refl
 one-none (c ∷ pattern) (x ∷ codes) some is none = absurd (omega (arith, none))
 
 pub one-fits : (pattern codes : List ℕ) (fits others : Bool) → 1 ≤ length pattern → get_or pattern 0 0 ≢ 0o52 → 1 ≤ length codes → fits ≡ stands_for (get_or pattern 0 0) (get_or codes 0 0) → fits ≡ true
-    → others ≡ like (behind pattern) (behind codes) → others ≡ like pattern codes
+    → others ≡ like (following pattern) (following codes) → others ≡ like pattern codes
 one-fits [] codes fits others some is more first holds so = absurd (omega (arith, some))
 one-fits (c ∷ pattern) [] fits others some is more first holds so = absurd (omega (arith, more))
 one-fits (c ∷ pattern) (x ∷ codes) fits others some is more first holds so =

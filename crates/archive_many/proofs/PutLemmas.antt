@@ -24,12 +24,12 @@ use Rattle.archive_many.specs.Putting.{ArePut, HasPutFile, IsRefusedAt, IsRefuse
 use Rattle.archive_many.specs.PutSteps.{IsRefusedAfter, PutsFile, PutsFiles}
 use Rattle.archive_many.specs.declared.putting.NewFile.{NewFile}
 
--- a list is its first and what a pattern binds behind it
+-- a list is its first and what a pattern binds after it
 pub first-and-others : {X : Type 0} (xs : List X) (x : X) → 1 ≤ length xs → x ≡ get_or xs 0 x → xs ≡ x ∷ take (length xs - 1) (drop 1 xs)
 first-and-others [] x some is = absurd (omega (arith, some))
 first-and-others (y ∷ xs) x some is = ap (λ z. z ∷ xs) (sym is) ∙ ap (λ l. x ∷ l) (sym (take_all (length (y ∷ xs) - 1) xs (omega arith)))
 
--- a service is ready again behind a file that was put
+-- a service is ready again after a file that was put
 pub ready-again : (old new : MountState) (info : Option (List ℕ)) (f : NewFile) → HasPutFile old info f new → IsReady new
 ready-again old new info f is = record {
   running = ap (λ (m : MountState). m.stopped) is.put.others ∙ is.put.ready.running;
@@ -44,7 +44,7 @@ first-refused : (old : MountState) (info : Option (List ℕ)) (f : NewFile) (fil
 first-refused old info f files fault refused = record {
   prefix = [];
   file = f;
-  behind = files;
+  following = files;
   files_are = refl;
   place_is = refl;
   next = old;
@@ -58,7 +58,7 @@ later-refused : (old next : MountState) (info : Option (List ℕ)) (f : NewFile)
 later-refused old next info f files place fault put is = record {
   prefix = f ∷ is.prefix;
   file = is.file;
-  behind = is.behind;
+  following = is.following;
   files_are = ap (λ l. f ∷ l) is.files_are;
   place_is = omega (arith, is.place_is);
   next = is.next;
@@ -157,7 +157,7 @@ room-inside first from size (entry.Empty more ∷ es) (inl is) = (omega (arith, 
 room-inside first from size (entry.Empty more ∷ es) (inr is) =
     let so = room-inside (first + more) from size es is in (omega (arith, so.0), omega (arith, so.1))
 
--- a directory behind one file more: it begins and ends where it did
+-- a directory after one file more: it begins and ends where it did
 pub record IsListedAgain (d : DirectoryState) (blocks : List (List ℕ)) : Type 0 where
   pub directory : DirectoryState
   pub read : directory_of blocks ≡ Ok directory
@@ -193,7 +193,7 @@ uncovered-one fits d old new name given words read put =
     record {
       count = put.blocks.count;
       first = put.blocks.first;
-      outside = λ k high out. put.blocks.behind k high (beside k d.first (end_of d) put.place 0 put.room (blocks_filled words) inside.0 inside.1 chosen.1 out);
+      outside = λ k high out. put.blocks.following k high (beside k d.first (end_of d) put.place 0 put.room (blocks_filled words) inside.0 inside.1 chosen.1 out);
     }
 
 moved-end : (k a b x y : ℕ) → x ≡ a → y ≡ b → (k < a) ⊎ (b ≤ k) → (k < x) ⊎ (y ≤ k)

@@ -72,10 +72,10 @@ own-code c k x is fits = elim (eqb_tells k x) [
   | inr p ↦ absurd (true≢false (sym fits ∙ ap (λ b. b || is_code (sixbit_code c) x) (no-one c k is) ∙ ap (λ o. is_code o x) is ∙ p.0))
 ]
 
-first-code : (c k : ℕ) (behind : List ℕ → Bool) (codes known : List ℕ) → sixbit_code c ≡ Some k → ((xs : List ℕ) → behind xs ≡ true → xs ≡ known) → begins_so (stands_for c) behind codes ≡ true → codes ≡ k ∷ known
-first-code c k behind [] known is rest so = absurd (true≢false (sym so))
-first-code c k behind (x ∷ codes) known is rest so =
-    let parts = both-hold (stands_for c x) (behind codes) so in
+first-code : (c k : ℕ) (following : List ℕ → Bool) (codes known : List ℕ) → sixbit_code c ≡ Some k → ((xs : List ℕ) → following xs ≡ true → xs ≡ known) → begins_so (stands_for c) following codes ≡ true → codes ≡ k ∷ known
+first-code c k following [] known is rest so = absurd (true≢false (sym so))
+first-code c k following (x ∷ codes) known is rest so =
+    let parts = both-hold (stands_for c x) (following codes) so in
     ap (λ n. n ∷ codes) (own-code c k x is parts.0) ∙ ap (λ l. k ∷ l) (rest codes parts.1)
 
 -- codes that are like characters with codes are these

@@ -20,15 +20,15 @@ use Rattle.archive_many.proofs.HostLemmas.{typed, within}
 
 -- ## Lists
 
-no-end : {X : Type 0} (before behind : List X) (x : X) → [] ≡ before ++ x ∷ behind → ⊥
-no-end [] behind x is = cc
-no-end (y ∷ before) behind x is = cc
+no-end : {X : Type 0} (before following : List X) (x : X) → [] ≡ before ++ x ∷ following → ⊥
+no-end [] following x is = cc
+no-end (y ∷ before) following x is = cc
 
 same-first : {X : Type 0} (x y : X) (xs ys : List X) → x ∷ xs ≡ y ∷ ys → x ≡ y
 same-first x y xs ys is = cc
 
-same-behind : {X : Type 0} (x y : X) (xs ys : List X) → x ∷ xs ≡ y ∷ ys → xs ≡ ys
-same-behind x y xs ys is = cc
+same-following : {X : Type 0} (x y : X) (xs ys : List X) → x ∷ xs ≡ y ∷ ys → xs ≡ ys
+same-following x y xs ys is = cc
 
 -- the names of files
 abbrev names : List FilePlace → List ℕ
@@ -69,13 +69,13 @@ found-later f fs file g none is = elim (eqb_tells f.name file.name) [
   | inr p ↦ ap (λ b. cond b (Some f) (find file.name fs)) p.0 ∙ is
 ]
 
-found-in : (fs : List FilePlace) (before behind : List VolumeFile) (file : VolumeFile) → AreDistinct (names fs) → map file_at fs ≡ before ++ file ∷ behind → Found fs file
-found-in [] before behind file distinct is = absurd (no-end before behind file is)
-found-in (f ∷ fs) [] behind file distinct is =
-    let first = same-first (file_at f) file (map file_at fs) behind is in
+found-in : (fs : List FilePlace) (before following : List VolumeFile) (file : VolumeFile) → AreDistinct (names fs) → map file_at fs ≡ before ++ file ∷ following → Found fs file
+found-in [] before following file distinct is = absurd (no-end before following file is)
+found-in (f ∷ fs) [] following file distinct is =
+    let first = same-first (file_at f) file (map file_at fs) following is in
     record { placed = f; found = found-first f fs file first; is = first }
-found-in (f ∷ fs) (b ∷ before) behind file distinct is =
-    let rest = found-in fs before behind file distinct.1 (same-behind (file_at f) b (map file_at fs) (before ++ file ∷ behind) is) in
+found-in (f ∷ fs) (b ∷ before) following file distinct is =
+    let rest = found-in fs before following file distinct.1 (same-following (file_at f) b (map file_at fs) (before ++ file ∷ following) is) in
     record { placed = rest.placed; found = found-later f fs file rest.placed distinct.0 rest.found; is = rest.is }
 
 -- ## Where they lie
@@ -85,52 +85,52 @@ record Read (read : Result DirectoryState DirFault) (files : List VolumeFile) : 
   is_read : read ≡ Ok directory
   files_are : map file_at (files_at directory.first directory.entries) ≡ files
 
-read-files : (read : Result DirectoryState DirFault) (before behind : List VolumeFile) (file : VolumeFile) → files_or read ≡ before ++ file ∷ behind → Read read (before ++ file ∷ behind)
-read-files (Ok d) before behind file is = record { directory = d; is_read = refl; files_are = is }
-read-files (Err fault) before behind file is = absurd (no-end before behind file is)
+read-files : (read : Result DirectoryState DirFault) (before following : List VolumeFile) (file : VolumeFile) → files_or read ≡ before ++ file ∷ following → Read read (before ++ file ∷ following)
+read-files (Ok d) before following file is = record { directory = d; is_read = refl; files_are = is }
+read-files (Err fault) before following file is = absurd (no-end before following file is)
 
 abbrev SoundSo : Type 0
 SoundSo = (blocks : List (List ℕ)) (d : DirectoryState) → directory_of blocks ≡ Ok d → IsDirectory (length blocks) d
 
-pub each-lies : FoundSo → SoundSo → (blocks : List (List ℕ)) (before behind : List VolumeFile) (file : VolumeFile) → files_or (directory_of blocks) ≡ before ++ file ∷ behind → (held : FileData) × LiesOn blocks file held
-each-lies law sound blocks before behind file is =
-    let read = read-files (directory_of blocks) before behind file is in
+pub each-lies : FoundSo → SoundSo → (blocks : List (List ℕ)) (before following : List VolumeFile) (file : VolumeFile) → files_or (directory_of blocks) ≡ before ++ file ∷ following → (held : FileData) × LiesOn blocks file held
+each-lies law sound blocks before following file is =
+    let read = read-files (directory_of blocks) before following file is in
     let d = read.directory in
-    let so = found-in (files_at d.first d.entries) before behind file (subst AreDistinct (sym (names-at d.first d.entries)) (sound blocks d read.is_read).single) read.files_are in
+    let so = found-in (files_at d.first d.entries) before following file (subst AreDistinct (sym (names-at d.first d.entries)) (sound blocks d read.is_read).single) read.files_are in
     lies law blocks d file so.placed.place so.placed.size read.is_read (sym (ap extent_of so.found)) (ap (λ (v : VolumeFile). v.place) so.is) (ap (λ (v : VolumeFile). v.blocks) so.is)
 
--- a file of a list begins at its bound or behind it
-begins-behind : (from bound : ℕ) (fs : List FilePlace) (before behind : List VolumeFile) (file : VolumeFile) → AreApart from bound fs → map file_at fs ≡ before ++ file ∷ behind → from ≤ file.place
-begins-behind from bound [] before behind file apart is = absurd (no-end before behind file is)
-begins-behind from bound (f ∷ fs) [] behind file apart is =
-    let place : f.place ≡ file.place = ap (λ (v : VolumeFile). v.place) (same-first (file_at f) file (map file_at fs) behind is) in
+-- a file of a list begins at its bound or after it
+begins-following : (from bound : ℕ) (fs : List FilePlace) (before following : List VolumeFile) (file : VolumeFile) → AreApart from bound fs → map file_at fs ≡ before ++ file ∷ following → from ≤ file.place
+begins-following from bound [] before following file apart is = absurd (no-end before following file is)
+begins-following from bound (f ∷ fs) [] following file apart is =
+    let place : f.place ≡ file.place = ap (λ (v : VolumeFile). v.place) (same-first (file_at f) file (map file_at fs) following is) in
     omega (arith, place, apart.0)
-begins-behind from bound (f ∷ fs) (b ∷ before) behind file apart is =
-    let rest = begins-behind (f.place + f.size) bound fs before behind file apart.2 (same-behind (file_at f) b (map file_at fs) (before ++ file ∷ behind) is) in
+begins-following from bound (f ∷ fs) (b ∷ before) following file apart is =
+    let rest = begins-following (f.place + f.size) bound fs before following file apart.2 (same-following (file_at f) b (map file_at fs) (before ++ file ∷ following) is) in
     omega (arith, rest, apart.0)
 
 apart-ends : (from bound : ℕ) (fs : List FilePlace) → AreApart from bound fs → from ≤ bound
 apart-ends from bound [] apart = apart
 apart-ends from bound (f ∷ fs) apart = let rest = apart-ends (f.place + f.size) bound fs apart.2 in omega (arith, rest, apart.0)
 
-begins-before : (from bound : ℕ) (fs : List FilePlace) (before behind : List VolumeFile) (file : VolumeFile) → AreApart from bound fs → map file_at fs ≡ before ++ file ∷ behind → file.place ≤ bound
-begins-before from bound [] before behind file apart is = absurd (no-end before behind file is)
-begins-before from bound (f ∷ fs) [] behind file apart is =
-    let place : f.place ≡ file.place = ap (λ (v : VolumeFile). v.place) (same-first (file_at f) file (map file_at fs) behind is) in
+begins-before : (from bound : ℕ) (fs : List FilePlace) (before following : List VolumeFile) (file : VolumeFile) → AreApart from bound fs → map file_at fs ≡ before ++ file ∷ following → file.place ≤ bound
+begins-before from bound [] before following file apart is = absurd (no-end before following file is)
+begins-before from bound (f ∷ fs) [] following file apart is =
+    let place : f.place ≡ file.place = ap (λ (v : VolumeFile). v.place) (same-first (file_at f) file (map file_at fs) following is) in
     let rest = apart-ends (f.place + f.size) bound fs apart.2 in
     omega (arith, place, rest)
-begins-before from bound (f ∷ fs) (b ∷ before) behind file apart is =
-    begins-before (f.place + f.size) bound fs before behind file apart.2 (same-behind (file_at f) b (map file_at fs) (before ++ file ∷ behind) is)
+begins-before from bound (f ∷ fs) (b ∷ before) following file apart is =
+    begins-before (f.place + f.size) bound fs before following file apart.2 (same-following (file_at f) b (map file_at fs) (before ++ file ∷ following) is)
 
--- of two the second begins behind the first
-in-order : (from bound : ℕ) (fs : List FilePlace) (before between behind : List VolumeFile) (one two : VolumeFile) → AreApart from bound fs → map file_at fs ≡ before ++ one ∷ (between ++ two ∷ behind) → one.place < two.place
-in-order from bound [] before between behind one two apart is = absurd (no-end before (between ++ two ∷ behind) one is)
-in-order from bound (f ∷ fs) [] between behind one two apart is =
-    let place : f.place ≡ one.place = ap (λ (v : VolumeFile). v.place) (same-first (file_at f) one (map file_at fs) (between ++ two ∷ behind) is) in
-    let rest = begins-behind (f.place + f.size) bound fs between behind two apart.2 (same-behind (file_at f) one (map file_at fs) (between ++ two ∷ behind) is) in
+-- of two the second begins after the first
+in-order : (from bound : ℕ) (fs : List FilePlace) (before between following : List VolumeFile) (one two : VolumeFile) → AreApart from bound fs → map file_at fs ≡ before ++ one ∷ (between ++ two ∷ following) → one.place < two.place
+in-order from bound [] before between following one two apart is = absurd (no-end before (between ++ two ∷ following) one is)
+in-order from bound (f ∷ fs) [] between following one two apart is =
+    let place : f.place ≡ one.place = ap (λ (v : VolumeFile). v.place) (same-first (file_at f) one (map file_at fs) (between ++ two ∷ following) is) in
+    let rest = begins-following (f.place + f.size) bound fs between following two apart.2 (same-following (file_at f) one (map file_at fs) (between ++ two ∷ following) is) in
     omega (arith, place, rest, apart.1)
-in-order from bound (f ∷ fs) (b ∷ before) between behind one two apart is =
-    in-order (f.place + f.size) bound fs before between behind one two apart.2 (same-behind (file_at f) b (map file_at fs) (before ++ one ∷ (between ++ two ∷ behind)) is)
+in-order from bound (f ∷ fs) (b ∷ before) between following one two apart is =
+    in-order (f.place + f.size) bound fs before between following one two apart.2 (same-following (file_at f) b (map file_at fs) (before ++ one ∷ (between ++ two ∷ following)) is)
 
 -- ## Names of the host
 
@@ -152,7 +152,7 @@ one-file fs one two first second same =
     let placed : first.placed ≡ second.placed = some-eq first.placed second.placed (sym first.found ∙ ap (λ n. find n fs) same ∙ second.found) in
     ap (λ (v : VolumeFile). v.place) (sym first.is ∙ ap file_at placed ∙ second.is)
 
--- two files are told of a volume, one behind the other
+-- two files are told of a volume, one after the other
 record AreTwo (blocks : List (List ℕ)) (one two : VolumeFile) : Type 0 where
   files : List FilePlace
   first : Found files one
@@ -160,23 +160,23 @@ record AreTwo (blocks : List (List ℕ)) (one two : VolumeFile) : Type 0 where
   order : one.place < two.place
   end : two.place ≤ length blocks
 
-are-two : SoundSo → (blocks : List (List ℕ)) (before between behind : List VolumeFile) (one two : VolumeFile) → files_or (directory_of blocks) ≡ before ++ one ∷ (between ++ two ∷ behind) → AreTwo blocks one two
-are-two sound blocks before between behind one two is =
-    let read = read-files (directory_of blocks) before (between ++ two ∷ behind) one is in
+are-two : SoundSo → (blocks : List (List ℕ)) (before between following : List VolumeFile) (one two : VolumeFile) → files_or (directory_of blocks) ≡ before ++ one ∷ (between ++ two ∷ following) → AreTwo blocks one two
+are-two sound blocks before between following one two is =
+    let read = read-files (directory_of blocks) before (between ++ two ∷ following) one is in
     let d = read.directory in
     let directory = sound blocks d read.is_read in
     let single = subst AreDistinct (sym (names-at d.first d.entries)) directory.single in
-    let parted = read.files_are ∙ sym (append_assoc before (one ∷ between) (two ∷ behind)) in
+    let parted = read.files_are ∙ sym (append_assoc before (one ∷ between) (two ∷ following)) in
     record {
       files = files_at d.first d.entries;
-      first = found-in (files_at d.first d.entries) before (between ++ two ∷ behind) one single read.files_are;
-      second = found-in (files_at d.first d.entries) (before ++ one ∷ between) behind two single parted;
-      order = in-order d.first (length blocks) (files_at d.first d.entries) before between behind one two directory.apart read.files_are;
-      end = begins-before d.first (length blocks) (files_at d.first d.entries) (before ++ one ∷ between) behind two directory.apart parted;
+      first = found-in (files_at d.first d.entries) before (between ++ two ∷ following) one single read.files_are;
+      second = found-in (files_at d.first d.entries) (before ++ one ∷ between) following two single parted;
+      order = in-order d.first (length blocks) (files_at d.first d.entries) before between following one two directory.apart read.files_are;
+      end = begins-before d.first (length blocks) (files_at d.first d.entries) (before ++ one ∷ between) following two directory.apart parted;
     }
 
 same-decimal : (p q : List ℕ) → codes "at-" ++ p ≡ codes "at-" ++ q → p ≡ q
-same-decimal p q is = same-behind 0o55 0o55 p q (same-behind 0o164 0o164 (0o55 ∷ p) (0o55 ∷ q) (same-behind 0o141 0o141 (0o164 ∷ 0o55 ∷ p) (0o164 ∷ 0o55 ∷ q) is))
+same-decimal p q is = same-following 0o55 0o55 p q (same-following 0o164 0o164 (0o55 ∷ p) (0o55 ∷ q) (same-following 0o141 0o141 (0o164 ∷ 0o55 ∷ p) (0o164 ∷ 0o55 ∷ q) is))
 
 at-places : (blocks : List (List ℕ)) (one two : VolumeFile) → AreTwo blocks one two → IsVolume blocks → decimal one.place ≡ decimal two.place → ⊥
 at-places blocks one two both volume same =
@@ -194,7 +194,7 @@ hosts-differ blocks one two text other both volume (inr untyped) (inl also) same
 hosts-differ blocks one two text other both volume (inr untyped) (inr also) same =
     at-places blocks one two both volume (same-decimal (decimal one.place) (decimal two.place) (sym untyped.1 ∙ same ∙ also.1))
 
-pub names-differ : SoundSo → (blocks : List (List ℕ)) (before between behind : List VolumeFile) (one two : VolumeFile) (text other : List ℕ) → IsVolume blocks
-    → files_or (directory_of blocks) ≡ before ++ one ∷ (between ++ two ∷ behind) → NamesHost one text → NamesHost two other → text ≢ other
-names-differ sound blocks before between behind one two text other volume is first second =
-    hosts-differ blocks one two text other (are-two sound blocks before between behind one two is) volume first second
+pub names-differ : SoundSo → (blocks : List (List ℕ)) (before between following : List VolumeFile) (one two : VolumeFile) (text other : List ℕ) → IsVolume blocks
+    → files_or (directory_of blocks) ≡ before ++ one ∷ (between ++ two ∷ following) → NamesHost one text → NamesHost two other → text ≢ other
+names-differ sound blocks before between following one two text other volume is first second =
+    hosts-differ blocks one two text other (are-two sound blocks before between following one two is) volume first second

@@ -68,8 +68,8 @@ AreLists (list ∷ lists) = (is_list list ≡ true) × AreLists lists
 pub record IsFirstBad (lists : List (List ℕ)) (place : ℕ) : Type 0 where
   pub prefix : List (List ℕ)
   pub bad : List ℕ
-  pub behind : List (List ℕ)
-  pub lists_are : lists ≡ prefix ++ bad ∷ behind
+  pub following : List (List ℕ)
+  pub lists_are : lists ≡ prefix ++ bad ∷ following
   pub place_is : place ≡ length prefix
   pub good : AreLists prefix
   pub is_bad : is_list bad ≡ false

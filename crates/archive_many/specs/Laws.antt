@@ -34,19 +34,19 @@ IsNoneOf name (file ∷ files) = (file.name ≢ name) × IsNoneOf name files
 
 -- a file whose name no later one has is there with its words
 abbrev pub PutAreThere : Type 0
-PutAreThere = (image : List ℕ) (before behind : List NewFile) (file : NewFile) (info : Option (List ℕ)) (new : ManyImage) → PutsAll image (before ++ file ∷ behind) info (Ok new)
-    → IsNoneOf file.name behind → (words : List ℕ) × HoldsFile new.bytes.items file.name (words, words_in file)
+PutAreThere = (image : List ℕ) (before following : List NewFile) (file : NewFile) (info : Option (List ℕ)) (new : ManyImage) → PutsAll image (before ++ file ∷ following) info (Ok new)
+    → IsNoneOf file.name following → (words : List ℕ) × HoldsFile new.bytes.items file.name (words, words_in file)
 
 -- and what is got of it from the new image is given of these words
 abbrev pub PutAreGot : Type 0
-PutAreGot = (image : List ℕ) (before behind : List NewFile) (file : NewFile) (info : Option (List ℕ)) (new : ManyImage) (blocks : List (List ℕ)) (found : VolumeFile) (form : GetForm) (bytes : Vec ℕ)
-    → PutsAll image (before ++ file ∷ behind) info (Ok new) → IsNoneOf file.name behind → OpensVolume new.bytes.items (Ok blocks) → found.name ≡ file.name
+PutAreGot = (image : List ℕ) (before following : List NewFile) (file : NewFile) (info : Option (List ℕ)) (new : ManyImage) (blocks : List (List ℕ)) (found : VolumeFile) (form : GetForm) (bytes : Vec ℕ)
+    → PutsAll image (before ++ file ∷ following) info (Ok new) → IsNoneOf file.name following → OpensVolume new.bytes.items (Ok blocks) → found.name ≡ file.name
     → GetsFile blocks found form (Ok bytes) → IsGiven form (words_in file) bytes.items
 
 -- so frames that were put are got again, with zeros after them to the end of their last block
 abbrev pub PutFramesAreGot : Type 0
-PutFramesAreGot = (image : List ℕ) (before behind : List NewFile) (file : NewFile) (info : Option (List ℕ)) (new : ManyImage) (blocks : List (List ℕ)) (found : VolumeFile) (bytes : Vec ℕ)
-    → PutsAll image (before ++ file ∷ behind) info (Ok new) → IsNoneOf file.name behind → OpensVolume new.bytes.items (Ok blocks) → found.name ≡ file.name
+PutFramesAreGot = (image : List ℕ) (before following : List NewFile) (file : NewFile) (info : Option (List ℕ)) (new : ManyImage) (blocks : List (List ℕ)) (found : VolumeFile) (bytes : Vec ℕ)
+    → PutsAll image (before ++ file ∷ following) info (Ok new) → IsNoneOf file.name following → OpensVolume new.bytes.items (Ok blocks) → found.name ≡ file.name
     → file.form ≡ put_as.Frames → All (λ byte. byte < 256) file.bytes.items → GetsFile blocks found get_as.Frames (Ok bytes) → bytes.items ≡ whole_blocks file.bytes.items
 
 -- any other file is there as it was
@@ -74,9 +74,9 @@ SpelledAlone = (word : List ℕ) (spelled name : ℕ) → parsed_name word ≡ S
 
 -- each file that is listed of a volume lies on it where the list says
 abbrev pub EachLies : Type 0
-EachLies = (blocks : List (List ℕ)) (before behind : List VolumeFile) (file : VolumeFile) → files_on blocks ≡ before ++ file ∷ behind → (held : FileData) × LiesOn blocks file held
+EachLies = (blocks : List (List ℕ)) (before following : List VolumeFile) (file : VolumeFile) → files_on blocks ≡ before ++ file ∷ following → (held : FileData) × LiesOn blocks file held
 
 -- of two files of a volume the host's files have two names
 abbrev pub NamesDiffer : Type 0
-NamesDiffer = (blocks : List (List ℕ)) (before between behind : List VolumeFile) (one two : VolumeFile) (text other : List ℕ) → IsVolume blocks
-    → files_on blocks ≡ before ++ one ∷ (between ++ two ∷ behind) → NamesHost one text → NamesHost two other → text ≢ other
+NamesDiffer = (blocks : List (List ℕ)) (before between following : List VolumeFile) (one two : VolumeFile) (text other : List ℕ) → IsVolume blocks
+    → files_on blocks ≡ before ++ one ∷ (between ++ two ∷ following) → NamesHost one text → NamesHost two other → text ≢ other

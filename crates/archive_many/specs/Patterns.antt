@@ -66,8 +66,8 @@ is_none_left (code ∷ codes) = false
 
 -- the first code fits, and what follows it does
 abbrev pub begins_so : (ℕ → Bool) → (List ℕ → Bool) → List ℕ → Bool
-begins_so first behind [] = false
-begins_so first behind (code ∷ codes) = first code && behind codes
+begins_so first following [] = false
+begins_so first following (code ∷ codes) = first code && following codes
 
 -- some end of the codes fits: all of them, or those after the first, and so on to none
 abbrev pub ends_so : (List ℕ → Bool) → List ℕ → Bool

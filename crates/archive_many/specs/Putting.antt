@@ -67,8 +67,8 @@ IsRefusedFile m info file fault = ⊥
 pub record IsRefusedAt (before : MountState) (info : Option (List ℕ)) (files : List NewFile) (place : ℕ) (fault : SessionFault) : Type 0 where
   pub prefix : List NewFile
   pub file : NewFile
-  pub behind : List NewFile
-  pub files_are : files ≡ prefix ++ file ∷ behind
+  pub following : List NewFile
+  pub files_are : files ≡ prefix ++ file ∷ following
   pub place_is : place ≡ length prefix
   pub next : MountState
   pub put : ArePut before info prefix next

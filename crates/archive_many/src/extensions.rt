@@ -79,11 +79,11 @@ fn comma_in(list: &[u8]) -> usize
 {
     match list {
         [] => 0,
-        [character, behind @ ..] => {
+        [character, following @ ..] => {
             if *character == b',' {
                 0
             } else {
-                comma_in(behind) + 1
+                comma_in(following) + 1
             }
         }
     }

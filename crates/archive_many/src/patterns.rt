@@ -45,11 +45,11 @@ fn dot_in(word: &[u8]) -> usize
 {
     match word {
         [] => 0,
-        [character, behind @ ..] => {
+        [character, following @ ..] => {
             if *character == b'.' {
                 0
             } else {
-                dot_in(behind) + 1
+                dot_in(following) + 1
             }
         }
     }
@@ -79,7 +79,7 @@ fn is_extension_like(pattern: &[u8], extension: Word) -> bool
     let (shown, _zeros) = codes.split_at(code_count(&codes));
     match pattern {
         [] => shown.is_empty(),
-        [_dot, behind @ ..] => is_like(behind, shown),
+        [_dot, following @ ..] => is_like(following, shown),
     }
 }
 
@@ -90,8 +90,8 @@ fn code_count(codes: &[u16]) -> usize
 {
     match codes {
         [] => 0,
-        [code, behind @ ..] => {
-            let count = code_count(behind);
+        [code, following @ ..] => {
+            let count = code_count(following);
             if count == 0 && *code == 0 {
                 0
             } else {
@@ -107,9 +107,9 @@ fn is_like(pattern: &[u8], codes: &[u16]) -> bool
 {
     match pattern {
         [] => codes.is_empty(),
-        [character, behind @ ..] => {
+        [character, following @ ..] => {
             if *character == ANY {
-                is_like(behind, codes)
+                is_like(following, codes)
                     || match codes {
                         [] => false,
                         [_, others @ ..] => is_like(pattern, others),
@@ -118,7 +118,7 @@ fn is_like(pattern: &[u8], codes: &[u16]) -> bool
                 match codes {
                     [] => false,
                     [code, others @ ..] => {
-                        stands_for(*character, *code) && is_like(behind, others)
+                        stands_for(*character, *code) && is_like(following, others)
                     }
                 }
             }
@@ -150,7 +150,7 @@ fn has_sign(word: &[u8]) -> bool
 {
     match word {
         [] => false,
-        [character, behind @ ..] => is_sign(*character) || has_sign(behind),
+        [character, following @ ..] => is_sign(*character) || has_sign(following),
     }
 }
 
@@ -185,9 +185,9 @@ fn are_of_pattern(part: &[u8]) -> bool
 {
     match part {
         [] => true,
-        [character, behind @ ..] => {
+        [character, following @ ..] => {
             (character.is_ascii_uppercase() || character.is_ascii_digit() || is_sign(*character))
-                && are_of_pattern(behind)
+                && are_of_pattern(following)
         }
     }
 }

@@ -66,10 +66,10 @@ tests_same old counts found volume size zeros is k low =
     two_same (slice_index counts k) (claims found k)
     (is k (omega (arith, size)) ∙ ap (min 2) (ap (λ n. n + claims found k) (zeros k) ∙ omega arith))
 
--- lines, and behind them those of the runs by a test that agrees
-pub runs-behind : (t s : ℕ → Bool) (volume size : ℕ) (out lines mid new : List ℕ) → size ≡ volume → ((k : ℕ) → k < 0 + volume → t k ≡ s k)
+-- lines, and after them those of the runs by a test that agrees
+pub runs-following : (t s : ℕ → Bool) (volume size : ℕ) (out lines mid new : List ℕ) → size ≡ volume → ((k : ℕ) → k < 0 + volume → t k ≡ s k)
     → mid ≡ out ++ lines → new ≡ mid ++ run_lines t false size 0 → new ≡ out ++ (lines ++ run_lines s false volume 0)
-runs-behind t s volume size out lines mid new is_size same is_mid is_new =
+runs-following t s volume size out lines mid new is_size same is_mid is_new =
     is_new
     ∙ ap (λ l. l ++ run_lines t false size 0) is_mid
     ∙ append_assoc out lines (run_lines t false size 0)

@@ -12,7 +12,7 @@ use Rattle.archive_survey.specs.Findings.{with_verdict, with_name, findings_of, 
 use Rattle.archive_survey.specs.Laws.{names_of_found, AreInside, FilesAreSound}
 use Rattle.archive_survey.proofs.JudgingLemmas.{contains_more}
 
--- files behind those with some names: they differ, have none of these names, and lie inside the volume
+-- files after those with some names: they differ, have none of these names, and lie inside the volume
 record AreNew (volume : ℕ) (names : List ℕ) (files : List FoundFile) : Type 0 where
   pub apart : (q : ℕ) → contains names q ≡ true → contains (names_of_found files) q ≡ false
   pub distinct : AreDistinct (names_of_found files)
@@ -26,25 +26,25 @@ first : (a b : Bool) → a ≡ true → (a || b) ≡ true
 first true b is = refl
 first false b is = absurd (true≢false (sym is))
 
-known-behind : (names : List ℕ) (name : ℕ) → contains (names ++ name ∷ []) name ≡ true
-known-behind names name = contains_more names name name ∙ last (contains names name) (eqb name name) (eq-eqb name name refl)
+known-following : (names : List ℕ) (name : ℕ) → contains (names ++ name ∷ []) name ≡ true
+known-following names name = contains_more names name name ∙ last (contains names name) (eqb name name) (eq-eqb name name refl)
 
 known-before : (names : List ℕ) (name q : ℕ) → contains names q ≡ true → contains (names ++ name ∷ []) q ≡ true
 known-before names name q known = contains_more names name q ∙ first (contains names q) (eqb name q) known
 
--- a name that is known is none of a file's that isn't, and none of those behind it
+-- a name that is known is none of a file's that isn't, and none of those after it
 apart-more : (names others : List ℕ) (name q : ℕ) (same : Bool) → eqb name q ≡ same → contains names name ≡ false → contains names q ≡ true
     → contains others q ≡ false → cond same true (contains others q) ≡ false
 apart-more names others name q true is unknown known none =
     absurd (true≢false (sym known ∙ ap (contains names) (sym (eqb-true name q is)) ∙ unknown))
 apart-more names others name q false is unknown known none = none
 
--- one file more, whose name is known behind it
+-- one file more, whose name is known after it
 new-more : (volume : ℕ) (names : List ℕ) (f : FoundFile) (fs : List FoundFile) → contains names f.name ≡ false → 0 < f.size → f.place + f.size ≤ volume
     → AreNew volume (names ++ f.name ∷ []) fs → AreNew volume names (f ∷ fs)
 new-more volume names f fs unknown some within new = record {
   apart = λ q known. apart-more names (names_of_found fs) f.name q (eqb f.name q) refl unknown known (new.apart q (known-before names f.name q known));
-  distinct = (new.apart f.name (known-behind names f.name), new.distinct);
+  distinct = (new.apart f.name (known-following names f.name), new.distinct);
   inside = (some, within, new.inside);
 }
 

@@ -110,8 +110,8 @@ pub claims_more : (volume : ℕ) (known : List ℕ) (v : Verdict) (part : Part) 
     → min 2 (new + claims (findings_of volume (names_after volume known part) rest) k) ≡ all
 claims_more volume known v part rest parts k count new all whole is put before =
     let same : findings_by v part ≡ finding_of volume known part = ap (λ w. findings_by w part) is ∙ told_is volume known part in
-    let behind = findings_of volume (names_after volume known part) rest in
-    ap (λ n. min 2 (n + claims behind k)) put
-    ∙ counted_min (claims (findings_by v part) k) count (claims behind k) (claims_one v part k)
-    ∙ ap (λ n. min 2 (count + n)) (ap (λ l. claims l k + claims behind k) same ∙ sym (claims-append (finding_of volume known part) behind k))
+    let following = findings_of volume (names_after volume known part) rest in
+    ap (λ n. min 2 (n + claims following k)) put
+    ∙ counted_min (claims (findings_by v part) k) count (claims following k) (claims_one v part k)
+    ∙ ap (λ n. min 2 (count + n)) (ap (λ l. claims l k + claims following k) same ∙ sym (claims-append (finding_of volume known part) following k))
     ∙ (rw whole at before)

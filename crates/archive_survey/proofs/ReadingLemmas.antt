@@ -13,10 +13,10 @@ use Rattle.archive_survey.specs.declared.parts.Part.TheVariants.{Fault}
 use Rattle.archive_survey.specs.Findings.{part_at, blocks_of, blocks_in, entries_at, later_segment, later_segments, segment_end}
 
 -- one entry more
-pub entries_more : (left info place : ℕ) (words : List ℕ) (part : Part) (behind : List ℕ) → 0 < left → Some (part, behind) ≡ part_at place (entry_at info words)
-    → entries_at left info place words ≡ part ∷ entries_at (left - 1) info (place + blocks_of part) behind
-entries_more zero info place words part behind some is = absurd (omega arith)
-entries_more (suc left) info place words part behind some is =
+pub entries_more : (left info place : ℕ) (words : List ℕ) (part : Part) (following : List ℕ) → 0 < left → Some (part, following) ≡ part_at place (entry_at info words)
+    → entries_at left info place words ≡ part ∷ entries_at (left - 1) info (place + blocks_of part) following
+entries_more zero info place words part following some is = absurd (omega arith)
+entries_more (suc left) info place words part following some is =
     let less : suc left - 1 ≡ left = omega arith in
     rw (less, ← is) refl
 
@@ -30,16 +30,16 @@ pub moved : (out new all rest : List Part) (part : Part) → new ≡ out ++ part
 moved out new all rest part put before = rw put (append_assoc out (part ∷ []) rest ∙ before)
 
 -- one more entry was read
-pub read_more : (left info place size : ℕ) (words behind : List ℕ) (part : Part) (out new all : List Part) → 0 < left → Some (part, behind) ≡ part_at place (entry_at info words)
-    → size ≡ blocks_of part → new ≡ out ++ part ∷ [] → out ++ entries_at left info place words ≡ all → new ++ entries_at (left - 1) info (place + size) behind ≡ all
-read_more left info place size words behind part out new all some is size_is put before =
-    moved out new all (entries_at (left - 1) info (place + size) behind) part put
-    (rw size_is (ap (λ l. out ++ l) (sym (entries_more left info place words part behind some is)) ∙ before))
+pub read_more : (left info place size : ℕ) (words following : List ℕ) (part : Part) (out new all : List Part) → 0 < left → Some (part, following) ≡ part_at place (entry_at info words)
+    → size ≡ blocks_of part → new ≡ out ++ part ∷ [] → out ++ entries_at left info place words ≡ all → new ++ entries_at (left - 1) info (place + size) following ≡ all
+read_more left info place size words following part out new all some is size_is put before =
+    moved out new all (entries_at (left - 1) info (place + size) following) part put
+    (rw size_is (ap (λ l. out ++ l) (sym (entries_more left info place words part following some is)) ∙ before))
 
-pub blocks_more : (left info place size all : ℕ) (words behind : List ℕ) (part : Part) → 0 < left → Some (part, behind) ≡ part_at place (entry_at info words)
-    → size ≡ blocks_of part → place + blocks_in (entries_at left info place words) ≡ all → place + size + blocks_in (entries_at (left - 1) info (place + size) behind) ≡ all
-blocks_more left info place size all words behind part some is size_is before =
-    rw size_is (omega (arith, before, ap blocks_in (entries_more left info place words part behind some is)))
+pub blocks_more : (left info place size all : ℕ) (words following : List ℕ) (part : Part) → 0 < left → Some (part, following) ≡ part_at place (entry_at info words)
+    → size ≡ blocks_of part → place + blocks_in (entries_at left info place words) ≡ all → place + size + blocks_in (entries_at (left - 1) info (place + size) following) ≡ all
+blocks_more left info place size all words following part some is size_is before =
+    rw size_is (omega (arith, before, ap blocks_in (entries_more left info place words part following some is)))
 
 -- ## The links
 

@@ -113,7 +113,7 @@ blocks-append : (xs ys : List Part) → blocks_in (xs ++ ys) ≡ blocks_in xs + 
 blocks-append [] ys = omega arith
 blocks-append (x ∷ xs) ys = omega (arith, blocks-append xs ys)
 
--- parts behind a directory that was read as one more
+-- parts after a directory that was read as one more
 pub record GoesOn (volume : ℕ) (d : DirectoryState) (xs : List Part) (more : DirectoryState) : Type 0 where
   pub first : (rest : List Part) → first_fault (findings_of volume (names_of d.entries) (xs ++ rest)) ≡ first_fault (findings_of volume (names_of more.entries) rest)
   pub claimed : (rest : List Part) (k : ℕ) → claims (findings_of volume (names_of d.entries) (xs ++ rest)) k ≡ within (end_of d) (end_of more) k + claims (findings_of volume (names_of more.entries) rest) k
@@ -123,7 +123,7 @@ pub record GoesOn (volume : ℕ) (d : DirectoryState) (xs : List Part) (more : D
   pub files : (rest : List Part) → placed_files (files_at more.first more.entries) ++ files_found (findings_of volume (names_of more.entries) rest)
       ≡ placed_files (files_at d.first d.entries) ++ files_found (findings_of volume (names_of d.entries) (xs ++ rest))
 
--- parts that are read as a directory behind another, or of which a fault is the first
+-- parts that are read as a directory after another, or of which a fault is the first
 abbrev pub Follows : ℕ → DirectoryState → List Part → Result DirectoryState DirFault → Type 0
 Follows volume d xs (Ok more) = GoesOn volume d xs more
 Follows volume d xs (Err fault) = (rest : List Part) → first_fault (findings_of volume (names_of d.entries) (xs ++ rest)) ≡ Some fault
@@ -163,13 +163,13 @@ goes_on volume d one more xs ys g h = record {
   files = λ rest. rw (append_assoc xs ys rest) (h.files rest ∙ g.files (ys ++ rest));
 }
 
-follow_behind : (volume : ℕ) (d one : DirectoryState) (xs ys : List Part) (r : Result DirectoryState DirFault) → GoesOn volume d xs one → Follows volume one ys r → Follows volume d (xs ++ ys) r
-follow_behind volume d one xs ys (Ok more) g h = goes_on volume d one more xs ys g h
-follow_behind volume d one xs ys (Err fault) g h = λ rest. rw (append_assoc xs ys rest) (g.first (ys ++ rest) ∙ h rest)
+follow_after : (volume : ℕ) (d one : DirectoryState) (xs ys : List Part) (r : Result DirectoryState DirFault) → GoesOn volume d xs one → Follows volume one ys r → Follows volume d (xs ++ ys) r
+follow_after volume d one xs ys (Ok more) g h = goes_on volume d one more xs ys g h
+follow_after volume d one xs ys (Err fault) g h = λ rest. rw (append_assoc xs ys rest) (g.first (ys ++ rest) ∙ h rest)
 
 pub follow_on : (volume : ℕ) (d : DirectoryState) (xs ys : List Part) (r : Result DirectoryState DirFault) (next : DirectoryState → Result DirectoryState DirFault) → Follows volume d xs r
     → ((more : DirectoryState) → r ≡ Ok more → GoesOn volume d xs more → Follows volume more ys (next more)) → Follows volume d (xs ++ ys) (r >>= next)
-follow_on volume d xs ys (Ok more) next f n = follow_behind volume d more xs ys (next more) f (n more refl f)
+follow_on volume d xs ys (Ok more) next f n = follow_after volume d more xs ys (next more) f (n more refl f)
 follow_on volume d xs ys (Err fault) next f n = λ rest. rw (append_assoc xs ys rest) (f (ys ++ rest))
 
 -- ## One entry
@@ -198,15 +198,15 @@ entry_on : (volume : ℕ) (d : DirectoryState) (e : DirEntry) (told : List Findi
     → GoesOn volume d (part_of (end_of d) e ∷ []) (record d { entries = tidy (d.entries ++ e ∷ []) })
 entry_on volume d e told is passes tells claimed names inside =
     let end : d.first + total (tidy (d.entries ++ e ∷ [])) ≡ end_of d + size_of e = omega (arith, total-tidy (d.entries ++ e ∷ []), total-more d.entries e) in
-    let behind = λ (rest : List Part). findings_of volume (names_of d.entries ++ names_of (e ∷ [])) rest in
+    let following = λ (rest : List Part). findings_of volume (names_of d.entries ++ names_of (e ∷ [])) rest in
     record {
-      first = λ rest. rw (is, names, names-more d.entries e) (passes (behind rest));
-      claimed = λ rest k. rw (is, names, names-more d.entries e, end) (claims-append told (behind rest) k ∙ ap (λ n. n + claims (behind rest) k) (claimed k));
+      first = λ rest. rw (is, names, names-more d.entries e) (passes (following rest));
+      claimed = λ rest k. rw (is, names, names-more d.entries e, end) (claims-append told (following rest) k ∙ ap (λ n. n + claims (following rest) k) (claimed k));
       end_is = omega (arith, end, size-part (end_of d) e);
       inside = omega (arith, end);
       info = refl;
       files = λ rest. rw (is, names, names-more d.entries e)
-          (placed-more d.first d.entries e (files_found (behind rest)) ∙ ap (λ l. placed_files (files_at d.first d.entries) ++ l) (sym (tells (behind rest))));
+          (placed-more d.first d.entries e (files_found (following rest)) ∙ ap (λ l. placed_files (files_at d.first d.entries) ++ l) (sym (tells (following rest))));
     }
 
 -- a file that has blocks and lies inside the volume, by whether its name is known
@@ -419,7 +419,7 @@ head_by volume number words true false rest next f = λ more. refl
 head_by volume number words false true rest next f = λ more. refl
 head_by volume number words false false rest next f = λ more. refl
 
--- the first segment is read behind its own head
+-- the first segment is read after its own head
 first_follows : (volume number : ℕ) (words : List ℕ) → first_of words ≤ volume → not (nat_lt 10 (info_of words)) ≡ true
     → Follows volume (begun words) (segment_entries words) (with_segment volume (begun words) number words)
 unfolding with_segment

@@ -32,8 +32,8 @@ blocks_of (Empty place size) = size
 
 -- an entry that begins at a block, and those after it; one that goes past its segment ends that
 abbrev pub with_those : ℕ → Option (Part × List ℕ) → (ℕ → List ℕ → List Part) → List Part
-with_those place (Some p) behind = p.0 ∷ behind (place + blocks_of p.0) p.1
-with_those place None behind = Fault EntryPastSegment ∷ []
+with_those place (Some p) following = p.0 ∷ following (place + blocks_of p.0) p.1
+with_those place None following = Fault EntryPastSegment ∷ []
 
 -- so many entries with so many information words, the first of which begins at a block
 abbrev pub entries_at : ℕ → ℕ → ℕ → List ℕ → List Part

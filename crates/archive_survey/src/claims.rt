@@ -15,7 +15,7 @@ fn claim_range(from: usize, to: usize, counts: &mut [u8])
     ensures inside { (k : ℕ) → from ≤ k → k < to
         → slice_index counts.new k ≡ count_after 1 (slice_index counts.old k) }
     ensures before { (k : ℕ) → k < from → slice_index counts.new k ≡ slice_index counts.old k }
-    ensures behind { (k : ℕ) → to ≤ k → slice_index counts.new k ≡ slice_index counts.old k }
+    ensures following { (k : ℕ) → to ≤ k → slice_index counts.new k ≡ slice_index counts.old k }
 {
     for block in from..to {
         counts[block] = if counts[block] == 0 { 1 } else { 2 };

@@ -47,8 +47,8 @@ fn empty_at(words: &[Word], place: u32) -> Option<(Part, &[Word])>
         return None;
     }
     let size = minus(words[0]) as u32;
-    let (_, behind) = words.split_at(1);
-    Some((Part::Empty { place, size }, behind))
+    let (_, following) = words.split_at(1);
+    Some((Part::Empty { place, size }, following))
 }
 
 /// The file's entry from a block on that the words begin with, and the words after it.
@@ -65,14 +65,14 @@ fn file_at(words: &[Word], info: usize, place: u32) -> Option<(Part, &[Word])>
     let (_, rest) = words.split_at(4);
     let kept = information(rest, info);
     let size = minus(rest[info]) as u32;
-    let (_, behind) = rest.split_at(info + 1);
+    let (_, following) = rest.split_at(info + 1);
     let entry = Part::File {
         name,
         info: kept,
         place,
         size,
     };
-    Some((entry, behind))
+    Some((entry, following))
 }
 
 /// The entry from a block on that the words begin with, and the words after it.
@@ -127,11 +127,11 @@ fn put_entries(
                 push_item(out, Part::Fault(DirFault::EntryPastSegment))?;
                 return Ok(place);
             }
-            Some((entry, behind)) => {
+            Some((entry, following)) => {
                 let size = blocks_of(&entry);
                 push_item(out, entry)?;
                 place += size;
-                rest = behind;
+                rest = following;
             }
         }
         left -= 1;

@@ -131,7 +131,7 @@ begins_run whole frames reader words prefix reading ignoring first origin r =
     even_again : (n : ℕ) → false ≡ nat_eq (n % 2) 1 → n % 2 ≡ 0
     even_again n h = grind (arith, nat_tests)
 
--- the place behind a run
+-- the place after a run
 place_run : (frames before after rest : List ℕ) (place later : ℕ) → place ≡ place_after before → length rest ≤ length frames
     → before ++ frames ≡ after ++ rest → later ≡ min (place + (length frames - length rest)) 18446744073709551615 → later ≡ place_after after
 place_run frames before after rest place later here left same more =

@@ -7,7 +7,7 @@ use Rattle.bin_tape.specs.Tape.{IsPart, IsOpen, IsTape}
 use Rattle.bin_tape.specs.Laws.{GoesOn}
 use Rattle.bin_tape.proofs.FrameLemmas.{heeded_after-append}
 
--- ## Frames behind what is open
+-- ## Frames after what is open
 
 -- none of these is 0377
 abbrev AreOthers : List ℕ → Type 0
@@ -36,8 +36,8 @@ kept_woken n false fs e others = kept_others (n + 1) fs (odd n e) others
     odd : (n : ℕ) → nat_eq (n % 2) 0 ≡ false → (n + 1) % 2 ≡ 0
     odd n e = grind (arith, nat_tests)
 
-kept_behind : (frames fs : List ℕ) → AreOthers fs → heeded_frames (frames ++ woken (nat_eq (ignore_count frames % 2) 0) fs) ≡ heeded_frames frames ++ fs
-kept_behind frames fs others =
+kept_after : (frames fs : List ℕ) → AreOthers fs → heeded_frames (frames ++ woken (nat_eq (ignore_count frames % 2) 0) fs) ≡ heeded_frames frames ++ fs
+kept_after frames fs others =
     heeded_after-append 0 frames (woken (nat_eq (ignore_count frames % 2) 0) fs)
     ∙ ap (λ n. heeded_frames frames ++ frames_after n (woken (nat_eq (ignore_count frames % 2) 0) fs)) (zero-add (ignore_count frames))
     ∙ ap (λ l. heeded_frames frames ++ l) (kept_woken (ignore_count frames) (nat_eq (ignore_count frames % 2) 0) fs refl others)
@@ -138,7 +138,7 @@ tape_of frames items part is w =
       high = sum / 64;
       low = sum % 64;
       rest = [];
-      kept_frames = kept_behind frames (w.end ++ ending all) (both_others w.end (ending all) w.others (other_ending all))
+      kept_frames = kept_after frames (w.end ++ ending all) (both_others w.end (ending all) w.others (other_ending all))
           ∙ ap (λ l. l ++ (w.end ++ ending all)) is
           ∙ sym (append_assoc (frames_of_items items ++ part) w.end (ending all))
           ∙ ap (λ l. l ++ ending all) (sym w.frames)

@@ -1,4 +1,4 @@
--- What a prefix keeps behind one more leader frame, and behind one more word.
+-- What a prefix keeps after one more leader frame, and after one more word.
 use Rattle.std.proofs.Common.{◌≡◌, ℕ, ◌<◌, ◌⊎◌, inl, inr, Bool, not, true, false, Option, Some, None, ◌∙◌, ap, refl, sym, subst, arith, append_assoc, append-nil, List, [], ◌∷◌, ◌++◌}
 use Rattle.bin_tape.specs.Items.{Item, Leader, Word, IsPrefix, frames_of_items, has_origin, words_but_last}
 use Rattle.bin_tape.specs.Tape.{IsPart}
@@ -7,7 +7,7 @@ use Rattle.bin_tape.specs.declared.prefixes.Prefix.{Prefix}
 use Rattle.bin_tape.specs.declared.prefixes.LastWord.{LastWord}
 use Rattle.bin_tape.proofs.ItemLemmas.{words_none, words_some}
 
--- with no first frame of a pair, the prefix stands behind whole items
+-- with no first frame of a pair, the prefix stands after whole items
 pub reads_whole : (prefix : Prefix) (items : List Item) (part : List ℕ) → ReadsItems prefix items part → prefix.first ≡ None → ReadsItems prefix items []
 reads_whole prefix items part r none =
     subst (λ (p : List ℕ). ReadsItems prefix items p) (sym r.first ∙ ap part_of none) r
@@ -34,7 +34,7 @@ leader_kept prefix later items part frame r none begins leader step = record {
     is_false : has_origin items ≡ false
     is_false = sym r.origin ∙ not_true prefix.has_origin begins
 
--- behind the first frame of a word stands an origin
+-- after the first frame of a word stands an origin
 pub part_origin : (items : List Item) (high : ℕ) → IsPart items (high ∷ []) → high < 64 → has_origin items ≡ true
 part_origin items high part small = elim part.1 [ inl large ↦ absurd (omega (arith, large, small)) | inr origin ↦ origin ]
 

@@ -1,4 +1,4 @@
--- What a reader knows behind one more frame.
+-- What a reader knows after one more frame.
 use Rattle.std.proofs.Common.{◌≡◌, ◌≢◌, ℕ, ◌%◌, inr, Result, Ok, Err, ◌∙◌, ap, refl, sym, subst, append_assoc, append-nil, zero-add, List, [], ◌∷◌, ◌++◌}
 use Rattle.bin_tape.specs.Frames.{heeded_frames, frames_after, ignore_count}
 use Rattle.bin_tape.specs.Items.{Item, Leader, Field, Origin, frames_of_items, words_but_last}
@@ -27,7 +27,7 @@ fault_of frames (CheckSum found computed) r = r
 fault_of frames NoTrailer r = absurd r.refused
 fault_of frames Memory r = absurd r.refused
 
--- more frames behind a tape mean nothing
+-- more frames after a tape mean nothing
 pub longer : (frames more : List ℕ) (items : List Item) → IsTape frames items → IsTape (frames ++ more) items
 longer frames more items t = record {
   high = t.high;
@@ -51,7 +51,7 @@ going prefix frames out k = record {
   words = k.words;
 }
 
--- the trailer behind the check sum makes the frames a tape
+-- the trailer after the check sum makes the frames a tape
 pub whole : (frames : List ℕ) (out : List (ℕ × ℕ)) (frame : ℕ) (items : List Item) (part : List ℕ) (prefix : Prefix)
     → heeded_frames frames ≡ frames_of_items items ++ part → heeded_frames (frames ++ frame ∷ []) ≡ heeded_frames frames ++ frame ∷ []
     → out ≡ words_but_last items → ReadsItems prefix items part → EndsTape items part frame → IsWhole (frames ++ frame ∷ []) out
@@ -89,7 +89,7 @@ refused_here frames rest frame items part prefix fault here r other even refused
   refused = refused;
 }
 
--- the prefix behind one more heeded frame
+-- the prefix after one more heeded frame
 pub prefix_more : (frames : List ℕ) (out : List (ℕ × ℕ)) (frame : ℕ) (items : List Item) (part : List ℕ) (handed : List (ℕ × ℕ)) (prefix : Prefix)
     → heeded_frames frames ≡ frames_of_items items ++ part → heeded_frames (frames ++ frame ∷ []) ≡ heeded_frames frames ++ frame ∷ [] → out ≡ words_but_last items
     → KeepsFrames prefix (frames_of_items items ++ part ++ frame ∷ []) (words_but_last items ++ handed)
@@ -126,7 +126,7 @@ state_more frames out frame items part prefix (Err fault) state here more words 
   (λ rest. refused_here frames rest frame items part prefix fault here r other even k.1),
 )
 
--- a reader that was reading, behind one more heeded frame
+-- a reader that was reading, after one more heeded frame
 pub read_on : (old counted new : Progress) (prefix : Prefix) (frame place : ℕ) (result : Result Tape TapeFault) (frames : List ℕ) (out : List (ℕ × ℕ))
     → old.state ≡ Reading prefix → place ≡ old.place → new ≡ record counted { state = new.state }
     → frame ≢ 255 → ignore_count frames % 2 ≡ 0 → heeded_frames (frames ++ frame ∷ []) ≡ heeded_frames frames ++ frame ∷ []

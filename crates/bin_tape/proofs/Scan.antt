@@ -68,7 +68,7 @@ pub run : Outcome → List ℕ → Outcome
 run o [] = o
 run o (f ∷ fs) = run (step 0 o f) fs
 
--- all frames behind so many, of which so many are 0377
+-- all frames after so many, of which so many are 0377
 pub scan : ℕ → ℕ → Outcome → List ℕ → Outcome
 scan place n o [] = o
 scan place n o (f ∷ fs) =
@@ -196,7 +196,7 @@ trailer_ends : (items : List Item) (high low : ℕ) → has_origin items ≡ tru
     → verdict (Word high low ∷ items) [] 128 ≡ Ends items
 trailer_ends items high low begun sum = rw (begun, eq-eqb (64 * high + low) (check_sum items) sum) refl
 
--- an item behind whole items
+-- an item after whole items
 one_goes : (older : List Item) (item : Item) → IsPrefix (item ∷ older) → run (Open older []) (frames_of item) ≡ Open (item ∷ older) []
 unfolding run
 one_goes older (Leader f) h = ap (outcome 0) (leader_goes older f h.0 h.1)
@@ -297,7 +297,7 @@ scan_tape frames items t =
     let here : run start (heeded_frames frames) ≡ Tape items = tape_goes frames items t
     in scan_run 0 0 start frames (ap is_fault here) ∙ here
 
--- a heeded frame, with frames before it that are open, and others behind it
+-- a heeded frame, with frames before it that are open, and others after it
 scan_kept : (place n : ℕ) (o : Outcome) (f : ℕ) (rest : List ℕ) → f ≢ 255 → n % 2 ≡ 0 → scan place n o (f ∷ rest) ≡ scan (suc place) n (step place o f) rest
 unfolding scan
 scan_kept place n o f rest other even = rw (other_false f 255 other, eq-eqb (n % 2) 0 even) refl

@@ -35,11 +35,11 @@ ended-by : (e z m g az all graphic : Bool) (seen now : Bool) (next : Passage) �
     → (next ≡ Ends now → (all ≡ true) × (now ≡ ((seen || g) || graphic)))
     → (if e then Ends seen else if z then end_or_break seen az else if m then next else Breaks) ≡ Ends now
     → ((if e then true else if z then az else if m then all else false) ≡ true) × (now ≡ (seen || (if e then false else if g then true else graphic)))
-ended-by true z m g az all graphic seen now next plain none behind is = (refl, ends-same seen now is ∙ or-false seen)
-ended-by false true m g true all graphic seen now next plain none behind is = (refl, rw (plain refl, none refl) (ends-same seen now is ∙ or-false seen))
-ended-by false true m g false all graphic seen now next plain none behind is = absurd (cc)
-ended-by false false true g az all graphic seen now next plain none behind is = ((behind is).0, (behind is).1 ∙ or-more seen g graphic)
-ended-by false false false g az all graphic seen now next plain none behind is = absurd (cc)
+ended-by true z m g az all graphic seen now next plain none following is = (refl, ends-same seen now is ∙ or-false seen)
+ended-by false true m g true all graphic seen now next plain none following is = (refl, rw (plain refl, none refl) (ends-same seen now is ∙ or-false seen))
+ended-by false true m g false all graphic seen now next plain none following is = absurd (cc)
+ended-by false false true g az all graphic seen now next plain none following is = ((following is).0, (following is).1 ∙ or-more seen g graphic)
+ended-by false false false g az all graphic seen now next plain none following is = absurd (cc)
 
 zero-none : (frame : ℕ) → nat_eq frame 0 ≡ true → is_graphic (frame % 0o200) ≡ false
 zero-none zero is = refl
@@ -59,18 +59,18 @@ both false b is one = absurd (true≢false (sym is))
 pub ended-text : (frames : List ℕ) → passage false frames ≡ Ends true → is_text frames ≡ true
 ended-text frames is = let p = ended frames false true is in both (all_stand frames) (has_graphic frames) p.0 (sym p.1)
 
--- ## Frames behind others
+-- ## Frames after others
 
-goes-by : (e z m az az' : Bool) (seen now : Bool) (next next' behind : Passage) → (next ≡ Goes now → next' ≡ behind)
+goes-by : (e z m az az' : Bool) (seen now : Bool) (next next' following : Passage) → (next ≡ Goes now → next' ≡ following)
     → (if e then Ends seen else if z then end_or_break seen az else if m then next else Breaks) ≡ Goes now
-    → (if e then Ends seen else if z then end_or_break seen az' else if m then next' else Breaks) ≡ behind
-goes-by true z m az az' seen now next next' behind goes is = absurd (cc)
-goes-by false true m true az' seen now next next' behind goes is = absurd (cc)
-goes-by false true m false az' seen now next next' behind goes is = absurd (cc)
-goes-by false false true az az' seen now next next' behind goes is = goes is
-goes-by false false false az az' seen now next next' behind goes is = absurd (cc)
+    → (if e then Ends seen else if z then end_or_break seen az' else if m then next' else Breaks) ≡ following
+goes-by true z m az az' seen now next next' following goes is = absurd (cc)
+goes-by false true m true az' seen now next next' following goes is = absurd (cc)
+goes-by false true m false az' seen now next next' following goes is = absurd (cc)
+goes-by false false true az az' seen now next next' following goes is = goes is
+goes-by false false false az az' seen now next next' following goes is = absurd (cc)
 
--- where a text goes on, those behind are its own
+-- where a text goes on, those after are its own
 pub goes-on : (frames others : List ℕ) (seen now : Bool) → passage seen frames ≡ Goes now → passage seen (frames ++ others) ≡ passage now others
 goes-on [] others seen now is = ap (λ p. passage p others) (same seen now is)
   where

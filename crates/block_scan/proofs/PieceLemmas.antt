@@ -14,18 +14,18 @@ use Rattle.block_scan.specs.declared.texts.TextPiece.{TextPiece}
 use Rattle.block_scan.proofs.PassageLemmas.{ended-text, goes-on}
 
 -- one block more
-pub scan-more : (left block : ℕ) (stretch next : Stretch) (rest here behind : List ℕ) (out new all : List TextPiece) → 0 < left → here ≡ take BLOCK_FRAMES rest → behind ≡ drop BLOCK_FRAMES rest
+pub scan-more : (left block : ℕ) (stretch next : Stretch) (rest here following : List ℕ) (out new all : List TextPiece) → 0 < left → here ≡ take BLOCK_FRAMES rest → following ≡ drop BLOCK_FRAMES rest
     → new ≡ out ++ piece_before stretch (block + 1) (passage stretch.has_graphic here) → next ≡ open_after stretch (block + 1) (passage stretch.has_graphic here)
-    → out ++ texts_from stretch block (blocks_in left rest) ≡ all → new ++ texts_from next (block + 1) (blocks_in (left - 1) behind) ≡ all
+    → out ++ texts_from stretch block (blocks_in left rest) ≡ all → new ++ texts_from next (block + 1) (blocks_in (left - 1) following) ≡ all
 unfolding blocks_in
-scan-more zero block stretch next rest here behind out new all some is_here is_behind is_new is_next before = absurd (omega (arith, some))
-scan-more (suc left) block stretch next rest here behind out new all some is_here is_behind is_new is_next before =
+scan-more zero block stretch next rest here following out new all some is_here is_following is_new is_next before = absurd (omega (arith, some))
+scan-more (suc left) block stretch next rest here following out new all some is_here is_following is_new is_next before =
     let less : suc left - 1 ≡ left = omega arith in
     let one : block + 1 ≡ suc block = omega arith in
     let now = take BLOCK_FRAMES rest in
     let later = drop BLOCK_FRAMES rest in
     let way = passage stretch.has_graphic now in
-    rw (less, is_new, is_next, is_here, is_behind, one)
+    rw (less, is_new, is_next, is_here, is_following, one)
     (append_assoc out (piece_before stretch (suc block) way) (texts_from (open_after stretch (suc block) way) (suc block) (blocks_in left later)) ∙ before)
 
 pub scan-done : (left block : ℕ) (stretch : Stretch) (rest : List ℕ) (out all : List TextPiece) → left ≡ 0 → out ++ texts_from stretch block (blocks_in left rest) ≡ all → out ≡ all
@@ -73,7 +73,7 @@ longer all before own rest frames stretch block now so is = record {
   goes = through own frames stretch.has_graphic (Goes now) so.goes is;
 }
 
--- a new stretch behind the block
+-- a new stretch after the block
 anew : (all before own rest : List (List ℕ)) (frames : List ℕ) (stretch : Stretch) (block : ℕ) → IsOpen all before own (frames ∷ rest) stretch block
     → IsOpen all (before ++ (own ++ frames ∷ [])) [] rest (record { first = suc block; has_graphic = false }) (suc block)
 anew all before own rest frames stretch block so = record {

@@ -1,4 +1,4 @@
--- Programs with more behind them, and which of them are found.
+-- Programs with more after them, and which of them are found.
 use Rattle.std.proofs.Common.{◌≡◌, ◌∙◌, ◌↔◌, ℕ, zero, suc, ◌+◌, ◌-◌, ◌*◌, ◌/◌, ◌<◌, ◌≤◌, Bool, true, false, true≢false, Result, Ok, Err, List, [], ◌∷◌, ◌++◌, length, length-append, take, drop, append_assoc, append-nil, refl, sym, ap, subst, arith, inl, inr}
 use Rattle.std.specs.Prelude.{slice_index, IsTrue, MatchResult, is_ok}
 use Rattle.std.proofs.lemmas.Bool.{cases_lt}
@@ -51,7 +51,7 @@ split-at (x ∷ xs) (suc i) low =
     let same : suc i + 1 ≡ suc (i + 1) = omega arith in
     ap (λ l. x ∷ l) (split-at xs i (omega (arith, low))) ∙ ap (λ m. x ∷ (take i xs ++ slice_index xs i ∷ drop m (x ∷ xs))) (sym same)
 
--- ## With more behind
+-- ## With more after
 
 pub more-tape : ((frames more : List ℕ) (items : List Item) → IsTape frames items → IsTape (frames ++ more) items) → (frames more : List ℕ) → IsSomeTape frames → IsSomeTape (frames ++ more)
 more-tape law frames more tape = record { items = tape.items; is_tape = law frames more tape.items tape.is_tape }
@@ -203,12 +203,12 @@ none-is-headed words all left size Rim (inr none) not some few heads = none.2 si
 
 pub is-found : (words : List ℕ) (count block : ℕ) (programs : List Program) (kind : ProgramKind) (place size : ℕ) → AreProgramsFrom words count block programs → block ≤ place → place + size ≤ count → 0 < size
     → is_blank (frames_from words place) ≡ false → Heads kind (words_from words place) (frames_from words place) size → HasBlock programs place
-is-found words count block [] kind place size are behind inside some not heads =
-    none-is-headed (words_from words place) (frames_from words place) (count - place) size kind (are place behind (omega (arith, inside, some))) not some (omega (arith, inside)) heads
-is-found words count block (program ∷ programs) kind place size are behind inside some not heads =
+is-found words count block [] kind place size are following inside some not heads =
+    none-is-headed (words_from words place) (frames_from words place) (count - place) size kind (are place following (omega (arith, inside, some))) not some (omega (arith, inside)) heads
+is-found words count block (program ∷ programs) kind place size are following inside some not heads =
     elim (cases_lt place program.place) [
       | inl before ↦ absurd
-          (none-is-headed (words_from words place) (frames_from words place) (count - place) size kind (are.1 place behind before) not some (omega (arith, inside)) heads)
+          (none-is-headed (words_from words place) (frames_from words place) (count - place) size kind (are.1 place following before) not some (omega (arith, inside)) heads)
       | inr from ↦ elim (cases_lt place (program.place + program.size)) [
         | inl within ↦ inl (from, within)
         | inr after ↦ inr (is-found words count (program.place + program.size) programs kind place size are.3 after inside some not heads)

@@ -40,8 +40,8 @@ Covers (piece ∷ pieces) place end = ((piece.place ≤ place) × (piece.place +
 
 -- each whole text that begins at a block, and whose blocks follow one another, is found
 abbrev pub EachTextIsFound : Type 0
-EachTextIsFound = (before text behind : List (List ℕ)) → IsWhole false text
-    → Covers (texts_from (record { first = 0; has_graphic = false }) 0 (before ++ (text ++ behind))) (length before) (length before + length text)
+EachTextIsFound = (before text following : List (List ℕ)) → IsWhole false text
+    → Covers (texts_from (record { first = 0; has_graphic = false }) 0 (before ++ (text ++ following))) (length before) (length before + length text)
 
 -- where so many blocks at the head are a program, any more are one of the same kind
 abbrev pub EachProgramGoesOn : Type 0

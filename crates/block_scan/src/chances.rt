@@ -29,8 +29,8 @@ pub(crate) fn chances_of(
     let mut block = count;
     while block > 0 {
         block -= 1;
-        let (_, behind) = frames.split_at(BLOCK_FRAMES * block);
-        let (here, _) = behind.split_at(BLOCK_FRAMES);
+        let (_, following) = frames.split_at(BLOCK_FRAMES * block);
+        let (here, _) = following.split_at(BLOCK_FRAMES);
         tails = tails_of(here, tails);
         chances.push(Chance {
             bin: tails.bin.if_heeded.is_tape,

@@ -64,10 +64,16 @@ fn programs_of(
     let mut programs = Vec::new(alloc);
     let mut block = 0;
     while block < count {
-        let (_, words_behind) = words.split_at(BLOCK * block);
-        let (_, frames_behind) = frames.split_at(BLOCK_FRAMES * block);
+        let (_, words_following) = words.split_at(BLOCK * block);
+        let (_, frames_following) = frames.split_at(BLOCK_FRAMES * block);
         let chance = chance_at(&chances, frames, count, block);
-        match beginning(alloc, chance, words_behind, frames_behind, count - block) {
+        match beginning(
+            alloc,
+            chance,
+            words_following,
+            frames_following,
+            count - block,
+        ) {
             None => block += 1,
             Some(extent) => {
                 programs.push(Program {

@@ -44,12 +44,12 @@ fn texts_of(alloc: Global, count: usize, frames: &[u8]) -> Result<Vec<TextPiece>
     };
     let mut rest = frames;
     for block in 0..count {
-        let (here, behind) = rest.split_at(BLOCK_FRAMES);
+        let (here, following) = rest.split_at(BLOCK_FRAMES);
         let way = passage_of(stretch.has_graphic, here);
         let next = block + 1;
         put_found(stretch, next, way, &mut pieces)?;
         stretch = stretch_after(stretch, next, way);
-        rest = behind;
+        rest = following;
     }
     Ok(pieces)
 }

@@ -9,7 +9,7 @@ length-frames [] = refl
 length-frames (first ∷ []) = refl
 length-frames (first ∷ second ∷ words) = omega (arith, length-frames words)
 
--- the frames behind so many groups are those of the words behind so many pairs
+-- the frames after so many groups are those of the words after so many pairs
 pub drop-frames : (k : ℕ) (words : List ℕ) → drop (3 * k) (frames words) ≡ frames (drop (2 * k) words)
 drop-frames zero words = refl
 drop-frames (suc k) [] =
@@ -40,7 +40,7 @@ get_or-frames words k i within =
     sym (get_or-drop (3 * k) (frames words) i 0)
     ∙ ap (λ fs. get_or fs i 0) (drop-frames k words ∙ ap frames (pair_at words k within))
 
--- the frames of words behind an even list of words
+-- the frames of words after an even list of words
 pub frames-append : (words others : List ℕ) → length words % 2 ≡ 0 → frames (words ++ others) ≡ frames words ++ frames others
 frames-append [] others even = refl
 frames-append (first ∷ []) others even = absurd (omega arith)

@@ -49,8 +49,8 @@ pub is_packing : (bytes : List ℕ) → Bytes bytes → IsPacking bytes (words_o
 is_packing bytes fit = record {
   even = omega (arith, length-packed bytes);
   reads_back = frames-packed bytes fit;
-  shortest = λ others behind even same.
-      omega (arith, length-packed bytes, length-frames others, ap length same, length-append bytes behind);
+  shortest = λ others following even same.
+      omega (arith, length-packed bytes, length-frames others, ap length same, length-append bytes following);
 }
 
 -- zeros have zeros as frames
@@ -61,16 +61,16 @@ frames-replicate (suc k) =
     let three : 3 * suc k ≡ suc (suc (suc (3 * k))) = omega arith in
     rw (two, three) (ap (λ fs. 0 ∷ 0 ∷ 0 ∷ fs) (frames-replicate k))
 
--- the frames of words, and of zeros behind them
-frames_and_zeros : (words bytes : List ℕ) (behind pairs : ℕ) → length words % 2 ≡ 0
-    → frames words ≡ bytes ++ replicate behind 0
-    → frames (words ++ replicate (2 * pairs) 0) ≡ bytes ++ replicate (behind + 3 * pairs) 0
-frames_and_zeros words bytes behind pairs even same =
+-- the frames of words, and of zeros after them
+frames_and_zeros : (words bytes : List ℕ) (following pairs : ℕ) → length words % 2 ≡ 0
+    → frames words ≡ bytes ++ replicate following 0
+    → frames (words ++ replicate (2 * pairs) 0) ≡ bytes ++ replicate (following + 3 * pairs) 0
+frames_and_zeros words bytes following pairs even same =
     frames-append words (replicate (2 * pairs) 0) even
     ∙ ap (λ fs. fs ++ frames (replicate (2 * pairs) 0)) same
-    ∙ append_assoc bytes (replicate behind 0) (frames (replicate (2 * pairs) 0))
-    ∙ ap (λ fs. bytes ++ (replicate behind 0 ++ fs)) (frames-replicate pairs)
-    ∙ ap (λ fs. bytes ++ fs) (replicate-append-replicate behind (3 * pairs) 0)
+    ∙ append_assoc bytes (replicate following 0) (frames (replicate (2 * pairs) 0))
+    ∙ ap (λ fs. bytes ++ (replicate following 0 ++ fs)) (frames-replicate pairs)
+    ∙ ap (λ fs. bytes ++ fs) (replicate-append-replicate following (3 * pairs) 0)
 
 -- blocks whose frames are so many and more are enough for them
 fewest_blocks : (n words others more count : ℕ) → words ≡ 256 * block_count n → others ≡ 256 * count
@@ -86,7 +86,7 @@ is_block_packing bytes fit =
     let n : ℕ = length bytes in
     let pairs : ℕ = 128 * block_count n - group_count n in
     let zeros : 256 * block_count n - 2 * group_count n ≡ 2 * pairs = omega arith in
-    let behind : 3 * group_count n - n + 3 * pairs ≡ 384 * block_count n - n = omega arith in
+    let following : 3 * group_count n - n + 3 * pairs ≡ 384 * block_count n - n = omega arith in
     let whole : length (packed_blocks bytes) ≡ 256 * block_count n =
     length-append (words_of_bytes bytes) (replicate (256 * block_count n - 2 * group_count n) 0)
     ∙ omega (arith, length-packed bytes, length-replicate {A = ℕ} (256 * block_count n - 2 * group_count n) 0) in
@@ -94,7 +94,7 @@ is_block_packing bytes fit =
       whole = whole;
       reads_back = ap (λ k. frames (words_of_bytes bytes ++ replicate k 0)) zeros
           ∙ frames_and_zeros (words_of_bytes bytes) bytes (3 * group_count n - n) pairs (omega (arith, length-packed bytes)) (frames-packed bytes fit)
-          ∙ ap (λ k. bytes ++ replicate k 0) behind;
+          ∙ ap (λ k. bytes ++ replicate k 0) following;
       fewest = λ others more count blocks same.
           fewest_blocks n (length (packed_blocks bytes)) (length others) (length more) count whole blocks
           (sym (length-frames others) ∙ ap length same ∙ length-append bytes more);

@@ -45,7 +45,7 @@ characters-next frame c others same apart =
     let test : nat_eq (frame % 128) 26 ≡ false = ne_eqb (frame % 128) 26 (λ e. apart (sym same ∙ e)) in
     rw test (ap (λ x. x ∷ characters others) same)
 
--- the characters of stored characters, behind which control Z stands
+-- the characters of stored characters, after which control Z stands
 pub characters-stored : (chars others : List ℕ) → Stands chars
     → characters (map (λ character. 128 + character) chars ++ (128 + 26) ∷ others) ≡ chars
 characters-stored [] others stand = refl

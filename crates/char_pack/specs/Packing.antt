@@ -30,7 +30,7 @@ group_count n = (n + 2) / 3
 pub record IsPacking (bytes words : List ℕ) : Type 0 where
   pub even : length words % 2 ≡ 0
   pub reads_back : frames words ≡ bytes ++ replicate (3 * group_count (length bytes) - length bytes) 0
-  pub shortest : (others behind : List ℕ) → length others % 2 ≡ 0 → frames others ≡ bytes ++ behind
+  pub shortest : (others following : List ℕ) → length others % 2 ≡ 0 → frames others ≡ bytes ++ following
       → length words ≤ length others
 
 -- how many words a block has
@@ -54,5 +54,5 @@ packed_blocks bytes =
 pub record IsBlockPacking (bytes words : List ℕ) : Type 0 where
   pub whole : length words ≡ BLOCK * block_count (length bytes)
   pub reads_back : frames words ≡ bytes ++ replicate (block_frames * block_count (length bytes) - length bytes) 0
-  pub fewest : (others behind : List ℕ) (count : ℕ) → length others ≡ BLOCK * count → frames others ≡ bytes ++ behind
+  pub fewest : (others following : List ℕ) (count : ℕ) → length others ≡ BLOCK * count → frames others ≡ bytes ++ following
       → length words ≤ length others

@@ -91,7 +91,7 @@ fits_some most fit = grind (arith, nat_tests)
 
 -- ## Commands
 
--- the same command to `clap` behind a change of a text
+-- the same command to `clap` following a change of a text
 pub text_too : (old new : Command) (app : App) (after : Command-F Command) → fields_of new ≡ after → app_of_fields after ≡ app_of_fields (fields_of old)
     → after.has_globals ≡ (fields_of old).has_globals → IsCommand old app → IsCommand new app
 unfolding IsCommand

@@ -1,4 +1,4 @@
--- Where the words name a subcommand, the words behind it are that subcommand's own.
+-- Where the words name a subcommand, the words following it are that subcommand's own.
 use Rattle.command_table.proofs.Names.{◌≡◌, ◌∙◌, ◌&&◌, Bool, codes, true, false, refl, sym, ap, ap₂, List, [], ◌∷◌, ◌++◌, append-nil, append_assoc, Option, Some, is_some, find, fold, option_map, list_all, option_map_or, bytes_eq, Names, Rule, Text, Walk, after_step, answers_to, finished, idle, nothing_held, subcommand_met, subcommand_or_other, walk, walk_from, walked, App, Shape, entered, label_of, names_of, rows_at, built_takes, default_passes, entered_passes, is_valid, level_passes, settle_passes, walk_passes, find-map}
 
 -- the word names this subcommand
@@ -59,7 +59,7 @@ level_goes a word s rest finds no_more =
     ∙ (ap (λ (o : Option Shape). list_all default_passes a.top.rules && is_valid a.top (finished a.top.rules nothing_held) (is_some (option_map (λ s. rows_at s rest) o))) finds.found
     ∙ no_more))
 
--- the words are taken where the subcommand takes those behind it
+-- the words are taken where the subcommand takes those following it
 pub enter_takes : (a : App) (word : Text) (s : Shape) (rest : List Text) → Finds a word s → asks_no_more a ≡ true
     → level_passes s [] nothing_held rest false ≡ true → built_takes a nothing_held (word ∷ rest) ≡ true
 enter_takes a word s rest finds no_more takes =

@@ -20,9 +20,9 @@ pub same_text : (text : Text) → bytes_eq text text ≡ true
 same_text text = (bytes_eq-Decides text text).1 refl
 
 -- a rule in front of others, of which it has the name of none
-own_behind : (x : Rule) (c rest : List Rule) → list_any (λ other. bytes_eq other x.id) (map (λ r. r.id) rest) ≡ false → AllOwn c rest → AllOwn (x ∷ c) rest
-own_behind x c [] none all = tt
-own_behind x c (a ∷ rest) none all = (here (bytes_eq x.id a.id) refl, own_behind x c rest (or_parts _ _ none).1 all.1)
+own_after : (x : Rule) (c rest : List Rule) → list_any (λ other. bytes_eq other x.id) (map (λ r. r.id) rest) ≡ false → AllOwn c rest → AllOwn (x ∷ c) rest
+own_after x c [] none all = tt
+own_after x c (a ∷ rest) none all = (here (bytes_eq x.id a.id) refl, own_after x c rest (or_parts _ _ none).1 all.1)
   where
     here : (b : Bool) → bytes_eq x.id a.id ≡ b → cond b (Some x) (arg_by_id c a.id) ≡ Some a
     here false other = all.0
@@ -34,7 +34,7 @@ all_own : (c : List Rule) → are_distinct (map (λ r. r.id) c) ≡ true → All
 all_own [] distinct = tt
 all_own (x ∷ xs) distinct =
     let parts = both _ _ distinct in
-    (ap (λ b. cond b (Some x) (arg_by_id xs x.id)) (same_text x.id), own_behind x xs xs (is_false _ parts.0) (all_own xs parts.1))
+    (ap (λ b. cond b (Some x) (arg_by_id xs x.id)) (same_text x.id), own_after x xs xs (is_false _ parts.0) (all_own xs parts.1))
 
 ids_filled : (i : ℕ) (rules : List Rule) → map (λ (r : Rule). r.id) (filled_from i rules) ≡ map (λ (r : Rule). r.id) rules
 ids_filled i [] = refl

@@ -17,12 +17,12 @@ second words number = slice_index words (5 + 2 * number)
 abbrev is_control : ℕ → ℕ → Bool
 is_control f control = nat_lt control 2048 && nat_eq (control % 8) 0 && nat_le (f + 128 * pages_of control) 4096
 
--- the fault of one more segment, or of what comes behind it
+-- the fault of one more segment, or of what comes after it
 abbrev judged : List ℕ → List (ℕ × ℕ) → CoreFault → CoreFault
-judged words older behind =
+judged words older following =
     if nat_eq (first words (length older) % 256) 0 then
     (if is_control (first words (length older)) (second words (length older)) then
-    (if nat_lt (length words) (256 * (1 + blocks_in older + blocks_of (second words (length older)))) then TooShort else behind)
+    (if nat_lt (length words) (256 * (1 + blocks_in older + blocks_of (second words (length older)))) then TooShort else following)
     else BadWord (5 + 2 * length older) (second words (length older)))
     else BadWord (4 + 2 * length older) (first words (length older))
 
@@ -40,19 +40,19 @@ the_fault words =
 
 -- ## Segments that are as they should be
 
-fits : (f control size need : ℕ) (behind a b : CoreFault) → IsFirst f → IsControl f control
-    → (if nat_eq (f % 256) 0 then (if is_control f control then (if nat_lt size need then TooShort else behind) else a) else b) ≡ (if nat_lt size need then TooShort else behind)
-fits f control size need behind a b is_first control_is = grind (arith, nat_tests)
+fits : (f control size need : ℕ) (following a b : CoreFault) → IsFirst f → IsControl f control
+    → (if nat_eq (f % 256) 0 then (if is_control f control then (if nat_lt size need then TooShort else following) else a) else b) ≡ (if nat_lt size need then TooShort else following)
+fits f control size need following a b is_first control_is = grind (arith, nat_tests)
 
-long : (size need : ℕ) (behind : CoreFault) → need ≤ size → (if nat_lt size need then TooShort else behind) ≡ behind
-long size need behind enough = grind (arith, nat_tests)
+long : (size need : ℕ) (following : CoreFault) → need ≤ size → (if nat_lt size need then TooShort else following) ≡ following
+long size need following enough = grind (arith, nat_tests)
 
-short : (size need : ℕ) (behind : CoreFault) → size < need → (if nat_lt size need then TooShort else behind) ≡ TooShort
-short size need behind few = grind (arith, nat_tests)
+short : (size need : ℕ) (following : CoreFault) → size < need → (if nat_lt size need then TooShort else following) ≡ TooShort
+short size need following few = grind (arith, nat_tests)
 
-good : (words : List ℕ) (older : List (ℕ × ℕ)) (segment : ℕ × ℕ) (behind : CoreFault) → AreSegments words (segment ∷ older) → judged words older behind ≡ behind
-good words older segment behind are =
-    rw (are.0, are.1) (fits segment.0 segment.1 (length words) _ behind _ _ are.2 are.3 ∙ long (length words) _ behind are.4)
+good : (words : List ℕ) (older : List (ℕ × ℕ)) (segment : ℕ × ℕ) (following : CoreFault) → AreSegments words (segment ∷ older) → judged words older following ≡ following
+good words older segment following are =
+    rw (are.0, are.1) (fits segment.0 segment.1 (length words) _ following _ _ are.2 are.3 ∙ long (length words) _ following are.4)
 
 same_at : (words : List ℕ) (m n : ℕ) (older : List (ℕ × ℕ)) → m ≡ n → rest_fault words m older ≡ rest_fault words n older
 same_at words m n older e = cc
@@ -73,7 +73,7 @@ head_goes words head = grind (arith, nat_tests, head.whole, head.count, head.sta
 -- ## The fault
 
 more_goes : (words : List ℕ) (older : List (ℕ × ℕ)) → HasMore words older
-    → (behind : CoreFault) × (the_fault words ≡ judged words older behind)
+    → (following : CoreFault) × (the_fault words ≡ judged words older following)
 unfolding rest_fault
 more_goes words older has =
     let left : length older + suc (count_of words - length older - 1) ≡ count_of words = omega (arith, has.more) in

@@ -53,7 +53,7 @@ go-stopped quick breaks s n h =
       reason = ap (λ o. unwrap_or o Why.Limit) (sym e);
     }
 
--- a go that ends behind its next step
+-- a go that ends after its next step
 pub go-ended : (quick : Bool) (breaks : List Bool) (s : State) (n k : ℕ) (why : Why) → GoesOn quick breaks s k → k < n
     → reason breaks (answer quick k s) (after quick (k + 1) s) ≡ Some why → IsGo quick breaks s n (k + 1) why
 go-ended quick breaks s n k why before below h =

@@ -1,4 +1,4 @@
--- What TAD, CIA, the skips of group 2, and TSF behind TLS come to.
+-- What TAD, CIA, the skips of group 2, and TSF after TLS come to.
 use Rattle.std.proofs.Common.{◌≡◌, ℕ, ◌+◌, ◌-◌, ◌*◌, ◌/◌, ◌%◌, ◌<◌, Bool, true, false, not, if◌then◌else◌, refl, ap, sym, ◌∙◌, arith}
 use Rattle.std.proofs.lemmas.Bool.Decides.{nat_tests}
 use Rattle.cpu8.specs.State.{State, printer_done}
@@ -108,13 +108,13 @@ turned_skips_not word s test plain = turned_pc word s test ∙ skips_not_by (is_
 
 -- ## TLS and TSF
 
-flag_behind_tls : (s : State) → IsNextWord tls s → (step s).0.teletype.printer_flag ≡ false
+flag_after_tls : (s : State) → IsNextWord tls s → (step s).0.teletype.printer_flag ≡ false
 unfolding step after_instruction
-flag_behind_tls s next = rw (next.running, next.undisturbed, next.fetches) refl
+flag_after_tls s next = rw (next.running, next.undisturbed, next.fetches) refl
 
-busy_behind_tls : (s : State) → IsNextWord tls s → (step s).0.teletype.busy ≡ true
+busy_after_tls : (s : State) → IsNextWord tls s → (step s).0.teletype.busy ≡ true
 unfolding step after_instruction
-busy_behind_tls s next = rw (next.running, next.undisturbed, next.fetches) refl
+busy_after_tls s next = rw (next.running, next.undisturbed, next.fetches) refl
 
 tsf_pc : (s : State) (flag : Bool) → s.teletype.printer_flag ≡ flag → IsNextWord tsf s → (step s).0.pc ≡ (s.pc + (if flag then 2 else 1)) % 4096
 unfolding step after_instruction
@@ -124,7 +124,7 @@ done_flag : (s : State) → s.teletype.busy ≡ true → (printer_done s).telety
 done_flag s busy = rw busy refl
 
 pub tsf_before : (s : State) → IsNextWord tls s → IsNextWord tsf (step s).0 → (step (step s).0).0.pc ≡ ((step s).0.pc + 1) % 4096
-tsf_before s print test = tsf_pc (step s).0 false (flag_behind_tls s print) test
+tsf_before s print test = tsf_pc (step s).0 false (flag_after_tls s print) test
 
 pub tsf_done : (s : State) → IsNextWord tls s → IsNextWord tsf (printer_done (step s).0) → (step (printer_done (step s).0)).0.pc ≡ ((step s).0.pc + 2) % 4096
-tsf_done s print test = tsf_pc (printer_done (step s).0) true (done_flag (step s).0 (busy_behind_tls s print)) test
+tsf_done s print test = tsf_pc (printer_done (step s).0) true (done_flag (step s).0 (busy_after_tls s print)) test

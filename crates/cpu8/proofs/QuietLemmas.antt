@@ -68,7 +68,7 @@ pub quiet-next : (quick : Bool) (breaks : List Bool) (k : ℕ) (s old new : Stat
     → (0 < k → is_break breaks (next_cell old) ≡ false) → Does old (next_word old) new → AreQuiet quick breaks s k → AreQuiet quick breaks s (k + 1)
 quiet-next quick breaks k s old new at h ahead does before = quiet-goes quick breaks k s old new at h ahead (goes old new (next_word old) does) before
 
--- ## Quiet steps behind others
+-- ## Quiet steps after others
 
 pub after-add : (quick : Bool) (a b : ℕ) (s : State) → after quick (a + b) s ≡ after quick b (after quick a s)
 after-add quick a zero s = let e : a + 0 ≡ a = omega arith in ap (λ k. after quick k s) e ∙ sym (after-none quick (after quick a s))
@@ -85,14 +85,14 @@ answer-add quick a b s = ap (λ x. (printing_step quick x).1) (after-add quick a
 fewer-quiet : (quick : Bool) (breaks : List Bool) (s : State) (k : ℕ) → AreQuiet quick breaks s (suc k) → AreQuiet quick breaks s k
 fewer-quiet quick breaks s k quiet m below = quiet m (omega (arith, below))
 
-quiet-behind : (quick : Bool) (breaks : List Bool) (s : State) (a b : ℕ) → (0 < a → is_break breaks (next_cell (after quick a s)) ≡ false)
+quiet-following : (quick : Bool) (breaks : List Bool) (s : State) (a b : ℕ) → (0 < a → is_break breaks (next_cell (after quick a s)) ≡ false)
     → IsQuietStep quick breaks (after quick a s) b → IsQuietStep quick breaks s (a + b)
-quiet-behind quick breaks s a zero ahead step =
+quiet-following quick breaks s a zero ahead step =
     let e : a + 0 ≡ a = omega arith in record {
       answer = answer-add quick a zero s ∙ step.answer;
       ahead = λ more. ap (λ k. is_break breaks (next_cell (after quick k s))) e ∙ ahead (omega (arith, more));
     }
-quiet-behind quick breaks s a (suc b) ahead step = record {
+quiet-following quick breaks s a (suc b) ahead step = record {
   answer = answer-add quick a (suc b) s ∙ step.answer;
   ahead = λ _. ap (λ x. is_break breaks (next_cell x)) (after-add quick a (suc b) s) ∙ step.ahead (omega arith);
 }
@@ -103,7 +103,7 @@ quiet-add quick breaks s a zero before ahead quiet m below = before m (omega (ar
 quiet-add quick breaks s a (suc b) before ahead quiet m below =
     below_more (λ m. IsQuietStep quick breaks s m) (a + b)
     (quiet-add quick breaks s a b before ahead (fewer-quiet quick breaks (after quick a s) b quiet))
-    (quiet-behind quick breaks s a b ahead (quiet b (omega arith))) m (omega (arith, below))
+    (quiet-following quick breaks s a b ahead (quiet b (omega arith))) m (omega (arith, below))
 
 -- quiet steps, and more from the state that they left
 pub quiet-run : (quick : Bool) (breaks : List Bool) (a b : ℕ) (s mid : State) → mid ≡ after quick a s → AreQuiet quick breaks s a
@@ -122,10 +122,10 @@ printed-quiet quick breaks s a (suc k) quiet =
     ∙ (ap (λ x. characters_of quick (a + k) s ++ character_of x) h
     ∙ (append-nil (characters_of quick (a + k) s) ∙ printed-quiet quick breaks s a k (fewer-quiet quick breaks (after quick a s) k quiet))))
 
--- behind a quiet step only a break is a reason to stop
-ending-behind : (quick : Bool) (breaks : List Bool) (s : State) (a k : ℕ) → AreQuiet quick breaks (after quick a s) (suc k)
+-- after a quiet step only a break is a reason to stop
+ending-following : (quick : Bool) (breaks : List Bool) (s : State) (a k : ℕ) → AreQuiet quick breaks (after quick a s) (suc k)
     → ending quick breaks s (a + suc k) ≡ break_ahead breaks (after quick (a + suc k) s)
-ending-behind quick breaks s a k quiet =
+ending-following quick breaks s a k quiet =
     let e : a + k + 1 ≡ a + suc k = omega arith in
     let h : answer quick (a + k) s ≡ Ran None = answer-add quick a k s ∙ (quiet k (omega arith)).answer in
     subst (λ m. ending quick breaks s m ≡ break_ahead breaks (after quick m s)) e
@@ -135,7 +135,7 @@ pub ending-quiet : (quick : Bool) (breaks : List Bool) (s : State) (a k : ℕ) �
     → AreQuiet quick breaks (after quick a s) k → ending quick breaks s (a + k) ≡ break_ahead breaks (after quick (a + k) s)
 ending-quiet quick breaks s a zero h quiet =
     let e : a ≡ a + 0 = omega arith in subst (λ m. ending quick breaks s m ≡ break_ahead breaks (after quick m s)) e h
-ending-quiet quick breaks s a (suc k) h quiet = ending-behind quick breaks s a k quiet
+ending-quiet quick breaks s a (suc k) h quiet = ending-following quick breaks s a k quiet
 
 -- between quiet steps there is no reason to stop
 between-quiet : (quick : Bool) (breaks : List Bool) (s : State) (a k : ℕ) → ending quick breaks s a ≡ None
@@ -144,7 +144,7 @@ between-quiet quick breaks s a zero h quiet = let e : a + 0 ≡ a = omega arith 
 between-quiet quick breaks s a (suc k) h quiet =
     let none : is_break breaks (next_cell (after quick (suc k) (after quick a s))) ≡ false = (quiet (suc k) (omega arith)).ahead (omega arith) in
     let here : is_break breaks (next_cell (after quick (a + suc k) s)) ≡ false = ap (λ x. is_break breaks (next_cell x)) (after-add quick a (suc k) s) ∙ none in
-    ending-behind quick breaks s a k (fewer-quiet quick breaks (after quick a s) (suc k) quiet)
+    ending-following quick breaks s a k (fewer-quiet quick breaks (after quick a s) (suc k) quiet)
     ∙ ap (λ (b : Bool). let w : Option Why = if b then Some Why.Break else None in w) here
 
 pub goes-quiet : (quick : Bool) (breaks : List Bool) (s : State) (a k : ℕ) → GoesOn quick breaks s a → AreQuiet quick breaks (after quick a s) k
@@ -177,7 +177,7 @@ pub printed-run : (quick : Bool) (breaks : List Bool) (a k : ℕ) (s mid : State
 printed-run quick breaks a k s mid old items at quiet h =
     h ∙ ap (λ xs. old ++ xs) (sym (printed-quiet quick breaks s a k (subst (λ x. AreQuiet quick breaks x k) at quiet)))
 
--- what is known once quiet steps were made behind the first ones
+-- what is known once quiet steps were made after the first ones
 pub record HasRun (quick : Bool) (breaks : List Bool) (s : State) (k : ℕ) : Type 0 where
   pub before : (m : ℕ) → m < k → ending quick breaks s m ≡ None
   pub last : ending quick breaks s k ≡ break_ahead breaks (after quick k s)

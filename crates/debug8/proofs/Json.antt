@@ -113,7 +113,7 @@ pub snapshot-text : (s : State) → compact_text (object (members_of (members s)
 unfolding snapshot
 snapshot-text s = object-text (members s) (plain-members s)
 
--- ## Members put one behind the other
+-- ## Members put one after the other
 
 -- the first members
 abbrev pub prefix : ℕ → State → Members

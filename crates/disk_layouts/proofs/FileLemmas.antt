@@ -18,32 +18,32 @@ pub record IsWritten (layout : Layout) (old image new : List ℕ) : Type 0 where
   pub volume : (k : ℕ) → k < image_size layout → slice_index new (place layout k) ≡ slice_index image k
   pub others : (at : ℕ) → IsOutside layout at → slice_index new at ≡ slice_index old at
 
--- behind the end of what is needed there are zeros
-zeros_behind : (layout : Layout) (old image new : List ℕ) (count used : ℕ) → IsKept layout old count → IsWritten layout old image new → IsUsed image used
+-- after the end of what is needed there are zeros
+zeros_after : (layout : Layout) (old image new : List ℕ) (count used : ℕ) → IsKept layout old count → IsWritten layout old image new → IsUsed image used
     → (k : ℕ) → max count (needed_bytes layout used) ≤ k → slice_index new k ≡ 0
-zeros_behind First old image new count used kept w is k from = elim (cases_lt k DISK_VOLUME) [
+zeros_after First old image new count used kept w is k from = elim (cases_lt k DISK_VOLUME) [
   | inl inside ↦ w.volume k inside ∙ is.zeros k (omega arith)
-  | inr behind ↦ w.others k (outside_first k behind) ∙ kept.zeros k (omega arith)
+  | inr following ↦ w.others k (outside_first k following) ∙ kept.zeros k (omega arith)
 ]
-zeros_behind Second old image new count zero kept w is k from = elim (cases_lt k DISK_VOLUME) [
+zeros_after Second old image new count zero kept w is k from = elim (cases_lt k DISK_VOLUME) [
   | inl before ↦ w.others k (outside_second k (inl before)) ∙ kept.zeros k (omega arith)
   | inr inside ↦ elim (cases_lt k DISK) [
     | inl within ↦
         let same : k ≡ (k - DISK_VOLUME) + DISK_VOLUME = omega arith in
         ap (slice_index new) same ∙ w.volume (k - DISK_VOLUME) (omega arith) ∙ is.zeros (k - DISK_VOLUME) (omega arith)
-    | inr behind ↦ w.others k (outside_second k (inr behind)) ∙ kept.zeros k (omega arith)
+    | inr following ↦ w.others k (outside_second k (inr following)) ∙ kept.zeros k (omega arith)
   ]
 ]
-zeros_behind Second old image new count (suc more) kept w is k from = elim (cases_lt k DISK_VOLUME) [
+zeros_after Second old image new count (suc more) kept w is k from = elim (cases_lt k DISK_VOLUME) [
   | inl before ↦ w.others k (outside_second k (inl before)) ∙ kept.zeros k (omega arith)
   | inr inside ↦ elim (cases_lt k DISK) [
     | inl within ↦
         let same : k ≡ (k - DISK_VOLUME) + DISK_VOLUME = omega arith in
         ap (slice_index new) same ∙ w.volume (k - DISK_VOLUME) (omega arith) ∙ is.zeros (k - DISK_VOLUME) (omega arith)
-    | inr behind ↦ w.others k (outside_second k (inr behind)) ∙ kept.zeros k (omega arith)
+    | inr following ↦ w.others k (outside_second k (inr following)) ∙ kept.zeros k (omega arith)
   ]
 ]
-zeros_behind Dectape old image new count used kept w is k from =
+zeros_after Dectape old image new count used kept w is k from =
     get_or-eq_default new 0 (omega (arith, kept.whole, kept.tape refl, w.size))
 
 needed_most : (layout : Layout) (used : ℕ) → 512 * used ≤ image_size layout → needed_bytes layout used ≤ most_bytes layout
@@ -65,7 +65,7 @@ kept_written layout old image new count used kept w is most =
     record {
       whole = w.size ∙ kept.whole;
       within = omega (arith, kept.within, kept.whole, w.size, low);
-      zeros = zeros_behind layout old image new count used kept w is;
+      zeros = zeros_after layout old image new count used kept w is;
       tape = whole_tape layout count used kept.tape;
     }
 
@@ -73,7 +73,7 @@ kept_written layout old image new count used kept w is most =
 pub byte_kept : (layout : Layout) (bytes : List ℕ) (count : ℕ) → IsKept layout bytes count → (k : ℕ) → slice_index (take count bytes) k ≡ slice_index bytes k
 byte_kept layout bytes count kept k = elim (cases_lt k count) [
   | inl inside ↦ get_or-take count bytes k 0 inside
-  | inr behind ↦ get_or-eq_default (take count bytes) 0 (omega (arith, length-take count bytes)) ∙ sym (kept.zeros k behind)
+  | inr following ↦ get_or-eq_default (take count bytes) 0 (omega (arith, length-take count bytes)) ∙ sym (kept.zeros k following)
 ]
 
 -- what the file has of the image that was written

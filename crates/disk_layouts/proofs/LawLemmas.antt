@@ -23,7 +23,7 @@ pub read_before : (layout : Layout) (old new other : List ℕ) → ((k : ℕ) �
 read_before layout old new other same is = record { size = is.size; bytes = λ k inside. is.bytes k inside ∙ sym (same k inside) }
 
 pub second_stays : (old new : Disk) (image : List ℕ) → old.layout ≡ First → HasLaid old image new → (at : ℕ) → DISK_VOLUME ≤ at → byte new.bytes at ≡ byte old.bytes at
-second_stays old new image is laid at behind = laid.others at (subst (λ (l : Layout). IsOutside l at) (sym is) (outside_first at behind))
+second_stays old new image is laid at following = laid.others at (subst (λ (l : Layout). IsOutside l at) (sym is) (outside_first at following))
 
 pub first_stays : (old new : Disk) (image : List ℕ) → old.layout ≡ Second → HasLaid old image new → (at : ℕ) → at < DISK_VOLUME → byte new.bytes at ≡ byte old.bytes at
 first_stays old new image is laid at before = laid.others at (subst (λ (l : Layout). IsOutside l at) (sym is) (outside_second at (inl before)))
@@ -47,19 +47,19 @@ record IsInside (layout : Layout) (at : ℕ) : Type 0 where
 inside_or_outside : (layout : Layout) (at : ℕ) → IsInside layout at ⊎ IsOutside layout at
 inside_or_outside First at = elim (cases_lt at DISK_VOLUME) [
   | inl low ↦ inl (record { k = at; low = low; here = refl })
-  | inr behind ↦ inr (outside_first at behind)
+  | inr following ↦ inr (outside_first at following)
 ]
 inside_or_outside Second at = elim (cases_lt at DISK_VOLUME) [
   | inl before ↦ inr (outside_second at (inl before))
   | inr from ↦ elim (cases_lt at DISK) [
     | inl low ↦ inl (record { k = at - DISK_VOLUME; low = omega arith; here = omega arith })
-    | inr behind ↦ inr (outside_second at (inr behind))
+    | inr following ↦ inr (outside_second at (inr following))
   ]
 ]
 inside_or_outside Dectape at = elim (cases_lt (at % 258) 256) [
   | inl word ↦ elim (cases_lt (at / 258) 1474) [
     | inl low ↦ inl (record { k = 256 * (at / 258) + at % 258; low = omega arith; here = omega arith })
-    | inr behind ↦ inr (λ k inside same. absurd (omega (arith, same)))
+    | inr following ↦ inr (λ k inside same. absurd (omega (arith, same)))
   ]
   | inr last ↦ inr (λ k inside same. absurd (omega (arith, same)))
 ]
@@ -71,11 +71,11 @@ bytes_stay old new image is laid at = elim (inside_or_outside old.layout at) [
   | inr out ↦ laid.others at out
 ]
 
--- behind the blocks of a file its image has zeros alone
+-- after the blocks of a file its image has zeros alone
 zeros_read : (layout : Layout) (file image : List ℕ) (fewer : ℕ) → IsImageIn layout file image → ((k : ℕ) → 512 * fewer ≤ k → length file ≤ place layout k)
     → (k : ℕ) → 512 * fewer ≤ k → byte image k ≡ 0
-zeros_read layout file image fewer is behind k from = elim (cases_lt k (image_size layout)) [
-  | inl inside ↦ is.bytes k inside ∙ get_or-eq_default file 0 (behind k from)
+zeros_read layout file image fewer is following k from = elim (cases_lt k (image_size layout)) [
+  | inl inside ↦ is.bytes k inside ∙ get_or-eq_default file 0 (following k from)
   | inr past ↦ get_or-eq_default image 0 (omega (arith, is.size))
 ]
 

@@ -39,7 +39,7 @@ fn copy_at(file: &mut [u8], at: usize, image: &[u8], from: usize, size: usize)
     ensures part { (k : ℕ) → k < size
         → slice_index file.new (at + k) ≡ slice_index image.now (from + k) }
     ensures before { (k : ℕ) → k < at → slice_index file.new k ≡ slice_index file.old k }
-    ensures behind { (k : ℕ) → at + size ≤ k → slice_index file.new k ≡ slice_index file.old k }
+    ensures following { (k : ℕ) → at + size ≤ k → slice_index file.new k ≡ slice_index file.old k }
 {
     file[at..at + size].copy_from_slice(&image[from..from + size]);
 }

@@ -16,8 +16,8 @@ use Rattle.flow8.specs.Laws.{IsTold, jumps_through_pointer}
 
 -- ## Cells
 
-pub place_behind : (field pc count : ℕ) → pc < FIELD → cell_after count (place field pc) ≡ place field ((pc + count) % FIELD)
-place_behind field pc count small = ap (λ f. place f ((place field pc % FIELD + count) % FIELD)) over ∙ ap (λ a. place field ((a + count) % FIELD)) within
+pub place_following : (field pc count : ℕ) → pc < FIELD → cell_after count (place field pc) ≡ place field ((pc + count) % FIELD)
+place_following field pc count small = ap (λ f. place f ((place field pc % FIELD + count) % FIELD)) over ∙ ap (λ a. place field ((a + count) % FIELD)) within
   where
     over : place field pc / FIELD ≡ field
     over = omega (arith, small)
@@ -31,15 +31,15 @@ IsOneOf cells next = (cells.0 ≡ Some next) ⊎ (cells.1 ≡ Some next)
 
 pub next_is : (field pc : ℕ) (other : Option ℕ) (at : ℕ) → pc < FIELD → at ≡ (pc + 1) % FIELD
     → IsOneOf (Some (cell_after 1 (place field pc)), other) (place field at)
-next_is field pc other at small is = inl (ap Some (place_behind field pc 1 small ∙ ap (place field) (sym is)))
+next_is field pc other at small is = inl (ap Some (place_following field pc 1 small ∙ ap (place field) (sym is)))
 
 pub next_or_skip : (field pc : ℕ) (skips : Bool) (at : ℕ) → pc < FIELD → at ≡ (pc + (if skips then 2 else 1)) % FIELD
     → IsOneOf (may_skip (place field pc)) (place field at)
 next_or_skip field pc false at small is = next_is field pc (Some (cell_after 2 (place field pc))) at small is
-next_or_skip field pc true at small is = inr (ap Some (place_behind field pc 2 small ∙ ap (place field) (sym is)))
+next_or_skip field pc true at small is = inr (ap Some (place_following field pc 2 small ∙ ap (place field) (sym is)))
 
 pub skip_is : (field pc at : ℕ) → pc < FIELD → at ≡ (pc + 2) % FIELD → IsOneOf (skips (place field pc)) (place field at)
-skip_is field pc at small is = inl (ap Some (place_behind field pc 2 small ∙ ap (place field) (sym is)))
+skip_is field pc at small is = inl (ap Some (place_following field pc 2 small ∙ ap (place field) (sym is)))
 
 -- ## Addresses
 
@@ -80,7 +80,7 @@ pub told_jms : (s : State) (word : ℕ) → s.pc < FIELD → s.instruction_buffe
     → IsOneOf (jms_exits (next_cell s) word) (next_cell (jms_row s word))
 told_jms s word small field direct = rw direct (inr (ap Some (
     ap (cell_after 1) (named_is s.instruction_field s.pc word small)
-    ∙ place_behind s.instruction_field (direct_address s word) 1 (direct_small (is_in_current_page word) s.pc word small)
+    ∙ place_following s.instruction_field (direct_address s word) 1 (direct_small (is_in_current_page word) s.pc word small)
     ∙ ap (λ f. place f ((direct_address s word + 1) % FIELD)) (sym field))))
 
 -- ## Input and output

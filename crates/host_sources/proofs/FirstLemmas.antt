@@ -36,7 +36,7 @@ same_first : (g f : Fault) (more others : List Fault) → g ∷ more ≡ f ∷ o
 unfolding first_or
 same_first g f more others e = ap (λ l. first_or l g) e
 
--- a fault stands at the mark of the statement that a byte behind a text ends, where this is the name that UA is about
+-- a fault stands at the mark of the statement that a byte after a text ends, where this is the name that UA is about
 abbrev StandsAt : (ℕ → Place) → List ℕ → Option ℕ → Fault → Type 0
 StandsAt place older name f =
     (f.place ≡ place (mark_of f.code (about f.code name) older).at) × (f.about ≡ (mark_of f.code (about f.code name) older).about)

@@ -7,7 +7,7 @@ use Rattle.pal_lex.specs.Text.{text_of}
 use Rattle.pal_lex.specs.Joins.{before_pause, text_with_next, join_of}
 use Rattle.host_sources.specs.Sources.{texts_of, newest_first, counts_by, counts_of}
 use Rattle.host_sources.specs.Steps.{Puts}
-use Rattle.host_sources.proofs.NameLemmas.{behind_one, first_of_rest}
+use Rattle.host_sources.proofs.NameLemmas.{following_one, first_of_rest}
 use Rattle.host_sources.proofs.PauseLemmas.{text_joined, true_false}
 use Rattle.host_sources.proofs.StartLemmas.{length_taken}
 
@@ -16,7 +16,7 @@ pub record HasPut (source : Bor (List ℕ)) (others : List (Bor (List ℕ))) (ol
   pub text : join_of (texts_of (source ∷ others)) ++ text_of old ≡ join_of (texts_of others) ++ text_of new
   pub counts_are : counts ++ counts_of (texts_of (source ∷ others)) ≡ counts_then ++ counts_of (texts_of others)
 
--- there are others behind this one
+-- there are others after this one
 some_more : (next : Bor (List ℕ)) (later : List (Bor (List ℕ))) → nat_eq (length (next ∷ later)) 0 ≡ false
 some_more next later = grind (arith, nat_tests)
 
@@ -64,19 +64,19 @@ put_last source (next ∷ later) last bytes old new counts counts_then is none p
 -- the whole join and all counts, when a source of which others follow was put
 pub puts_on : (sources rest : List (Bor (List ℕ))) (none : Bor (List ℕ)) (last goes : Bool) (bytes old new counts counts_then : List ℕ) → 1 ≤ length rest
     → newest_first sources ≡ join_of (texts_of rest) ++ text_of old → counts_of (texts_of sources) ≡ counts ++ counts_of (texts_of rest) → bytes ≡ host_text (get_or rest 0 none).now
-    → last ≡ nat_eq (length (behind_one rest)) 0 → goes ≡ true → Puts last bytes goes old new counts counts_then
-    → (newest_first sources ≡ join_of (texts_of (behind_one rest)) ++ text_of new) × (counts_of (texts_of sources) ≡ counts_then ++ counts_of (texts_of (behind_one rest)))
+    → last ≡ nat_eq (length (following_one rest)) 0 → goes ≡ true → Puts last bytes goes old new counts counts_then
+    → (newest_first sources ≡ join_of (texts_of (following_one rest)) ++ text_of new) × (counts_of (texts_of sources) ≡ counts_then ++ counts_of (texts_of (following_one rest)))
 puts_on sources rest none last goes bytes old new counts counts_then long joins counted is ends goes_on puts =
     let first = first_of_rest rest none long in
-    let put = put_prefix (get_or rest 0 none) (behind_one rest) last bytes old new counts counts_then is ends (subst (λ g. Puts last bytes g old new counts counts_then) goes_on puts) in
+    let put = put_prefix (get_or rest 0 none) (following_one rest) last bytes old new counts counts_then is ends (subst (λ g. Puts last bytes g old new counts counts_then) goes_on puts) in
     (joins ∙ ap (λ l. join_of (texts_of l) ++ text_of old) first ∙ put.text, counted ∙ ap (λ l. counts ++ counts_of (texts_of l)) first ∙ put.counts_are)
 
 -- the same when the last that counts was put
 pub puts_last : (sources rest : List (Bor (List ℕ))) (none : Bor (List ℕ)) (last goes : Bool) (bytes old new counts counts_then : List ℕ) → 1 ≤ length rest
     → newest_first sources ≡ join_of (texts_of rest) ++ text_of old → counts_of (texts_of sources) ≡ counts ++ counts_of (texts_of rest) → bytes ≡ host_text (get_or rest 0 none).now
-    → last ≡ nat_eq (length (behind_one rest)) 0 → goes ≡ false → Puts last bytes goes old new counts counts_then
+    → last ≡ nat_eq (length (following_one rest)) 0 → goes ≡ false → Puts last bytes goes old new counts counts_then
     → (text_of new ≡ newest_first sources) × (counts_then ≡ counts_of (texts_of sources))
 puts_last sources rest none last goes bytes old new counts counts_then long joins counted is ends goes_on puts =
     let first = first_of_rest rest none long in
-    let put = put_last (get_or rest 0 none) (behind_one rest) last bytes old new counts counts_then is ends (subst (λ g. Puts last bytes g old new counts counts_then) goes_on puts) in
+    let put = put_last (get_or rest 0 none) (following_one rest) last bytes old new counts counts_then is ends (subst (λ g. Puts last bytes g old new counts counts_then) goes_on puts) in
     (sym (joins ∙ ap (λ l. join_of (texts_of l) ++ text_of old) first ∙ put.text), sym (counted ∙ ap (λ l. counts ++ counts_of (texts_of l)) first ∙ put.counts_are))

@@ -86,7 +86,7 @@ settled_stays last later text now = by_fault (words_fault last (statements text)
         ap (λ (t : Bool). is_some (words_fault last (statements (later ++ text))) || t) (over_stays text later over)
         ∙ or_true (is_some (words_fault last (statements (later ++ text))))
 
--- ## A text that goes on behind a byte
+-- ## A text that goes on after a byte
 
 pub goes_on : (bytes : List ℕ) (end : ℕ) → end < length bytes → text_of bytes ≡ text_of (drop (end + 1) bytes) ++ (get_or bytes end 0 ∷ text_of (take end bytes))
 goes_on bytes end inside = whole_text bytes (end + 1) ∙ ap (λ l. text_of (drop (end + 1) bytes) ++ l) (next_byte bytes end (get_or bytes end 0) inside refl)
@@ -104,7 +104,7 @@ pub refused_whole : (bytes : List ℕ) (end : ℕ) → IsMetAt bytes (passed.Ref
 refused_whole bytes end p =
     ap is_refused (whole_text bytes (end + 1)) ∙ refused_stays (text_of (drop (end + 1) bytes)) (text_of (take (end + 1) bytes)) p.1
 
--- a text has no further statement behind its `$`
+-- a text has no further statement after its `$`
 pub same_statements : (bytes : List ℕ) (end : ℕ) (assembler : asm.Progress) → EndsSource → Passes bytes (passed.Over end) assembler
     → statements (text_of bytes) ≡ statements (text_of (take (end + 1) bytes))
 same_statements bytes end assembler ends p =
@@ -217,7 +217,7 @@ pass_told text b fault old new law none other answers = ap is_some (law text b f
 
 -- ## A byte in the second pass
 
--- a lexer that went on behind a text of a whole source that has no fault of the first order has none
+-- a lexer that went on after a text of a whole source that has no fault of the first order has none
 no_lexical : {A : Type 0} (text later : List ℕ) (b : ℕ) (fault : LexFault) → asm_laws.StatementsStay → NoFaultBefore → NoLexicalFault
     → first_order (statements (later ++ b ∷ text)) ≡ None → first_fault (statements (b ∷ text)) ≡ Some fault → A
 no_lexical text later b fault stay before lexical none some =
@@ -229,7 +229,7 @@ pub make_none : (whole : Source) (text : List ℕ) (b : ℕ) (old new : Progress
 make_none whole text b old new assembler going second answers =
     (answers.2, subst (IsSecond assembler whole) (sym answers.1) second, (calm_byte text b going (none_ends b text answers.1)).1)
 
--- whether the second pass goes on behind a byte that ends a statement
+-- whether the second pass goes on after a byte that ends a statement
 pub make_ended : (whole : Source) (text : List ℕ) (b : ℕ) (s : Statement) (goes : Bool) (old new : Progress) (assembler : asm.Progress) → old.may_pause ≡ false
     → Answers 0 text b (Ok (Some s)) old new → goes ≡ not (nat_eq b 36) → IsSecond assembler whole (Ok (with_tokens (tokens_after text) s) ∷ statements text)
     → MakesByte whole text b goes new assembler
@@ -257,10 +257,10 @@ make_refused whole text b s (At code line) old new before assembler may answers 
     ap (λ (o : Option AsmFault). is_some o || is_over (b ∷ text)) words
 make_refused whole text b s Memory old new before assembler may answers second = absurd second
 
--- what the whole has behind a statement
-pub whole_behind : (text later : List ℕ) (b : ℕ) (s : Statement) (old new : Progress) → asm_laws.StatementsStay → old.may_pause ≡ false → Answers 0 text b (Ok (Some s)) old new
+-- what the whole has after a statement
+pub whole_after : (text later : List ℕ) (b : ℕ) (s : Statement) (old new : Progress) → asm_laws.StatementsStay → old.may_pause ≡ false → Answers 0 text b (Ok (Some s)) old new
     → (more : Source) × (statements (later ++ b ∷ text) ≡ more ++ Ok (with_tokens (tokens_after text) s) ∷ statements text)
-whole_behind text later b s old new stay may answers =
+whole_after text later b s old new stay may answers =
     let more = stay later (b ∷ text) in
     (more.0, more.1 ∙ ap (λ l. more.0 ++ l) (handed text b s old new may answers).1)
 
@@ -322,7 +322,7 @@ pub second_begins : (bytes : List ℕ) (lexer : Progress) (assembler : asm.Progr
 second_begins bytes lexer assembler read second may =
     record { read = read; second = subst (IsSecond assembler (statements (text_of bytes))) (sym nothing_read) second; going = refl; may = may }
 
--- what a byte is answered in the second pass of a text that goes on behind it
+-- what a byte is answered in the second pass of a text that goes on after it
 pub in_whole : (bytes : List ℕ) (taken b : ℕ) (goes : Bool) (lexer : Progress) (assembler : asm.Progress) → taken < length bytes → b ≡ get_or bytes taken 0
     → MakesByte (statements (text_of (drop (taken + 1) bytes) ++ b ∷ text_of (take taken bytes))) (text_of (take taken bytes)) b goes lexer assembler
     → MakesByte (statements (text_of bytes)) (text_of (take taken bytes)) b goes lexer assembler

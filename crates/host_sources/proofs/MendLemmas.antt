@@ -33,7 +33,7 @@ made_harmless bytes end from p is =
     ∙ ap (λ n. with_erasure (body_place (shortest is_refused (text_of bytes))) n (text_of bytes))
     (sym (length_taken bytes end (omega (arith, p.0))) ∙ ap end_place (sym short))
 
--- ## A byte behind a text
+-- ## A byte after a text
 
 grown : (text bytes : List ℕ) (b : ℕ) → text_from text (bytes ++ b ∷ []) ≡ b ∷ text_from text bytes
 grown text [] b = refl
@@ -85,7 +85,7 @@ erased_more bytes new n from end b inside is same =
     ∙ ap (λ k. erased_byte from end k b ∷ with_erasure from end (text_of (take n bytes))) (sym (length_taken bytes n (omega (arith, inside))))
     ∙ ap (with_erasure from end) (sym (next_byte bytes n b inside is))
 
--- ## Faults behind others
+-- ## Faults after others
 
 pub by_refused : (text : List ℕ) → is_refused text ≡ true → (lexical_by (fault_of text)) ≡ lexical_code text
 by_refused text now = rw now refl

@@ -23,19 +23,19 @@ use Rattle.host_sources.specs.Symbols.{with_tags, with_body, symbols_of, meaning
 use Rattle.host_sources.specs.NameSteps.{values_by, place_by}
 use Rattle.host_sources.proofs.PauseLemmas.{none_some}
 
--- what stands behind the first of a list
-abbrev pub behind_one : {A : Type 0} → List A → List A
-behind_one l = take (length l - 1) (drop 1 l)
+-- what stands after the first of a list
+abbrev pub following_one : {A : Type 0} → List A → List A
+following_one l = take (length l - 1) (drop 1 l)
 
 less_one : (n : ℕ) → suc n - 1 ≡ n
 less_one n = omega arith
 
-pub first_of_rest : {A : Type 0} (rest : List A) (none : A) → 1 ≤ length rest → rest ≡ get_or rest 0 none ∷ behind_one rest
+pub first_of_rest : {A : Type 0} (rest : List A) (none : A) → 1 ≤ length rest → rest ≡ get_or rest 0 none ∷ following_one rest
 first_of_rest [] none long = absurd (omega (arith, long))
 first_of_rest (x ∷ others) none long = ap (λ l. x ∷ l) (sym (ap (λ n. take n others) (less_one (length others)) ∙ take_all (length others) others (omega arith)))
 
-pub first_one : {A : Type 0} (l : List A) (a : A) → 1 ≤ length l → a ≡ get_or l 0 a → l ≡ a ∷ behind_one l
-first_one l a long first = first_of_rest l a long ∙ ap (λ x. x ∷ behind_one l) (sym first)
+pub first_one : {A : Type 0} (l : List A) (a : A) → 1 ≤ length l → a ≡ get_or l 0 a → l ≡ a ∷ following_one l
+first_one l a long first = first_of_rest l a long ∙ ap (λ x. x ∷ following_one l) (sym first)
 
 -- ## Expressions
 

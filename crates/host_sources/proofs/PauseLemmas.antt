@@ -45,7 +45,7 @@ clear_comment text e = sym (ap in_comment e) ∙ ended_comment text
 clear_stretch : (text : List ℕ) → up_to_end text ≡ text → stretch text ≡ []
 clear_stretch text e = sym (ap stretch e) ∙ ended_stretch text
 
--- ## A text behind one that ends behind a statement
+-- ## A text after one that ends after a statement
 
 comment_joined : (here before : List ℕ) → in_comment before ≡ false → in_comment (here ++ before) ≡ in_comment here
 comment_joined [] before quiet = quiet
@@ -183,13 +183,13 @@ next_byte bytes n b inside is =
     ap (λ k. text_of (take k bytes)) next ∙ ap text_of (take-suc bytes n 0 inside) ∙ grown [] (take n bytes) (get_or bytes n 0)
     ∙ ap (λ c. c ∷ text_of (take n bytes)) (sym is)
 
--- bytes behind others
+-- bytes after others
 from_prefix : (bytes text : List ℕ) → text_from text bytes ≡ text_of bytes ++ text
-from_prefix bytes text = behind bytes [] text
+from_prefix bytes text = following bytes [] text
   where
-    behind : (bytes here before : List ℕ) → text_from (here ++ before) bytes ≡ text_from here bytes ++ before
-    behind [] here before = refl
-    behind (b ∷ bytes) here before = behind bytes (b ∷ here) before
+    following : (bytes here before : List ℕ) → text_from (here ++ before) bytes ≡ text_from here bytes ++ before
+    following [] here before = refl
+    following (b ∷ bytes) here before = following bytes (b ∷ here) before
 
 joined : (a b text : List ℕ) → text_from text (a ++ b) ≡ text_from (text_from text a) b
 joined [] b text = refl
@@ -198,7 +198,7 @@ joined (x ∷ a) b text = joined a b (x ∷ text)
 pub text_joined : (a b : List ℕ) → text_of (a ++ b) ≡ text_of b ++ text_of a
 text_joined a b = joined a b [] ∙ from_prefix b (text_of a)
 
--- a text goes on behind its first bytes
+-- a text goes on after its first bytes
 pub whole_text : (bytes : List ℕ) (n : ℕ) → text_of bytes ≡ text_of (drop n bytes) ++ text_of (take n bytes)
 whole_text bytes n = ap text_of (sym (take-append-drop n bytes)) ∙ text_joined (take n bytes) (drop n bytes)
 
@@ -304,13 +304,13 @@ stands_on bytes taken end b lexer new inside is s meets =
       none = quiet_byte s.here s.prefix b s.clear (ap (λ (t : Bool). t && is_pause (stretch s.here)) meets.0) s.none;
     }
 
-ends_behind : (here prefix : List ℕ) (b : ℕ) → IsClear prefix → ends_statement here b ≡ true → ends_statement (here ++ prefix) b ≡ true
-ends_behind here prefix b clear ends = ends_joined here prefix b (clear_comment prefix clear.0) clear.1 ∙ ends
+ends_following : (here prefix : List ℕ) (b : ℕ) → IsClear prefix → ends_statement here b ≡ true → ends_statement (here ++ prefix) b ≡ true
+ends_following here prefix b clear ends = ends_joined here prefix b (clear_comment prefix clear.0) clear.1 ∙ ends
 
 stands_anew : (bytes : List ℕ) (taken end b : ℕ) (lexer old new : Progress) → taken < length bytes → b ≡ get_or bytes taken 0 → (s : Stands bytes taken end lexer)
     → Meets s.here b End old → nat_eq b 36 ≡ false → HasRead new 0 [] → Stands bytes (taken + 1) (taken + 1) new
 stands_anew bytes taken end b lexer old new inside is s meets other read =
-    let parts = ends_parts (s.here ++ s.prefix) b (ends_behind s.here s.prefix b s.clear meets.0) in
+    let parts = ends_parts (s.here ++ s.prefix) b (ends_following s.here s.prefix b s.clear meets.0) in
     let split = next_byte bytes taken b inside is ∙ ap (λ l. b ∷ l) s.split in
     record {
       here = [];
@@ -342,7 +342,7 @@ pauses_by bytes taken end b lexer new inside is s meets =
 over_by : (bytes : List ℕ) (taken end b : ℕ) (lexer new : Progress) → taken < length bytes → b ≡ get_or bytes taken 0 → (s : Stands bytes taken end lexer)
     → Meets s.here b End new → nat_eq b 36 ≡ true → IsPrefix bytes None
 over_by bytes taken end b lexer new inside is s meets dollar =
-    let parts = ends_parts (s.here ++ s.prefix) b (ends_behind s.here s.prefix b s.clear meets.0) in
+    let parts = ends_parts (s.here ++ s.prefix) b (ends_following s.here s.prefix b s.clear meets.0) in
     let over : is_over (b ∷ s.here ++ s.prefix) ≡ true = rw (parts.2, dollar, parts.1) refl in
     let whole : text_of bytes ≡ text_of (drop (taken + 1) bytes) ++ (b ∷ s.here ++ s.prefix) =
     whole_text bytes (taken + 1) ∙ ap (λ l. text_of (drop (taken + 1) bytes) ++ l) (next_byte bytes taken b inside is ∙ ap (λ l. b ∷ l) s.split) in
@@ -366,7 +366,7 @@ over_at bytes taken end b Nothing lexer new inside is s meets over = absurd cc
 over_at bytes taken end b End lexer new inside is s meets over = over_by bytes taken end b lexer new inside is s meets over
 over_at bytes taken end b Pause lexer new inside is s meets over = absurd cc
 
--- a byte behind which the text goes on
+-- a byte after which the text goes on
 pub goes_on : (bytes : List ℕ) (taken end b : ℕ) (met : Met) (end_then : ℕ) (lexer old new : Progress) → taken < length bytes → b ≡ get_or bytes taken 0 → (s : Stands bytes taken end lexer)
     → Meets s.here b met old → is_pause_met met ≡ false → ends_text met b ≡ false → Renews met end (taken + 1) end_then old new → Stands bytes (taken + 1) end_then new
 goes_on bytes taken end b Nothing end_then lexer old new inside is s meets pausing over renews =

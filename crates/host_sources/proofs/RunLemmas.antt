@@ -217,16 +217,16 @@ too_high_by d n c base digit others is same high =
 
 -- ## The radix
 
-pub decimal_behind : (s : Body) (r : Radix) → decimal_by s (is_decimal r) ≡ is_decimal (radix_by s r)
-decimal_behind body.Nothing r = refl
-decimal_behind (body.Origin e) r = refl
-decimal_behind (body.Define name e) r = refl
-decimal_behind body.Decimal r = refl
-decimal_behind body.Octal r = refl
-decimal_behind body.Pause r = refl
-decimal_behind (body.Field e) r = refl
-decimal_behind (body.Reference operation indirect e) r = refl
-decimal_behind (body.Word e) r = refl
+pub decimal_after : (s : Body) (r : Radix) → decimal_by s (is_decimal r) ≡ is_decimal (radix_by s r)
+decimal_after body.Nothing r = refl
+decimal_after (body.Origin e) r = refl
+decimal_after (body.Define name e) r = refl
+decimal_after body.Decimal r = refl
+decimal_after body.Octal r = refl
+decimal_after body.Pause r = refl
+decimal_after (body.Field e) r = refl
+decimal_after (body.Reference operation indirect e) r = refl
+decimal_after (body.Word e) r = refl
 
 pub decimal_base : (r : Radix) → base_of (is_decimal r) ≡ base r
 decimal_base radix.Octal = refl

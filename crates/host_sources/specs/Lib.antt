@@ -5,7 +5,7 @@ pub mod Unknowns
 pub mod Answers
 pub mod Reading
 pub mod Spelling
-pub mod Telling
+pub mod FaultLines
 pub mod Symbols
 pub mod Mending
 pub mod Lexical

@@ -56,9 +56,9 @@ ends_text Pause b = false
 
 -- The end of the last statement after a byte, and what reads on: a lexer of no byte after an end.
 abbrev pub Renews : Met → ℕ → ℕ → ℕ → Progress → Progress → Type 0
-Renews Nothing end behind result old new = (result ≡ end) × (new ≡ old)
-Renews End end behind result old new = (result ≡ behind) × HasRead new 0 []
-Renews Pause end behind result old new = (result ≡ end) × (new ≡ old)
+Renews Nothing end following result old new = (result ≡ end) × (new ≡ old)
+Renews End end following result old new = (result ≡ following) × HasRead new 0 []
+Renews Pause end following result old new = (result ≡ end) × (new ≡ old)
 
 -- how many bytes of a text stand before its PAUSE, if it has one
 abbrev pub IsPrefix : List ℕ → Option ℕ → Type 0

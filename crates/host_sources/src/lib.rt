@@ -10,6 +10,7 @@
 #![tactic(auto)]
 
 mod assembling;
+mod fault_lines;
 mod faults;
 mod further;
 mod joins;
@@ -28,11 +29,11 @@ mod runs;
 mod showing;
 mod spelling;
 mod starts;
-mod telling;
 mod texts;
 mod unknowns;
 
 pub use assembling::{Assembly, assemble_sources, assembly_of};
+pub use fault_lines::{fault_text, put_character, put_marked_line, put_number, put_place};
 pub use faults::{About, Fault, Place, SourceFault};
 pub use further::further_faults;
 pub use joins::Join;
@@ -41,4 +42,3 @@ pub use places::{first_bytes, next_line};
 pub use reading::statement_ended;
 pub use showing::shown_line;
 pub use spelling::{name_text, put_spelling};
-pub use telling::{fault_text, put_character, put_marked_line, put_number, put_place};

@@ -65,14 +65,14 @@ fn ends_text(met: Met, byte: u8) -> bool
 
 /// Answers the end of the last statement, which is after this byte or where it was. After it a lexer of no byte reads on,
 /// and so a fault of one statement hides no PAUSE.
-fn renew(alloc: Global, lexer: &mut Lexer, met: Met, end: usize, behind: usize) -> usize
-    ensures renews { Renews met end behind result lexer.old lexer.new }
+fn renew(alloc: Global, lexer: &mut Lexer, met: Met, end: usize, following: usize) -> usize
+    ensures renews { Renews met end following result lexer.old lexer.new }
     ensures may { lexer.old.may_pause ≡ true → lexer.new.may_pause ≡ true }
 {
     match met {
         Met::End => {
             *lexer = Lexer::several_without_tokens(alloc);
-            behind
+            following
         }
         Met::Nothing | Met::Pause => end,
     }

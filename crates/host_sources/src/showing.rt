@@ -1,6 +1,6 @@
 //! Lines of a source as they are shown.
 ghost use Rattle.std.specs.Prelude.{◌≡◌, ◌-◌, ◌++◌, IfOk, OnOk};
-ghost use Rattle.host_sources.specs.Telling.{after_lines, up_to_lf, shown_byte, visible_bytes, shown_line, blanks_below};
+ghost use Rattle.host_sources.specs.FaultLines.{after_lines, up_to_lf, shown_byte, visible_bytes, shown_line, blanks_below};
 
 use std::alloc::{AllocError, Global};
 

@@ -20,8 +20,8 @@ over_head head was = take_all head (drop (length head) was)
 
 pub over_both : (head rest was : List ℕ) → take (length (head ++ rest)) (with_bytes_over 0 head (with_bytes_over (length head) rest was)) ≡ head ++ rest
 over_both head rest was =
-    let behind = tail_of (length head) rest was in
-    rw behind.1 (rw (← append_assoc head rest behind.0) (take_all (head ++ rest) behind.0))
+    let following = tail_of (length head) rest was in
+    rw following.1 (rw (← append_assoc head rest following.0) (take_all (head ++ rest) following.0))
 
 over_left : (bytes head rest was : List ℕ) (seen : Remainder) → seen ≡ Just (Some was) → bytes ≡ head ++ rest → cut_left (length bytes) (remainder_with_bytes_over 0 head (remainder_with_bytes_over (length head) rest seen)) ≡ Just (Some bytes)
 over_left bytes head rest was seen is parts = rw is (rw parts (ap (λ found. Just (Some found)) (over_both head rest was)))

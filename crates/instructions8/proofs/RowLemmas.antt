@@ -1,7 +1,7 @@
 -- What is shown for each row of a table, and of a field's number.
 use Rattle.std.proofs.Common.{ℕ, ◌<◌, zero, suc, arith}
 
--- what is said of a row, and of the rows behind it
+-- what is said of a row, and of the rows after it
 infixr 30 ◌⊗◌
 pub ◌⊗◌ : {A B : Type 0} → A → B → A × B
 a ⊗ b = (a, b)

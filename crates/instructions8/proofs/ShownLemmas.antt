@@ -11,16 +11,16 @@ use Rattle.instructions8.specs.Instructions.{instructions, Each}
 use Rattle.instructions8.specs.Shown.{BeginsWith, field_pieces, IsShown, is_of_group_1, is_of_group_2, codes_where}
 use Rattle.instructions8.proofs.RowLemmas.{◌⊗◌, of_fields}
 
-abbrev behind : (ℕ → Bool) → ℕ → ℕ → List (List ℕ)
-behind tagged cell word = (if nat_eq (word / 0o400 % 2) 1 then codes "I" ∷ [] else []) ++ address tag tagged cell word ∷ []
+abbrev following : (ℕ → Bool) → ℕ → ℕ → List (List ℕ)
+following tagged cell word = (if nat_eq (word / 0o400 % 2) 1 then codes "I" ∷ [] else []) ++ address tag tagged cell word ∷ []
 
 begins : (digit : ℕ) (tagged : ℕ → Bool) (cell word : ℕ) → word / 0o1000 ≡ digit → is_reference (cell % 0o10000) word ≡ true
     → BeginsWith (operation_name digit) (instruction tagged cell word)
 begins digit tagged cell word top refers = record {
-  others = behind tagged cell word;
+  others = following tagged cell word;
   pieces_are =
       ap (λ b. if b then reference tag tagged cell word else (if is_named word then names (patterns_of word patterns) else octal4 word ∷ [])) refers
-      ∙ ap (λ d. operation_name d ∷ behind tagged cell word) top;
+      ∙ ap (λ d. operation_name d ∷ following tagged cell word) top;
 }
 
 cdf_shown : (field : ℕ) → field < 8 → (tagged : ℕ → Bool) (cell : ℕ) → instruction tagged cell (0o6201 + 0o10 * field) ≡ codes "CDF" ∷ field_pieces field

@@ -65,26 +65,26 @@ octal_back c small =
     ∙ ap (λ (b : Bool). if b then Some (8 * (8 * 0 + (48 + c / 8 % 8 - 48)) + (48 + c % 8 - 48)) else None) (octal_test c)
     ∙ ap (λ n. Some n) (octal_value c small)
 
--- the next code of a text is this one, and behind it stands the rest
+-- the next code of a text is this one, and after it stands the rest
 pub record IsNext (code : ℕ) (text rest : List ℕ) : Type 0 where
   pub count : ℕ
   pub is : next_code text ≡ Some (code, count)
-  pub behind : drop count text ≡ rest
+  pub following : drop count text ≡ rest
 
 spelled_next : (c : ℕ) (t : List ℕ) → c < 64 → IsNext c (spelled_code c ++ t) t
 spelled_next c t small = by_letter (is_letter_code c) refl
   where
     by_digit : (b : Bool) → is_digit_code c ≡ b → IsNext c ((if b then c ∷ [] else 95 ∷ octal_digit (c / 8) ∷ octal_digit c ∷ []) ++ t) t
-    by_digit true e = record { count = 1; is = plain_code c t (digit_apart c e) ∙ ap (taking 1) (digit_code c e); behind = refl }
-    by_digit false e = record { count = 3; is = ap (taking 3) (octal_back c small); behind = refl }
+    by_digit true e = record { count = 1; is = plain_code c t (digit_apart c e) ∙ ap (taking 1) (digit_code c e); following = refl }
+    by_digit false e = record { count = 3; is = ap (taking 3) (octal_back c small); following = refl }
 
     by_letter : (b : Bool) → is_letter_code c ≡ b
         → IsNext c ((if b then (c + 64) ∷ [] else if is_digit_code c then c ∷ [] else 95 ∷ octal_digit (c / 8) ∷ octal_digit c ∷ []) ++ t) t
-    by_letter true e = record { count = 1; is = plain_code (c + 64) t (letter_apart c e) ∙ ap (taking 1) (letter_code c e); behind = refl }
+    by_letter true e = record { count = 1; is = plain_code (c + 64) t (letter_apart c e) ∙ ap (taking 1) (letter_code c e); following = refl }
     by_letter false e = by_digit (is_digit_code c) refl
 
-zeros_behind : (c : ℕ) (cs : List ℕ) → all_zero (c ∷ cs) ≡ true → (c ≡ 0) × (all_zero cs ≡ true)
-zeros_behind c cs e = by (nat_eq c 0) refl e
+zeros_after : (c : ℕ) (cs : List ℕ) → all_zero (c ∷ cs) ≡ true → (c ≡ 0) × (all_zero cs ≡ true)
+zeros_after c cs e = by (nat_eq c 0) refl e
   where
     by : (b : Bool) → nat_eq c 0 ≡ b → (if b then all_zero cs else false) ≡ true → (c ≡ 0) × (all_zero cs ≡ true)
     by true z rest = (is_zero c z, rest)
@@ -99,8 +99,8 @@ first_code c cs small = by (all_zero (c ∷ cs)) refl
   where
     by : (b : Bool) → all_zero (c ∷ cs) ≡ b → IsNext c (if b then [] else spelled_code c ++ spelled_codes cs) (spelled_codes cs)
     by true e =
-        let parts = zeros_behind c cs e in
-        record { count = 0; is = ap (λ n. Some (n, 0)) (sym parts.0); behind = sym (nothing_spelled cs parts.1) }
+        let parts = zeros_after c cs e in
+        record { count = 0; is = ap (λ n. Some (n, 0)) (sym parts.0); following = sym (nothing_spelled cs parts.1) }
     by false e = spelled_next c (spelled_codes cs) small
 
 -- ## Words
@@ -109,7 +109,7 @@ first_code c cs small = by (all_zero (c ∷ cs)) refl
 pub record IsWord (word : ℕ) (text rest : List ℕ) : Type 0 where
   pub count : ℕ
   pub is : word_in text ≡ Some (word, count)
-  pub behind : drop count text ≡ rest
+  pub following : drop count text ≡ rest
 
 pub first_word_in : (a b : ℕ) (cs : List ℕ) → a < 64 → b < 64 → IsWord (64 * a + b) (spelled_codes (a ∷ b ∷ cs)) (spelled_codes cs)
 first_word_in a b cs small low =
@@ -118,14 +118,14 @@ first_word_in a b cs small low =
     let text = spelled_codes (a ∷ b ∷ cs) in
     record {
       count = high.count + next.count;
-      is = ap (with_high text) high.is ∙ ap (λ t. with_low (a, high.count) (next_code t)) high.behind ∙ ap (with_low (a, high.count)) next.is;
-      behind = sym (drop-drop next.count high.count text) ∙ ap (drop next.count) high.behind ∙ next.behind;
+      is = ap (with_high text) high.is ∙ ap (λ t. with_low (a, high.count) (next_code t)) high.following ∙ ap (with_low (a, high.count)) next.is;
+      following = sym (drop-drop next.count high.count text) ∙ ap (drop next.count) high.following ∙ next.following;
     }
 
--- behind the last word nothing stands
+-- after the last word nothing stands
 pub last_word : (word : ℕ) (text : List ℕ) → IsWord word text [] → last_in text (word_in text) ≡ Some word
 last_word word text is =
-    ap (last_in text) is.is ∙ ap (λ (b : Bool). if b then None else Some word) (all_read is.count text (ap length is.behind))
+    ap (last_in text) is.is ∙ ap (λ (b : Bool). if b then None else Some word) (all_read is.count text (ap length is.following))
   where
     all_read : (count : ℕ) (text : List ℕ) → length (drop count text) ≡ 0 → nat_lt count (length text) ≡ false
     all_read count text none = grind (arith, nat_tests, length-drop, none)

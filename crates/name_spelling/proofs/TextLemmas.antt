@@ -77,9 +77,9 @@ front : (t rest : List ℕ) → take (length t) (t ++ rest) ≡ t
 front [] rest = refl
 front (c ∷ t) rest = ap (λ s. c ∷ s) (front t rest)
 
-behind : (t rest : List ℕ) → drop (length t) (t ++ rest) ≡ rest
-behind [] rest = refl
-behind (c ∷ t) rest = behind t rest
+following : (t rest : List ℕ) → drop (length t) (t ++ rest) ≡ rest
+following [] rest = refl
+following (c ∷ t) rest = following t rest
 
 -- ## An extension
 
@@ -129,7 +129,7 @@ two_back word = omega arith
 word_back : (word : ℕ) (cs : List ℕ) → word < 4096 → IsWord word (spelled_codes (word / 64 ∷ word % 64 ∷ cs)) (spelled_codes cs)
 word_back word cs small =
     let is = first_word_in (word / 64) (word % 64) cs (small_code word small) (low_code word) in
-    record { count = is.count; is = is.is ∙ ap (λ w. Some (w, is.count)) (two_back word); behind = is.behind }
+    record { count = is.count; is = is.is ∙ ap (λ w. Some (w, is.count)) (two_back word); following = is.following }
 
 stem_back : (a b c : ℕ) → a < 4096 → b < 4096 → c < 4096
     → stem_in (spelled_codes (a / 64 ∷ a % 64 ∷ b / 64 ∷ b % 64 ∷ c / 64 ∷ c % 64 ∷ [])) ≡ Some (a, b, c)
@@ -141,9 +141,9 @@ stem_back a b c la lb lc =
     let second = word_back b last lb in
     let third = word_back c [] lc in
     ap (with_first text) first.is
-    ∙ ap (λ t. with_second t a (word_in t)) first.behind
+    ∙ ap (λ t. with_second t a (word_in t)) first.following
     ∙ ap (with_second (spelled_codes later) a) second.is
-    ∙ ap (λ t. three a b (last_in t (word_in t))) second.behind
+    ∙ ap (λ t. three a b (last_in t (word_in t))) second.following
     ∙ ap (three a b) (last_word c (spelled_codes last) third)
 
 name_back : (name : ℕ) → ((name / 68719476736 * 4096 + name / 16777216 % 4096) * 4096 + name / 4096 % 4096) * 4096 + name % 4096 ≡ name
@@ -158,7 +158,7 @@ words_back a b c d la lb lc ld =
     let t = spelled_codes stem in
     ap (λ s. join_codes (stem_in (take (length s) (t ++ with_dot two))) (extension_in (drop (length s) (t ++ with_dot two)))) (cut t two (codes_no_dot stem))
     ∙ ap (λ s. join_codes (stem_in s) (extension_in (drop (length t) (t ++ with_dot two)))) (front t (with_dot two))
-    ∙ ap (λ r. join_codes (stem_in t) (extension_in r)) (behind t (with_dot two))
+    ∙ ap (λ r. join_codes (stem_in t) (extension_in r)) (following t (with_dot two))
     ∙ ap (λ o. join_codes o (extension_in (with_dot two))) (stem_back a b c la lb lc)
     ∙ ap (join_codes (Some (a, b, c))) (extension_back (d / 64) (d % 64) (small_code d ld) (low_code d))
     ∙ ap (λ n. Some (((a * 4096 + b) * 4096 + c) * 4096 + n)) (two_back d)

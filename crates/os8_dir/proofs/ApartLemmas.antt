@@ -26,8 +26,8 @@ find-inside from bound name (g ∷ fs) f apart found = elim (eqb_tells g.name na
       let same : g ≡ f = some-same g f (rw here.0 at found) in
       rw (← same) (record { named = here.1; low = apart.0; some = apart.1; high = apart-bound (g.place + g.size) bound fs apart.2 })
   | inr there ↦
-      let behind = find-inside (g.place + g.size) bound name fs f apart.2 (rw there.0 at found) in
-      record { named = behind.named; low = omega (arith, apart.0, behind.low); some = behind.some; high = behind.high }
+      let following = find-inside (g.place + g.size) bound name fs f apart.2 (rw there.0 at found) in
+      record { named = following.named; low = omega (arith, apart.0, following.low); some = following.some; high = following.high }
 ]
 
 pub found-inside : (from bound name : ℕ) (fs : List FilePlace) (f : FilePlace) → AreApart from bound fs → find name fs ≡ Some f → (f.name ≡ name) × (from ≤ f.place) × (0 < f.size) × (f.place + f.size ≤ bound)

@@ -63,7 +63,7 @@ tidied-neat kept xs is = rw is (IsTidy-tidy xs)
 pub tidied-total : (kept xs : List DirEntry) → kept ≡ tidy xs → total kept ≡ total xs
 tidied-total kept xs is = rw is (total-tidy xs)
 
--- more behind what was tidied
+-- more after what was tidied
 pub tidy-more : (kept xs ys zs : List DirEntry) → kept ≡ tidy xs → xs ++ ys ≡ zs → tidy (kept ++ ys) ≡ tidy zs
 tidy-more kept xs ys zs is same = rw (is, tidy-prefix xs ys, same) refl
 
@@ -144,9 +144,9 @@ total-swapped name (Empty gap ∷ Empty size ∷ es) = omega (arith, total-swapp
 total-swapped name (Empty gap ∷ File other info size ∷ es) = total-pair (eqb other name) other gap size info es (with_file_lower name es) (total-swapped name es)
 
 -- the four parts of a list in which two entries change places
-pub parts-sum : (k : ℕ) (es prefix behind gap more file rest : List DirEntry) → prefix ≡ take k es → behind ≡ drop k es → gap ≡ take 1 behind → more ≡ drop 1 behind → file ≡ take 1 more → rest ≡ drop 1 more → total prefix + total file + total gap + total rest ≡ total es
-parts-sum k es prefix behind gap more file rest is_prefix is_behind is_gap is_more is_file is_rest =
-    omega (arith, ap total is_prefix, ap total is_behind, ap total is_gap, ap total is_more, ap total is_file, ap total is_rest, total-split k es, total-split 1 behind, total-split 1 more)
+pub parts-sum : (k : ℕ) (es prefix following gap more file rest : List DirEntry) → prefix ≡ take k es → following ≡ drop k es → gap ≡ take 1 following → more ≡ drop 1 following → file ≡ take 1 more → rest ≡ drop 1 more → total prefix + total file + total gap + total rest ≡ total es
+parts-sum k es prefix following gap more file rest is_prefix is_following is_gap is_more is_file is_rest =
+    omega (arith, ap total is_prefix, ap total is_following, ap total is_gap, ap total is_more, ap total is_file, ap total is_rest, total-split k es, total-split 1 following, total-split 1 more)
 
 pub parts-tidy : (none one two three four prefix file gap rest : List DirEntry) → none ≡ [] → one ≡ tidy (none ++ prefix) → two ≡ tidy (one ++ file) → three ≡ tidy (two ++ gap) → four ≡ tidy (three ++ rest) → four ≡ tidy (prefix ++ (file ++ (gap ++ rest)))
 parts-tidy none one two three four prefix file gap rest is_none is_one is_two is_three is_four =

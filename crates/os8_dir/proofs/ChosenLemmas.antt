@@ -37,17 +37,17 @@ no-room (room ∷ rooms) is = cc
 all-largest : (rooms : List (ℕ × ℕ)) (room : ℕ × ℕ) (most : ℕ) → IsFirstLargest rooms room → room.1 ≤ most → EachRoom (λ size. size ≤ most) rooms
 all-largest rooms room most first less =
     subst (EachRoom (λ size. size ≤ most)) (sym first.list)
-    (each-append (λ size. size ≤ most) first.prefix (room ∷ first.behind)
+    (each-append (λ size. size ≤ most) first.prefix (room ∷ first.following)
     (each-more (λ size. size < room.1) (λ size. size ≤ most) (λ n under. omega (arith, under, less)) first.prefix first.before)
-    (less, each-more (λ size. size ≤ room.1) (λ size. size ≤ most) (λ n under. omega (arith, under, less)) first.behind first.after))
+    (less, each-more (λ size. size ≤ room.1) (λ size. size ≤ most) (λ n under. omega (arith, under, less)) first.following first.after))
 
 larger-first : (room : ℕ × ℕ) (rooms : List (ℕ × ℕ)) (o : Option (ℕ × ℕ)) → largest rooms ≡ o → ((other : ℕ × ℕ) → o ≡ Some other → IsFirstLargest rooms other) → IsFirstLargest (room ∷ rooms) (larger room o)
-larger-first room rooms None is first = record { prefix = []; behind = rooms; list = refl; before = tt; after = subst (EachRoom (λ size. size ≤ room.1)) (sym (no-room rooms is)) tt }
+larger-first room rooms None is first = record { prefix = []; following = rooms; list = refl; before = tt; after = subst (EachRoom (λ size. size ≤ room.1)) (sym (no-room rooms is)) tt }
 larger-first room rooms (Some other) is first = elim (leb_tells (suc room.1) other.1) [
   | inl less ↦ let h = first other refl in subst (λ b. IsFirstLargest (room ∷ rooms) (if b then other else room)) (sym less.0)
-      (record { prefix = room ∷ h.prefix; behind = h.behind; list = ap (λ l. room ∷ l) h.list; before = (omega (arith, less.1), h.before); after = h.after })
+      (record { prefix = room ∷ h.prefix; following = h.following; list = ap (λ l. room ∷ l) h.list; before = (omega (arith, less.1), h.before); after = h.after })
   | inr more ↦ subst (λ b. IsFirstLargest (room ∷ rooms) (if b then other else room)) (sym more.0)
-      (record { prefix = []; behind = rooms; list = refl; before = tt; after = all-largest rooms other room.1 (first other refl) (omega (arith, more.1)) })
+      (record { prefix = []; following = rooms; list = refl; before = tt; after = all-largest rooms other room.1 (first other refl) (omega (arith, more.1)) })
 ]
 
 pub largest-first : (rooms : List (ℕ × ℕ)) (room : ℕ × ℕ) → largest rooms ≡ Some room → IsFirstLargest rooms room
@@ -68,14 +68,14 @@ none-long wish (room ∷ rooms) is = elim (leb_tells (suc room.1) wish) [
 all-smallest : (wish : ℕ) (rooms : List (ℕ × ℕ)) (room : ℕ × ℕ) (least : ℕ) → IsFirstSmallest wish rooms room → least ≤ room.1 → EachRoom (λ size. (size < wish) ⊎ (least ≤ size)) rooms
 all-smallest wish rooms room least first less =
     subst (EachRoom (λ size. (size < wish) ⊎ (least ≤ size))) (sym first.list)
-    (each-append (λ size. (size < wish) ⊎ (least ≤ size)) first.prefix (room ∷ first.behind)
+    (each-append (λ size. (size < wish) ⊎ (least ≤ size)) first.prefix (room ∷ first.following)
     (each-more (λ size. (size < wish) ⊎ (room.1 < size)) (λ size. (size < wish) ⊎ (least ≤ size)) (λ n so. elim so [ inl short ↦ inl short | inr over ↦ inr (omega (arith, over, less)) ]) first.prefix first.before)
-    (inr less, each-more (λ size. (size < wish) ⊎ (room.1 ≤ size)) (λ size. (size < wish) ⊎ (least ≤ size)) (λ n so. elim so [ inl short ↦ inl short | inr over ↦ inr (omega (arith, over, less)) ]) first.behind first.after))
+    (inr less, each-more (λ size. (size < wish) ⊎ (room.1 ≤ size)) (λ size. (size < wish) ⊎ (least ≤ size)) (λ n so. elim so [ inl short ↦ inl short | inr over ↦ inr (omega (arith, over, less)) ]) first.following first.after))
 
 smaller-first : (wish : ℕ) (room : ℕ × ℕ) (rooms : List (ℕ × ℕ)) (o : Option (ℕ × ℕ)) → wish ≤ room.1 → smallest wish rooms ≡ o → ((other : ℕ × ℕ) → o ≡ Some other → IsFirstSmallest wish rooms other) → IsFirstSmallest wish (room ∷ rooms) (smaller room o)
 smaller-first wish room rooms None long is first = record {
   prefix = [];
-  behind = rooms;
+  following = rooms;
   list = refl;
   long = long;
   before = tt;
@@ -83,16 +83,16 @@ smaller-first wish room rooms None long is first = record {
 }
 smaller-first wish room rooms (Some other) long is first = elim (leb_tells (suc other.1) room.1) [
   | inl less ↦ let h = first other refl in subst (λ b. IsFirstSmallest wish (room ∷ rooms) (if b then other else room)) (sym less.0)
-      (record { prefix = room ∷ h.prefix; behind = h.behind; list = ap (λ l. room ∷ l) h.list; long = h.long; before = (inr (omega (arith, less.1)), h.before); after = h.after })
+      (record { prefix = room ∷ h.prefix; following = h.following; list = ap (λ l. room ∷ l) h.list; long = h.long; before = (inr (omega (arith, less.1)), h.before); after = h.after })
   | inr more ↦ subst (λ b. IsFirstSmallest wish (room ∷ rooms) (if b then other else room)) (sym more.0)
-      (record { prefix = []; behind = rooms; list = refl; long = long; before = tt; after = all-smallest wish rooms other room.1 (first other refl) (omega (arith, more.1)) })
+      (record { prefix = []; following = rooms; list = refl; long = long; before = tt; after = all-smallest wish rooms other room.1 (first other refl) (omega (arith, more.1)) })
 ]
 
 smallest-first : (wish : ℕ) (rooms : List (ℕ × ℕ)) (room : ℕ × ℕ) → smallest wish rooms ≡ Some room → IsFirstSmallest wish rooms room
 smallest-first wish [] room is = cc
 smallest-first wish (other ∷ rooms) room is = elim (leb_tells (suc other.1) wish) [
   | inl short ↦ let h = smallest-first wish rooms room (subst (λ b. (if b then smallest wish rooms else or_smaller wish other rooms) ≡ Some room) short.0 is) in
-      record { prefix = other ∷ h.prefix; behind = h.behind; list = ap (λ l. other ∷ l) h.list; long = h.long; before = (inl (omega (arith, short.1)), h.before); after = h.after }
+      record { prefix = other ∷ h.prefix; following = h.following; list = ap (λ l. other ∷ l) h.list; long = h.long; before = (inl (omega (arith, short.1)), h.before); after = h.after }
   | inr long ↦ subst (IsFirstSmallest wish (other ∷ rooms)) (some-is _ room (subst (λ b. (if b then smallest wish rooms else or_smaller wish other rooms) ≡ Some room) long.0 is))
       (smaller-first wish other rooms (smallest wish rooms) (omega (arith, long.1)) refl (λ x found. smallest-first wish rooms x found))
 ]
@@ -111,12 +111,12 @@ pub lowest-first : (es : List DirEntry) (name gap : ℕ) → IsTidy es → lowes
 lowest-first [] name gap neat is = cc
 lowest-first (File other info size ∷ es) name gap neat is =
     let h = lowest-first es name gap neat.2 is in
-    record { prefix = File other info size ∷ h.prefix; info = h.info; size = h.size; behind = h.behind; list = ap (λ l. File other info size ∷ l) h.list; files = h.files }
+    record { prefix = File other info size ∷ h.prefix; info = h.info; size = h.size; following = h.following; list = ap (λ l. File other info size ∷ l) h.list; files = h.files }
 lowest-first (Empty size ∷ []) name gap neat is = cc
 lowest-first (Empty size ∷ Empty more ∷ es) name gap neat is = absurd neat.1
 lowest-first (Empty size ∷ File other info more ∷ es) name gap neat is =
     subst (λ (p : ℕ × ℕ). IsLowestAbove (Empty size ∷ File other info more ∷ es) p.0 p.1) (some-is (other, size) (name, gap) is)
-    (record { prefix = []; info = info; size = more; behind = es; list = refl; files = tt })
+    (record { prefix = []; info = info; size = more; following = es; list = refl; files = tt })
 
 -- The files with a free block below them.
 free-below : (block place : ℕ) (es : List DirEntry) → block < place → IsFreeBlock block (files_at place es)

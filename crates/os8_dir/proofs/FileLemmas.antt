@@ -97,7 +97,7 @@ not-within_past place size from count some past = elim (leb_tells (from + count)
 pub is-within : (place size from count : ℕ) → place ≤ from → from + count ≤ place + size → is_within place size from count ≡ true
 is-within place size from count low high = rw (le-leb place from low, le-leb (from + count) (place + size) high) refl
 
--- behind the empty that has the blocks nothing changes
+-- after the empty that has the blocks nothing changes
 pub put-past : (place from : ℕ) (file : DirEntry) (es : List DirEntry) → from < place → put place from file es ≡ es
 put-past place from file [] past = refl
 put-past place from file (File name info size ∷ es) past = ap (λ xs. File name info size ∷ xs) (put-past (place + size) from file es (omega arith))
@@ -112,11 +112,11 @@ find-put_other : (q place from name count : ℕ) (info : List ℕ) (es : List Di
 find-put_other q place from name count info [] other = refl
 find-put_other q place from name count info (File own words size ∷ es) other = find-more q place (File own words size) (put (place + size) from (File name info count) es) es (find-put_other q (place + size) from name count info es other)
 find-put_other q place from name count info (Empty size ∷ es) other =
-    let behind = put (place + size) from (File name info count) es in
+    let following = put (place + size) from (File name info count) es in
     let same = find-put_other q (place + size) from name count info es other in
     elim (leb_tells place from) [
       | inl low ↦ elim (leb_tells (from + count) (place + size)) [
-        | inl high ↦ rw (low.0, high.0) (find-laid_other q place from size name count info behind other low.1 high.1 ∙ same)
+        | inl high ↦ rw (low.0, high.0) (find-laid_other q place from size name count info following other low.1 high.1 ∙ same)
         | inr missed ↦ rw (low.0, missed.0) same
       ]
       | inr missed ↦ rw missed.0 same
@@ -188,11 +188,11 @@ emptied-without name q (File own info zero ∷ es) none = elim (eqb_tells own na
   | inr there ↦ rw there.0 (emptied-without name q es none)
 ]
 emptied-without name q (File own info (suc size) ∷ es) none =
-    let behind = emptied-without name q es (rest-none (File own info (suc size)) es q none) in
+    let following = emptied-without name q es (rest-none (File own info (suc size)) es q none) in
     let other : eqb own q ≡ false = head-named q own (suc size) info es none in
     elim (eqb_tells own name) [
-      | inl here ↦ rw here.0 behind
-      | inr there ↦ rw (there.0, other) behind
+      | inl here ↦ rw here.0 following
+      | inr there ↦ rw (there.0, other) following
     ]
 emptied-without name q (Empty size ∷ es) none = emptied-without name q es none
 
@@ -215,18 +215,18 @@ put-without q place from name count info (File own words (suc size) ∷ es) some
     rw (head-named q own (suc size) words es none) (put-without q (place + suc size) from name count info es some other (rest-none (File own words (suc size)) es q none))
 put-without q place from name zero info (Empty size ∷ es) some other none = absurd (omega arith)
 put-without q place from name (suc count) info (Empty size ∷ es) some other none =
-    let behind = put-without q (place + size) from name (suc count) info es some other none in
+    let following = put-without q (place + size) from name (suc count) info es some other none in
     elim (is_within place size from (suc count)) as (λ b. contains (names_of (cond b (Empty (from - place) ∷ File name info (suc count) ∷ Empty ((place + size) - (from + suc count)) ∷ []) (Empty size ∷ []) ++ put (place + size) from (File name info (suc count)) es)) q ≡ false) [
-      | true ↦ rw (ne_eqb name q other) behind
-      | false ↦ behind
+      | true ↦ rw (ne_eqb name q other) following
+      | false ↦ following
     ]
 
 put-distinct_if : (b : Bool) (place from name count size : ℕ) (info : List ℕ) (es : List DirEntry) → is_within place size from (suc count) ≡ b → contains (names_of es) name ≡ false → AreDistinct (names_of es) → AreDistinct (names_of (put (place + size) from (File name info (suc count)) es)) → AreDistinct (names_of (cond b (Empty (from - place) ∷ File name info (suc count) ∷ Empty ((place + size) - (from + suc count)) ∷ []) (Empty size ∷ []) ++ put (place + size) from (File name info (suc count)) es))
-put-distinct_if true place from name count size info es within new apart behind =
+put-distinct_if true place from name count size info es within new apart following =
     let bounds = within-bounds place size from (suc count) within in
     let same : put (place + size) from (File name info (suc count)) es ≡ es = put-past (place + size) from (File name info (suc count)) es (omega (arith, bounds.1)) in
     rw same (new, apart)
-put-distinct_if false place from name count size info es within new apart behind = behind
+put-distinct_if false place from name count size info es within new apart following = following
 
 put-distinct : (place from name count : ℕ) (info : List ℕ) (es : List DirEntry) → 0 < count → contains (names_of es) name ≡ false → AreDistinct (names_of es) → AreDistinct (names_of (put place from (File name info count) es))
 put-distinct place from name count info [] some new apart = tt

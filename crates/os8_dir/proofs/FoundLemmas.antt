@@ -75,10 +75,10 @@ or_better-again wish (Some a) room rest = ap Some (better-again wish a room rest
 pub choice-more : (wish : ℕ) (chosen : Option (ℕ × ℕ)) (place : ℕ) (e : DirEntry) (es rest : List DirEntry) → es ≡ e ∷ rest → or_better wish chosen (best wish (rooms_at place es)) ≡ or_better wish (with_room wish chosen place e) (best wish (rooms_at (place + size_of e) rest))
 choice-more wish chosen place (File name info size) es rest is = rw is refl
 choice-more wish chosen place (Empty size) es rest is =
-    let behind = best wish (rooms_at (place + size) rest) in
-    rw is (elim (ltb size wish) as (λ t. or_better wish chosen (cond t behind (Some (better wish (place, size) behind))) ≡ or_better wish (cond t chosen (or_better wish chosen (Some (place, size)))) behind) [
+    let following = best wish (rooms_at (place + size) rest) in
+    rw is (elim (ltb size wish) as (λ t. or_better wish chosen (cond t following (Some (better wish (place, size) following))) ≡ or_better wish (cond t chosen (or_better wish chosen (Some (place, size)))) following) [
       | true ↦ refl
-      | false ↦ or_better-again wish chosen (place, size) behind
+      | false ↦ or_better-again wish chosen (place, size) following
     ])
 
 better-larger : (room : ℕ × ℕ) (rest : Option (ℕ × ℕ)) → better 0 room rest ≡ larger room rest

@@ -21,7 +21,7 @@ information-found name place (Empty size ∷ es) = information-found name (place
 some-same : (f g : FilePlace) → Some f ≡ Some g → f ≡ g
 some-same f g same = cc
 
--- behind those of the directory's number they are 0
+-- after those of the directory's number they are 0
 writable-found : (info name place : ℕ) (es : List DirEntry) (f : FilePlace) → AreWritable info es → find name (files_at place es) ≡ Some f → with_end_zeros 10 (take info f.info) ≡ f.info
 writable-found info name place [] f all found = cc
 writable-found info name place (File own words zero ∷ es) f all found = writable-found info name place es f all.1 found

@@ -97,15 +97,15 @@ place-fits (suc (suc (suc (suc (suc (suc n)))))) small = absurd (omega arith)
 pub digit-small : (code place : ℕ) → code < 64 → place ≤ 1073741824 → code * place ≤ 67645734912
 digit-small code place small fits = let less : code ≤ 63 = omega arith in omega (arith, mul-le-mul {n₁ = code} {m₁ = place} {n₂ = 63} {m₂ = 1073741824} less fits)
 
-pub digit-fits : (n code behind : ℕ) → code < 64 → behind < 64 ^ n → code * 64 ^ n + behind < 64 ^ suc n
-digit-fits n code behind small below = let less : code ≤ 63 = omega arith in rw (pow-suc 64 n) (omega (arith, mul-le-mul_right (64 ^ n) less))
+pub digit-fits : (n code following : ℕ) → code < 64 → following < 64 ^ n → code * 64 ^ n + following < 64 ^ suc n
+digit-fits n code following small below = let less : code ≤ 63 = omega arith in rw (pow-suc 64 n) (omega (arith, mul-le-mul_right (64 ^ n) less))
 
-pub digit-fits-before : (n code behind : ℕ) → 0 < n → code < 64 → behind < 64 ^ (n - 1) → code * 64 ^ (n - 1) + behind < 64 ^ n
-digit-fits-before zero code behind some small below = absurd (omega arith)
-digit-fits-before (suc n) code behind some small below =
+pub digit-fits-before : (n code following : ℕ) → 0 < n → code < 64 → following < 64 ^ (n - 1) → code * 64 ^ (n - 1) + following < 64 ^ n
+digit-fits-before zero code following some small below = absurd (omega arith)
+digit-fits-before (suc n) code following some small below =
     let e : suc n - 1 ≡ n = omega arith in
-    let below' : behind < 64 ^ n = rw e at below in
-    rw e (digit-fits n code behind small below')
+    let below' : following < 64 ^ n = rw e at below in
+    rw e (digit-fits n code following small below')
 
 pub place-some : (n : ℕ) → 0 < 64 ^ n
 place-some zero = lit< tt

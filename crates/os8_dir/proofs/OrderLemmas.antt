@@ -5,7 +5,7 @@ use Rattle.os8_dir.specs.Names.{name_of, IsFourWords, IsBefore}
 pub name_of-order : (name other : List ℕ) → IsFourWords name → IsFourWords other → IsBefore name other → name_of name < name_of other
 name_of-order (a ∷ b ∷ c ∷ d ∷ []) (e ∷ f ∷ g ∷ h ∷ []) four four' before = elim before [
   | inl first ↦ omega arith
-  | inr behind ↦ elim behind.1 [
+  | inr following ↦ elim following.1 [
     | inl second ↦ omega arith
     | inr rest ↦ elim rest.1 [
       | inl third ↦ omega arith

@@ -99,12 +99,12 @@ with_entries-back (e ∷ es) volume first info xs rest few neat single inside mo
     let words : words_of_entries info (e ∷ es) ++ rest ≡ words_of_entry info e ++ (words_of_entries info es ++ rest) = rw append_assoc refl in
     let size : first + total xs + size_of e ≤ volume = omega (arith, total-append xs (e ∷ es)) in
     let d = listed first info xs in
-    let behind = words_of_entries info es ++ rest in
-    let said : entry_at info (words_of_entry info e ++ behind) ≡ Ok (e, behind) = entry-back info e behind few writable.0 (omega arith) in
+    let following = words_of_entries info es ++ rest in
+    let said : entry_at info (words_of_entry info e ++ following) ≡ Ok (e, following) = entry-back info e following few writable.0 (omega arith) in
     let prefix : IsTidy (xs ++ e ∷ []) = IsTidy-prefix (xs ++ e ∷ []) es (rw regroup neat) in
     let more : with_entry volume d e ≡ Ok (listed first info (xs ++ e ∷ [])) = with_entry-more volume d e size (is_new-distinct xs es e single) ∙ rw (tidy-same (xs ++ e ∷ []) prefix) refl in
     let less : suc (length es) - 1 ≡ length es = omega arith in
-    let step : with_entries (suc (length es)) volume d (words_of_entry info e ++ behind) ≡ with_entries (length es) volume (listed first info (xs ++ e ∷ [])) behind = rw less at (with_entries-more (suc (length es)) volume d (listed first info (xs ++ e ∷ [])) (words_of_entry info e ++ behind) (e, behind) (omega arith) said more) in
+    let step : with_entries (suc (length es)) volume d (words_of_entry info e ++ following) ≡ with_entries (length es) volume (listed first info (xs ++ e ∷ [])) following = rw less at (with_entries-more (suc (length es)) volume d (listed first info (xs ++ e ∷ [])) (words_of_entry info e ++ following) (e, following) (omega arith) said more) in
     rw words (step ∙ with_entries-back es volume first info (xs ++ e ∷ []) rest few (rw regroup neat) (rw regroup single) (rw regroup inside) most writable.1 ∙ rw regroup refl)
 
 -- A segment.

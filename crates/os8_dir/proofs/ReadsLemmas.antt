@@ -71,7 +71,7 @@ judged_next zero d next blocks read (suc n) more some unread added = absurd (ome
 judged_next (suc left) d next blocks read (suc n) more some unread added =
     let less : suc left - 1 ≡ left = omega arith in rw (unread, added, less) refl
 
--- one more read behind as many as there were links
+-- one more read after as many as there were links
 pub one_more : (left before after now : ℕ) → 0 < left → left ≤ 5 → now ≡ next_count after → after ≡ count_after (5 - left) before → now ≡ count_after (5 - (left - 1)) before
 one_more left before after now more most read so =
     let next : 5 - (left - 1) ≡ suc (5 - left) = omega arith in rw next (read ∙ ap next_count so)
@@ -108,10 +108,10 @@ counted_before : (made before : ℕ) → count_after made (next_count before) �
 counted_before zero before = refl
 counted_before (suc made) before = ap next_count (counted_before made before)
 
--- the segments behind the first
-pub reads_behind : {X Y : Type 0} (segments rest : ℕ) (result : Result X DirFault) (whole : Result Y DirFault) (before one after : ℕ) → one ≡ next_count before → segments ≡ suc rest → (IsJudged whole → IsJudged result)
+-- the segments after the first
+pub reads_after : {X Y : Type 0} (segments rest : ℕ) (result : Result X DirFault) (whole : Result Y DirFault) (before one after : ℕ) → one ≡ next_count before → segments ≡ suc rest → (IsJudged whole → IsJudged result)
     → ReadsSegments rest result one after → ReadsSegments segments whole before after
-reads_behind segments rest result whole before one after first is same reads = record {
+reads_after segments rest result whole before one after first is same reads = record {
   made = suc reads.made;
   reads = reads.reads ∙ ap (count_after reads.made) first ∙ counted_before reads.made before;
   most = omega (arith, is, reads.most);

@@ -33,7 +33,7 @@ pub written-more : (segment words : List ℕ) (at k : ℕ) → k < length words 
 written-more segment words at k inside =
     rw (add-one, take-more-words words k inside, written-append segment at (take k words) (get_or words k 0 ∷ []), length-take-words words k (omega arith)) refl
 
--- Zeros behind words.
+-- Zeros after words.
 pub length-padded : (n : ℕ) (words : List ℕ) → length (with_end_zeros n words) ≡ n
 length-padded zero words = refl
 length-padded (suc n) [] = ap suc (length-padded n [])
@@ -48,7 +48,7 @@ length-append : (xs ys : List ℕ) → length (xs ++ ys) ≡ length xs + length 
 length-append [] ys = omega arith
 length-append (x ∷ xs) ys = omega (arith, length-append xs ys)
 
--- words behind others, of which zeros were
+-- words after others, of which zeros were
 pub written-padded : (n : ℕ) (words more : List ℕ) → length words + length more ≤ n → with_words_from (with_end_zeros n words) (length words) more ≡ with_end_zeros n (words ++ more)
 written-padded n words [] fits = rw (append-nil words) refl
 written-padded n words (w ∷ more) fits =

@@ -65,11 +65,11 @@ apart-append : (x : DirEntry) (prefix ys ws : List DirEntry) → ((x : DirEntry)
 apart-append x [] ys ws same apart = same x apart
 apart-append x (y ∷ prefix) ys ws same apart = apart-head x y (prefix ++ ys) (prefix ++ ws) apart
 
--- what stands behind the prefix of a tidy list is made tidy alone, where the prefix may stand before that too
-tidy-behind : (prefix ys zs ws : List DirEntry) → IsTidy (prefix ++ ys) → tidy zs ≡ ws → ((x : DirEntry) → Apart x ys → Apart x ws) → tidy (prefix ++ zs) ≡ prefix ++ ws
-tidy-behind [] ys zs ws neat done same = done
-tidy-behind (x ∷ prefix) ys zs ws neat done same =
-    ap (before x) (tidy-behind prefix ys zs ws neat.2 done same) ∙ before-apart x (prefix ++ ws) neat.0 (apart-append x prefix ys ws same neat.1)
+-- what stands after the prefix of a tidy list is made tidy alone, where the prefix may stand before that too
+tidy-following : (prefix ys zs ws : List DirEntry) → IsTidy (prefix ++ ys) → tidy zs ≡ ws → ((x : DirEntry) → Apart x ys → Apart x ws) → tidy (prefix ++ zs) ≡ prefix ++ ws
+tidy-following [] ys zs ws neat done same = done
+tidy-following (x ∷ prefix) ys zs ws neat done same =
+    ap (before x) (tidy-following prefix ys zs ws neat.2 done same) ∙ before-apart x (prefix ++ ws) neat.0 (apart-append x prefix ys ws same neat.1)
 
 pub append-nil : (es : List DirEntry) → es ++ [] ≡ es
 append-nil [] = refl
@@ -78,31 +78,31 @@ append-nil (e ∷ es) = ap (λ xs. e ∷ xs) (append-nil es)
 neat-nil : (es : List DirEntry) → IsTidy es → IsTidy (es ++ [])
 neat-nil es neat = rw (append-nil es) neat
 
-file-behind : (name : ℕ) (info : List ℕ) (size : ℕ) (x : DirEntry) → Apart x [] → Apart x (File name info size ∷ [])
-file-behind name info size (File other words more) apart = tt
-file-behind name info size (Empty more) apart = tt
+file-following : (name : ℕ) (info : List ℕ) (size : ℕ) (x : DirEntry) → Apart x [] → Apart x (File name info size ∷ [])
+file-following name info size (File other words more) apart = tt
+file-following name info size (Empty more) apart = tt
 
-file-empty-behind : (name : ℕ) (info : List ℕ) (size more : ℕ) (x : DirEntry) → Apart x (File name info size ∷ []) → Apart x (File name info size ∷ Empty more ∷ [])
-file-empty-behind name info size more (File other words length) apart = tt
-file-empty-behind name info size more (Empty length) apart = tt
+file-empty-following : (name : ℕ) (info : List ℕ) (size more : ℕ) (x : DirEntry) → Apart x (File name info size ∷ []) → Apart x (File name info size ∷ Empty more ∷ [])
+file-empty-following name info size more (File other words length) apart = tt
+file-empty-following name info size more (Empty length) apart = tt
 
-empties-behind : (size more : ℕ) (x : DirEntry) → Apart x (Empty size ∷ []) → Apart x (Empty more ∷ [])
-empties-behind size more (File other words length) apart = tt
-empties-behind size more (Empty length) apart = apart
+empties-following : (size more : ℕ) (x : DirEntry) → Apart x (Empty size ∷ []) → Apart x (Empty more ∷ [])
+empties-following size more (File other words length) apart = tt
+empties-following size more (Empty length) apart = apart
 
--- an entry of length 0 behind a tidy list
+-- an entry of length 0 after a tidy list
 pub tidy-none : (es : List DirEntry) (e : DirEntry) → size_of e ≡ 0 → IsTidy es → tidy (es ++ e ∷ []) ≡ es
-tidy-none es (File name info zero) none neat = tidy-behind es [] (File name info 0 ∷ []) [] (neat-nil es neat) refl (λ x apart. apart) ∙ append-nil es
-tidy-none es (Empty zero) none neat = tidy-behind es [] (Empty 0 ∷ []) [] (neat-nil es neat) refl (λ x apart. apart) ∙ append-nil es
+tidy-none es (File name info zero) none neat = tidy-following es [] (File name info 0 ∷ []) [] (neat-nil es neat) refl (λ x apart. apart) ∙ append-nil es
+tidy-none es (Empty zero) none neat = tidy-following es [] (Empty 0 ∷ []) [] (neat-nil es neat) refl (λ x apart. apart) ∙ append-nil es
 tidy-none es (File name info (suc size)) none neat = absurd (omega (arith, none))
 tidy-none es (Empty (suc size)) none neat = absurd (omega (arith, none))
 
--- a file behind a tidy list
+-- a file after a tidy list
 pub tidy-file : (es : List DirEntry) (name : ℕ) (info : List ℕ) (size : ℕ) → 0 < size → IsTidy es → tidy (es ++ File name info size ∷ []) ≡ es ++ File name info size ∷ []
 tidy-file es name info zero some neat = absurd (omega arith)
-tidy-file es name info (suc size) some neat = tidy-behind es [] (File name info (suc size) ∷ []) (File name info (suc size) ∷ []) (neat-nil es neat) refl (file-behind name info (suc size))
+tidy-file es name info (suc size) some neat = tidy-following es [] (File name info (suc size) ∷ []) (File name info (suc size) ∷ []) (neat-nil es neat) refl (file-following name info (suc size))
 
--- an empty behind a tidy list: none stands before it, or one, or a file
+-- an empty after a tidy list: none stands before it, or one, or a file
 pub tidy-empty_first : (size : ℕ) → 0 < size → tidy (Empty size ∷ []) ≡ Empty size ∷ []
 tidy-empty_first zero some = absurd (omega arith)
 tidy-empty_first (suc size) some = refl
@@ -112,7 +112,7 @@ tidy-two size zero some = absurd (omega arith)
 tidy-two size (suc more) some = refl
 
 pub tidy-empty_empty : (prefix : List DirEntry) (size more : ℕ) → 0 < more → IsTidy (prefix ++ Empty size ∷ []) → tidy ((prefix ++ Empty size ∷ []) ++ Empty more ∷ []) ≡ prefix ++ Empty (size + more) ∷ []
-tidy-empty_empty prefix size more some neat = rw append_assoc (tidy-behind prefix (Empty size ∷ []) (Empty size ∷ Empty more ∷ []) (Empty (size + more) ∷ []) neat (tidy-two size more some) (empties-behind size (size + more)))
+tidy-empty_empty prefix size more some neat = rw append_assoc (tidy-following prefix (Empty size ∷ []) (Empty size ∷ Empty more ∷ []) (Empty (size + more) ∷ []) neat (tidy-two size more some) (empties-following size (size + more)))
 
 last-some : (prefix : List DirEntry) (e : DirEntry) → IsTidy (prefix ++ e ∷ []) → 0 < size_of e
 last-some [] e neat = neat.0
@@ -125,7 +125,7 @@ tidy-file_two name info (suc size) (suc more) some_size some = refl
 
 pub tidy-file_empty : (prefix : List DirEntry) (name : ℕ) (info : List ℕ) (size more : ℕ) → 0 < more → IsTidy (prefix ++ File name info size ∷ []) → tidy ((prefix ++ File name info size ∷ []) ++ Empty more ∷ []) ≡ (prefix ++ File name info size ∷ []) ++ Empty more ∷ []
 tidy-file_empty prefix name info size more some neat =
-    rw append_assoc (tidy-behind prefix (File name info size ∷ []) (File name info size ∷ Empty more ∷ []) (File name info size ∷ Empty more ∷ []) neat (tidy-file_two name info size more (last-some prefix (File name info size) neat) some) (file-empty-behind name info size more))
+    rw append_assoc (tidy-following prefix (File name info size ∷ []) (File name info size ∷ Empty more ∷ []) (File name info size ∷ Empty more ∷ []) neat (tidy-file_two name info size more (last-some prefix (File name info size) neat) some) (file-empty-following name info size more))
 
 pub room-le-size : (e : DirEntry) → room_of e ≤ size_of e
 room-le-size (File name info size) = omega arith
@@ -135,38 +135,38 @@ last-split : (es : List DirEntry) → 0 < length es → (e : DirEntry) × (es �
 last-split [] some = absurd (omega arith)
 last-split (e ∷ []) some = (e, refl)
 last-split (e ∷ f ∷ es) some =
-    let behind = last-split (f ∷ es) (omega arith) in
+    let following = last-split (f ∷ es) (omega arith) in
     let more : length (e ∷ f ∷ es) - 1 ≡ suc (length (f ∷ es) - 1) = omega arith in
-    (behind.0, rw more (ap (λ xs. e ∷ xs) behind.1))
+    (following.0, rw more (ap (λ xs. e ∷ xs) following.1))
 
 last_room-append : (prefix : List DirEntry) (last : DirEntry) → last_room (prefix ++ last ∷ []) ≡ room_of last
 last_room-append [] last = refl
 last_room-append (e ∷ []) last = refl
 last_room-append (e ∷ f ∷ prefix) last = last_room-append (f ∷ prefix) last
 
-tidy-room_behind : (prefix : List DirEntry) (last : DirEntry) (more : ℕ) → 0 < more → IsTidy (prefix ++ last ∷ []) → 0 < room_of last → tidy ((prefix ++ last ∷ []) ++ Empty more ∷ []) ≡ prefix ++ Empty (room_of last + more) ∷ []
-tidy-room_behind prefix (File name info size) more some neat room = absurd (omega arith)
-tidy-room_behind prefix (Empty size) more some neat room = tidy-empty_empty prefix size more some neat
+tidy-room_after : (prefix : List DirEntry) (last : DirEntry) (more : ℕ) → 0 < more → IsTidy (prefix ++ last ∷ []) → 0 < room_of last → tidy ((prefix ++ last ∷ []) ++ Empty more ∷ []) ≡ prefix ++ Empty (room_of last + more) ∷ []
+tidy-room_after prefix (File name info size) more some neat room = absurd (omega arith)
+tidy-room_after prefix (Empty size) more some neat room = tidy-empty_empty prefix size more some neat
 
-tidy-file_behind : (prefix : List DirEntry) (last : DirEntry) (more : ℕ) → 0 < more → IsTidy (prefix ++ last ∷ []) → room_of last ≡ 0 → tidy ((prefix ++ last ∷ []) ++ Empty more ∷ []) ≡ (prefix ++ last ∷ []) ++ Empty more ∷ []
-tidy-file_behind prefix (File name info size) more some neat none = tidy-file_empty prefix name info size more some neat
-tidy-file_behind prefix (Empty size) more some neat none = absurd (omega (arith, last-some prefix (Empty size) neat))
+tidy-file_following : (prefix : List DirEntry) (last : DirEntry) (more : ℕ) → 0 < more → IsTidy (prefix ++ last ∷ []) → room_of last ≡ 0 → tidy ((prefix ++ last ∷ []) ++ Empty more ∷ []) ≡ (prefix ++ last ∷ []) ++ Empty more ∷ []
+tidy-file_following prefix (File name info size) more some neat none = tidy-file_empty prefix name info size more some neat
+tidy-file_following prefix (Empty size) more some neat none = absurd (omega (arith, last-some prefix (Empty size) neat))
 
 last_room-some : (es : List DirEntry) → 0 < last_room es → 0 < length es
 last_room-some [] room = absurd (omega arith)
 last_room-some (e ∷ es) room = omega arith
 
--- an empty behind a tidy list whose last entry is an empty
+-- an empty after a tidy list whose last entry is an empty
 pub tidy-append-room : (es : List DirEntry) (more : ℕ) → 0 < more → IsTidy es → 0 < last_room es → tidy (es ++ Empty more ∷ []) ≡ take (length es - 1) es ++ Empty (last_room es + more) ∷ []
 tidy-append-room es more some neat room =
     let split = last-split es (last_room-some es room) in
     let prefix = take (length es - 1) es in
     let same : last_room es ≡ room_of split.0 = ap last_room split.1 ∙ last_room-append prefix split.0 in
     let neat' : IsTidy (prefix ++ split.0 ∷ []) = subst IsTidy split.1 neat in
-    let joined = tidy-room_behind prefix split.0 more some neat' (omega arith) in
+    let joined = tidy-room_after prefix split.0 more some neat' (omega arith) in
     ap (λ xs. tidy (xs ++ Empty more ∷ [])) split.1 ∙ joined ∙ ap (λ n. prefix ++ Empty (n + more) ∷ []) (sym same)
 
--- an empty behind a tidy list that ends with a file, or has no entry
+-- an empty after a tidy list that ends with a file, or has no entry
 pub tidy-append-file : (es : List DirEntry) (more : ℕ) → 0 < more → IsTidy es → last_room es ≡ 0 → tidy (es ++ Empty more ∷ []) ≡ es ++ Empty more ∷ []
 tidy-append-file [] more some neat none = tidy-empty_first more some
 tidy-append-file (e ∷ es) more some neat none =
@@ -174,8 +174,8 @@ tidy-append-file (e ∷ es) more some neat none =
     let prefix = take (length (e ∷ es) - 1) (e ∷ es) in
     let same : last_room (e ∷ es) ≡ room_of split.0 = ap last_room split.1 ∙ last_room-append prefix split.0 in
     let neat' : IsTidy (prefix ++ split.0 ∷ []) = subst IsTidy split.1 neat in
-    let behind = tidy-file_behind prefix split.0 more some neat' (omega arith) in
-    ap (λ xs. tidy (xs ++ Empty more ∷ [])) split.1 ∙ behind ∙ ap (λ xs. xs ++ Empty more ∷ []) (sym split.1)
+    let following = tidy-file_following prefix split.0 more some neat' (omega arith) in
+    ap (λ xs. tidy (xs ++ Empty more ∷ [])) split.1 ∙ following ∙ ap (λ xs. xs ++ Empty more ∷ []) (sym split.1)
 
 -- the size of the last empty is counted
 pub last_room-total : (es : List DirEntry) → last_room es ≤ total es

@@ -10,7 +10,7 @@ use Rattle.os8_dir.specs.Files.{data_if_there}
 use Rattle.os8_dir.specs.Segments.{words_of_segment, segment_count, segment_of}
 use Rattle.os8_dir.specs.Changes.{without_file, with_new_file, moved_down, fitting, lowest_above}
 
--- 20 blocks, of which block 1 has these words and zeros behind
+-- 20 blocks, of which block 1 has these words and zeros after
 volume : List ℕ → List (List ℕ)
 volume words = [] ∷ words ∷ replicate 18 []
 
@@ -55,8 +55,8 @@ counted : above list ≡ 2
 unfolding list
 counted = refl
 
-counted_behind : above (File 9 (5 ∷ []) 3 ∷ Empty 4 ∷ File 8 (6 ∷ []) 1 ∷ []) ≡ 1
-counted_behind = refl
+counted_after : above (File 9 (5 ∷ []) 3 ∷ Empty 4 ∷ File 8 (6 ∷ []) 1 ∷ []) ≡ 1
+counted_after = refl
 
 blocks_kept : data_if_there ([] ∷ (1 ∷ 2 ∷ []) ∷ (3 ∷ []) ∷ (4 ∷ []) ∷ []) 1 (find 9 (files_at 1 (File 9 (5 ∷ 0 ∷ []) 2 ∷ []))) ≡ Some (5 ∷ [], 1 ∷ 2 ∷ 3 ∷ [])
 blocks_kept = refl

@@ -12,20 +12,20 @@ EachRoom So (room ∷ rooms) = So room.1 × EachRoom So rooms
 -- the largest of these rooms, the first of equals: those before it have fewer blocks, and those after it no more
 pub record IsFirstLargest (rooms : List (ℕ × ℕ)) (room : ℕ × ℕ) : Type 0 where
   pub prefix : List (ℕ × ℕ)
-  pub behind : List (ℕ × ℕ)
-  pub list : rooms ≡ prefix ++ room ∷ behind
+  pub following : List (ℕ × ℕ)
+  pub list : rooms ≡ prefix ++ room ∷ following
   pub before : EachRoom (λ size. size < room.1) prefix
-  pub after : EachRoom (λ size. size ≤ room.1) behind
+  pub after : EachRoom (λ size. size ≤ room.1) following
 
 -- The smallest of these rooms that has so many blocks, the first of equals. Those before it that have so many have more
 -- than it, and those after it no fewer.
 pub record IsFirstSmallest (wish : ℕ) (rooms : List (ℕ × ℕ)) (room : ℕ × ℕ) : Type 0 where
   pub prefix : List (ℕ × ℕ)
-  pub behind : List (ℕ × ℕ)
-  pub list : rooms ≡ prefix ++ room ∷ behind
+  pub following : List (ℕ × ℕ)
+  pub list : rooms ≡ prefix ++ room ∷ following
   pub long : wish ≤ room.1
   pub before : EachRoom (λ size. (size < wish) ⊎ (room.1 < size)) prefix
-  pub after : EachRoom (λ size. (size < wish) ⊎ (room.1 ≤ size)) behind
+  pub after : EachRoom (λ size. (size < wish) ⊎ (room.1 ≤ size)) following
 
 -- a list of files alone
 abbrev pub AreFiles : List DirEntry → Type 0
@@ -38,8 +38,8 @@ pub record IsLowestAbove (es : List DirEntry) (name gap : ℕ) : Type 0 where
   pub prefix : List DirEntry
   pub info : List ℕ
   pub size : ℕ
-  pub behind : List DirEntry
-  pub list : es ≡ prefix ++ Empty gap ∷ File name info size ∷ behind
+  pub following : List DirEntry
+  pub list : es ≡ prefix ++ Empty gap ∷ File name info size ∷ following
   pub files : AreFiles prefix
 
 -- a block lies in none of these files

@@ -62,13 +62,13 @@ fn append_laid(
         DirEntry::File { .. } => append(kept, entry),
         DirEntry::Empty { length } => {
             let end = place + length;
-            let behind = from + file.length();
-            if place <= from && behind <= end {
+            let following = from + file.length();
+            if place <= from && following <= end {
                 let below = DirEntry::Empty {
                     length: from - place,
                 };
                 let above = DirEntry::Empty {
-                    length: end - behind,
+                    length: end - following,
                 };
                 append_all(kept, &[below, *file, above])
             } else {

@@ -96,9 +96,9 @@ impl Draft {
         for _done in 0..count {
             let info = self.info;
             match entry_at(rest, info) {
-                Ok((entry, behind)) => {
+                Ok((entry, following)) => {
                     self.add(volume, entry)?;
-                    rest = behind;
+                    rest = following;
                 }
                 Err(fault) => return Err(fault),
             }

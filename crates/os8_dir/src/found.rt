@@ -74,11 +74,11 @@ pub fn information_of(entries: &[DirEntry], name: Name) -> Option<[Word; 10]>
 {
     match entries {
         [] => None,
-        [entry, behind @ ..] => {
+        [entry, following @ ..] => {
             if is_named(entry, name) {
                 Some(words_in(entry))
             } else {
-                information_of(behind, name)
+                information_of(following, name)
             }
         }
     }

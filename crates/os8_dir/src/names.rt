@@ -53,8 +53,8 @@ fn number_of_codes(text: &[u8], size: u8) -> Option<u64>
                 return None;
             }
             let code = sixbit(*first)?;
-            let behind = number_of_codes(rest, size - 1)?;
-            Some(u64::from(code) * 64u64.pow(u32::from(size) - 1) + behind)
+            let following = number_of_codes(rest, size - 1)?;
+            Some(u64::from(code) * 64u64.pow(u32::from(size) - 1) + following)
         }
     }
 }
@@ -92,9 +92,9 @@ impl Name {
     {
         let (stem, rest) = text.split_at(dot_in(text));
         let prefix = packed_within(stem, 6)?;
-        let behind = packed_extension(rest)?;
+        let following = packed_extension(rest)?;
         Some(Name {
-            number: prefix * 0o10000 + behind,
+            number: prefix * 0o10000 + following,
         })
     }
 

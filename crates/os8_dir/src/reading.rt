@@ -39,8 +39,8 @@ fn empty_at(words: &[Word]) -> Result<(DirEntry, &[Word]), DirFault>
         return Err(DirFault::EntryPastSegment);
     }
     let length = minus(words[0]);
-    let (_, behind) = words.split_at(1);
-    Ok((DirEntry::Empty { length }, behind))
+    let (_, following) = words.split_at(1);
+    Ok((DirEntry::Empty { length }, following))
 }
 
 /// The file's entry that the words begin with, and the words after it.
@@ -57,13 +57,13 @@ fn file_at(words: &[Word], info: usize) -> Result<(DirEntry, &[Word]), DirFault>
     let (_, rest) = words.split_at(4);
     let kept = information(rest, info);
     let length = minus(rest[info]);
-    let (_, behind) = rest.split_at(info + 1);
+    let (_, following) = rest.split_at(info + 1);
     let entry = DirEntry::File {
         name,
         info: kept,
         length,
     };
-    Ok((entry, behind))
+    Ok((entry, following))
 }
 
 /// The entry that the words begin with, and the words after it.

@@ -101,12 +101,12 @@ removed-made finds gone others blocks d name kept =
 pub placed-made : FindsFiles
     → (there : (first : ℕ) (f : FilePlace) (es : List DirEntry) → 0 < f.size → LieIn f.place f.size (rooms_at first es) → find f.name (files_at first (with_new_file first f es)) ≡ Some f)
     → (others : (other first : ℕ) (f : FilePlace) (es : List DirEntry) → f.name ≢ other → find other (files_at first (with_new_file first f es)) ≡ find other (files_at first es))
-    → (old : MountState) (d : DirectoryState) (name : ℕ) (b : NewFile) (info : List ℕ) → directory_of old.blocks ≡ Ok d → IsDirectory (length old.blocks) d → 0 < b.written → LieIn b.place b.written (rooms_at d.first d.entries)
-    → IsMade old.blocks (directory_with d (with_new_file d.first (new_file d name info b.place b.written) d.entries)) (insert (files_of old.blocks) name (new_held old b info))
+    → (old : MountState) (d : DirectoryState) (name : ℕ) (b : NewFile) (info : List ℕ) → directory_of old.blocks ≡ Ok d → IsDirectory (length old.blocks) d → 0 < b.blocks_written → LieIn b.place b.blocks_written (rooms_at d.first d.entries)
+    → IsMade old.blocks (directory_with d (with_new_file d.first (new_file d name info b.place b.blocks_written) d.entries)) (insert (files_of old.blocks) name (new_held old b info))
 placed-made finds there others old d name b info kept is some lain =
-    let f = new_file d name info b.place b.written in
+    let f = new_file d name info b.place b.blocks_written in
     let fs = files_at d.first (with_new_file d.first f d.entries) in
     let words : take d.info f.info ≡ with_end_zeros (info_of old.blocks) info = info-again d.info 10 info is.few ∙ ap (λ n. with_end_zeros n info) (sym (ap (of_directory (λ (x : DirectoryState). x.info)) kept)) in
     sym (files-inserted (files_of old.blocks) (from_entries (data_of_files old.blocks d.info fs)) name (new_held old b info)
-    (get-made old.blocks d.info name fs ∙ ap (data_if_there old.blocks d.info) (there d.first f d.entries some lain) ∙ ap (λ ws. Some (ws, run old.blocks b.place b.written)) words)
+    (get-made old.blocks d.info name fs ∙ ap (data_if_there old.blocks d.info) (there d.first f d.entries some lain) ∙ ap (λ ws. Some (ws, run old.blocks b.place b.blocks_written)) words)
     (λ q other. get-made old.blocks d.info q fs ∙ ap (data_if_there old.blocks d.info) (others q d.first f d.entries other) ∙ sym (finds old.blocks d q kept)))

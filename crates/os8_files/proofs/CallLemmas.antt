@@ -62,7 +62,7 @@ find-from name from bound [] f apart found = cc
 find-from name from bound (g ∷ gs) f apart found =
     (elim (g.name == name) as (λ b. (if b then Some g else find name gs) ≡ Some f → from ≤ f.place) [
       | true ↦ λ here. let same : g ≡ f = cc in omega (arith, apart.0, ap (λ (p : FilePlace). p.place) same)
-      | false ↦ λ behind. let low = find-from name (g.place + g.size) bound gs f apart.2 behind in omega (arith, apart.0, low)
+      | false ↦ λ following. let low = find-from name (g.place + g.size) bound gs f apart.2 following in omega (arith, apart.0, low)
     ]) found
 
 -- A block that is read.

@@ -27,16 +27,16 @@ counts n d old new inside is zero = ((λ low. refl), (λ none. ap (λ j. count_o
     zero-of : n ≤ zero → n ≡ 0
     zero-of none = omega (arith, none)
 counts n d old new inside is (suc m) =
-    let behind = counts n d old new inside is m in
+    let following = counts n d old new inside is m in
     let low : suc m ≤ n → differing (suc m) old new ≡ count_of_changed (suc m) d old = λ less.
     let e : suc m ≡ m + 1 = sym (add-one m) in
     let at : block new (suc m) ≡ segment_of d m = ap (λ j. block new j) e ∙ ap (λ bs. block bs (m + 1)) is ∙ block-segments n d old m inside (omega (arith, less)) in
     ap (λ ws. if pointwise nat_eq (block old (suc m)) ws then differing m old new else suc (differing m old new)) at
-    ∙ ap (λ j. if pointwise nat_eq (block old (suc m)) (segment_of d m) then j else suc j) (behind.0 (omega (arith, less))) in (
+    ∙ ap (λ j. if pointwise nat_eq (block old (suc m)) (segment_of d m) then j else suc j) (following.0 (omega (arith, less))) in (
       low,
       λ more. elim (eqb_tells n (suc m)) [
         | inl p ↦ let e : suc m ≤ n = omega (arith, p.1) in low e ∙ ap (λ j. count_of_changed j d old) (sym p.1)
-        | inr p ↦ not-counted m old new (ap (λ bs. block bs (suc m)) is ∙ unused-segments n d old (suc m) (omega (arith, more, p.1))) ∙ behind.1 (omega (arith, more, p.1))
+        | inr p ↦ not-counted m old new (ap (λ bs. block bs (suc m)) is ∙ unused-segments n d old (suc m) (omega (arith, more, p.1))) ∙ following.1 (omega (arith, more, p.1))
       ],
     )
 
@@ -50,7 +50,7 @@ differing-to (suc m) old mid new same =
     ap (λ ws. if pointwise nat_eq (block old (suc m)) ws then differing m old new else suc (differing m old new)) (same (suc m) (omega arith))
     ∙ ap (λ j. if pointwise nat_eq (block old (suc m)) (block mid (suc m)) then j else suc j) (differing-to m old mid new (λ k low. same k (omega (arith, low))))
 
--- A segment was not written behind so many others.
+-- A segment was not written after so many others.
 pub stops-in-part : (n : ℕ) (d : DirectoryState) (old mid new : List (List ℕ)) (words : List ℕ) (before after : ℕ) → n < segment_count d → n < 6 → n < length old → mid ≡ with_segments n d old → new ≡ slice_set mid (n + 1) words → after ≡ next_count (counted_more (count_of_changed n d old) before) → StopsInPart old new d before after
 stops-in-part n d old mid new words before after taken low inside at is risen = record {
   part = record {

@@ -57,10 +57,10 @@ delete-failed old new d name ready there free kept is made failed keeps part = r
   others = failed;
 }
 
-pub write-failed : (reads : ReadsLow) (finds : FindsFiles) (lie : LieInside) (outside : LieOutside) (old new : MountState) (d : DirectoryState) (b : NewFile) (words : List ℕ) → old.stopped ≡ false → old.tentative ≡ Some b → directory_of old.blocks ≡ Ok d → IsDirectory (length old.blocks) d → IsBegun d b → b.written < b.room
-    → new.blocks ≡ slice_set old.blocks (b.place + b.written) words → new.writes ≡ next_count old.writes → HasFailed old new → WriteFailed old new
+pub write-failed : (reads : ReadsLow) (finds : FindsFiles) (lie : LieInside) (outside : LieOutside) (old new : MountState) (d : DirectoryState) (b : NewFile) (words : List ℕ) → old.stopped ≡ false → old.tentative ≡ Some b → directory_of old.blocks ≡ Ok d → IsDirectory (length old.blocks) d → IsBegun d b → b.blocks_written < b.room
+    → new.blocks ≡ slice_set old.blocks (b.place + b.blocks_written) words → new.writes ≡ next_count old.writes → HasFailed old new → WriteFailed old new
 write-failed reads finds lie outside old new d b words running was kept is lies short spoilt risen failed =
-    let k = b.place + b.written in
+    let k = b.place + b.blocks_written in
     let inside = write-inside old.blocks d b is lies short in
     record {
       running = running;
@@ -80,17 +80,17 @@ write-failed reads finds lie outside old new d b words running was kept is lies 
       others = failed;
     }
 
-pub place-failed : (old new : MountState) (d : DirectoryState) (b : NewFile) (info : List ℕ) → 0 < b.written → IsFree old b.name → entries_with b info old.blocks ≤ limit_of old.blocks → directory_of old.blocks ≡ Ok d → IsDirectory (length old.blocks) d → IsMade old.blocks d (files_of old.blocks)
-    → IsDirectory (length old.blocks) (directory_with d (with_new_file d.first (new_file d b.name info b.place b.written) d.entries)) → IsMade old.blocks (directory_with d (with_new_file d.first (new_file d b.name info b.place b.written) d.entries)) (files_with old b info)
-    → HasFailed old new → KeepsHigh old.blocks new.blocks → StopsInPart old.blocks new.blocks (directory_with d (with_new_file d.first (new_file d b.name info b.place b.written) d.entries)) old.writes new.writes → PlaceFailed old b info new
+pub place-failed : (old new : MountState) (d : DirectoryState) (b : NewFile) (info : List ℕ) → 0 < b.blocks_written → IsFree old b.name → entries_with b info old.blocks ≤ limit_of old.blocks → directory_of old.blocks ≡ Ok d → IsDirectory (length old.blocks) d → IsMade old.blocks d (files_of old.blocks)
+    → IsDirectory (length old.blocks) (directory_with d (with_new_file d.first (new_file d b.name info b.place b.blocks_written) d.entries)) → IsMade old.blocks (directory_with d (with_new_file d.first (new_file d b.name info b.place b.blocks_written) d.entries)) (files_with old b info)
+    → HasFailed old new → KeepsHigh old.blocks new.blocks → StopsInPart old.blocks new.blocks (directory_with d (with_new_file d.first (new_file d b.name info b.place b.blocks_written) d.entries)) old.writes new.writes → PlaceFailed old b info new
 place-failed old new d b info some free fits kept is made next made-next failed keeps part = record {
-  written = (directory_with d (with_new_file d.first (new_file d b.name info b.place b.written) d.entries), ap (with_list (λ (x : DirectoryState). with_new_file x.first (new_file x b.name info b.place b.written) x.entries)) kept, part);
+  written = (directory_with d (with_new_file d.first (new_file d b.name info b.place b.blocks_written) d.entries), ap (with_list (λ (x : DirectoryState). with_new_file x.first (new_file x b.name info b.place b.blocks_written) x.entries)) kept, part);
   some = some;
   free = free;
   fits = fits;
   older = stand old.blocks new.blocks d (directory_of old.blocks) (files_of old.blocks) kept is made keeps.high;
-  newer = stand old.blocks new.blocks (directory_with d (with_new_file d.first (new_file d b.name info b.place b.written) d.entries)) (list_with old b info) (files_with old b info)
-      (ap (with_list (λ (x : DirectoryState). with_new_file x.first (new_file x b.name info b.place b.written) x.entries)) kept) next made-next keeps.high;
+  newer = stand old.blocks new.blocks (directory_with d (with_new_file d.first (new_file d b.name info b.place b.blocks_written) d.entries)) (list_with old b info) (files_with old b info)
+      (ap (with_list (λ (x : DirectoryState). with_new_file x.first (new_file x b.name info b.place b.blocks_written) x.entries)) kept) next made-next keeps.high;
   blocks = high-keeps old.blocks new.blocks keeps;
   others = failed;
 }

@@ -24,14 +24,14 @@ pub high-keeps : (old new : List (List ℕ)) → KeepsHigh old new → KeepsBloc
 high-keeps old new keeps = record {
   count = keeps.size;
   first = keeps.first;
-  behind = λ k high beside. block-high old new k keeps.high high;
+  following = λ k high beside. block-high old new k keeps.high high;
 }
 
 pub written-keeps : (old new : List (List ℕ)) (place : ℕ) (words : List ℕ) → 7 ≤ place → new ≡ slice_set old place words → KeepsBlocks old new place 1
 written-keeps old new place words high is = record {
   count = ap (λ (bs : List (List ℕ)). length bs) is ∙ length-set old place words;
   first = ap (λ bs. block bs 0) is ∙ get_or-set_other old place 0 words [] (omega (arith, high));
-  behind = λ k above beside. ap (λ bs. block bs k) is ∙ elim beside [
+  following = λ k above beside. ap (λ bs. block bs k) is ∙ elim beside [
     | inl low ↦ get_or-set_other old place k words [] (omega (arith, low))
     | inr up ↦ get_or-set_other old place k words [] (omega (arith, up))
   ];
@@ -41,7 +41,7 @@ pub directory-keeps : (old new : MountState) (d : DirectoryState) → HasDirecto
 directory-keeps old new d done = record {
   count = done.size;
   first = done.first;
-  behind = λ k high beside. block-high old.blocks new.blocks k done.high high;
+  following = λ k high beside. block-high old.blocks new.blocks k done.high high;
 }
 
 block-above : (blocks : List (List ℕ)) (place : ℕ) (ws : List (List ℕ)) (k : ℕ) → place + length ws ≤ k → block (with_run blocks place ws) k ≡ block blocks k
@@ -52,7 +52,7 @@ pub run-keeps : (old new : List (List ℕ)) (to size : ℕ) (ws : List (List ℕ
 run-keeps old new to size ws copied few high = record {
   count = ap (λ (bs : List (List ℕ)). length bs) copied ∙ length-with_run old to ws;
   first = ap (λ bs. block bs 0) copied ∙ block-with_run old to ws 0 (omega (arith, high));
-  behind = λ k above beside. ap (λ bs. block bs k) copied ∙ elim beside [
+  following = λ k above beside. ap (λ bs. block bs k) copied ∙ elim beside [
     | inl low ↦ block-with_run old to ws k low
     | inr up ↦ block-above old to ws k (omega (arith, up, few))
   ];
@@ -64,14 +64,14 @@ moved-high-keeps old mid new to size ws copied long high keeps =
     record {
       count = keeps.size ∙ run.count;
       first = keeps.first ∙ run.first;
-      behind = λ k above beside. block-high mid new k keeps.high above ∙ run.behind k above beside;
+      following = λ k above beside. block-high mid new k keeps.high above ∙ run.following k above beside;
     }
 
 pub moved-keeps : (old mid new : MountState) (d : DirectoryState) (to size : ℕ) (ws : List (List ℕ)) → mid.blocks ≡ with_run old.blocks to ws → length ws ≡ size → 7 ≤ to → HasDirectory mid d new → KeepsBlocks old.blocks new.blocks to size
 moved-keeps old mid new d to size ws copied long high done = record {
   count = done.size ∙ ap (λ (bs : List (List ℕ)). length bs) copied ∙ length-with_run old.blocks to ws;
   first = done.first ∙ ap (λ bs. block bs 0) copied ∙ block-with_run old.blocks to ws 0 (omega (arith, high));
-  behind = λ k above beside. block-high mid.blocks new.blocks k done.high above ∙ ap (λ bs. block bs k) copied ∙ elim beside [
+  following = λ k above beside. block-high mid.blocks new.blocks k done.high above ∙ ap (λ bs. block bs k) copied ∙ elim beside [
     | inl low ↦ block-with_run old.blocks to ws k low
     | inr up ↦ block-above old.blocks to ws k (omega (arith, up, long))
   ];

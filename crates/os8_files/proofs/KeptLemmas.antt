@@ -150,8 +150,8 @@ less-number a b is = grind (arith, nat_tests)
 -- a hold that is taken and released
 pub released : (name : ℕ) (holds : List ℕ) → without_hold name (with_hold name holds) ≡ holds
 released name [] = rw (same-number name) refl
-released name (held ∷ holds) = behind (nat_lt held name) refl (released name holds)
+released name (held ∷ holds) = following (nat_lt held name) refl (released name holds)
   where
-    behind : (b : Bool) → nat_lt held name ≡ b → without_hold name (with_hold name holds) ≡ holds → without_hold name (if b then held ∷ with_hold name holds else name ∷ held ∷ holds) ≡ held ∷ holds
-    behind true is back = rw (less-number held name is) (ap (λ l. held ∷ l) back)
-    behind false is back = rw (same-number name) refl
+    following : (b : Bool) → nat_lt held name ≡ b → without_hold name (with_hold name holds) ≡ holds → without_hold name (if b then held ∷ with_hold name holds else name ∷ held ∷ holds) ≡ held ∷ holds
+    following true is back = rw (less-number held name is) (ap (λ l. held ∷ l) back)
+    following false is back = rw (same-number name) refl

@@ -17,7 +17,7 @@ find_within name from bound (g ∷ gs) f apart found =
     (elim (g.name == name) as (λ b. (if b then Some g else find name gs) ≡ Some f → f.place + f.size ≤ bound) [
       | true ↦ λ here. let same : g ≡ f = cc in let within = apart_within (g.place + g.size) bound gs apart.2 in
           omega (arith, within, ap (λ (p : FilePlace). p.place + p.size) same)
-      | false ↦ λ behind. find_within name (g.place + g.size) bound gs f apart.2 behind
+      | false ↦ λ following. find_within name (g.place + g.size) bound gs f apart.2 following
     ]) found
 
 -- the length that is told of a file that may be there

@@ -39,7 +39,7 @@ pub find-none : (blocks : List (List ℕ)) (info : ℕ) (f : Option FilePlace) �
 find-none blocks info None none = refl
 find-none blocks info (Some f) none = cc
 
-pub write-inside : (blocks : List (List ℕ)) (d : DirectoryState) (b : NewFile) → IsDirectory (length blocks) d → IsBegun d b → b.written < b.room → (7 ≤ b.place) × (b.place + b.written < length blocks)
+pub write-inside : (blocks : List (List ℕ)) (d : DirectoryState) (b : NewFile) → IsDirectory (length blocks) d → IsBegun d b → b.blocks_written < b.room → (7 ≤ b.place) × (b.place + b.blocks_written < length blocks)
 write-inside blocks d b is lies short =
     let inside = room-inside b.place b.room d.first d.entries lies.room in
     (omega (arith, inside.0, is.starts), omega (arith, inside.1, is.inside, short))
@@ -53,10 +53,10 @@ LieInside = (place size from count : ℕ) (rooms : List (ℕ × ℕ)) → IsRoom
 abbrev pub LieOutside : Type 0
 LieOutside = (from count name first : ℕ) (es : List DirEntry) (f : FilePlace) → LieIn from count (rooms_at first es) → find name (files_at first es) ≡ Some f → (f.place + f.size ≤ from) ⊎ (from + count ≤ f.place)
 
-pub written-files : (reads : ReadsLow) (finds : FindsFiles) (lie : LieInside) (outside : LieOutside) (blocks : List (List ℕ)) (d : DirectoryState) (b : NewFile) (words : List ℕ) → directory_of blocks ≡ Ok d → IsDirectory (length blocks) d → IsBegun d b → b.written < b.room
-    → files_of (slice_set blocks (b.place + b.written) words) ≡ files_of blocks
+pub written-files : (reads : ReadsLow) (finds : FindsFiles) (lie : LieInside) (outside : LieOutside) (blocks : List (List ℕ)) (d : DirectoryState) (b : NewFile) (words : List ℕ) → directory_of blocks ≡ Ok d → IsDirectory (length blocks) d → IsBegun d b → b.blocks_written < b.room
+    → files_of (slice_set blocks (b.place + b.blocks_written) words) ≡ files_of blocks
 written-files reads finds lie outside blocks d b words kept is lies short =
-    let k = b.place + b.written in
+    let k = b.place + b.blocks_written in
     let new = slice_set blocks k words in
     let high = write-inside blocks d b is lies short in
     let steady = written-directory reads blocks k words (omega (arith, high.0)) in
@@ -72,15 +72,15 @@ pub placed-file : FindsFiles → LieInside → LimitIs → CapacityIs → AboveI
     → (others : (other first : ℕ) (f : FilePlace) (es : List DirEntry) → f.name ≢ other → find other (files_at first (with_new_file first f es)) ≡ find other (files_at first es))
     → (covered : (first : ℕ) (f : FilePlace) (es : List DirEntry) → total (with_new_file first f es) ≡ total es)
     → (tight : (first size : ℕ) (f : FilePlace) (es : List DirEntry) → IsTidy es → IsTight es → find f.name (files_at first es) ≡ None → 0 < f.size → f.size ≤ size → IsRoom f.place size (rooms_at first es) → IsTight (with_new_file first f es))
-    → (old new : MountState) (d : DirectoryState) (name : ℕ) (b : NewFile) (info : List ℕ) → IsReady old → b.name ≡ name → directory_of old.blocks ≡ Ok d → IsDirectory (length old.blocks) d → IsBegun d b → 0 < b.written → IsFree old name → entries_with b info old.blocks ≤ limit_of old.blocks
-    → HasDirectory old (directory_with d (with_new_file d.first (new_file d name info b.place b.written) d.entries)) new → HasClosed (record old { tentative = Some b }) name info new
+    → (old new : MountState) (d : DirectoryState) (name : ℕ) (b : NewFile) (info : List ℕ) → IsReady old → b.name ≡ name → directory_of old.blocks ≡ Ok d → IsDirectory (length old.blocks) d → IsBegun d b → 0 < b.blocks_written → IsFree old name → entries_with b info old.blocks ≤ limit_of old.blocks
+    → HasDirectory old (directory_with d (with_new_file d.first (new_file d name info b.place b.blocks_written) d.entries)) new → HasClosed (record old { tentative = Some b }) name info new
 placed-file finds lie limits covers aboves there others covered tight old new d name b info ready names kept is lies some free fits done =
-    let f = new_file d name info b.place b.written in
+    let f = new_file d name info b.place b.blocks_written in
     let d' = directory_with d (with_new_file d.first f d.entries) in
-    let lain = lie b.place b.room b.place b.written (rooms_at d.first d.entries) lies.room (omega arith) (omega (arith, lies.most)) in
+    let lain = lie b.place b.room b.place b.blocks_written (rooms_at d.first d.entries) lies.room (omega arith) (omega (arith, lies.most)) in
     let inside = room-inside b.place b.room d.first d.entries lies.room in
     let words : take d.info f.info ≡ with_end_zeros (info_of old.blocks) info = info-again d.info 10 info is.few ∙ ap (λ n. with_end_zeros n info) (sym (ap (of_directory (λ (x : DirectoryState). x.info)) kept)) in
-    let same : run new.blocks b.place b.written ≡ run old.blocks b.place b.written = run-high old.blocks new.blocks b.place b.written done.high (omega (arith, inside.0, is.starts)) in
+    let same : run new.blocks b.place b.blocks_written ≡ run old.blocks b.place b.blocks_written = run-high old.blocks new.blocks b.place b.blocks_written done.high (omega (arith, inside.0, is.starts)) in
     record {
       running = ready.running;
       begun = b;
@@ -89,11 +89,11 @@ placed-file finds lie limits covers aboves there others covered tight old new d 
       some = some;
       free = free;
       fits = fits;
-      list = done.read ∙ ap (with_list (λ (x : DirectoryState). with_new_file x.first (new_file x name info b.place b.written) x.entries)) (sym kept);
+      list = done.read ∙ ap (with_list (λ (x : DirectoryState). with_new_file x.first (new_file x name info b.place b.blocks_written) x.entries)) (sym kept);
       place = ap (extent_or name) done.read ∙ ap extent_of (there d.first f d.entries some lain);
       places = λ other differ. ap (extent_or other) done.read ∙ ap extent_of (others other d.first f d.entries differ) ∙ sym (ap (extent_or other) kept);
-      files = files-inserted (files_of old.blocks) (files_of new.blocks) name (with_end_zeros (info_of old.blocks) info, run old.blocks b.place b.written)
-          (finds new.blocks d' name done.read ∙ ap (data_if_there new.blocks d.info) (there d.first f d.entries some lain) ∙ ap (λ ws. Some (ws, run new.blocks b.place b.written)) words ∙ ap (λ ws. Some (with_end_zeros (info_of old.blocks) info, ws)) same)
+      files = files-inserted (files_of old.blocks) (files_of new.blocks) name (with_end_zeros (info_of old.blocks) info, run old.blocks b.place b.blocks_written)
+          (finds new.blocks d' name done.read ∙ ap (data_if_there new.blocks d.info) (there d.first f d.entries some lain) ∙ ap (λ ws. Some (ws, run new.blocks b.place b.blocks_written)) words ∙ ap (λ ws. Some (with_end_zeros (info_of old.blocks) info, ws)) same)
           (λ q other. finds new.blocks d' q done.read ∙ ap (data_if_there new.blocks d.info) (others q d.first f d.entries other) ∙ file-kept old.blocks new.blocks d q is done.high ∙ sym (finds old.blocks d q kept));
       capacity = covers new.blocks d' done.read ∙ covered d.first f d.entries ∙ sym (covers old.blocks d kept);
       limit = limits new.blocks d' done.read ∙ sym (limits old.blocks d kept);

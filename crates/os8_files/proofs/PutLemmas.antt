@@ -54,12 +54,12 @@ differ-same (suc m) old mid new same =
 
 -- ## Blocks that stay
 
--- one block more behind some
+-- one block more after some
 kept-more : (old mid new : List (List ℕ)) (place written next : ℕ) → KeepsBlocks old mid place written → KeepsBlocks mid new next 1 → next ≡ place + written → KeepsBlocks old new place (written + 1)
 kept-more old mid new place written next prefix more is = record {
   count = more.count ∙ prefix.count;
   first = more.first ∙ prefix.first;
-  behind = λ k high apart. more.behind k high (one k apart) ∙ prefix.behind k high (some k apart);
+  following = λ k high apart. more.following k high (one k apart) ∙ prefix.following k high (some k apart);
 }
   where
     one : (k : ℕ) → (k < place) ⊎ (place + (written + 1) ≤ k) → (k < next) ⊎ (next + 1 ≤ k)
@@ -70,17 +70,17 @@ kept-more old mid new place written next prefix more is = record {
     some k (inl low) = inl low
     some k (inr high) = inr (omega (arith, high))
 
--- blocks that stay where none behind the directory's changes
+-- blocks that stay where none after the directory's changes
 kept-none : (old mid new : List (List ℕ)) (place size : ℕ) → KeepsBlocks old mid place size → KeepsBlocks mid new 0 0 → KeepsBlocks old new place size
 kept-none old mid new place size prefix none = record {
   count = none.count ∙ prefix.count;
   first = none.first ∙ prefix.first;
-  behind = λ k high apart. none.behind k high (inr (omega arith)) ∙ prefix.behind k high apart;
+  following = λ k high apart. none.following k high (inr (omega arith)) ∙ prefix.following k high apart;
 }
 
 -- more blocks may differ
 kept-wider : (old new : List (List ℕ)) (place less size : ℕ) → less ≤ size → KeepsBlocks old new place less → KeepsBlocks old new place size
-kept-wider old new place less size few kept = record { count = kept.count; first = kept.first; behind = λ k high apart. kept.behind k high (out k apart) }
+kept-wider old new place less size few kept = record { count = kept.count; first = kept.first; following = λ k high apart. kept.following k high (out k apart) }
   where
     out : (k : ℕ) → (k < place) ⊎ (place + size ≤ k) → (k < place) ⊎ (place + less ≤ k)
     out k (inl low) = inl low
@@ -94,38 +94,38 @@ filled_none m token blocks b = record {
   was = b.was;
   text = refl;
   kept = record { count = refl; segments = λ k low high. refl; directory = refl };
-  others_kept = record { count = refl; first = refl; behind = λ k high apart. refl };
+  others_kept = record { count = refl; first = refl; following = λ k high apart. refl };
   files = refl;
   capacity = refl;
   limit = refl;
   info = refl;
   above = refl;
   writes = refl;
-  others = ap (λ (t : Option NewFile). record m { tentative = t }) (b.was ∙ ap (λ n. Some (record { name = b.begun.name; place = b.begun.place; room = b.begun.room; written = n })) b.none);
+  others = ap (λ (t : Option NewFile). record m { tentative = t }) (b.was ∙ ap (λ n. Some (record { name = b.begun.name; place = b.begun.place; room = b.begun.room; blocks_written = n })) b.none);
 }
 
 -- the file that is being written, after some blocks
-pub begun_now : (old : MountState) (begun : NewFile) (prefix : List ℕ) (written : ℕ) (mid : MountState) → HasFilled old begun prefix written mid → mid.tentative ≡ Some (record { name = begun.name; place = begun.place; room = begun.room; written = written })
+pub begun_now : (old : MountState) (begun : NewFile) (prefix : List ℕ) (written : ℕ) (mid : MountState) → HasFilled old begun prefix written mid → mid.tentative ≡ Some (record { name = begun.name; place = begun.place; room = begun.room; blocks_written = written })
 begun_now old begun prefix written mid done = ap (λ (m : MountState). m.tentative) done.others
 
 -- one more block
 pub filled_more : (old : MountState) (begun : NewFile) (prefix words : List ℕ) (written : ℕ) (mid new : MountState) → HasFilled old begun prefix written mid → HasWritten mid words new → HasFilled old begun (prefix ++ words) (written + 1) new
 filled_more old begun prefix words written mid new done more = record {
   was = done.was;
-  text = ap (λ (b : NewFile). run new.blocks b.place (b.written + 1)) (sym same) ∙ more.text ∙ ap (λ (b : NewFile). run mid.blocks b.place b.written ++ words) same ∙ ap (λ l. l ++ words) done.text;
+  text = ap (λ (b : NewFile). run new.blocks b.place (b.blocks_written + 1)) (sym same) ∙ more.text ∙ ap (λ (b : NewFile). run mid.blocks b.place b.blocks_written ++ words) same ∙ ap (λ l. l ++ words) done.text;
   kept = keeps-trans old.blocks mid.blocks new.blocks done.kept more.kept;
-  others_kept = kept-more old.blocks mid.blocks new.blocks begun.place written _ done.others_kept more.others_kept (ap (λ (b : NewFile). b.place + b.written) same);
+  others_kept = kept-more old.blocks mid.blocks new.blocks begun.place written _ done.others_kept more.others_kept (ap (λ (b : NewFile). b.place + b.blocks_written) same);
   files = more.files ∙ done.files;
   capacity = more.capacity ∙ done.capacity;
   limit = more.limit ∙ done.limit;
   info = more.info ∙ done.info;
   above = more.above ∙ done.above;
   writes = ap (λ (m : MountState). m.writes) more.others ∙ ap next_count done.writes ∙ once-more written old.writes;
-  others = more.others ∙ ap (λ (b : NewFile). record mid { blocks = new.blocks; writes = next_count mid.writes; tentative = Some (record { name = b.name; place = b.place; room = b.room; written = b.written + 1 }) }) same ∙ ap (λ (m : MountState). record m { blocks = new.blocks; writes = next_count mid.writes; tentative = Some (record { name = begun.name; place = begun.place; room = begun.room; written = written + 1 }) }) done.others
-      ∙ ap (λ n. record old { blocks = new.blocks; writes = n; tentative = Some (record { name = begun.name; place = begun.place; room = begun.room; written = written + 1 }) }) (sym (ap (λ (m : MountState). m.writes) more.others));
+  others = more.others ∙ ap (λ (b : NewFile). record mid { blocks = new.blocks; writes = next_count mid.writes; tentative = Some (record { name = b.name; place = b.place; room = b.room; blocks_written = b.blocks_written + 1 }) }) same ∙ ap (λ (m : MountState). record m { blocks = new.blocks; writes = next_count mid.writes; tentative = Some (record { name = begun.name; place = begun.place; room = begun.room; blocks_written = written + 1 }) }) done.others
+      ∙ ap (λ n. record old { blocks = new.blocks; writes = n; tentative = Some (record { name = begun.name; place = begun.place; room = begun.room; blocks_written = written + 1 }) }) (sym (ap (λ (m : MountState). m.writes) more.others));
 }
   where
-    same : more.begun ≡ record { name = begun.name; place = begun.place; room = begun.room; written = written }
+    same : more.begun ≡ record { name = begun.name; place = begun.place; room = begun.room; blocks_written = written }
     same = some-same _ _ (sym more.was ∙ begun_now old begun prefix written mid done)
 
 -- a write failed over blocks that have the directory of the first ones
@@ -137,9 +137,9 @@ failed-from old mid new kept is failed =
 
 -- a block that was not written
 pub filled_not : (old : MountState) (begun : NewFile) (prefix words all : List ℕ) (written blocks : ℕ) (mid new : MountState) (why : FileFault) → old.stopped ≡ false → HasFilled old begun prefix written mid → blocks ≤ begun.room → written < blocks → WritesBlock mid words (Err why) new → FillsFile old all blocks (Err why) new
-filled_not old begun prefix words all written blocks mid new TooLong running done fits short failed = absurd (past (ap (λ (b : NewFile). b.room) same) (ap (λ (b : NewFile). b.written) same) failed.3)
+filled_not old begun prefix words all written blocks mid new TooLong running done fits short failed = absurd (past (ap (λ (b : NewFile). b.room) same) (ap (λ (b : NewFile). b.blocks_written) same) failed.3)
   where
-    same : failed.1 ≡ record { name = begun.name; place = begun.place; room = begun.room; written = written }
+    same : failed.1 ≡ record { name = begun.name; place = begun.place; room = begun.room; blocks_written = written }
     same = some-same _ _ (sym failed.2 ∙ begun_now old begun prefix written mid done)
 
     past : {r w : ℕ} → r ≡ begun.room → w ≡ written → r ≤ w → ⊥
@@ -149,12 +149,12 @@ filled_not old begun prefix words all written blocks mid new Device running done
   was = done.was;
   files = record { kept = keeps-trans old.blocks mid.blocks new.blocks done.kept failed.files.kept; files = failed.files.files ∙ done.files };
   others_kept = kept-wider old.blocks new.blocks begun.place (written + 1) blocks (omega (arith, short))
-      (kept-more old.blocks mid.blocks new.blocks begun.place written _ done.others_kept failed.blocks (ap (λ (b : NewFile). b.place + b.written) same));
+      (kept-more old.blocks mid.blocks new.blocks begun.place written _ done.others_kept failed.blocks (ap (λ (b : NewFile). b.place + b.blocks_written) same));
   writes = record { number = written + 1; some = omega arith; few = omega (arith, short); rise = failed.writes ∙ ap next_count done.writes ∙ once-more written old.writes };
   others = failed-from (WithoutNewFile old) (WithoutNewFile mid) (WithoutNewFile new) done.kept (ap WithoutNewFile done.others) (ap WithoutNewFile failed.others);
 }
   where
-    same : failed.begun ≡ record { name = begun.name; place = begun.place; room = begun.room; written = written }
+    same : failed.begun ≡ record { name = begun.name; place = begun.place; room = begun.room; blocks_written = written }
     same = some-same _ _ (sym failed.was ∙ begun_now old begun prefix written mid done)
 filled_not old begun prefix words all written blocks mid new Stopped running done fits short failed = absurd (true≢false (sym failed.0 ∙ ap (λ (m : MountState). m.stopped) done.others ∙ running))
 filled_not old begun prefix words all written blocks mid new NotFound running done fits short failed = absurd failed
@@ -192,7 +192,7 @@ entered_not given old new name blocks words NothingWritten named some count none
 pub entered_beginning : (old new : MountState) (name blocks token : ℕ) (e : HasEntered old name blocks token new) → blocks ≤ e.room → IsBeginning new token blocks
 entered_beginning old new name blocks token e fits = record {
   running = ap (λ (m : MountState). m.stopped) e.others ∙ e.ready.running;
-  begun = record { name = name; place = e.place; room = e.room; written = 0 };
+  begun = record { name = name; place = e.place; room = e.room; blocks_written = 0 };
   was = ap (λ (m : MountState). m.tentative) e.others;
   name = sym e.token;
   none = refl;
@@ -277,7 +277,7 @@ spent_kept old m1 m2 new name blocks token words begun e done is = record {
 -- what was written is the file
 new_is : (given : List ℕ) (old m1 m2 : MountState) (name blocks token : ℕ) (words : List ℕ) (begun b : NewFile) → HasEntered old name blocks token m1 → HasFilled m1 begun words blocks m2 → m2.tentative ≡ Some b → new_held m2 b given ≡ file_with old given words
 new_is given old m1 m2 name blocks token words begun b e done was =
-    ap (λ (x : NewFile). (with_end_zeros (info_of m2.blocks) given, run m2.blocks x.place x.written)) (some-same _ _ (sym was ∙ begun_now m1 begun words blocks m2 done))
+    ap (λ (x : NewFile). (with_end_zeros (info_of m2.blocks) given, run m2.blocks x.place x.blocks_written)) (some-same _ _ (sym was ∙ begun_now m1 begun words blocks m2 done))
     ∙ ap (λ (l : List ℕ). (with_end_zeros (info_of m2.blocks) given, l)) done.text
     ∙ ap (λ (n : ℕ). (with_end_zeros n given, words)) (done.info ∙ ap (λ (m : MountState). info_of m.blocks) e.others)
 
@@ -286,8 +286,8 @@ all_is : (old m1 m2 : MountState) (name blocks token : ℕ) (words : List ℕ) (
     → b ≡ all_written name e.place e.room words
 all_is old m1 m2 name blocks token words begun b e done was count =
     some-same _ _ (sym was ∙ begun_now m1 begun words blocks m2 done)
-    ∙ ap (λ (x : NewFile). record { name = x.name; place = x.place; room = x.room; written = blocks }) (some-same _ _ (sym done.was ∙ ap (λ (m : MountState). m.tentative) e.others))
-    ∙ ap (λ (n : ℕ). record { name = name; place = e.place; room = e.room; written = n }) count
+    ∙ ap (λ (x : NewFile). record { name = x.name; place = x.place; room = x.room; blocks_written = blocks }) (some-same _ _ (sym done.was ∙ ap (λ (m : MountState). m.tentative) e.others))
+    ∙ ap (λ (n : ℕ). record { name = name; place = e.place; room = e.room; blocks_written = n }) count
 
 -- the same number of blocks
 sized : (old new : MountState) (blocks size : ℕ) → blocks ≡ size → HasKept old blocks new → HasKept old size new
@@ -309,11 +309,11 @@ sized old new blocks size is k = record {
 -- the same directory comes to the same list with a file
 entries_are : (given : List ℕ) (one two : NewFile) (old new : List (List ℕ)) → one ≡ two → directory_of new ≡ directory_of old → entries_with one given new ≡ entries_with two given old
 entries_are given one two old new is same =
-    ap (of_directory (λ d. length (with_new_file d.first (new_file d one.name given one.place one.written) d.entries))) same ∙ ap (λ (b : NewFile). entries_with b given old) is
+    ap (of_directory (λ d. length (with_new_file d.first (new_file d one.name given one.place one.blocks_written) d.entries))) same ∙ ap (λ (b : NewFile). entries_with b given old) is
 
 list_is : (given : List ℕ) (one two : NewFile) (old new : MountState) → one ≡ two → directory_of new.blocks ≡ directory_of old.blocks → list_with new one given ≡ list_with old two given
 list_is given one two old new is same =
-    ap (with_list (λ d. with_new_file d.first (new_file d one.name given one.place one.written) d.entries)) same ∙ ap (λ (b : NewFile). list_with old b given) is
+    ap (with_list (λ d. with_new_file d.first (new_file d one.name given one.place one.blocks_written) d.entries)) same ∙ ap (λ (b : NewFile). list_with old b given) is
 
 -- ## The file is closed or not
 
@@ -328,8 +328,8 @@ closed_done given old m1 m2 new name blocks token words begun count e filled has
   room = e.room;
   fits = subst (λ n. fitting n (rooms_of old.blocks) ≡ Some (e.place, e.room)) count e.fits;
   few = omega (arith, has.fits, kept.limit, entries_are given has.begun _ old.blocks m2.blocks is kept.kept.directory);
-  list = has.list ∙ ap (λ n. list_with m2 (record { name = n; place = has.begun.place; room = has.begun.room; written = has.begun.written }) given) (sym has.names) ∙ list_is given has.begun _ old m2 is kept.kept.directory;
-  extent = has.place ∙ ap (λ (b : NewFile). Some (b.place, b.written)) is;
+  list = has.list ∙ ap (λ n. list_with m2 (record { name = n; place = has.begun.place; room = has.begun.room; blocks_written = has.begun.blocks_written }) given) (sym has.names) ∙ list_is given has.begun _ old m2 is kept.kept.directory;
+  extent = has.place ∙ ap (λ (b : NewFile). Some (b.place, b.blocks_written)) is;
   blocks = subst (λ n. KeepsBlocks old.blocks new.blocks e.place n) count (kept-none old.blocks m2.blocks new.blocks e.place blocks kept.blocks has.blocks);
   written = record { directory = has.written.directory; read = has.written.read; segments = has.written.segments; unused = λ k more low. has.written.unused k more low ∙ kept.kept.segments k (omega (arith, more)) low };
   places = λ other differ runs. has.places other differ ∙ ap (extent_or other) kept.kept.directory;
@@ -408,7 +408,7 @@ closed_not given old m1 m2 new name blocks token words begun b count e filled wa
 -- the file that was filled is closed
 pub closed : (given : List ℕ) (old m1 m2 new : MountState) (name blocks token : ℕ) (words : List ℕ) (begun : NewFile) (r : Result (Unit {0}) FileFault) → 0 < blocks → blocks ≡ blocks_filled words → HasEntered old name blocks token m1 → HasFilled m1 begun words blocks m2 → ClosesFile m2 name given r new → PutsFileWith old name given words r new
 closed given old m1 m2 new name blocks token words begun (Ok done) some count e filled has = closed_done given old m1 m2 new name blocks token words begun count e filled has
-closed given old m1 m2 new name blocks token words begun (Err NothingWritten) some count e filled has = absurd (written (ap (λ (b : NewFile). b.written) (some-same _ _ (sym has.1.was ∙ begun_now m1 begun words blocks m2 filled))) has.2)
+closed given old m1 m2 new name blocks token words begun (Err NothingWritten) some count e filled has = absurd (written (ap (λ (b : NewFile). b.blocks_written) (some-same _ _ (sym has.1.was ∙ begun_now m1 begun words blocks m2 filled))) has.2)
   where
     written : {n : ℕ} → n ≡ blocks → n ≡ 0 → ⊥
     written one two = omega (arith, one, two, some)

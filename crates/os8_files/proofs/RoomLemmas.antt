@@ -17,7 +17,7 @@ room-inside from size first (File name info long ∷ es) room =
 room-inside from size first (Empty long ∷ es) room =
     elim room [
       | inl here ↦ (omega (arith, here.0), omega (arith, here.0, here.1))
-      | inr behind ↦ let rest = room-inside from size (first + long) es behind in (omega (arith, rest.0), omega (arith, rest.1))
+      | inr following ↦ let rest = room-inside from size (first + long) es following in (omega (arith, rest.0), omega (arith, rest.1))
     ]
 
 pub run-other : (blocks : List (List ℕ)) (k place size : ℕ) (words : List ℕ) → (place + size ≤ k) ⊎ (k < place) → run (slice_set blocks k words) place size ≡ run blocks place size

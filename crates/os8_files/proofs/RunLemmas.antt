@@ -36,7 +36,7 @@ run-beside blocks place [] from size apart = refl
 run-beside blocks place (x ∷ ws) from size apart =
     elim apart [
       | inl low ↦ run-beside (slice_set blocks place x) (suc place) ws from size (inl (omega (arith, low))) ∙ run-other blocks place from size x (inl low)
-      | inr up ↦ let behind : suc place + length ws ≤ from = omega (arith, up) in run-beside (slice_set blocks place x) (suc place) ws from size (inr behind) ∙ run-other blocks place from size x (inr (omega (arith, behind)))
+      | inr up ↦ let following : suc place + length ws ≤ from = omega (arith, up) in run-beside (slice_set blocks place x) (suc place) ws from size (inr following) ∙ run-other blocks place from size x (inr (omega (arith, following)))
     ]
 
 with_run-sets : (blocks : List (List ℕ)) (place : ℕ) (ws : List (List ℕ)) → with_run blocks place ws ≡ sets blocks place ws
@@ -61,7 +61,7 @@ find-some name from bound [] f apart found = cc
 find-some name from bound (g ∷ gs) f apart found =
     (elim (g.name == name) as (λ b. (if b then Some g else find name gs) ≡ Some f → 0 < f.size) [
       | true ↦ λ here. let same : g ≡ f = cc in omega (arith, apart.1, ap (λ (p : FilePlace). p.size) same)
-      | false ↦ λ behind. find-some name (g.place + g.size) bound gs f apart.2 behind
+      | false ↦ λ following. find-some name (g.place + g.size) bound gs f apart.2 following
     ]) found
 
 head-found : (b : Bool) (h : FilePlace) (rest : Option FilePlace) (f : FilePlace) → b ≡ true → (if b then Some h else rest) ≡ Some f → h ≡ f
@@ -80,14 +80,14 @@ two-apart one two from bound (h ∷ hs) f g differ apart first second =
         | inl also ↦ absurd (differ (sym here.1 ∙ also.1))
         | inr apart' ↦
             let f-is : h ≡ f = head-found (eqb h.name one) h (find one hs) f here.0 first in
-            let behind = find-from two (h.place + h.size) bound hs g apart.2 (tail-found (eqb h.name two) h (find two hs) g apart'.0 second) in
-            inr (omega (arith, behind, ap (λ (p : FilePlace). p.place + p.size) f-is))
+            let following = find-from two (h.place + h.size) bound hs g apart.2 (tail-found (eqb h.name two) h (find two hs) g apart'.0 second) in
+            inr (omega (arith, following, ap (λ (p : FilePlace). p.place + p.size) f-is))
       ]
       | inr other ↦ elim (eqb_tells h.name two) [
         | inl here ↦
             let g-is : h ≡ g = head-found (eqb h.name two) h (find two hs) g here.0 second in
-            let behind = find-from one (h.place + h.size) bound hs f apart.2 (tail-found (eqb h.name one) h (find one hs) f other.0 first) in
-            inl (omega (arith, behind, ap (λ (p : FilePlace). p.place + p.size) g-is))
+            let following = find-from one (h.place + h.size) bound hs f apart.2 (tail-found (eqb h.name one) h (find one hs) f other.0 first) in
+            inl (omega (arith, following, ap (λ (p : FilePlace). p.place + p.size) g-is))
         | inr apart' ↦ two-apart one two (h.place + h.size) bound hs f g differ apart.2 (tail-found (eqb h.name one) h (find one hs) f other.0 first) (tail-found (eqb h.name two) h (find two hs) g apart'.0 second)
       ]
     ])

@@ -38,14 +38,14 @@ times-released name hold [] some = absurd (omega (arith, some))
 times-released name hold (other ∷ holds) some = elim (eqb_tells other hold) [
   | inl h ↦ subst (λ b. times name (hold ∷ []) + times name (if b then holds else other ∷ without_hold hold holds) ≡ times name (other ∷ holds)) (sym h.0) (first h.1)
   | inr h ↦ subst (λ b. times name (hold ∷ []) + times name (if b then holds else other ∷ without_hold hold holds) ≡ times name (other ∷ holds)) (sym h.0)
-      (behind (times-released name hold holds (subst (λ b. 1 ≤ (if b then 1 else 0) + times hold holds → 1 ≤ times hold holds) (sym h.0) (λ more. omega (arith, more)) some)))
+      (following (times-released name hold holds (subst (λ b. 1 ≤ (if b then 1 else 0) + times hold holds → 1 ≤ times hold holds) (sym h.0) (λ more. omega (arith, more)) some)))
 ]
   where
     first : other ≡ hold → times name (hold ∷ []) + times name holds ≡ times name (other ∷ holds)
     first same = subst (λ o. times name (hold ∷ []) + times name holds ≡ times name (o ∷ holds)) (sym same) (omega arith)
 
-    behind : times name (hold ∷ []) + times name (without_hold hold holds) ≡ times name holds → times name (hold ∷ []) + times name (other ∷ without_hold hold holds) ≡ times name (other ∷ holds)
-    behind rest = omega (arith, rest)
+    following : times name (hold ∷ []) + times name (without_hold hold holds) ≡ times name holds → times name (hold ∷ []) + times name (other ∷ without_hold hold holds) ≡ times name (other ∷ holds)
+    following rest = omega (arith, rest)
 
 -- In which order two holds are taken is all one.
 abbrev put : ℕ → ℕ → List ℕ → Bool → List ℕ

@@ -24,8 +24,8 @@ held-files : (name : ℕ) (first : MountState) (others : List MountState) (last 
     → (first.stopped ≡ false) × (get (files_of last.blocks) name ≡ get (files_of first.blocks) name)
 held-files name first [] last through runs = (ap (λ (m : MountState). m.stopped) through ∙ runs, sym (ap (λ (m : MountState). get (files_of m.blocks) name) through))
 held-files name first (next ∷ others) last through runs =
-    let behind = held-files name next others last through.3 runs in
-    (through.1 behind.0, behind.1 ∙ through.2 name through.0 behind.0)
+    let following = held-files name next others last through.3 runs in
+    (through.1 following.0, following.1 ∙ through.2 name through.0 following.0)
 
 abbrev words_or : Option FileData → List ℕ
 words_or None = []

@@ -56,7 +56,7 @@ b-lost = refl
 b-lost-too : run broken 10 3 ≡ 5252 ∷ 102 ∷ 103 ∷ []
 b-lost-too = refl
 
--- without A its blocks are empty with the one behind them, but A stands in full in its old blocks
+-- without A its blocks are empty with the one after them, but A stands in full in its old blocks
 a-gone : extent_or a (with_list (λ d. without_file a d.entries) small) ≡ None
 a-gone = refl
 

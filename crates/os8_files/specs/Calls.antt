@@ -152,7 +152,7 @@ pub record IsOver (blocks : List (List ℕ)) (after : Files) : Type 0 where
 pub record KeepsBlocks (old new : List (List ℕ)) (place size : ℕ) : Type 0 where
   pub count : length new ≡ length old
   pub first : block new 0 ≡ block old 0
-  pub behind : (k : ℕ) → FIRST_FILE_BLOCK ≤ k → (k < place) ⊎ (place + size ≤ k) → block new k ≡ block old k
+  pub following : (k : ℕ) → FIRST_FILE_BLOCK ≤ k → (k < place) ⊎ (place + size ≤ k) → block new k ≡ block old k
 
 -- The directory stands as it is written: pieces of as many entries as a segment takes, in blocks 1, 2 and so on. Each has a link
 -- to the block after it, a flag word of 0, and zeros after its entries. Blocks up to 6 that it does not need are as before.
@@ -218,7 +218,7 @@ pub record HasEntered (old : MountState) (name wish tentative : ℕ) (new : Moun
   pub place : ℕ
   pub room : ℕ
   pub fits : fitting wish (rooms_of old.blocks) ≡ Some (place, room)
-  pub others : new ≡ record old { tentative = Some (record { name = name; place = place; room = room; written = 0 }) }
+  pub others : new ≡ record old { tentative = Some (record { name = name; place = place; room = room; blocks_written = 0 }) }
 
 abbrev pub Enters : MountState → ℕ → ℕ → Result ℕ FileFault → MountState → Type 0
 Enters old name wish (Ok tentative) new = HasEntered old name wish tentative new
@@ -238,43 +238,43 @@ pub record HasWritten (old : MountState) (words : List ℕ) (new : MountState) :
   pub running : old.stopped ≡ false
   pub begun : NewFile
   pub was : old.tentative ≡ Some begun
-  pub short : begun.written < begun.room
-  pub blocks : new.blocks ≡ slice_set old.blocks (begun.place + begun.written) words
-  pub text : run new.blocks begun.place (begun.written + 1) ≡ run old.blocks begun.place begun.written ++ words
+  pub short : begun.blocks_written < begun.room
+  pub blocks : new.blocks ≡ slice_set old.blocks (begun.place + begun.blocks_written) words
+  pub text : run new.blocks begun.place (begun.blocks_written + 1) ≡ run old.blocks begun.place begun.blocks_written ++ words
   pub kept : KeepsDirectory old.blocks new.blocks
-  pub others_kept : KeepsBlocks old.blocks new.blocks (begun.place + begun.written) 1
+  pub others_kept : KeepsBlocks old.blocks new.blocks (begun.place + begun.blocks_written) 1
   pub files : files_of new.blocks ≡ files_of old.blocks
   pub capacity : capacity_of new.blocks ≡ capacity_of old.blocks
   pub limit : limit_of new.blocks ≡ limit_of old.blocks
   pub info : info_of new.blocks ≡ info_of old.blocks
   pub above : above_of new.blocks ≡ above_of old.blocks
-  pub others : new ≡ record old { blocks = new.blocks; writes = next_count old.writes; tentative = Some (record { name = begun.name; place = begun.place; room = begun.room; written = begun.written + 1 }) }
+  pub others : new ≡ record old { blocks = new.blocks; writes = next_count old.writes; tentative = Some (record { name = begun.name; place = begun.place; room = begun.room; blocks_written = begun.blocks_written + 1 }) }
 
 -- A write failed of the next block of the file that is being written. Mounting finds all files with their words.
 pub record WriteFailed (old new : MountState) : Type 0 where
   pub running : old.stopped ≡ false
   pub begun : NewFile
   pub was : old.tentative ≡ Some begun
-  pub short : begun.written < begun.room
+  pub short : begun.blocks_written < begun.room
   pub files : FoundAgain old.blocks new.blocks
-  pub blocks : KeepsBlocks old.blocks new.blocks (begun.place + begun.written) 1
+  pub blocks : KeepsBlocks old.blocks new.blocks (begun.place + begun.blocks_written) 1
   pub writes : new.writes ≡ next_count old.writes
   pub others : HasFailed old new
 
 abbrev pub WritesBlock : MountState → List ℕ → Result (Unit {0}) FileFault → MountState → Type 0
 WritesBlock old words (Ok nothing) new = HasWritten old words new
-WritesBlock old words (Err TooLong) new = (old.stopped ≡ false) × (begun : NewFile) × (old.tentative ≡ Some begun) × (begun.room ≤ begun.written) × (new ≡ old)
+WritesBlock old words (Err TooLong) new = (old.stopped ≡ false) × (begun : NewFile) × (old.tentative ≡ Some begun) × (begun.room ≤ begun.blocks_written) × (new ≡ old)
 WritesBlock old words (Err Device) new = WriteFailed old new
 WritesBlock old words (Err Stopped) new = HasStopped old new
 WritesBlock old words (Err fault) new = ⊥
 
 -- how many entries the directory has with a file that was written
 abbrev pub entries_with : NewFile → List ℕ → List (List ℕ) → ℕ
-entries_with begun info blocks = of_directory (λ d. length (with_new_file d.first (new_file d begun.name info begun.place begun.written) d.entries)) (directory_of blocks)
+entries_with begun info blocks = of_directory (λ d. length (with_new_file d.first (new_file d begun.name info begun.place begun.blocks_written) d.entries)) (directory_of blocks)
 
 -- what a file that was written is: the first of these words are its information words, and missing ones are 0
 abbrev pub new_held : MountState → NewFile → List ℕ → FileData
-new_held m begun info = (with_end_zeros (info_of m.blocks) info, run m.blocks begun.place begun.written)
+new_held m begun info = (with_end_zeros (info_of m.blocks) info, run m.blocks begun.place begun.blocks_written)
 
 -- the file that is being written is gone, and all else is as before
 abbrev pub WithoutNewFile : MountState → MountState
@@ -287,11 +287,11 @@ pub record HasClosed (old : MountState) (name : ℕ) (given : List ℕ) (new : M
   pub begun : NewFile
   pub was : old.tentative ≡ Some begun
   pub names : begun.name ≡ name
-  pub some : 0 < begun.written
+  pub some : 0 < begun.blocks_written
   pub free : IsFree old name
   pub fits : entries_with begun given old.blocks ≤ limit_of old.blocks
-  pub list : directory_of new.blocks ≡ with_list (λ d. with_new_file d.first (new_file d name given begun.place begun.written) d.entries) (directory_of old.blocks)
-  pub place : extent_or name (directory_of new.blocks) ≡ Some (begun.place, begun.written)
+  pub list : directory_of new.blocks ≡ with_list (λ d. with_new_file d.first (new_file d name given begun.place begun.blocks_written) d.entries) (directory_of old.blocks)
+  pub place : extent_or name (directory_of new.blocks) ≡ Some (begun.place, begun.blocks_written)
   pub places : (other : ℕ) → name ≢ other → extent_or other (directory_of new.blocks) ≡ extent_or other (directory_of old.blocks)
   pub files : files_of new.blocks ≡ insert (files_of old.blocks) name (new_held old begun given)
   pub capacity : capacity_of new.blocks ≡ capacity_of old.blocks
@@ -314,12 +314,12 @@ files_with m begun info = insert (files_of m.blocks) begun.name (new_held m begu
 
 -- where they would lie
 abbrev pub list_with : MountState → NewFile → List ℕ → Result DirectoryState DirFault
-list_with m begun info = with_list (λ d. with_new_file d.first (new_file d begun.name info begun.place begun.written) d.entries) (directory_of m.blocks)
+list_with m begun info = with_list (λ d. with_new_file d.first (new_file d begun.name info begun.place begun.blocks_written) d.entries) (directory_of m.blocks)
 
 -- A write failed where a file that was written is placed in the directory. Each older file, a replaced one too, stands in
 -- full in its blocks, and so does the new one in those that were written.
 pub record PlaceFailed (old : MountState) (begun : NewFile) (given : List ℕ) (new : MountState) : Type 0 where
-  pub some : 0 < begun.written
+  pub some : 0 < begun.blocks_written
   pub free : IsFree old begun.name
   pub fits : entries_with begun given old.blocks ≤ limit_of old.blocks
   pub older : StandInFull new.blocks (directory_of old.blocks) (files_of old.blocks)
@@ -330,12 +330,12 @@ pub record PlaceFailed (old : MountState) (begun : NewFile) (given : List ℕ) (
 
 abbrev pub ClosesFile : MountState → ℕ → List ℕ → Result (Unit {0}) FileFault → MountState → Type 0
 ClosesFile old name info (Ok nothing) new = HasClosed old name info new
-ClosesFile old name info (Err NothingWritten) new = (begun : NewFile) × IsWriting old begun × (begun.written ≡ 0) × (new ≡ WithoutNewFile old)
-ClosesFile old name info (Err (Busy other)) new = (begun : NewFile) × IsWriting old begun × (0 < begun.written) × (other ≡ name) × IsHeld old name × (new ≡ WithoutNewFile old)
-ClosesFile old name info (Err DirectoryFull) new = (begun : NewFile) × IsWriting old begun × (0 < begun.written) × IsFree old name × (limit_of old.blocks < entries_with begun info old.blocks) × IsOver old.blocks (insert (files_of old.blocks) name (new_held old begun info)) × (new ≡ WithoutNewFile old)
+ClosesFile old name info (Err NothingWritten) new = (begun : NewFile) × IsWriting old begun × (begun.blocks_written ≡ 0) × (new ≡ WithoutNewFile old)
+ClosesFile old name info (Err (Busy other)) new = (begun : NewFile) × IsWriting old begun × (0 < begun.blocks_written) × (other ≡ name) × IsHeld old name × (new ≡ WithoutNewFile old)
+ClosesFile old name info (Err DirectoryFull) new = (begun : NewFile) × IsWriting old begun × (0 < begun.blocks_written) × IsFree old name × (limit_of old.blocks < entries_with begun info old.blocks) × IsOver old.blocks (insert (files_of old.blocks) name (new_held old begun info)) × (new ≡ WithoutNewFile old)
 ClosesFile old name info (Err Device) new = (begun : NewFile) × IsWriting old begun × (begun.name ≡ name) × PlaceFailed (WithoutNewFile old) begun info new
 ClosesFile old name info (Err Stopped) new = (old.stopped ≡ true) × (new ≡ WithoutNewFile old)
-ClosesFile old name info (Err Memory) new = (begun : NewFile) × IsWriting old begun × (0 < begun.written) × IsFree old name × (new ≡ WithoutNewFile old)
+ClosesFile old name info (Err Memory) new = (begun : NewFile) × IsWriting old begun × (0 < begun.blocks_written) × IsFree old name × (new ≡ WithoutNewFile old)
 ClosesFile old name info (Err fault) new = ⊥
 
 -- the lowest file with an empty directly below it lies lower by that empty, with one read for each of its blocks; the files

@@ -11,7 +11,7 @@ pub record NewFile : Type 0 where
   pub name : ℕ
   pub place : ℕ
   pub room : ℕ
-  pub written : ℕ
+  pub blocks_written : ℕ
 
 pub record MountState : Type 0 where
   -- the words of the store's blocks
@@ -32,7 +32,7 @@ pub record MountState : Type 0 where
 pub record IsBegun (directory : DirectoryState) (begun : NewFile) : Type 0 where
   pub named : IsNamed begun.name
   pub room : IsRoom begun.place begun.room (rooms_at directory.first directory.entries)
-  pub most : begun.written ≤ begun.room
+  pub most : begun.blocks_written ≤ begun.room
 
 -- six blocks that are kept have the words of blocks 1 to 6
 pub record AreSegments (blocks kept : List (List ℕ)) : Type 0 where

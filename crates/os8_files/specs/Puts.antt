@@ -30,7 +30,7 @@ plain_file m words = file_with m [] words
 
 -- the file that is being written when these words are: it lies at the beginning of an empty with so many blocks
 abbrev pub all_written : ℕ → ℕ → ℕ → List ℕ → NewFile
-all_written name place room words = record { name = name; place = place; room = room; written = blocks_filled words }
+all_written name place room words = record { name = name; place = place; room = room; blocks_written = blocks_filled words }
 
 -- how many entries the directory has with the file of these words in that empty
 abbrev pub entries_put_with : ℕ → ℕ → ℕ → List ℕ → List ℕ → List (List ℕ) → ℕ

@@ -26,7 +26,7 @@ pub record IsBeginning (m : MountState) (token blocks : ℕ) : Type 0 where
   pub begun : NewFile
   pub was : m.tentative ≡ Some begun
   pub name : begun.name ≡ token
-  pub none : begun.written ≡ 0
+  pub none : begun.blocks_written ≡ 0
   pub fits : blocks ≤ begun.room
 
 -- so many blocks of a file that was begun have these words; no file is changed
@@ -41,7 +41,7 @@ pub record HasFilled (old : MountState) (begun : NewFile) (words : List ℕ) (bl
   pub info : info_of new.blocks ≡ info_of old.blocks
   pub above : above_of new.blocks ≡ above_of old.blocks
   pub writes : new.writes ≡ counted_more blocks old.writes
-  pub others : new ≡ record old { blocks = new.blocks; writes = new.writes; tentative = Some (record { name = begun.name; place = begun.place; room = begun.room; written = blocks }) }
+  pub others : new ≡ record old { blocks = new.blocks; writes = new.writes; tentative = Some (record { name = begun.name; place = begun.place; room = begun.room; blocks_written = blocks }) }
 
 -- a write of one of so many blocks of a file that was begun failed
 pub record FillFailed (old : MountState) (blocks : ℕ) (new : MountState) : Type 0 where
@@ -69,9 +69,9 @@ pub record IsPlaced (m : MountState) (begun : NewFile) : Type 0 where
 -- what placing that file in the directory answers: where it is done, the file that was being written is closed
 abbrev pub PlacesFile : MountState → ℕ → NewFile → List ℕ → Result (Unit {0}) FileFault → MountState → Type 0
 PlacesFile old name begun info (Ok nothing) new = HasClosed (record old { tentative = Some begun }) name info new
-PlacesFile old name begun info (Err NothingWritten) new = (begun.written ≡ 0) × (new ≡ old)
-PlacesFile old name begun info (Err (Busy other)) new = (0 < begun.written) × (other ≡ name) × IsHeld old name × (new ≡ old)
-PlacesFile old name begun info (Err DirectoryFull) new = (0 < begun.written) × IsFree old name × (limit_of old.blocks < entries_with begun info old.blocks) × IsOver old.blocks (insert (files_of old.blocks) name (new_held old begun info)) × (new ≡ old)
+PlacesFile old name begun info (Err NothingWritten) new = (begun.blocks_written ≡ 0) × (new ≡ old)
+PlacesFile old name begun info (Err (Busy other)) new = (0 < begun.blocks_written) × (other ≡ name) × IsHeld old name × (new ≡ old)
+PlacesFile old name begun info (Err DirectoryFull) new = (0 < begun.blocks_written) × IsFree old name × (limit_of old.blocks < entries_with begun info old.blocks) × IsOver old.blocks (insert (files_of old.blocks) name (new_held old begun info)) × (new ≡ old)
 PlacesFile old name begun info (Err Device) new = PlaceFailed old begun info new
-PlacesFile old name begun info (Err Memory) new = (0 < begun.written) × IsFree old name × (new ≡ old)
+PlacesFile old name begun info (Err Memory) new = (0 < begun.blocks_written) × IsFree old name × (new ≡ old)
 PlacesFile old name begun info (Err fault) new = ⊥

@@ -7,7 +7,7 @@ pub(crate) struct Begun {
     pub(crate) name: Name,
     pub(crate) place: usize,
     pub(crate) room: usize,
-    pub(crate) written: usize,
+    pub(crate) blocks_written: usize,
 }
 
 impl Model for Begun {
@@ -15,7 +15,7 @@ impl Model for Begun {
 
     ghost Value = { mounted.NewFile };
 
-    ghost view = { λ b. record { name = b.name; place = b.place; room = b.room; written = b.written } };
+    ghost view = { λ b. record { name = b.name; place = b.place; room = b.room; blocks_written = b.blocks_written } };
 
-    ghost inverse = { λ b. record { name = b.name; place = b.place; room = b.room; written = b.written } };
+    ghost inverse = { λ b. record { name = b.name; place = b.place; room = b.room; blocks_written = b.blocks_written } };
 }

@@ -23,9 +23,9 @@ fn place_of(holds: &[Name], name: Name) -> usize
 {
     match holds {
         [] => 0,
-        [held, behind @ ..] => {
+        [held, following @ ..] => {
             if *held < name {
-                1 + place_of(behind, name)
+                1 + place_of(following, name)
             } else {
                 0
             }
@@ -40,11 +40,11 @@ pub(crate) fn first_of(holds: &[Name], name: Name) -> usize
 {
     match holds {
         [] => 0,
-        [held, behind @ ..] => {
+        [held, following @ ..] => {
             if *held == name {
                 0
             } else {
-                1 + first_of(behind, name)
+                1 + first_of(following, name)
             }
         }
     }

@@ -41,10 +41,10 @@ tags_are (t ∷ next ∷ others) = by_comma (is_comma next.kind) (tags_are other
     by_comma true is = ap (λ n. take n (t ∷ next ∷ others)) (double (tag_count others)) ∙ ap (λ l. t ∷ next ∷ l) is
     by_comma false is = refl
 
-none_behind : (tokens : List Token) → body_in (front tokens) ≡ []
-none_behind [] = refl
-none_behind (t ∷ []) = refl
-none_behind (t ∷ next ∷ others) = by_comma (is_comma next.kind) refl (none_behind others)
+none_after : (tokens : List Token) → body_in (front tokens) ≡ []
+none_after [] = refl
+none_after (t ∷ []) = refl
+none_after (t ∷ next ∷ others) = by_comma (is_comma next.kind) refl (none_after others)
   where
     by_comma : (test : Bool) → is_comma next.kind ≡ test → body_in (front others) ≡ [] → body_in (if test then t ∷ next ∷ front others else []) ≡ []
     by_comma true comma is =
@@ -148,7 +148,7 @@ tags_say_nothing names radix tokens is_cut phrase is =
     ∙ ap (λ test. if test then Err NU
     else (if is_cut || not (has_free_tags (front tokens)) then Err SY else phrase_or_fault end.Semicolon (body_phrase names radix (body_in (front tokens))))) no_number
     ∙ ap (λ test. if test then Err SY else phrase_or_fault end.Semicolon (body_phrase names radix (body_in (front tokens)))) no_other
-    ∙ ap (λ l. phrase_or_fault end.Semicolon (body_phrase names radix l)) (none_behind tokens)
+    ∙ ap (λ l. phrase_or_fault end.Semicolon (body_phrase names radix l)) (none_after tokens)
   where
     said : IsSaid (has_bad tokens) (has_bad_number radix (number_tokens tokens)) (is_cut || not (has_free_tags tokens)) phrase
     said = is_said (has_bad tokens) (has_bad_number radix (number_tokens tokens)) (is_cut || not (has_free_tags tokens)) (body_phrase names radix (body_in tokens)) phrase is
@@ -159,7 +159,7 @@ tags_say_nothing names radix tokens is_cut phrase is =
 
     no_number : has_bad_number radix (number_tokens (front tokens)) ≡ false
     no_number =
-        ap (λ l. has_bad_number radix (if names_file l then tags_in (front tokens) else front tokens)) (none_behind tokens)
+        ap (λ l. has_bad_number radix (if names_file l then tags_in (front tokens) else front tokens)) (none_after tokens)
         ∙ by_names (names_file (body_in tokens)) said.no_number
 
     not_true : (b : Bool) → not b ≡ false → b ≡ true

@@ -128,13 +128,13 @@ way_is_over whole [] lexer at a none way =
 way_is_over whole (b ∷ rest) lexer at a none way = absurd (omega (arith, none))
 
 -- what stands after the first of a list
-abbrev pub behind_one : {A : Type 0} → List A → List A
-behind_one l = take (length l - 1) (drop 1 l)
+abbrev pub following_one : {A : Type 0} → List A → List A
+following_one l = take (length l - 1) (drop 1 l)
 
 less_one : (n : ℕ) → suc n - 1 ≡ n
 less_one n = omega arith
 
-first_one : (l : List ℕ) → 1 ≤ length l → l ≡ slice_index l 0 ∷ behind_one l
+first_one : (l : List ℕ) → 1 ≤ length l → l ≡ slice_index l 0 ∷ following_one l
 first_one [] long = absurd (omega (arith, long))
 first_one (x ∷ others) long = ap (λ v. x ∷ v) (sym (ap (λ n. take n others) (less_one (length others)) ∙ take_all (length others) others (omega arith)))
 
@@ -143,10 +143,10 @@ limit_more n = omega arith
 
 module _ (whole rest : List ℕ) (lexer lexer' : lex.Progress) (at : ℕ) (a a' : Progress) (long : 1 ≤ length rest)
     (way : IsOnTheWay whole rest lexer at a) where
-  same_again : text_from (slice_index rest 0 ∷ way.here) (behind_one rest) ≡ whole
+  same_again : text_from (slice_index rest 0 ∷ way.here) (following_one rest) ≡ whole
   same_again = sym (ap (text_from way.here) (first_one rest long)) ∙ way.same
 
-  pub way_goes_on : HasTaken (slice_index rest 0 ∷ way.here) lexer' a' → IsOnTheWay whole (behind_one rest) lexer' (limit (at + 1)) a'
+  pub way_goes_on : HasTaken (slice_index rest 0 ∷ way.here) lexer' a' → IsOnTheWay whole (following_one rest) lexer' (limit (at + 1)) a'
   way_goes_on taken = record {
     here = slice_index rest 0 ∷ way.here;
     counts = ap (λ n. limit (n + 1)) way.counts ∙ limit_more (length way.here);
@@ -157,7 +157,7 @@ module _ (whole rest : List ℕ) (lexer lexer' : lex.Progress) (at : ℕ) (a a' 
   -- a byte with a fault has the fault of the text
   pub way_fails : (fault : AsmFault) → TakesByte (slice_index rest 0 ∷ way.here) (Err fault) lexer' a' → ReadsOn whole (Err fault) lexer' at a'
   way_fails (At code place) fails =
-      let more = statements_after (slice_index rest 0 ∷ way.here) (behind_one rest) whole same_again in
+      let more = statements_after (slice_index rest 0 ∷ way.here) (following_one rest) whole same_again in
       ap pass_over more.1 ∙ fault_stays more.0 (statements (slice_index rest 0 ∷ way.here)) (at_place place code) fails
   way_fails Memory fails = tt
 

@@ -5,7 +5,7 @@ use Rattle.pal8_lex.specs.Kinds.{is_comma}
 use Rattle.pal8_lex.specs.declared.tokens.Token.{Token}
 use Rattle.pal8_lex.specs.declared.judging.Radix.{Radix}
 use Rattle.pal8_lex.specs.declared.judging.Radix.TheVariants as radix
-use Rattle.pal8_sym.specs.SourceNames.{Names, is_fixed, is_other, kept_value, names_after_expunge, names_after_fixtab, names_with_operation, names_with_tag, names_with_value, value_of}
+use Rattle.pal8_sym.specs.SourceNames.{NameState, is_fixed, is_other, kept_value, names_after_expunge, names_after_fixtab, names_with_operation, names_with_tag, names_with_value, value_of}
 use Rattle.pal8_grammar.specs.Bodies.{free_name}
 use Rattle.pal8_grammar.specs.declared.bodies.Body.{Body}
 use Rattle.pal8_grammar.specs.declared.bodies.Body.TheVariants as body
@@ -21,7 +21,7 @@ use Rattle.pal8_asm.specs.declared.places.TheConstants.{FIRST_PLACE}
 
 -- What statements leave: names, and where the next statement stands.
 pub record Standing : Type 0 where
-  pub names : Names
+  pub names : NameState
   pub position : Position
 
 -- ## Places
@@ -187,7 +187,7 @@ with_value_of body s (Ok v) = with_valued body s v
 abbrev pub value_at : Standing → List Step → Result ℕ Code
 value_at s steps = as_code (early_value s.names.own (spot_at s.position) steps)
 
-abbrev pub with_names : Names → Standing → Standing
+abbrev pub with_names : NameState → Standing → Standing
 with_names names s = record { names = names; position = s.position }
 
 -- what a body does, with the steps of its value and the length of its string

@@ -172,13 +172,13 @@ pub fn make_all(
     let mut heads = heads;
     let mut steps = steps;
     while let [head, others @ ..] = heads {
-        let (own, behind) = steps.split_at(head.count);
+        let (own, following) = steps.split_at(head.count);
         match make_one(frames, pools, alloc, names, cells, clash, pairs, *head, own) {
             Ok(()) => {}
             Err(fault) => return Err(fault),
         }
         heads = others;
-        steps = behind;
+        steps = following;
     }
     Ok(())
 }

@@ -17,7 +17,7 @@ use Rattle.pal8_lex.specs.declared.tokens.Kind.TheVariants as kind
 use Rattle.pal8_lex.specs.declared.rules.Head.{Head}
 use Rattle.pal8_lex.specs.declared.rules.Head.TheVariants as heads
 use Rattle.pal8_lex.specs.declared.rules.Open.{Open}
-use Rattle.pal8_lex.specs.declared.rules.Open.TheVariants as behind
+use Rattle.pal8_lex.specs.declared.rules.Open.TheVariants as following
 use Rattle.pal8_lex.specs.declared.rules.Shape.{Shape}
 use Rattle.pal8_lex.specs.declared.rules.Shape.TheVariants as shape
 use Rattle.pal8_lex.specs.declared.rules.Effect.{Effect}
@@ -90,14 +90,14 @@ again_is k again heads.More plain other = refl
 -- ## One byte more of the newest piece
 
 abbrev run_weight : Open → ℕ
-run_weight behind.Start = 0
-run_weight behind.Blank = 0
-run_weight (behind.Run weight) = weight
-run_weight behind.Term = 0
-run_weight behind.Quote = 0
-run_weight (behind.String delimiter) = 0
-run_weight behind.Comment = 0
-run_weight behind.Title = 0
+run_weight following.Start = 0
+run_weight following.Blank = 0
+run_weight (following.Run weight) = weight
+run_weight following.Term = 0
+run_weight following.Quote = 0
+run_weight (following.String delimiter) = 0
+run_weight following.Comment = 0
+run_weight following.Title = 0
 
 -- what a change of the last token makes of tokens
 abbrev Changes : List Token → List Token → Kind → ℕ → Type 0
@@ -116,20 +116,20 @@ module _ (newest : Piece) (older : List Piece) (b at : ℕ) where
   abbrev last_end : ℕ
   last_end = limit (end_after newest.first.1 newest.others)
 
-  run_is : newest.shape ≡ shape.Run → present_of (newest ∷ older) ≡ record { tokens = tokens_of older ++ token run last_end ∷ []; string = string_of older; state = behind.Run (weight_after newest.others); head = head_with run (head_of older) }
+  run_is : newest.shape ≡ shape.Run → present_of (newest ∷ older) ≡ record { tokens = tokens_of older ++ token run last_end ∷ []; string = string_of older; state = following.Run (weight_after newest.others); head = head_with run (head_of older) }
   run_is is = rw is refl
 
   pub lengthens : (weight end : ℕ) (tokens new_tokens : List Token) (string : List ℕ) (head new_head : Head) (k : Kind) → newest.shape ≡ shape.Run
-      → record { tokens = tokens; string = string; state = behind.Run weight; head = head } ≡ present_of (newest ∷ older)
+      → record { tokens = tokens; string = string; state = following.Run weight; head = head } ≡ present_of (newest ∷ older)
       → ((before : List Token) (last : Token) → tokens ≡ before ++ last ∷ [] → k ≡ longer last.kind weight b)
       → Changes tokens new_tokens k end → end ≡ limit (at + 1) → new_head ≡ head_again k head
-      → record { tokens = new_tokens; string = string; state = behind.Run (weight / 0o100); head = new_head } ≡ present_of (grown shape.Run (b, at) newest ∷ older)
+      → record { tokens = new_tokens; string = string; state = following.Run (weight / 0o100); head = new_head } ≡ present_of (grown shape.Run (b, at) newest ∷ older)
   lengthens weight end tokens new_tokens string head new_head k is old longer_is changes end_is head_is =
       let seen = old ∙ run_is is in
       let t : tokens ≡ tokens_of older ++ token run last_end ∷ [] = ap (λ (p : Present). p.tokens) seen in
       let w : weight ≡ weight_after newest.others = ap (λ (p : Present). run_weight p.state) seen in
       let k_is : k ≡ longer run (weight_after newest.others) b = longer_is (tokens_of older) (token run last_end) t ∙ ap (λ (n : ℕ). longer run n b) w in
-      four (changes (tokens_of older) (token run last_end) t ∙ rw (k_is, end_is) refl) (ap (λ (p : Present). p.string) seen) (ap (λ (n : ℕ). behind.Run (n / 0o100)) w)
+      four (changes (tokens_of older) (token run last_end) t ∙ rw (k_is, end_is) refl) (ap (λ (p : Present). p.string) seen) (ap (λ (n : ℕ). following.Run (n / 0o100)) w)
       (head_is ∙ rw k_is (ap (head_again (longer run (weight_after newest.others) b)) (ap (λ (p : Present). p.head) seen))
       ∙ again_is run (longer run (weight_after newest.others) b) (head_of older) (run_no_comma newest.first.0 newest.others)
       (longer_no_comma run (weight_after newest.others) b (run_no_comma newest.first.0 newest.others)))
@@ -137,14 +137,14 @@ module _ (newest : Piece) (older : List Piece) (b at : ℕ) where
 -- ## Which pieces a byte goes on with
 
 blank_fits : (before : List Piece) (state : Open) (head : Head) (b : ℕ) → Fits (effect_of (after_blank state) head b) before
-blank_fits before behind.Start head b = tt
-blank_fits before behind.Blank head b = tt
-blank_fits before (behind.Run weight) head b = tt
-blank_fits before behind.Term head b = tt
-blank_fits before behind.Quote head b = tt
-blank_fits before (behind.String delimiter) head b = tt
-blank_fits before behind.Comment head b = tt
-blank_fits before behind.Title head b = tt
+blank_fits before following.Start head b = tt
+blank_fits before following.Blank head b = tt
+blank_fits before (following.Run weight) head b = tt
+blank_fits before following.Term head b = tt
+blank_fits before following.Quote head b = tt
+blank_fits before (following.String delimiter) head b = tt
+blank_fits before following.Comment head b = tt
+blank_fits before following.Title head b = tt
 
 pub fits : (before : List Piece) (head : Head) (b : ℕ) → Fits (effect_of (open_of before) head b) before
 fits [] head b = tt
@@ -159,7 +159,7 @@ fits (p ∷ older) head b = by_shape p.shape refl
     by_shape shape.Blank is = blank_fits (p ∷ older) (open_of older) head b
     by_shape (shape.Mark k) is = by_test (takes_blank_after k)
       where
-        by_test : (test : Bool) → Fits (effect_of (if test then behind.Term else behind.Start) head b) (p ∷ older)
+        by_test : (test : Bool) → Fits (effect_of (if test then following.Term else following.Start) head b) (p ∷ older)
         by_test true = tt
         by_test false = tt
     by_shape shape.Quote is = record { newest = p; older = older; are = refl; is_shape = is }

@@ -5,11 +5,11 @@ use Rattle.pal8_lex.specs.Rules.{effect_of, ends_after, ends_by}
 use Rattle.pal8_lex.specs.Pieces.{Piece, after_blank, end_after, ends, head_by, head_of, is_blank, kind_by, kind_of, open_by, open_of, pieces, string_by, string_of, takes_blank, tokens_of, with_byte, with_effect, with_token}
 use Rattle.pal8_lex.specs.Statements.{Statement, statement_of, statements, statements_of}
 use Rattle.pal8_lex.specs.Steps.{Fits, IsNewest}
-use Rattle.pal8_lex.specs.Laws.{StatementsStay, LinesEnd, StatementsBeginAnew, bytes_of, stretch, PiecesAreWhole, SaySame, BlanksBehindMeanNothing, BlanksAreOne, BlanksBeforeMeanNothing}
+use Rattle.pal8_lex.specs.Laws.{StatementsStay, LinesEnd, StatementsBeginAnew, bytes_of, stretch, PiecesAreWhole, SaySame, BlanksAfterMeanNothing, BlanksAreOne, BlanksBeforeMeanNothing}
 use Rattle.pal8_lex.specs.declared.rules.Head.{Head}
 use Rattle.pal8_lex.specs.declared.rules.Head.TheVariants as heads
 use Rattle.pal8_lex.specs.declared.rules.Open.{Open}
-use Rattle.pal8_lex.specs.declared.rules.Open.TheVariants as behind
+use Rattle.pal8_lex.specs.declared.rules.Open.TheVariants as following
 use Rattle.pal8_lex.specs.declared.rules.Shape.{Shape}
 use Rattle.pal8_lex.specs.declared.rules.Shape.TheVariants as shape
 use Rattle.pal8_lex.specs.declared.rules.Effect.{Effect}
@@ -41,22 +41,22 @@ statements_stay text (b ∷ later) =
     let rest = statements_stay text later in
     (one.0 ++ rest.0, one.1 ∙ ap (λ l. one.0 ++ l) rest.1 ∙ sym (append_same one.0 rest.0 (statements text)))
 
-line_ends_behind : (head : Head) → ends_after head 0o15 ≡ true
-line_ends_behind heads.Empty = refl
-line_ends_behind heads.One = refl
-line_ends_behind heads.Text = refl
-line_ends_behind heads.Listing = refl
-line_ends_behind heads.More = refl
+line_ends_after : (head : Head) → ends_after head 0o15 ≡ true
+line_ends_after heads.Empty = refl
+line_ends_after heads.One = refl
+line_ends_after heads.Text = refl
+line_ends_after heads.Listing = refl
+line_ends_after heads.More = refl
 
 line_ends_by : (state : Open) (head : Head) → ends_by state head 0o15 ≡ true
-line_ends_by behind.Start head = line_ends_behind head
-line_ends_by behind.Blank head = line_ends_behind head
-line_ends_by (behind.Run weight) head = line_ends_behind head
-line_ends_by behind.Term head = line_ends_behind head
-line_ends_by behind.Quote head = refl
-line_ends_by (behind.String delimiter) head = refl
-line_ends_by behind.Comment head = refl
-line_ends_by behind.Title head = refl
+line_ends_by following.Start head = line_ends_after head
+line_ends_by following.Blank head = line_ends_after head
+line_ends_by (following.Run weight) head = line_ends_after head
+line_ends_by following.Term head = line_ends_after head
+line_ends_by following.Quote head = refl
+line_ends_by (following.String delimiter) head = refl
+line_ends_by following.Comment head = refl
+line_ends_by following.Title head = refl
 
 pub lines_end : LinesEnd
 lines_end text = rw (line_ends_by (open_of (pieces (live text))) (head_of (pieces (live text)))) refl
@@ -99,8 +99,8 @@ say_more (p ∷ later) these those same =
       head = ap (head_by (kind_of p)) it.head;
     }
 
-pub blanks_behind : BlanksBehindMeanNothing
-blanks_behind later before blank is start = say_more later (blank ∷ before) before (record {
+pub blanks_after : BlanksAfterMeanNothing
+blanks_after later before blank is start = say_more later (blank ∷ before) before (record {
   tokens = rw is refl;
   string = rw is refl;
   state = rw (is, start) refl;
@@ -108,14 +108,14 @@ blanks_behind later before blank is start = say_more later (blank ∷ before) be
 })
 
 blank_twice : (state : Open) → after_blank (after_blank state) ≡ after_blank state
-blank_twice behind.Start = refl
-blank_twice behind.Blank = refl
-blank_twice (behind.Run weight) = refl
-blank_twice behind.Term = refl
-blank_twice behind.Quote = refl
-blank_twice (behind.String delimiter) = refl
-blank_twice behind.Comment = refl
-blank_twice behind.Title = refl
+blank_twice following.Start = refl
+blank_twice following.Blank = refl
+blank_twice (following.Run weight) = refl
+blank_twice following.Term = refl
+blank_twice following.Quote = refl
+blank_twice (following.String delimiter) = refl
+blank_twice following.Comment = refl
+blank_twice following.Title = refl
 
 pub blanks_are_one : BlanksAreOne
 blanks_are_one later before blank next is also = say_more later (next ∷ blank ∷ before) (blank ∷ before) (record {

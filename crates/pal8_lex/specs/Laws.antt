@@ -3,7 +3,7 @@ use Rattle.std.specs.Prelude.{◌≡◌, ℕ, Bool, true, false, if◌then◌els
 use Rattle.pal8_lex.specs.Text.{live}
 use Rattle.pal8_lex.specs.Pieces.{Piece, ends, head_of, open_of, pieces, string_of, takes_blank, tokens_of}
 use Rattle.pal8_lex.specs.Statements.{Statement, statement_of, statements}
-use Rattle.pal8_lex.specs.declared.rules.Open.TheVariants as behind
+use Rattle.pal8_lex.specs.declared.rules.Open.TheVariants as following
 use Rattle.pal8_lex.specs.declared.rules.Shape.TheVariants as shape
 
 -- The statements of a text stay whatever follows it.
@@ -41,9 +41,9 @@ pub record SaySame (these those : List Piece) : Type 0 where
   pub head : head_of these ≡ head_of those
 
 -- A blank at the beginning of a statement, after a sign, after an opening, or after such a blank means nothing.
-abbrev pub BlanksBehindMeanNothing : Type 0
-BlanksBehindMeanNothing =
-    (later before : List Piece) (blank : Piece) → blank.shape ≡ shape.Blank → open_of before ≡ behind.Start
+abbrev pub BlanksAfterMeanNothing : Type 0
+BlanksAfterMeanNothing =
+    (later before : List Piece) (blank : Piece) → blank.shape ≡ shape.Blank → open_of before ≡ following.Start
     → SaySame (later ++ blank ∷ before) (later ++ before)
 
 -- A blank after a blank means nothing.

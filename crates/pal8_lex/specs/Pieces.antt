@@ -9,7 +9,7 @@ use Rattle.pal8_lex.specs.declared.tokens.Kind.{Kind}
 use Rattle.pal8_lex.specs.declared.tokens.Kind.TheVariants as kind
 use Rattle.pal8_lex.specs.declared.tokens.Token.{Token}
 use Rattle.pal8_lex.specs.declared.rules.Open.{Open}
-use Rattle.pal8_lex.specs.declared.rules.Open.TheVariants as behind
+use Rattle.pal8_lex.specs.declared.rules.Open.TheVariants as following
 use Rattle.pal8_lex.specs.declared.rules.Head.{Head}
 use Rattle.pal8_lex.specs.declared.rules.Head.TheVariants as heads
 use Rattle.pal8_lex.specs.declared.rules.Shape.{Shape}
@@ -50,28 +50,28 @@ takes_blank shape.Title = false
 
 -- A blank means something after what takes one, and after such a blank.
 abbrev pub after_blank : Open → Open
-after_blank behind.Start = behind.Start
-after_blank behind.Blank = behind.Blank
-after_blank (behind.Run weight) = behind.Blank
-after_blank behind.Term = behind.Blank
-after_blank behind.Quote = behind.Blank
-after_blank (behind.String delimiter) = behind.Blank
-after_blank behind.Comment = behind.Blank
-after_blank behind.Title = behind.Blank
+after_blank following.Start = following.Start
+after_blank following.Blank = following.Blank
+after_blank (following.Run weight) = following.Blank
+after_blank following.Term = following.Blank
+after_blank following.Quote = following.Blank
+after_blank (following.String delimiter) = following.Blank
+after_blank following.Comment = following.Blank
+after_blank following.Title = following.Blank
 
 abbrev pub open_by : Shape → ℕ → List (ℕ × ℕ) → Open → Open
-open_by shape.Run first others before = behind.Run (weight_after others)
+open_by shape.Run first others before = following.Run (weight_after others)
 open_by shape.Blank first others before = after_blank before
-open_by (shape.Mark k) first others before = if takes_blank_after k then behind.Term else behind.Start
-open_by shape.Quote first others before = behind.Quote
-open_by shape.OpenString first others before = behind.String first
-open_by shape.ClosedString first others before = behind.Term
-open_by shape.Comment first others before = behind.Comment
-open_by shape.Title first others before = behind.Title
+open_by (shape.Mark k) first others before = if takes_blank_after k then following.Term else following.Start
+open_by shape.Quote first others before = following.Quote
+open_by shape.OpenString first others before = following.String first
+open_by shape.ClosedString first others before = following.Term
+open_by shape.Comment first others before = following.Comment
+open_by shape.Title first others before = following.Title
 
 -- what the next byte stands after
 abbrev pub open_of : List Piece → Open
-open_of [] = behind.Start
+open_of [] = following.Start
 open_of (p ∷ older) = open_by p.shape p.first.0 p.others (open_of older)
 
 abbrev pub head_by : Option Kind → Head → Head
@@ -84,14 +84,14 @@ head_of [] = heads.Empty
 head_of (p ∷ older) = head_by (kind_of p) (head_of older)
 
 abbrev pub is_blank : Open → Bool
-is_blank behind.Start = false
-is_blank behind.Blank = true
-is_blank (behind.Run weight) = false
-is_blank behind.Term = false
-is_blank behind.Quote = false
-is_blank (behind.String delimiter) = false
-is_blank behind.Comment = false
-is_blank behind.Title = false
+is_blank following.Start = false
+is_blank following.Blank = true
+is_blank (following.Run weight) = false
+is_blank following.Term = false
+is_blank following.Quote = false
+is_blank (following.String delimiter) = false
+is_blank following.Comment = false
+is_blank following.Title = false
 
 -- the place after a first byte and these
 abbrev pub end_after : ℕ → List (ℕ × ℕ) → ℕ

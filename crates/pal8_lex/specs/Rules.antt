@@ -9,7 +9,7 @@ use Rattle.pal8_lex.specs.declared.tokens.Pool.TheVariants as pool
 use Rattle.pal8_lex.specs.declared.rules.End.{End}
 use Rattle.pal8_lex.specs.declared.rules.End.TheVariants as end
 use Rattle.pal8_lex.specs.declared.rules.Open.{Open}
-use Rattle.pal8_lex.specs.declared.rules.Open.TheVariants as behind
+use Rattle.pal8_lex.specs.declared.rules.Open.TheVariants as following
 use Rattle.pal8_lex.specs.declared.rules.Head.{Head}
 use Rattle.pal8_lex.specs.declared.rules.Head.TheVariants as heads
 use Rattle.pal8_lex.specs.declared.rules.Shape.{Shape}
@@ -38,14 +38,14 @@ ends_after heads.More b = is_end b
 
 -- CR ends each statement. In a comment, after `"` and in a string nothing else does; in a title `;` does.
 abbrev pub ends_by : Open → Head → ℕ → Bool
-ends_by behind.Start head b = ends_after head b
-ends_by behind.Blank head b = ends_after head b
-ends_by (behind.Run weight) head b = ends_after head b
-ends_by behind.Term head b = ends_after head b
-ends_by behind.Quote head b = nat_eq b 0o15
-ends_by (behind.String delimiter) head b = nat_eq b 0o15
-ends_by behind.Comment head b = nat_eq b 0o15
-ends_by behind.Title head b = nat_eq b 0o15 || nat_eq b 0o73
+ends_by following.Start head b = ends_after head b
+ends_by following.Blank head b = ends_after head b
+ends_by (following.Run weight) head b = ends_after head b
+ends_by following.Term head b = ends_after head b
+ends_by following.Quote head b = nat_eq b 0o15
+ends_by (following.String delimiter) head b = nat_eq b 0o15
+ends_by following.Comment head b = nat_eq b 0o15
+ends_by following.Title head b = nat_eq b 0o15 || nat_eq b 0o73
 
 abbrev pub end_of : ℕ → End
 end_of b =
@@ -94,11 +94,11 @@ shape_of heads.More b = shape_of_byte b
 
 -- what a byte does that ends no statement
 abbrev pub effect_of : Open → Head → ℕ → Effect
-effect_of behind.Start head b = effect.Begins (shape_of head b)
-effect_of behind.Blank head b = effect.Begins (shape_of head b)
-effect_of (behind.Run weight) head b = if is_letter_or_digit b then effect.Lengthens else effect.Begins (shape_of head b)
-effect_of behind.Term head b = effect.Begins (shape_of head b)
-effect_of behind.Quote head b = effect.Completes (if nat_lt b 0o200 then b + 0o200 else b)
-effect_of (behind.String delimiter) head b = if nat_eq b delimiter then effect.Closes else effect.GoesOn
-effect_of behind.Comment head b = effect.Begins shape.Comment
-effect_of behind.Title head b = effect.Begins shape.Title
+effect_of following.Start head b = effect.Begins (shape_of head b)
+effect_of following.Blank head b = effect.Begins (shape_of head b)
+effect_of (following.Run weight) head b = if is_letter_or_digit b then effect.Lengthens else effect.Begins (shape_of head b)
+effect_of following.Term head b = effect.Begins (shape_of head b)
+effect_of following.Quote head b = effect.Completes (if nat_lt b 0o200 then b + 0o200 else b)
+effect_of (following.String delimiter) head b = if nat_eq b delimiter then effect.Closes else effect.GoesOn
+effect_of following.Comment head b = effect.Begins shape.Comment
+effect_of following.Title head b = effect.Begins shape.Title

@@ -6,7 +6,7 @@ use Rattle.pal8_lex.specs.Pieces.{Piece, ends, open_of, pieces, string_of, token
 use Rattle.pal8_lex.specs.declared.tokens.Token.{Token}
 use Rattle.pal8_lex.specs.declared.rules.End.{End}
 use Rattle.pal8_lex.specs.declared.rules.Open.{Open}
-use Rattle.pal8_lex.specs.declared.rules.Open.TheVariants as behind
+use Rattle.pal8_lex.specs.declared.rules.Open.TheVariants as following
 
 -- A statement: the line that it begins in, its tokens without the blanks that mean nothing, its string, whether an end cuts that, and its end.
 pub record Statement : Type 0 where
@@ -18,14 +18,14 @@ pub record Statement : Type 0 where
 
 -- a string goes on
 abbrev pub is_string : Open → Bool
-is_string behind.Start = false
-is_string behind.Blank = false
-is_string (behind.Run weight) = false
-is_string behind.Term = false
-is_string behind.Quote = false
-is_string (behind.String delimiter) = true
-is_string behind.Comment = false
-is_string behind.Title = false
+is_string following.Start = false
+is_string following.Blank = false
+is_string (following.Run weight) = false
+is_string following.Term = false
+is_string following.Quote = false
+is_string (following.String delimiter) = true
+is_string following.Comment = false
+is_string following.Title = false
 
 -- the statement that a byte ends after these
 abbrev pub statement_of : ℕ → List (ℕ × ℕ) → Statement

@@ -1,6 +1,6 @@
 //! Laws about the statements of a text, which hold whatever reads it. A call of one does nothing, and lets its caller use it.
 
-ghost use Rattle.pal8_lex.specs.Laws.{StatementsStay, LinesEnd, StatementsBeginAnew, PiecesAreWhole, BlanksBehindMeanNothing, BlanksAreOne, BlanksBeforeMeanNothing};
+ghost use Rattle.pal8_lex.specs.Laws.{StatementsStay, LinesEnd, StatementsBeginAnew, PiecesAreWhole, BlanksAfterMeanNothing, BlanksAreOne, BlanksBeforeMeanNothing};
 
 /// The statements of a text stay whatever follows it.
 pub fn statements_stay()
@@ -24,7 +24,7 @@ pub fn pieces_are_whole()
 
 /// A blank at the beginning, beside a sign, after an opening, before a closing or after a blank means nothing.
 pub fn blanks_mean_nothing()
-    ensures behind { BlanksBehindMeanNothing }
+    ensures following { BlanksAfterMeanNothing }
     ensures again { BlanksAreOne }
     ensures before { BlanksBeforeMeanNothing }
 {}

@@ -19,14 +19,14 @@ use Rattle.pal8_sym.specs.declared.source_names.SourceNames.{SourceNames}
 
 -- What statements leave of names. Each of the source's own names has the last value that the source gave it, by a tag, `=` or FIXMRI. Some of these
 -- are fixed, by a tag or a FIXTAB. Some names begin a memory reference. EXPUNGE may have taken the permanent names away.
-pub record Names : Type 0 where
+pub record NameState : Type 0 where
   pub own : ℕ → Option ℕ
   pub fixed : ℕ → Bool
   pub operation : ℕ → Bool
   pub is_expunged : Bool
 
 -- where a source begins: the permanent names alone, with the six operations
-abbrev pub first_names : Names
+abbrev pub first_names : NameState
 first_names = record { own = λ n. None; fixed = λ n. false; operation = λ n. is_some (pal3.operation_of n); is_expunged = false }
 
 abbrev pub value_in : Option Meaning → Option ℕ
@@ -49,26 +49,26 @@ hard_value None = None
 hard_value (Some m) = if keeps m.standing then Some m.value else None
 
 -- what a permanent name stands for, unless EXPUNGE took it away
-abbrev pub permanent_in : Names → ℕ → Option Meaning
+abbrev pub permanent_in : NameState → ℕ → Option Meaning
 permanent_in names name = if names.is_expunged then None else permanent name
 
-abbrev pub permanent_value : Names → ℕ → Option ℕ
+abbrev pub permanent_value : NameState → ℕ → Option ℕ
 permanent_value names name = value_in (permanent_in names name)
 
 -- what a name stands for
-abbrev pub value_of : Names → ℕ → Option ℕ
+abbrev pub value_of : NameState → ℕ → Option ℕ
 value_of names name = if_none (names.own name) (permanent_value names name)
 
 -- the value that a name keeps, whatever the source defines later: a soft one gives way
-abbrev pub kept_value : Names → ℕ → Option ℕ
+abbrev pub kept_value : NameState → ℕ → Option ℕ
 kept_value names name = if_none (names.own name) (hard_value (permanent_in names name))
 
 -- `=` can't give a name another value
-abbrev pub is_fixed : Names → ℕ → Bool
+abbrev pub is_fixed : NameState → ℕ → Bool
 is_fixed names name = is_kept (permanent_in names name) || names.fixed name
 
 -- the word of an operation: the value of its name
-abbrev pub operation_word : Names → ℕ → Option ℕ
+abbrev pub operation_word : NameState → ℕ → Option ℕ
 operation_word names name = if names.operation name then value_of names name else None
 
 -- ## What a statement reads by
@@ -78,7 +78,7 @@ pub record Vocabulary : Type 0 where
   pub operation : ℕ → Option ℕ
   pub permanent : ℕ → Option ℕ
 
-abbrev pub vocabulary_of : Names → Vocabulary
+abbrev pub vocabulary_of : NameState → Vocabulary
 vocabulary_of names = record { operation = operation_word names; permanent = permanent_value names }
 
 -- ## What statements do to names
@@ -90,44 +90,24 @@ abbrev pub with_one : ℕ → (ℕ → Bool) → ℕ → Bool
 with_one name has n = if nat_eq name n then true else has n
 
 -- a tag has this place, and is fixed
-abbrev pub names_with_tag : ℕ → ℕ → Names → Names
-names_with_tag name value names = record {
-  own = with_own name value names.own;
-  fixed = with_one name names.fixed;
-  operation = names.operation;
-  is_expunged = names.is_expunged;
-}
+abbrev pub names_with_tag : ℕ → ℕ → NameState → NameState
+names_with_tag name value names = record names { own = with_own name value names.own; fixed = with_one name names.fixed }
 
 -- `=` gives a name a value, which is its word where it is an operation
-abbrev pub names_with_value : ℕ → ℕ → Names → Names
-names_with_value name value names = record {
-  own = with_own name value names.own;
-  fixed = names.fixed;
-  operation = names.operation;
-  is_expunged = names.is_expunged;
-}
+abbrev pub names_with_value : ℕ → ℕ → NameState → NameState
+names_with_value name value names = record names { own = with_own name value names.own }
 
 -- FIXMRI gives a name a value and makes it an operation
-abbrev pub names_with_operation : ℕ → ℕ → Names → Names
-names_with_operation name value names = record {
-  own = with_own name value names.own;
-  fixed = names.fixed;
-  operation = with_one name names.operation;
-  is_expunged = names.is_expunged;
-}
+abbrev pub names_with_operation : ℕ → ℕ → NameState → NameState
+names_with_operation name value names = record names { own = with_own name value names.own; operation = with_one name names.operation }
 
 -- EXPUNGE: permanent names have no value, and no name is an operation; the source's own names stay
-abbrev pub names_after_expunge : Names → Names
-names_after_expunge names = record { own = names.own; fixed = names.fixed; operation = λ n. false; is_expunged = true }
+abbrev pub names_after_expunge : NameState → NameState
+names_after_expunge names = record names { operation = λ n. false; is_expunged = true }
 
 -- FIXTAB: all names that the source has defined are fixed
-abbrev pub names_after_fixtab : Names → Names
-names_after_fixtab names = record {
-  own = names.own;
-  fixed = λ n. is_some (names.own n);
-  operation = names.operation;
-  is_expunged = names.is_expunged;
-}
+abbrev pub names_after_fixtab : NameState → NameState
+names_after_fixtab names = record names { fixed = λ n. is_some (names.own n) }
 
 -- ## The table
 
@@ -143,7 +123,7 @@ abbrev pub is_operation : SourceNames → ℕ → Bool
 is_operation table name = contains nat_cmp table.operations name || (not table.is_expunged && is_some (pal3.operation_of name))
 
 -- what a table holds
-abbrev pub names_of : SourceNames → Names
+abbrev pub names_of : SourceNames → NameState
 names_of table = record { own = own_value table; fixed = is_own_fixed table; operation = is_operation table; is_expunged = table.is_expunged }
 
 -- A table holds the same.

@@ -1,6 +1,6 @@
 pub mod Places
 pub mod Marks
-pub mod Telling
+pub mod FaultLines
 pub mod Answers
 pub mod Laws
 pub mod Signs

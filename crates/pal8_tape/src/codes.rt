@@ -1,6 +1,6 @@
 //! The letters and the words of faults.
 ghost use Rattle.std.specs.Prelude.{◌≡◌};
-ghost use Rattle.pal8_tape.specs.Telling.{letters_of, words_of};
+ghost use Rattle.pal8_tape.specs.FaultLines.{letters_of, words_of};
 
 use pal8_asm::Code;
 

@@ -6,15 +6,15 @@
 #![tactic(auto)]
 
 mod codes;
+mod fault_lines;
 mod faults;
 pub mod laws;
 mod marks;
 mod places;
 mod signs;
 mod tapes;
-mod telling;
 
+pub use fault_lines::fault_text;
 pub use faults::{Fault, SourceFault};
 pub use signs::sign_text;
 pub use tapes::tape_of;
-pub use telling::fault_text;

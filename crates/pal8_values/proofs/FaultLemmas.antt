@@ -10,13 +10,13 @@ use Rattle.pal8_values.specs.declared.faults.ValueFault.{ValueFault}
 use Rattle.pal8_values.specs.declared.faults.ValueFault.TheVariants.{UA, PF, DZ, IR, II, PE, ZE, RL, Memory}
 
 -- what stands after the first of a list
-abbrev pub behind_one : {A : Type 0} → List A → List A
-behind_one l = take (length l - 1) (drop 1 l)
+abbrev pub following_one : {A : Type 0} → List A → List A
+following_one l = take (length l - 1) (drop 1 l)
 
 less_one : (n : ℕ) → suc n - 1 ≡ n
 less_one n = omega arith
 
-pub first_one : {A : Type 0} (l : List A) (a : A) → 1 ≤ length l → a ≡ get_or l 0 a → l ≡ a ∷ behind_one l
+pub first_one : {A : Type 0} (l : List A) (a : A) → 1 ≤ length l → a ≡ get_or l 0 a → l ≡ a ∷ following_one l
 first_one [] a long first = absurd (omega arith)
 first_one (x ∷ others) a long first =
     ap (λ v. v ∷ others) (sym first) ∙ ap (λ v. a ∷ v) (sym (ap (λ n. take n others) (less_one (length others)) ∙ take_all (length others) others (omega arith)))
@@ -47,5 +47,5 @@ module _ (known : Meanings) (spot : Spot) where
       → IsFault (with_plain known spot step sum) fault → IsFault (direct_value spot.here (with_plains known spot steps (Ok sum))) fault
   plain_fails steps step sum fault long first is =
       subst (λ l. IsFault (direct_value spot.here (with_plains known spot l (Ok sum))) fault) (sym (first_one steps step long first))
-      (keeps_fault (λ r. direct_value spot.here (with_plains known spot (behind_one steps) r)) (λ e. ap (direct_value spot.here) (plains_stay (behind_one steps) e))
+      (keeps_fault (λ r. direct_value spot.here (with_plains known spot (following_one steps) r)) (λ e. ap (direct_value spot.here) (plains_stay (following_one steps) e))
       (with_plain known spot step sum) fault is)

@@ -11,7 +11,7 @@ use Rattle.pal8_values.specs.declared.sums.Sum.{Sum}
 use Rattle.pal8_values.specs.declared.sums.Spot.{Spot}
 use Rattle.pal8_values.specs.declared.frames.Frame.{Frame}
 use Rattle.pal8_values.specs.declared.faults.ValueFault.{ValueFault}
-use Rattle.pal8_values.proofs.FaultLemmas.{behind_one, first_one, keeps_fault}
+use Rattle.pal8_values.proofs.FaultLemmas.{following_one, first_one, keeps_fault}
 
 abbrev at : Sum → List Frame → List Ask → List Ask → Evaluation
 at sum frames asks punched = record { sum = sum; frames = frames; asks = asks; punched = punched }
@@ -34,5 +34,5 @@ module _ (known : Meanings) (spot : Spot) where
     fails fault takes =
         subst (λ w. IsFault w fault) way.same
         (subst (λ l. IsFault (word_in spot (with_steps known spot l (Ok (at sum frames way.asks way.punched)))) fault) (sym (first_one rest step long first))
-        (keeps_fault (λ e. word_in spot (with_steps known spot (behind_one rest) e)) (λ e. ap (word_in spot) (steps_stay (behind_one rest) e))
+        (keeps_fault (λ e. word_in spot (with_steps known spot (following_one rest) e)) (λ e. ap (word_in spot) (steps_stay (following_one rest) e))
         (with_step known spot step (at sum frames way.asks way.punched)) fault takes))

@@ -13,7 +13,7 @@ use Rattle.pal_asm.specs.Expressions.{Meanings, value_of}
 use Rattle.pal_asm.specs.Places.{with_tags, with_body, is_among}
 use Rattle.pal_asm.specs.Faults.{past, defined_otherwise, tags_fault, body_fault}
 use Rattle.pal_asm.specs.PassSteps.{with_again, with_tags_again, with_body_again}
-use Rattle.pal_asm.proofs.NameLemmas.{behind_one, first_one, with_tag_more}
+use Rattle.pal_asm.proofs.NameLemmas.{following_one, first_one, with_tag_more}
 use Rattle.pal_asm.proofs.WholeLemmas.{Grows, IsKnown, first_none, second_none, some_none, or_right, same_value, valued, same_number, kept_value, in_core}
 
 -- a name takes the value that it is set to: it isn't permanent and stands for something, or it stands for that value already
@@ -58,9 +58,9 @@ tags_again (tag ∷ tags) place known take n =
 
 -- a tag was set again, and the others are left
 pub set_left : (rest : List ℕ) (tag name place : ℕ) (old new : SymbolTable) → 1 ≤ length rest → tag ≡ get_or rest 0 tag → name ≡ tag → IsSetAgain name place old new
-    → (n : ℕ) → with_tags_again (behind_one rest) place (symbol_value new) n ≡ with_tags_again rest place (symbol_value old) n
+    → (n : ℕ) → with_tags_again (following_one rest) place (symbol_value new) n ≡ with_tags_again rest place (symbol_value old) n
 set_left rest tag name place old new long first named set n =
-    ap (λ k. with_tags_again (behind_one rest) place k n) (fun_ext (subst (λ t. IsSetAgain t place old new) named set).values)
+    ap (λ k. with_tags_again (following_one rest) place k n) (fun_ext (subst (λ t. IsSetAgain t place old new) named set).values)
     ∙ ap (λ tags. with_tags_again tags place (symbol_value old) n) (sym (first_one rest tag long first))
 
 -- what names stand for, and where they stand for nothing, what they stand for at last

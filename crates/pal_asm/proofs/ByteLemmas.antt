@@ -8,19 +8,19 @@ use Rattle.pal_lex.specs.Reading.{HasRead, ReadsOn}
 use Rattle.pal_lex.specs.Progress as lex
 
 -- more bytes stand before a text, which has its newest first
-pub from_behind : (bytes text : List ℕ) → (later : List ℕ) × (text_from text bytes ≡ later ++ text)
-from_behind [] text = ([], refl)
-from_behind (b ∷ bytes) text =
-    let rest = from_behind bytes (b ∷ text) in
+pub from_after : (bytes text : List ℕ) → (later : List ℕ) × (text_from text bytes ≡ later ++ text)
+from_after [] text = ([], refl)
+from_after (b ∷ bytes) text =
+    let rest = from_after bytes (b ∷ text) in
     (rest.0 ++ b ∷ [], rest.1 ∙ sym (append_assoc rest.0 (b ∷ []) text))
 
 pub from_both : (bytes others text : List ℕ) → text_from text (bytes ++ others) ≡ text_from (text_from text bytes) others
 from_both [] others text = refl
 from_both (b ∷ bytes) others text = from_both bytes others (b ∷ text)
 
-pub behind_others : (bytes here before : List ℕ) → text_from (here ++ before) bytes ≡ text_from here bytes ++ before
-behind_others [] here before = refl
-behind_others (b ∷ bytes) here before = behind_others bytes (b ∷ here) before
+pub following_others : (bytes here before : List ℕ) → text_from (here ++ before) bytes ≡ text_from here bytes ++ before
+following_others [] here before = refl
+following_others (b ∷ bytes) here before = following_others bytes (b ∷ here) before
 
 -- a text with so many bytes, and with those between this and another place
 pub up_to : (here bytes : List ℕ) (i n : ℕ) → text_from here (take (i + n) bytes) ≡ text_from (text_from here (take i bytes)) (take n (drop i bytes))
@@ -44,10 +44,10 @@ all_taken here bytes i long = ap (text_from here) (take_all i bytes long)
 pub read_more : (seam : ℕ) (before here bytes rest : List ℕ) (offset count : ℕ) (lexer : lex.Progress) → rest ≡ drop offset bytes → ReadsOn seam (text_from here (take offset bytes) ++ before) rest count lexer
     → HasRead lexer seam (text_from here (take (offset + count) bytes) ++ before)
     × (statements (text_from here (take (offset + count) bytes) ++ before) ≡ statements (text_from here (take offset bytes) ++ before))
-read_more seam before here bytes rest offset count lexer behind reads = (subst (HasRead lexer seam) is reads.2, ap statements (sym is) ∙ reads.1)
+read_more seam before here bytes rest offset count lexer following reads = (subst (HasRead lexer seam) is reads.2, ap statements (sym is) ∙ reads.1)
   where
     is : text_from (text_from here (take offset bytes) ++ before) (take count rest) ≡ text_from here (take (offset + count) bytes) ++ before
     is =
-        ap (λ l. text_from (text_from here (take offset bytes) ++ before) (take count l)) behind
-        ∙ behind_others (take count (drop offset bytes)) (text_from here (take offset bytes)) before
+        ap (λ l. text_from (text_from here (take offset bytes) ++ before) (take count l)) following
+        ∙ following_others (take count (drop offset bytes)) (text_from here (take offset bytes)) before
         ∙ ap (λ l. l ++ before) (sym (up_to here bytes offset count))

@@ -24,7 +24,7 @@ use Rattle.pal_asm.specs.declared.passing.Pass.{Pass}
 use Rattle.pal_asm.specs.Passing.{Counts, IsMade, TellsJoinFault, IsWithin, HasMade, MakesTo}
 use Rattle.pal_asm.specs.Texts.{GoesOnAfter}
 use Rattle.pal_asm.specs.TextSteps.{MakesStatement, MakesSome, MakesAnswer, MakesByte}
-use Rattle.pal_asm.proofs.ByteLemmas.{from_behind, the_rest, one_more}
+use Rattle.pal_asm.proofs.ByteLemmas.{from_after, the_rest, one_more}
 use Rattle.pal_asm.proofs.PassingLemmas.{Stays, IsNothing, same_answer, not_ok, tells_more, counts_more, pauses_here, paused_byte, goes_on_by}
 
 pub words_stay : (known : Meanings) → Stays (words_fault known)
@@ -53,8 +53,8 @@ answer_made answer s handed pass new pairs pairs2 is other put seconds =
 
     makes : (whole older : Source) (tokens : List Token) → GoesOnAfter whole (Ok (with_tokens tokens s) ∷ older) → IsSecond pass.assembler whole older → pairs ≡ pairs_by (values whole) older
         → MakesStatement whole (Ok (with_tokens tokens s) ∷ older) (Ok tt) new pairs2
-    makes whole older tokens behind second before =
-        let made = seconds whole behind.0 older tokens other behind.1 second in
+    makes whole older tokens following second before =
+        let made = seconds whole following.0 older tokens other following.1 second in
         (made.1, put ∙ ap (λ p. with_handed p handed) before ∙ sym made.0)
 
 pub answer_refused : (answer : Option Statement) (s : Statement) (f : AsmFault) (pass : Pass) (new : asm.Progress) (pairs : List (ℕ × ℕ)) → answer ≡ Some s → is_pause_body s.body ≡ false
@@ -69,7 +69,7 @@ answer_refused answer s f pass new pairs is other seconds =
 
     makes : (whole older : Source) (tokens : List Token) → GoesOnAfter whole (Ok (with_tokens tokens s) ∷ older) → IsSecond pass.assembler whole older → pairs ≡ pairs_by (values whole) older
         → MakesStatement whole (Ok (with_tokens tokens s) ∷ older) (Err f) new pairs
-    makes whole older tokens behind second before = by_fault f (seconds whole behind.0 older tokens other behind.1 second)
+    makes whole older tokens following second before = by_fault f (seconds whole following.0 older tokens other following.1 second)
       where
         by_fault : (g : AsmFault) → AnswersSecond whole older (with_tokens tokens s) (Err g) pass.assembler new → MakesStatement whole (Ok (with_tokens tokens s) ∷ older) (Err g) new pairs
         by_fault (At code line) told = told.0
@@ -78,9 +78,9 @@ answer_refused answer s f pass new pairs is other seconds =
 -- ## A character
 
 -- a text of a source with a byte more is in the whole
-pub behind_here : ByteGoesOn → (whole : Source) (prefix here : List ℕ) (b : ℕ) (several : Bool) (lexer : lex.Progress) (Fits : Source → Type 0) → Counts lexer prefix several here Fits → (lexer.may_pause ≡ true → pauses (here ++ prefix) b ≡ false)
+pub after_here : ByteGoesOn → (whole : Source) (prefix here : List ℕ) (b : ℕ) (several : Bool) (lexer : lex.Progress) (Fits : Source → Type 0) → Counts lexer prefix several here Fits → (lexer.may_pause ≡ true → pauses (here ++ prefix) b ≡ false)
     → IsWithin whole prefix several (b ∷ here) → GoesOnAfter whole (statements (b ∷ here ++ prefix))
-behind_here goes whole prefix here b several lexer Fits counts quiet within =
+after_here goes whole prefix here b several lexer Fits counts quiet within =
     let more = goes_on_by goes prefix here within.0 b within.1.0 several lexer Fits counts within.1.1.0 quiet in
     (more.0, within.1.1.1 ∙ more.1)
 
@@ -129,7 +129,7 @@ made_byte joins goes bad whole pass new pairs pairs2 lexer answer result prefix 
         quiet = quiet_at bad (here ++ prefix) b counts.fine out.no_fault
 
         within_whole : GoesOnAfter whole (statements (b ∷ here ++ prefix))
-        within_whole = behind_here goes whole prefix here b several pass.lexer (λ q. IsMade whole pass pairs q) counts (λ may. quiet) within
+        within_whole = after_here goes whole prefix here b several pass.lexer (λ q. IsMade whole pass pairs q) counts (λ may. quiet) within
 
         by_result : (r : Result (Unit {0}) AsmFault) → MakesStatement whole (Ok (with_tokens (tokens_after (here ++ prefix)) s) ∷ statements (here ++ prefix)) r new.assembler pairs2 → MakesByte whole prefix several here b r new pairs2
         by_result (Ok done) m =
@@ -171,8 +171,8 @@ made_not goes before lexless whole pass pairs lexer f answer prefix several here
 
     never : {C : Type 0} (g : LexFault) → Counts pass.lexer prefix several here (λ q. IsMade whole pass pairs q) → LexTells (length prefix) (here ++ prefix) b g pass.lexer lexer → C
     never g counts is =
-        let behind = behind_here goes whole prefix here b several pass.lexer (λ q. IsMade whole pass pairs q) counts (is.1 counts.fine) within in
-        some_none g (sym is.0 ∙ lexless (statements (b ∷ here ++ prefix)) (before behind.0 (statements (b ∷ here ++ prefix)) (ap first_order (sym behind.1) ∙ counts.at.1.no_fault)))
+        let following = after_here goes whole prefix here b several pass.lexer (λ q. IsMade whole pass pairs q) counts (is.1 counts.fine) within in
+        some_none g (sym is.0 ∙ lexless (statements (b ∷ here ++ prefix)) (before following.0 (statements (b ∷ here ++ prefix)) (ap first_order (sym following.1) ∙ counts.at.1.no_fault)))
 
     by_fault : (g : LexFault) → pass.is_at_end ≡ false → Counts pass.lexer prefix several here (λ q. IsMade whole pass pairs q) → Answers (length prefix) (here ++ prefix) b (Err g) pass.lexer lexer
         → MakesByte whole prefix several here b (Err (lexical g)) now pairs
@@ -188,7 +188,7 @@ made_not goes before lexless whole pass pairs lexer f answer prefix several here
 -- a beginning of a text is in the whole where the text is
 pub within_part : (whole : Source) (prefix : List ℕ) (several : Bool) (here bytes : List ℕ) → IsWithin whole prefix several (text_from here bytes) → IsWithin whole prefix several here
 within_part whole prefix several here bytes within =
-    let rest = from_behind bytes here in (
+    let rest = from_after bytes here in (
       within.0 ++ rest.0,
       (
         within.1.0,

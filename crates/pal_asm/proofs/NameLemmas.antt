@@ -11,14 +11,14 @@ use Rattle.pal_asm.specs.Places.{with_tags, is_among}
 use Rattle.pal_asm.specs.Faults.{first_of, past, defined_otherwise, tags_fault}
 use Rattle.pal_asm.specs.PassSteps.{tag_fault}
 
--- what stands behind the first of a list
-abbrev pub behind_one : {A : Type 0} → List A → List A
-behind_one l = take (length l - 1) (drop 1 l)
+-- what stands after the first of a list
+abbrev pub following_one : {A : Type 0} → List A → List A
+following_one l = take (length l - 1) (drop 1 l)
 
 less_one : (n : ℕ) → suc n - 1 ≡ n
 less_one n = omega arith
 
-pub first_one : {A : Type 0} (l : List A) (a : A) → 1 ≤ length l → a ≡ get_or l 0 a → l ≡ a ∷ behind_one l
+pub first_one : {A : Type 0} (l : List A) (a : A) → 1 ≤ length l → a ≡ get_or l 0 a → l ≡ a ∷ following_one l
 first_one [] a long first = absurd (omega arith)
 first_one (x ∷ others) a long first =
     ap (λ v. v ∷ others) (sym first) ∙ ap (λ v. a ∷ v) (sym (ap (λ n. take n others) (less_one (length others)) ∙ take_all (length others) others (omega arith)))
@@ -72,9 +72,9 @@ first_tag tags tag place old none before = rw (none, by_before place (old tag) b
 
 -- a tag that has no fault leaves that of the others
 pub judged_one : (rest : List ℕ) (tag place : ℕ) (known : Meanings) → 1 ≤ length rest → tag ≡ get_or rest 0 tag → tag_fault place (known tag) ≡ None
-    → tags_fault known place (behind_one rest) ≡ tags_fault known place rest
+    → tags_fault known place (following_one rest) ≡ tags_fault known place rest
 judged_one rest tag place known long first none =
-    sym (ap (tags_fault known place) (first_one rest tag long first) ∙ ap (λ f. first_of f (tags_fault known place (behind_one rest))) none)
+    sym (ap (tags_fault known place) (first_one rest tag long first) ∙ ap (λ f. first_of f (tags_fault known place (following_one rest))) none)
 
 -- a tag that was defined is fixed
 now_fixed : (among test fixed : Bool) → (among || (if test then true else fixed)) ≡ ((test || among) || fixed)
@@ -103,10 +103,10 @@ tag_passed others tag place old new none defined = record {
 
 -- the same, where the place was found to be a word
 pub tags_left : (rest : List ℕ) (tag name location place : ℕ) (old new : SymbolTable) → 1 ≤ length rest → tag ≡ get_or rest 0 tag → name ≡ tag
-    → (Some location ≡ Some place) × (past location ≡ None) → DefinesTag name place old new (Ok tt) → IsLeft rest (behind_one rest) location old new
+    → (Some location ≡ Some place) × (past location ≡ None) → DefinesTag name place old new (Ok tt) → IsLeft rest (following_one rest) location old new
 tags_left rest tag name location place old new long first named there defined =
-    subst (λ r. IsLeft r (behind_one rest) location old new) (sym (first_one rest tag long first))
-    (tag_passed (behind_one rest) tag location old new there.1
+    subst (λ r. IsLeft r (following_one rest) location old new) (sym (first_one rest tag long first))
+    (tag_passed (following_one rest) tag location old new there.1
     (subst (λ p. DefinesTag tag p old new (Ok tt)) (injective location place there.0) (subst (λ t. DefinesTag t place old new (Ok tt)) named defined)))
   where
     injective : (a b : ℕ) → Some a ≡ Some b → b ≡ a

@@ -30,7 +30,7 @@ place_step known (Field e) setting words = omega arith
 place_step known (Reference operation indirect address) setting words = omega arith
 place_step known (Word e) setting words = omega arith
 
--- the place behind a statement
+-- the place after a statement
 pub place_passed : (s : Statement) (older : Source) → place_at (Ok s ∷ older) ≡ place_by (values_at s.tags older) (place_at older) s.body
 place_passed s older = place_step (values_at s.tags older) s.body (last_setting older) (words_since older)
 

@@ -22,7 +22,7 @@ use Rattle.pal_asm.specs.declared.faults.AsmFault.TheVariants.{At, Memory}
 use Rattle.pal_asm.specs.declared.passing.Pass.{Pass}
 use Rattle.pal_asm.specs.Passing.{Counts, Pause, Stands, StandsAfter, TellsJoinFault, HasPassed, Settles, SettlesIn, PassesTo, EndsSource, BeginsSecondPass}
 use Rattle.pal_asm.specs.TextSteps.{is_pause_answer, PassesByte}
-use Rattle.pal_asm.proofs.ByteLemmas.{from_behind, the_rest, up_to, one_more}
+use Rattle.pal_asm.proofs.ByteLemmas.{from_after, the_rest, up_to, one_more}
 
 -- ## Faults that are told
 
@@ -38,7 +38,7 @@ first_stays (Err g ∷ later) older f told = ap (λ o. first_of o (Some (lexical
 -- what a text tells is told by one that goes on
 pub tells_more : (fault_in : Source → Option AsmFault) (prefix : List ℕ) (several : Bool) (here bytes : List ℕ) (f : AsmFault) → TellsJoinFault fault_in prefix several here f → TellsJoinFault fault_in prefix several (text_from here bytes) f
 tells_more fault_in prefix several here bytes f tells later others follows =
-    let rest = from_behind bytes here in
+    let rest = from_after bytes here in
     ap (λ t. fault_in (statements (join_of (t ∷ others) ++ prefix))) (ap (λ t. later ++ t) rest.1 ∙ sym (append_assoc later rest.0 here)) ∙ tells (later ++ rest.0) others follows
 
 -- where the pass stands is told what is told by the statements there
@@ -70,10 +70,10 @@ stands_map lexer ended prefix several here is_last Fits Fits' change stands = el
   | inr paused ↦ inr (paused.0, record { cut = paused.1.cut; paused = paused.1.paused; clear = paused.1.clear; follows = paused.1.follows; joins = paused.1.joins; at = change _ paused.1.at })
 ]
 
--- behind PAUSE anything may come
+-- after PAUSE anything may come
 pub paused_more : (lexer : lex.Progress) (prefix : List ℕ) (several : Bool) (here bytes : List ℕ) (Fits : Source → Type 0) → Pause lexer prefix several here Fits → Pause lexer prefix several (text_from here bytes) Fits
 paused_more lexer prefix several here bytes Fits p =
-    let rest = from_behind bytes here in
+    let rest = from_after bytes here in
     record {
       cut = p.cut;
       paused = p.paused;
@@ -151,7 +151,7 @@ pauses_here law old new prefix several here b s Fits counts p = record {
   at = subst Fits (sym p.same) counts.at;
 }
 
--- behind PAUSE
+-- after PAUSE
 pub paused_byte : (old new : lex.Progress) (prefix : List ℕ) (several : Bool) (here : List ℕ) (b : ℕ) (Fits : Source → Type 0) → Pause old prefix several here Fits → new ≡ old → Pause new prefix several (b ∷ here) Fits
 paused_byte old new prefix several here b Fits p same =
     subst (λ (l : lex.Progress). Pause l prefix several (b ∷ here) Fits) (sym same) (paused_more old prefix several here (b ∷ []) Fits p)
@@ -300,19 +300,19 @@ settle_in goes stay pass new prefix several here bytes i (Err (At code line)) se
 pub statement_settled : (s : Statement) (old new : asm.Progress) (pass : Pass) (source : Source) → pass.waiting ≡ Some s
     → ((older : Source) (tokens : List Token) → is_pause_body s.body ≡ false → IsFirst pass.assembler older → AnswersFirst older (with_tokens tokens s) (Ok tt) pass.assembler new)
     → StandsAfter pass.waiting pass.assembler source → IsFirst new source
-statement_settled s old new pass source is answers behind =
-    let b : StandsAfter (Some s) pass.assembler source = subst (λ w. StandsAfter w pass.assembler source) is behind in
+statement_settled s old new pass source is answers following =
+    let b : StandsAfter (Some s) pass.assembler source = subst (λ w. StandsAfter w pass.assembler source) is following in
     subst (λ q. IsFirst new q) (sym b.1.1.0) (answers b.0 b.1.0 b.1.1.1 b.1.1.2)
 
 -- the assembler has refused it
 pub statement_refused : (s : Statement) (new : asm.Progress) (pass : Pass) (source : Source) (f : AsmFault) → pass.waiting ≡ Some s
     → ((older : Source) (tokens : List Token) → is_pause_body s.body ≡ false → IsFirst pass.assembler older → AnswersFirst older (with_tokens tokens s) (Err f) pass.assembler new)
     → StandsAfter pass.waiting pass.assembler source → Settles source (Err f) pass (record { lexer = pass.lexer; assembler = new; waiting = pass.waiting; is_at_end = pass.is_at_end })
-statement_refused s new pass source f is answers behind =
+statement_refused s new pass source f is answers following =
     by_fault f (answers b.0 b.1.0 b.1.1.1 b.1.1.2)
   where
     b : StandsAfter (Some s) pass.assembler source
-    b = subst (λ w. StandsAfter w pass.assembler source) is behind
+    b = subst (λ w. StandsAfter w pass.assembler source) is following
 
     by_fault : (g : AsmFault) → AnswersFirst b.0 (with_tokens b.1.0 s) (Err g) pass.assembler new
         → Settles source (Err g) pass (record { lexer = pass.lexer; assembler = new; waiting = pass.waiting; is_at_end = pass.is_at_end })

@@ -1,4 +1,4 @@
--- Sources, one behind the other, in the two passes.
+-- Sources, one after the other, in the two passes.
 use Rattle.std.proofs.Common.{◌≡◌, ◌∙◌, inl, inr, ℕ, ◌≤◌, ◌<◌, nat_eq, nat_lt, Bool, true, false, true≢false, not, if◌then◌else◌, Option, Some, None, Result, Ok, Err, IfErr, length, take, drop, get_or, List, [], ◌∷◌, ◌++◌, refl, ap, sym, subst, arith, append_assoc}
 use Rattle.std.proofs.lemmas.Bool.Decides.{nat_tests}
 use Rattle.std.specs.Borrow.{Bor}
@@ -22,15 +22,15 @@ use Rattle.pal_asm.specs.Passing.{Counts, Stands, StandsAfter, IsMade, PassesTo,
 use Rattle.pal_asm.specs.Progress as asm
 use Rattle.pal_asm.specs.Texts.{texts, GoesOnAfter, RanOut, IsFaultOf}
 use Rattle.pal_asm.specs.TextSteps.{are_several, GoesOn, BeginsPass, BeginsAgain, PassesSource, MakesSource, AreWordsOf, IsWordsFault}
-use Rattle.pal_asm.proofs.NameLemmas.{behind_one, first_one}
+use Rattle.pal_asm.proofs.NameLemmas.{following_one, first_one}
 use Rattle.pal_asm.proofs.WholeLemmas.{some_none}
 use Rattle.pal_asm.proofs.TextLemmas.{nothing_read, one_more, met_second}
-use Rattle.pal_asm.proofs.ByteLemmas.{from_behind, the_rest, all_taken}
+use Rattle.pal_asm.proofs.ByteLemmas.{from_after, the_rest, all_taken}
 use Rattle.pal_asm.proofs.PassingLemmas.{stands_map, fine_there}
 
 -- ## Where a source leads
 
--- What comes behind a source: the next counts behind this text; or all was read that does; or its `$` is missing.
+-- What comes after a source: the next counts after this text; or all was read that does; or its `$` is missing.
 abbrev pub Reaches : List ℕ → List ℕ → List (List ℕ) → Result Bool AsmFault → lex.Progress → Bool → (Source → Type 0) → Type 0
 Reaches before text others (Ok true) lexer ended Fits =
     (cut : List ℕ) × ((join_of (text ∷ others) ++ before ≡ join_of others ++ cut) × (ended ≡ false) × Counts lexer cut (are_several others) [] Fits)
@@ -103,17 +103,17 @@ before_newest (b ∷ text) newest older is = elim (one_more b text) [
     tail : (a b : Source) (x y : Result Statement LexFault) → x ∷ a ≡ y ∷ b → a ≡ b
     tail a b x y e = cc
 
--- the statements that a pass stands behind are the first of the join
-pub stands_behind : JoinGoesOn → StatementsStay → (lexer : lex.Progress) (ended : Bool) (before text here later : List ℕ) (others : List (List ℕ)) (Fits : Source → Type 0) → text ≡ later ++ here
+-- the statements that a pass stands after are the first of the join
+pub stands_after : JoinGoesOn → StatementsStay → (lexer : lex.Progress) (ended : Bool) (before text here later : List ℕ) (others : List (List ℕ)) (Fits : Source → Type 0) → text ≡ later ++ here
     → Stands lexer ended before (has_next others) here false Fits
     → (prefix : List ℕ) × (GoesOnAfter (statements (join_of (text ∷ others) ++ before)) (statements prefix) × Fits (statements prefix))
-stands_behind joins stay lexer ended before text here later [] Fits is stands = elim stands [
+stands_after joins stay lexer ended before text here later [] Fits is stands = elim stands [
   | inl counts ↦
       let more = joins before here later [] counts.1.clear counts.1.fine in
       (here ++ before, ((more.0, ap (λ t. statements (join_of (t ∷ []) ++ before)) is ∙ more.1), counts.1.at))
   | inr paused ↦ absurd (true≢false (sym paused.1.follows))
 ]
-stands_behind joins stay lexer ended before text here later (next ∷ others) Fits is stands = elim stands [
+stands_after joins stay lexer ended before text here later (next ∷ others) Fits is stands = elim stands [
   | inl counts ↦
       let more = joins before here later (next ∷ others) counts.1.clear counts.1.fine in
       (here ++ before, ((more.0, ap (λ t. statements (join_of (t ∷ next ∷ others) ++ before)) is ∙ more.1), counts.1.at))
@@ -124,22 +124,22 @@ stands_behind joins stay lexer ended before text here later (next ∷ others) Fi
 ]
 
 ran_out_by : (whole : Source) (waiting : Option Statement) (assembler : asm.Progress) (prefix : List ℕ) → GoesOnAfter whole (statements prefix) → StandsAfter waiting assembler (statements prefix) → RanOut whole
-ran_out_by whole None assembler prefix behind is = record { prefix = prefix; behind = behind; no_fault = is.no_fault }
-ran_out_by whole (Some s) assembler prefix behind is =
+ran_out_by whole None assembler prefix following is = record { prefix = prefix; following = following; no_fault = is.no_fault }
+ran_out_by whole (Some s) assembler prefix following is =
     let shorter = before_newest prefix (Ok (with_tokens is.1.0 s)) is.0 is.1.1.0 in
     record {
       prefix = shorter.0;
-      behind = (
-        behind.0 ++ Ok (with_tokens is.1.0 s) ∷ [],
-        behind.1 ∙ ap (λ l. behind.0 ++ l) (is.1.1.0 ∙ ap (λ l. Ok (with_tokens is.1.0 s) ∷ l) (sym shorter.1)) ∙ sym (append_assoc behind.0 (Ok (with_tokens is.1.0 s) ∷ []) (statements shorter.0)),
+      following = (
+        following.0 ++ Ok (with_tokens is.1.0 s) ∷ [],
+        following.1 ∙ ap (λ l. following.0 ++ l) (is.1.1.0 ∙ ap (λ l. Ok (with_tokens is.1.0 s) ∷ l) (sym shorter.1)) ∙ sym (append_assoc following.0 (Ok (with_tokens is.1.0 s) ∷ []) (statements shorter.0)),
       );
       no_fault = ap first_order shorter.1 ∙ is.1.1.2.no_fault;
     }
 
--- what characters are so far, and those behind them
+-- what characters are so far, and those after them
 later_of : (bytes : List ℕ) (i : ℕ) → (later : List ℕ) × (text_of bytes ≡ later ++ text_from [] (take i bytes))
 later_of bytes i =
-    let rest = from_behind (drop i bytes) (text_from [] (take i bytes)) in
+    let rest = from_after (drop i bytes) (text_from [] (take i bytes)) in
     (rest.0, the_rest [] bytes i ∙ rest.1)
 
 -- ## The first pass
@@ -154,7 +154,7 @@ no_memory text e = by_test (is_over text) e
     by_test true e = absurd cc
     by_test false e = absurd cc
 
--- the source was taken, and what comes behind it
+-- the source was taken, and what comes after it
 pub passes_on : EndsJoin → (before bytes : List ℕ) (others : List (List ℕ)) (offset : ℕ) (r : Result Bool AsmFault) (pass new : Pass) → length bytes ≤ offset → pass.waiting ≡ None
     → PassesTo before (has_next others) [] bytes offset (Ok tt) pass → GoesOn others pass.lexer r new.lexer new.is_at_end → new.assembler ≡ pass.assembler → new.waiting ≡ pass.waiting
     → PassesSource before (text_of bytes) others r new
@@ -178,7 +178,7 @@ pub passes_not : JoinGoesOn → StatementsStay → (before bytes : List ℕ) (ot
 passes_not joins stay before bytes others offset (At code line) new tells = ap (λ o. first_of o (no_end (join_of (text_of bytes ∷ others) ++ before))) (tells [] others refl)
 passes_not joins stay before bytes others offset Memory new has =
     let later = later_of bytes offset in
-    let at = stands_behind joins stay new.lexer new.is_at_end before (text_of bytes) (text_from [] (take offset bytes)) later.0 others (λ s. StandsAfter new.waiting new.assembler s) later.1 has in
+    let at = stands_after joins stay new.lexer new.is_at_end before (text_of bytes) (text_from [] (take offset bytes)) later.0 others (λ s. StandsAfter new.waiting new.assembler s) later.1 has in
     ran_out_by _ new.waiting new.assembler at.0 at.1.0 at.1.1
 
 -- ## The second pass
@@ -212,8 +212,8 @@ pub makes_not : JoinGoesOn → StatementsStay → (whole before bytes : List ℕ
 makes_not joins stay whole before bytes others offset (At code line) new pairs is tells = ap (λ t. words_fault (values (statements whole)) (statements t)) is ∙ tells [] others refl
 makes_not joins stay whole before bytes others offset Memory new pairs is has =
     let later = later_of bytes offset in
-    let at = stands_behind joins stay new.lexer new.is_at_end before (text_of bytes) (text_from [] (take offset bytes)) later.0 others (λ s. IsMade (statements whole) new pairs s) later.1 has in
-    record { prefix = at.0; behind = (at.1.0.0, ap statements is ∙ at.1.0.1); no_fault = at.1.1.1.words }
+    let at = stands_after joins stay new.lexer new.is_at_end before (text_of bytes) (text_from [] (take offset bytes)) later.0 others (λ s. IsMade (statements whole) new pairs s) later.1 has in
+    record { prefix = at.0; following = (at.1.0.0, ap statements is ∙ at.1.0.1); no_fault = at.1.1.1.words }
 
 -- ## Several sources
 
@@ -222,27 +222,27 @@ several_is [] = refl
 several_is (a ∷ []) = refl
 several_is (a ∷ b ∷ others) = grind (arith, nat_tests)
 
-pub split_is : (sources : List (Bor (List ℕ))) (none : Bor (List ℕ)) → 1 ≤ length sources → texts sources ≡ text_of (get_or sources 0 none).now ∷ texts (behind_one sources)
+pub split_is : (sources : List (Bor (List ℕ))) (none : Bor (List ℕ)) → 1 ≤ length sources → texts sources ≡ text_of (get_or sources 0 none).now ∷ texts (following_one sources)
 split_is [] none long = absurd (omega (arith, long))
 split_is (a ∷ others) none long = ap texts (first_one (a ∷ others) a long refl)
 
 pub joined_is : (sources : List (Bor (List ℕ))) (none : Bor (List ℕ)) (before whole : List ℕ) → 1 ≤ length sources → whole ≡ join_of (texts sources) ++ before
-    → whole ≡ join_of (text_of (get_or sources 0 none).now ∷ texts (behind_one sources)) ++ before
+    → whole ≡ join_of (text_of (get_or sources 0 none).now ∷ texts (following_one sources)) ++ before
 joined_is sources none before whole long e = e ∙ ap (λ l. join_of l ++ before) (split_is sources none long)
 
 -- what the first pass answers for the first of sources
 pub first_at : (sources : List (Bor (List ℕ))) (none : Bor (List ℕ)) (before : List ℕ) (r : Result Bool AsmFault) (pass new : Pass) → 1 ≤ length sources → BeginsPass before (texts sources) pass
-    → ((at : List ℕ) → BeginsPass at (text_of (get_or sources 0 none).now ∷ texts (behind_one sources)) pass → PassesSource at (text_of (get_or sources 0 none).now) (texts (behind_one sources)) r new)
-    → PassesSource before (text_of (get_or sources 0 none).now) (texts (behind_one sources)) r new
+    → ((at : List ℕ) → BeginsPass at (text_of (get_or sources 0 none).now ∷ texts (following_one sources)) pass → PassesSource at (text_of (get_or sources 0 none).now) (texts (following_one sources)) r new)
+    → PassesSource before (text_of (get_or sources 0 none).now) (texts (following_one sources)) r new
 first_at sources none before r pass new long begins passes = passes before (subst (λ l. BeginsPass before l pass) (split_is sources none long) begins)
 
 -- what the second pass answers
 pub second_at : (whole before : List ℕ) (sources : List (Bor (List ℕ))) (none : Bor (List ℕ)) (r : Result Bool AsmFault) (pass new : Pass) (pairs made : List (ℕ × ℕ)) → 1 ≤ length sources → no_end whole ≡ None
     → whole ≡ join_of (texts sources) ++ before → BeginsAgain (statements whole) before (texts sources) pass pairs
-    → ((all at : List ℕ) → all ≡ join_of (text_of (get_or sources 0 none).now ∷ texts (behind_one sources)) ++ at → no_end all ≡ None
-    → BeginsAgain (statements all) at (text_of (get_or sources 0 none).now ∷ texts (behind_one sources)) pass pairs
-    → MakesSource (statements all) at (text_of (get_or sources 0 none).now) (texts (behind_one sources)) r new made)
-    → MakesSource (statements whole) before (text_of (get_or sources 0 none).now) (texts (behind_one sources)) r new made
+    → ((all at : List ℕ) → all ≡ join_of (text_of (get_or sources 0 none).now ∷ texts (following_one sources)) ++ at → no_end all ≡ None
+    → BeginsAgain (statements all) at (text_of (get_or sources 0 none).now ∷ texts (following_one sources)) pass pairs
+    → MakesSource (statements all) at (text_of (get_or sources 0 none).now) (texts (following_one sources)) r new made)
+    → MakesSource (statements whole) before (text_of (get_or sources 0 none).now) (texts (following_one sources)) r new made
 second_at whole before sources none r pass new pairs made long ends is begins makes =
     makes whole before (joined_is sources none before whole long is) ends (subst (λ l. BeginsAgain (statements whole) before l pass pairs) (split_is sources none long) begins)
 
@@ -266,12 +266,12 @@ words_refused whole before text others Memory pass pairs ran = ran
 
 pub second_refused : (whole before : List ℕ) (sources : List (Bor (List ℕ))) (none : Bor (List ℕ)) (f : AsmFault) (pass new : Pass) (pairs made : List (ℕ × ℕ)) → 1 ≤ length sources → no_end whole ≡ None
     → whole ≡ join_of (texts sources) ++ before → BeginsAgain (statements whole) before (texts sources) pass pairs
-    → ((all at : List ℕ) → all ≡ join_of (text_of (get_or sources 0 none).now ∷ texts (behind_one sources)) ++ at → no_end all ≡ None
-    → BeginsAgain (statements all) at (text_of (get_or sources 0 none).now ∷ texts (behind_one sources)) pass pairs
-    → MakesSource (statements all) at (text_of (get_or sources 0 none).now) (texts (behind_one sources)) (Err f) new made)
+    → ((all at : List ℕ) → all ≡ join_of (text_of (get_or sources 0 none).now ∷ texts (following_one sources)) ++ at → no_end all ≡ None
+    → BeginsAgain (statements all) at (text_of (get_or sources 0 none).now ∷ texts (following_one sources)) pass pairs
+    → MakesSource (statements all) at (text_of (get_or sources 0 none).now) (texts (following_one sources)) (Err f) new made)
     → IsWordsFault whole f
 second_refused whole before sources none f pass new pairs made long ends is begins makes =
-    words_refused whole before (text_of (get_or sources 0 none).now) (texts (behind_one sources)) f new made (second_at whole before sources none (Err f) pass new pairs made long ends is begins makes)
+    words_refused whole before (text_of (get_or sources 0 none).now) (texts (following_one sources)) f new made (second_at whole before sources none (Err f) pass new pairs made long ends is begins makes)
 
 -- the second pass begins with a lexer of no byte
 pub again_begins : (whole : List ℕ) (several : Bool) (lexer : lex.Progress) (pass : Pass) → HasRead lexer 0 [] → lexer.may_pause ≡ several → BeginsSecondPass whole (Ok tt) pass → (pass.lexer ≡ lexer) × (pass.is_at_end ≡ false)

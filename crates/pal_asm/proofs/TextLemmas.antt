@@ -39,8 +39,8 @@ one_more b text = by_test (ends_statement text b)
     by_test true = inr (judge_statement (line_after text) (nat_eq b 36) (stretch text) (radix_after (statements text)), refl)
     by_test false = inl refl
 
-one_behind : (b : ℕ) (text : List ℕ) → GoesOnAfter (statements (b ∷ text)) (statements text)
-one_behind b text = elim (one_more b text) [ inl same ↦ ([], same) | inr added ↦ (added.0 ∷ [], added.1) ]
+one_after : (b : ℕ) (text : List ℕ) → GoesOnAfter (statements (b ∷ text)) (statements text)
+one_after b text = elim (one_more b text) [ inl same ↦ ([], same) | inr added ↦ (added.0 ∷ [], added.1) ]
 
 further : (whole middle older : Source) → GoesOnAfter whole middle → GoesOnAfter middle older → GoesOnAfter whole older
 further whole middle older last first =
@@ -152,24 +152,24 @@ met_second text Memory turned ran ended second = record {
 
 more_bytes : (later text : List ℕ) → GoesOnAfter (statements (later ++ text)) (statements text)
 more_bytes [] text = ([], refl)
-more_bytes (b ∷ later) text = further _ _ _ (one_behind b (later ++ text)) (more_bytes later text)
+more_bytes (b ∷ later) text = further _ _ _ (one_after b (later ++ text)) (more_bytes later text)
 
 pub statements_stay : StatementsStay
 statements_stay = more_bytes
 
 pub first_fault_stays : FirstFaultStays
 first_fault_stays later text f told =
-    let behind = more_bytes later text in
+    let following = more_bytes later text in
     ap (λ o. first_of o (first_of (no_end (later ++ text)) (first_of (words_fault (values (statements (later ++ text))) (statements (later ++ text))) (no_word (statements (later ++ text))))))
-    (ap first_order behind.1 ∙ first_stays behind.0 (statements text) f told)
+    (ap first_order following.1 ∙ first_stays following.0 (statements text) f told)
 
 pub word_fault_stays : WordFaultStays
 word_fault_stays later text f none end told =
-    let behind = more_bytes later text in
+    let following = more_bytes later text in
     ap (λ o. first_of o (first_of (no_end (later ++ text)) (first_of (words_fault (values (statements (later ++ text))) (statements (later ++ text))) (no_word (statements (later ++ text)))))) none
     ∙ ap (λ o. first_of o (first_of (words_fault (values (statements (later ++ text))) (statements (later ++ text))) (no_word (statements (later ++ text))))) end
     ∙ ap (λ o. first_of o (no_word (statements (later ++ text))))
-    (ap (words_fault (values (statements (later ++ text)))) behind.1 ∙ words_stay (values (statements (later ++ text))) behind.0 (statements text) f told)
+    (ap (words_fault (values (statements (later ++ text)))) following.1 ∙ words_stay (values (statements (later ++ text))) following.0 (statements text) f told)
 
 pub no_word_is_told : NoWordIsTold
 no_word_is_told text f none end told =

@@ -46,16 +46,16 @@ same_term old new place (Name n) grows none = by_value (old n) refl none
 same_term old new place (Number n) grows none = refl
 same_term old new place Here grows none = refl
 
-same_behind : (old new : Meanings) (place : ℕ) (parts : List Part) (before : Option ℕ) → Grows old new → terms_fault old place parts ≡ None
+same_after : (old new : Meanings) (place : ℕ) (parts : List Part) (before : Option ℕ) → Grows old new → terms_fault old place parts ≡ None
     → value_after new place before parts ≡ value_after old place before parts
-same_behind old new place [] before grows none = refl
-same_behind old new place (part ∷ others) before grows none =
+same_after old new place [] before grows none = refl
+same_after old new place (part ∷ others) before grows none =
     ap (λ v. value_after new place (joined_values part.joint before v) others) (same_term old new place part.term grows (first_none _ _ none))
-    ∙ same_behind old new place others (joined_values part.joint before (term_value old place part.term)) grows (second_none _ _ none)
+    ∙ same_after old new place others (joined_values part.joint before (term_value old place part.term)) grows (second_none _ _ none)
 
 pub same_value : (old new : Meanings) (place : ℕ) (parts : List Part) → Grows old new → terms_fault old place parts ≡ None
     → value_of new place parts ≡ value_of old place parts
-same_value old new place parts grows none = same_behind old new place parts (Some 0) grows none
+same_value old new place parts grows none = same_after old new place parts (Some 0) grows none
 
 known_term : (old new : Meanings) (place : ℕ) (term : Term) → Grows old new → term_fault old place term ≡ None → term_fault new place term ≡ None
 known_term old new place (Name n) grows none = by_value (old n) refl none
@@ -72,11 +72,11 @@ known_terms old new place (part ∷ others) grows none =
     rw (known_term old new place part.term grows (first_none _ _ none)) (known_terms old new place others grows (second_none _ _ none))
 
 -- an expression whose terms have no fault has a value
-valued_behind : (known : Meanings) (place : ℕ) (parts : List Part) (before : ℕ) → terms_fault known place parts ≡ None
+valued_after : (known : Meanings) (place : ℕ) (parts : List Part) (before : ℕ) → terms_fault known place parts ≡ None
     → (v : ℕ) × (value_after known place (Some before) parts ≡ Some v)
-valued_behind known place [] before none = (before, refl)
-valued_behind known place (part ∷ others) before none =
-    by_term part.term (term_value known place part.term) refl (first_none _ _ none) (λ b. valued_behind known place others b (second_none _ _ none))
+valued_after known place [] before none = (before, refl)
+valued_after known place (part ∷ others) before none =
+    by_term part.term (term_value known place part.term) refl (first_none _ _ none) (λ b. valued_after known place others b (second_none _ _ none))
   where
     by_term : (term : Term) (value : Option ℕ) → term_value known place term ≡ value → term_fault known place term ≡ None
         → ((b : ℕ) → (v : ℕ) × (value_after known place (Some b) others ≡ Some v))
@@ -87,7 +87,7 @@ valued_behind known place (part ∷ others) before none =
     by_term Here None is fine rest = some_none is
 
 pub valued : (known : Meanings) (place : ℕ) (parts : List Part) → terms_fault known place parts ≡ None → (v : ℕ) × (value_of known place parts ≡ Some v)
-valued known place parts none = valued_behind known place parts 0 none
+valued known place parts none = valued_after known place parts 0 none
 
 -- ## Names
 
@@ -147,7 +147,7 @@ pub or_right : (a b : Bool) → b ≡ true → (a || b) ≡ true
 or_right true b e = refl
 or_right false b e = e
 
--- behind a statement a permanent name or a tag stands for what it stood for
+-- after a statement a permanent name or a tag stands for what it stood for
 statement_keeps : (s : Statement) (older : Source) (n v : ℕ) → first_order (Ok s ∷ older) ≡ None → is_fixed older n ≡ true → values older n ≡ Some v → values (Ok s ∷ older) n ≡ Some v
 statement_keeps s older n v none kept is =
     body_keeps (is_fixed_at s.tags older) (values_at s.tags older) (place_at older) s.body n v (second_none _ _ (no_fault_at s older none)) (or_right (is_among s.tags n) (is_fixed older n) kept)
@@ -220,7 +220,7 @@ statement_known : (s : Statement) (older : Source) (n : ℕ) → first_order (Ok
 statement_known s older n none is =
     body_known (is_fixed_at s.tags older) (values_at s.tags older) (place_at older) s.body n (second_none _ _ (no_fault_at s older none)) is
 
--- a name that stands for something stands for something behind further statements
+-- a name that stands for something stands for something after further statements
 known_stays : (later older : Source) (n : ℕ) → first_order (later ++ older) ≡ None → IsKnown (values older) n → IsKnown (values (later ++ older)) n
 known_stays [] older n none is = is
 known_stays (Ok s ∷ later) older n none is =

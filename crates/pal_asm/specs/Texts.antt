@@ -23,13 +23,13 @@ GoesOnAfter whole older = (later : Source) × (whole ≡ later ++ older)
 -- The first pass wanted memory after these bytes, and none of their statements has a fault that it reports.
 pub record RanOut (whole : Source) : Type 0 where
   pub prefix : List ℕ
-  pub behind : GoesOnAfter whole (statements prefix)
+  pub following : GoesOnAfter whole (statements prefix)
   pub no_fault : first_order (statements prefix) ≡ None
 
 -- The second pass wanted memory after these bytes, and none of their words has a fault.
 pub record RanOutAgain (whole : Source) : Type 0 where
   pub prefix : List ℕ
-  pub behind : GoesOnAfter whole (statements prefix)
+  pub following : GoesOnAfter whole (statements prefix)
   pub no_fault : words_fault (values whole) (statements prefix) ≡ None
 
 -- One of the two passes wanted memory. The second is made only of a text with its `$` and a word, none of whose statements

@@ -13,12 +13,12 @@ use Rattle.pal_asm.specs.declared.passing.Pass.{Pass}
 use Rattle.pal_blocks.specs.Passing.{text_in, characters_added}
 use Rattle.pal_asm.specs.Passing.{Counts, Pause, Stands, StandsAfter, TellsJoinFault, HasPassed, SettlesIn, PassesTo, HasMade, IsWithin, MakesTo}
 use Rattle.pal_blocks.specs.Steps.{PassesBlock, MakesBlock}
-use Rattle.pal_blocks.proofs.TextLemmas.{JoinedCharacters, JoinedEnd, block_text, from_behind, the_rest, all_taken}
+use Rattle.pal_blocks.proofs.TextLemmas.{JoinedCharacters, JoinedEnd, block_text, from_after, the_rest, all_taken}
 
--- behind PAUSE anything may come
+-- after PAUSE anything may come
 pub paused_more : (lexer : lex.Progress) (prefix : List ℕ) (several : Bool) (here bytes : List ℕ) (Fits : Source → Type 0) → Pause lexer prefix several here Fits → Pause lexer prefix several (text_from here bytes) Fits
 paused_more lexer prefix several here bytes Fits p =
-    let rest = from_behind bytes here in
+    let rest = from_after bytes here in
     record {
       cut = p.cut;
       paused = p.paused;
@@ -94,7 +94,7 @@ skips_block chars ends lexer ended prefix several given block offset Fits done s
 
 -- ## The first pass
 
--- a block behind the end of what is read of a source
+-- a block after the end of what is read of a source
 pub block_skipped : JoinedCharacters → JoinedEnd → (pass new : Pass) (prefix : List ℕ) (several : Bool) (given block : List ℕ) (offset : ℕ) (r : Result (Unit {0}) AsmFault) → pass.is_at_end ≡ true
     → ((prefix here : List ℕ) (several is_last : Bool) → HasPassed pass prefix several here is_last → SettlesIn prefix several here is_last r new) → (r ≡ Ok tt → new.waiting ≡ None)
     → HasPassed pass prefix several (text_from (text_in given) (take offset (characters_added given block))) (is_ended given) → PassesBlock prefix several given block offset r new

@@ -23,7 +23,7 @@ use Rattle.pal_asm.specs.Passing.{Counts, Pause, Stands}
 use Rattle.pal_asm.specs.Passing.{TellsJoinFault, IsWithin, EndsSource}
 use Rattle.pal_blocks.specs.Progress.{GoesOn, IsJoined}
 use Rattle.pal_blocks.proofs.TextLemmas.{JoinedCharacters, frames-append}
-use Rattle.pal_blocks.proofs.TextLemmas.{from_behind, from_both}
+use Rattle.pal_blocks.proofs.TextLemmas.{from_after, from_both}
 
 fine_there : (lexer : lex.Progress) (text : List ℕ) → HasPaused lexer text → first_fault (statements text) ≡ None
 unfolding HasPaused
@@ -74,10 +74,10 @@ none_of (words ∷ next ∷ others) = refl
 none_at : (count : ℕ) (others : List (List ℕ)) → count ≡ 0 → newest_first (first_among count others) ≡ []
 none_at count others is = ap (λ n. newest_first (first_among n others)) is ∙ none_of others
 
--- a file is its first blocks and what stands behind
+-- a file is its first blocks and what stands after
 pub blocks_text : JoinedCharacters → (words : List ℕ) (count : ℕ) → 256 * count ≤ length words → (later : List ℕ) × (text_in (frames words) ≡ later ++ text_in (frames (first_blocks count words)))
 blocks_text chars words count inside =
-    let rest = from_behind (if is_ended (frames (first_blocks count words)) then [] else characters (frames (drop (256 * count) words))) (text_in (frames (first_blocks count words))) in (
+    let rest = from_after (if is_ended (frames (first_blocks count words)) then [] else characters (frames (drop (256 * count) words))) (text_in (frames (first_blocks count words))) in (
       rest.0,
       ap text_in split ∙ ap text_of (chars (frames (first_blocks count words)) (frames (drop (256 * count) words)))
           ∙ from_both (characters (frames (first_blocks count words))) (if is_ended (frames (first_blocks count words)) then [] else characters (frames (drop (256 * count) words))) [] ∙ rest.1,
@@ -88,7 +88,7 @@ blocks_text chars words count inside =
 
 -- ## The join
 
--- The pass stands behind so many blocks of a source.
+-- The pass stands after so many blocks of a source.
 abbrev pub IsAfter : List (List ℕ) → List (List ℕ) → List ℕ → List (List ℕ) → ℕ → lex.Progress → Bool → (Source → Type 0) → Type 0
 IsAfter sources before words others count lexer ended Fits =
     ((prefix : List ℕ) × GoesOn sources (blocks_among before) (words ∷ others) prefix
@@ -128,7 +128,7 @@ within_whole chars sources before words others prefix count are split inside goe
     let later = blocks_text chars words count inside in
     (later.0, (texts_of others, (has_all_texts others, ap statements (whole_join sources before (words ∷ others) prefix are split goes ∙ ap (λ t. join_of (t ∷ texts_of others) ++ prefix) later.1))))
 
--- the join so far, and what stands behind its statements
+-- the join so far, and what stands after its statements
 pub so_far : EndsJoin → (sources before : List (List ℕ)) (words : List ℕ) (others : List (List ℕ)) (count : ℕ) (lexer : lex.Progress) (ended : Bool) (Fits : Source → Type 0) → count ≤ blocks_in words
     → IsAfter sources before words others count lexer ended Fits → (so : List ℕ) × ((newest_first (first_among (blocks_among before + count) sources) ≡ so) × Fits (statements so))
 so_far law sources before words others count lexer ended Fits low after = elim after [
@@ -166,19 +166,19 @@ so_far law sources before words others count lexer ended Fits low after = elim a
 too_long : {C : Type 0} (a b c d : List ℕ) → a ++ b ≡ (0 ∷ a ++ b) ++ d → C
 too_long a b c d e = absurd (omega (arith, ap length e, length-append (0 ∷ a ++ b) d))
 
-pub some_pause : (lexer : lex.Progress) (prefix : List ℕ) (several : Bool) (here : List ℕ) (Fits : Source → Type 0) (behind : ℕ) → Pause lexer prefix several here Fits → if_paused (before_pause here) behind ≡ behind
-some_pause lexer prefix several here Fits behind p = by_pause (before_pause here) refl
+pub some_pause : (lexer : lex.Progress) (prefix : List ℕ) (several : Bool) (here : List ℕ) (Fits : Source → Type 0) (following : ℕ) → Pause lexer prefix several here Fits → if_paused (before_pause here) following ≡ following
+some_pause lexer prefix several here Fits following p = by_pause (before_pause here) refl
   where
-    by_pause : (o : Option (List ℕ)) → before_pause here ≡ o → if_paused o behind ≡ behind
+    by_pause : (o : Option (List ℕ)) → before_pause here ≡ o → if_paused o following ≡ following
     by_pause None e =
         too_long here prefix [] p.cut
         (ap (λ o. text_with_next here o (0 ∷ here ++ prefix) ++ prefix) (sym e) ∙ p.joins [] (0 ∷ here ++ prefix) [])
     by_pause (Some cut) e = refl
 
-pub no_pause : EndsJoin → (lexer : lex.Progress) (prefix : List ℕ) (several : Bool) (here : List ℕ) (Fits : Source → Type 0) (behind : ℕ) → Counts lexer prefix several here Fits → if_paused (before_pause here) behind ≡ 0
-no_pause law lexer prefix several here Fits behind counts = by_pause (before_pause here) refl
+pub no_pause : EndsJoin → (lexer : lex.Progress) (prefix : List ℕ) (several : Bool) (here : List ℕ) (Fits : Source → Type 0) (following : ℕ) → Counts lexer prefix several here Fits → if_paused (before_pause here) following ≡ 0
+no_pause law lexer prefix several here Fits following counts = by_pause (before_pause here) refl
   where
-    by_pause : (o : Option (List ℕ)) → before_pause here ≡ o → if_paused o behind ≡ 0
+    by_pause : (o : Option (List ℕ)) → before_pause here ≡ o → if_paused o following ≡ 0
     by_pause None e = refl
     by_pause (Some cut) e =
         absurd (omega (arith, ap length (ap (λ o. text_with_next here o (0 ∷ here)) (sym e) ∙ law prefix here ((0 ∷ here) ∷ []) counts.clear counts.fine), length-append (0 ∷ here) cut))
@@ -230,8 +230,8 @@ next_source law sources before words next others count old new last over ended F
     all_joined : {so : List ℕ} → ((c : ℕ) → newest_first (first_among (blocks_among before + (blocks_in words + c)) sources) ≡ so) → IsJoined sources (blocks_among (before ++ words ∷ [])) so
     all_joined joined c = ap (λ n. newest_first (first_among n sources)) (further c) ∙ joined c
 
-    behind : (c : ℕ) → newest_first (first_among (blocks_in words + c) (words ∷ next ∷ others)) ≡ join_of (text_in (frames words) ∷ texts_of (first_among c (next ∷ others)))
-    behind c =
+    following : (c : ℕ) → newest_first (first_among (blocks_in words + c) (words ∷ next ∷ others)) ≡ join_of (text_in (frames words) ∷ texts_of (first_among c (next ∷ others)))
+    following c =
         ap (λ w. join_of (text_of (text w) ∷ texts_of (first_among (blocks_in words + c - blocks_in words) (next ∷ others)))) (all (blocks_in words + c) (omega arith))
         ∙ ap (λ n. join_of (text_of (text words) ∷ texts_of (first_among n (next ∷ others)))) (rest c)
       where
@@ -249,7 +249,7 @@ next_source law sources before words next others count old new last over ended F
           let now = ends.1 (length prefix) (text_in (frames (first_blocks count words)) ++ prefix) counts.1.read counts.1.fine in
           inr (
             text_in (frames (first_blocks count words)) ++ prefix,
-            all_joined (λ c. goes.joins (blocks_in words + c) ∙ ap (λ l. l ++ prefix) (behind c ∙ ap (λ t. join_of (t ∷ texts_of (first_among c (next ∷ others)))) (sym whole_here)
+            all_joined (λ c. goes.joins (blocks_in words + c) ∙ ap (λ l. l ++ prefix) (following c ∙ ap (λ t. join_of (t ∷ texts_of (first_among c (next ∷ others)))) (sym whole_here)
                 ∙ law prefix (text_in (frames (first_blocks count words))) (texts_of (first_among c (next ∷ others))) counts.1.clear counts.1.fine)),
             record {
               no_more = now.1;
@@ -266,7 +266,7 @@ next_source law sources before words next others count old new last over ended F
           inl (
             p.cut,
             record {
-              joins = λ c. ap (λ n. newest_first (first_among n sources)) (further c) ∙ goes.joins (blocks_in words + c) ∙ ap (λ l. l ++ prefix) (behind c)
+              joins = λ c. ap (λ n. newest_first (first_among n sources)) (further c) ∙ goes.joins (blocks_in words + c) ∙ ap (λ l. l ++ prefix) (following c)
                   ∙ p.joins [] (text_of (text (first_blocks c next))) (texts_of (first_among (c - blocks_in next) others));
               blocks = goes.blocks ∙ ap (λ n. blocks_among before + (blocks_in words + n)) (some_pause old prefix true (text_in (frames words)) Fits (joined_blocks (next ∷ others)) p) ∙ omega (arith, base_is);
             },

@@ -19,10 +19,10 @@ JoinedEnd = (frames others : List ℕ) → is_ended (frames ++ others) ≡ (if i
 -- ## Texts
 
 -- more bytes stand before a text, which has its newest first
-pub from_behind : (bytes text : List ℕ) → (later : List ℕ) × (text_from text bytes ≡ later ++ text)
-from_behind [] text = ([], refl)
-from_behind (b ∷ bytes) text =
-    let rest = from_behind bytes (b ∷ text) in
+pub from_after : (bytes text : List ℕ) → (later : List ℕ) × (text_from text bytes ≡ later ++ text)
+from_after [] text = ([], refl)
+from_after (b ∷ bytes) text =
+    let rest = from_after bytes (b ∷ text) in
     (rest.0 ++ b ∷ [], rest.1 ∙ sym (append_assoc rest.0 (b ∷ []) text))
 
 pub from_both : (bytes others text : List ℕ) → text_from text (bytes ++ others) ≡ text_from (text_from text bytes) others

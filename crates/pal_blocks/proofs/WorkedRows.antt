@@ -104,7 +104,7 @@ join_fourth : fault_at_turn 4 (paused ∷ ending ∷ []) ≡ None
 unfolding block_words statements permanent lf paused ending
 join_fourth = refl
 
--- behind a `$` no source says anything: the name is undefined, known when its block is read again
+-- after a `$` no source says anything: the name is undefined, known when its block is read again
 over_second : fault_at_turn 2 (ending ∷ paused ∷ []) ≡ None
 unfolding block_words statements permanent lf paused ending
 over_second = refl

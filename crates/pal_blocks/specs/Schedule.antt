@@ -17,8 +17,8 @@ statements_in count sources = statements (newest_first (first_among count source
 
 -- what comes after a PAUSE, if there is one
 abbrev pub if_paused : Option (List ℕ) → ℕ → ℕ
-if_paused None behind = 0
-if_paused (Some prefix) behind = behind
+if_paused None following = 0
+if_paused (Some prefix) following = following
 
 -- how many blocks there are up to the end of the source that the join ends in, with its `$` or without
 abbrev pub joined_blocks : List (List ℕ) → ℕ

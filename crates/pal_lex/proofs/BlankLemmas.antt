@@ -54,7 +54,7 @@ sign_byte b place before e =
     ∙ ap (λ (t : Bool). if t then with_blank place before else (if nat_eq b 46 then Mark (Term Here) place ∷ before else with_sign (sign_of b) place before)) is.no_space
     ∙ ap (λ (t : Bool). if t then Mark (Term Here) place ∷ before else with_sign (sign_of b) place before) is.no_dot
 
--- ## A blank behind a blank or a sign
+-- ## A blank after a blank or a sign
 
 abbrev operand_in : Option Kind → Bool
 operand_in None = false
@@ -72,34 +72,34 @@ no_operand_by false false false false false = refl
 no_operand : (b : ℕ) → operand_in (sign_of b) ≡ false
 no_operand b = no_operand_by (nat_eq b 43) (nat_eq b 45) (nat_eq b 61) (nat_eq b 44) (nat_eq b 42)
 
-behind_sign : (s : Option Kind) (place at : ℕ) (before : List Piece) → is_some s ≡ true → operand_in s ≡ false
+after_sign : (s : Option Kind) (place at : ℕ) (before : List Piece) → is_some s ≡ true → operand_in s ≡ false
     → with_blank place (with_sign s at before) ≡ with_sign s at before
-behind_sign None place at before some e = absurd cc
-behind_sign (Some kind) place at before some e = ap (λ (t : Bool). if t then Mark Blank place ∷ Mark kind at ∷ without_end_blank before else Mark kind at ∷ without_end_blank before) e
+after_sign None place at before some e = absurd cc
+after_sign (Some kind) place at before some e = ap (λ (t : Bool). if t then Mark Blank place ∷ Mark kind at ∷ without_end_blank before else Mark kind at ∷ without_end_blank before) e
 
-behind_by : (operand : Bool) (place at here : ℕ) (kind : Kind) (before : List Piece) → is_operand kind ≡ operand
+following_by : (operand : Bool) (place at here : ℕ) (kind : Kind) (before : List Piece) → is_operand kind ≡ operand
     → with_blank place (if operand then Mark Blank at ∷ Mark kind here ∷ before else Mark kind here ∷ before)
     ≡ (if operand then Mark Blank at ∷ Mark kind here ∷ before else Mark kind here ∷ before)
-behind_by true place at here kind before e = refl
-behind_by false place at here kind before e = ap (λ (t : Bool). if t then Mark Blank place ∷ Mark kind here ∷ before else Mark kind here ∷ before) e
+following_by true place at here kind before e = refl
+following_by false place at here kind before e = ap (λ (t : Bool). if t then Mark Blank place ∷ Mark kind here ∷ before else Mark kind here ∷ before) e
 
-behind_blank : (place at : ℕ) (before : List Piece) → with_blank place (with_blank at before) ≡ with_blank at before
-behind_blank place at [] = refl
-behind_blank place at (Run first others start end ∷ before) = refl
-behind_blank place at (Mark kind here ∷ before) = behind_by (is_operand kind) place at here kind before refl
+following_blank : (place at : ℕ) (before : List Piece) → with_blank place (with_blank at before) ≡ with_blank at before
+following_blank place at [] = refl
+following_blank place at (Run first others start end ∷ before) = refl
+following_blank place at (Mark kind here ∷ before) = following_by (is_operand kind) place at here kind before refl
 
 idle_by : (space sign : Bool) (place : ℕ) (live : ℕ × ℕ) (older : List (ℕ × ℕ)) → is_space live.0 ≡ space → is_some (sign_of live.0) ≡ sign → (space || sign) ≡ true
     → with_blank place (pieces (live ∷ older)) ≡ pieces (live ∷ older)
 idle_by true sign place live older s g e =
-    ap (with_blank place) (blank_byte live.0 live.1 (pieces older) s) ∙ behind_blank place live.1 (pieces older) ∙ sym (blank_byte live.0 live.1 (pieces older) s)
+    ap (with_blank place) (blank_byte live.0 live.1 (pieces older) s) ∙ following_blank place live.1 (pieces older) ∙ sym (blank_byte live.0 live.1 (pieces older) s)
 idle_by false true place live older s g e =
-    ap (with_blank place) (sign_byte live.0 live.1 (pieces older) g) ∙ behind_sign (sign_of live.0) place live.1 (pieces older) g (no_operand live.0)
+    ap (with_blank place) (sign_byte live.0 live.1 (pieces older) g) ∙ after_sign (sign_of live.0) place live.1 (pieces older) g (no_operand live.0)
     ∙ sym (sign_byte live.0 live.1 (pieces older) g)
 idle_by false false place live older s g e = absurd cc
 
-behind_idle : (place : ℕ) (before : List (ℕ × ℕ)) → ends_idle before ≡ true → with_blank place (pieces before) ≡ pieces before
-behind_idle place [] e = refl
-behind_idle place (live ∷ older) e = idle_by (is_space live.0) (is_some (sign_of live.0)) place live older refl refl e
+after_idle : (place : ℕ) (before : List (ℕ × ℕ)) → ends_idle before ≡ true → with_blank place (pieces before) ≡ pieces before
+after_idle place [] e = refl
+after_idle place (live ∷ older) e = idle_by (is_space live.0) (is_some (sign_of live.0)) place live older refl refl e
 
 -- ## A blank before a sign, or at the end
 
@@ -125,9 +125,9 @@ before_sign None place at before e = absurd cc
 before_sign (Some kind) place at before e = ap (λ l. Mark kind at ∷ l) (trimmed_blank place before)
 
 -- what follows pieces that are the same
-pieces_behind : (later a b : List (ℕ × ℕ)) → pieces a ≡ pieces b → pieces (later ++ a) ≡ pieces (later ++ b)
-pieces_behind [] a b e = e
-pieces_behind (live ∷ later) a b e = ap (with_byte live.0 live.1) (pieces_behind later a b e)
+pieces_after : (later a b : List (ℕ × ℕ)) → pieces a ≡ pieces b → pieces (later ++ a) ≡ pieces (later ++ b)
+pieces_after [] a b e = e
+pieces_after (live ∷ later) a b e = ap (with_byte live.0 live.1) (pieces_after later a b e)
 
 before_idle : (b place : ℕ) (live : ℕ × ℕ) (later before : List (ℕ × ℕ)) → is_space b ≡ true → begins_idle (live ∷ later) ≡ true
     → pieces (live ∷ later ++ (b, place) ∷ before) ≡ pieces (live ∷ later ++ before)
@@ -142,7 +142,7 @@ by_before : (radix : Radix) (b place : ℕ) (before later : List (ℕ × ℕ)) �
     → tokens radix (later ++ (b, place) ∷ before) ≡ tokens radix (later ++ before)
 by_before radix b place before later space e =
     ap (λ l. in_order (base radix) (without_end_blank l))
-    (pieces_behind later ((b, place) ∷ before) before (blank_byte b place (pieces before) space ∙ behind_idle place before e))
+    (pieces_after later ((b, place) ∷ before) before (blank_byte b place (pieces before) space ∙ after_idle place before e))
 
 by_later : (radix : Radix) (b place : ℕ) (before later : List (ℕ × ℕ)) → is_space b ≡ true → begins_idle later ≡ true
     → tokens radix (later ++ (b, place) ∷ before) ≡ tokens radix (later ++ before)
@@ -151,8 +151,8 @@ by_later radix b place before [] space e =
 by_later radix b place before (live ∷ later) space e =
     ap (λ l. in_order (base radix) (without_end_blank l)) (before_idle b place live later before space e)
 
-by_either : (behind ahead : Bool) (radix : Radix) (b place : ℕ) (before later : List (ℕ × ℕ)) → is_space b ≡ true
-    → ends_idle before ≡ behind → begins_idle later ≡ ahead → (behind || ahead) ≡ true
+by_either : (following ahead : Bool) (radix : Radix) (b place : ℕ) (before later : List (ℕ × ℕ)) → is_space b ≡ true
+    → ends_idle before ≡ following → begins_idle later ≡ ahead → (following || ahead) ≡ true
     → tokens radix (later ++ (b, place) ∷ before) ≡ tokens radix (later ++ before)
 by_either true ahead radix b place before later space i j e = by_before radix b place before later space i
 by_either false true radix b place before later space i j e = by_later radix b place before later space j

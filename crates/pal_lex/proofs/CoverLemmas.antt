@@ -167,15 +167,15 @@ joined_tokens later text base (piece ∷ before) a small =
     ∙ ap (λ l. l ++ (if is_blank (token base piece).kind then [] else between (later ++ text) (token base piece).start (token base piece).end)) (joined_tokens later text base before a.1 small)
     ∙ ap (λ l. joined_pieces text before ++ l) (piece_joined later text base piece a.0 small)
 
-behind : (later : List ℕ) (b : ℕ) (text : List ℕ) → later ++ b ∷ text ≡ (later ++ b ∷ []) ++ text
-behind later b text = sym (append_assoc later (b ∷ []) text)
+following : (later : List ℕ) (b : ℕ) (text : List ℕ) → later ++ b ∷ text ≡ (later ++ b ∷ []) ++ text
+following later b text = sym (append_assoc later (b ∷ []) text)
 
 -- tokens of a stretch leave nothing of it out but blanks, whatever follows the text
 pub covers_in : (radix : Radix) (text later : List ℕ) (b : ℕ) → length text ≤ 18446744073709551615 → has_illegal (stretch text) ≡ false
     → bytes_between (later ++ b ∷ text) (tokens radix (stretch text)) ≡ solid (stretch text)
 covers_in radix text later b small legal =
     let k = known text legal in
-    ap (λ t. bytes_between t (tokens radix (stretch text))) (behind later b text)
+    ap (λ t. bytes_between t (tokens radix (stretch text))) (following later b text)
     ∙ joined_tokens (later ++ b ∷ []) text (base radix) (without_end_blank (pieces (stretch text))) (all_trimmed text (pieces (stretch text)) k.stand) small
     ∙ trimmed_joined text (pieces (stretch text)) ∙ cover text legal
 

@@ -60,7 +60,7 @@ mark_is_no_run true operand place weight e = cc
 mark_is_no_run false true place weight e = cc
 mark_is_no_run false false place weight e = cc
 
--- a letter or a digit behind others
+-- a letter or a digit after others
 pub run_more : (base : ℕ) (before : List Piece) (b at weight : ℕ) (is_bad : Bool) (tokens longer : List Token) (end : ℕ)
     → 1 ≤ base → record { illegal = is_bad; tail = tail.Run weight; tokens = tokens } ≡ cut_of base false before
     → end ≡ limit (at + 1)

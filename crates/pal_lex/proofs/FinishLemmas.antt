@@ -24,7 +24,7 @@ use Rattle.pal_lex.proofs.PauseLemmas.{said_no_pause}
 use Rattle.pal_lex.proofs.RunLemmas.{reading}
 use Rattle.pal_lex.proofs.ShapeLemmas.{bytes_since, same_said, same_bad, same_illegal, same_lone_pause}
 
--- What is known where a byte ends a statement behind a text.
+-- What is known where a byte ends a statement after a text.
 pub record Here (old : Progress) (seam : ℕ) (text : List ℕ) (b : ℕ) : Type 0 where
   pub now : IsReading old seam text
   pub dead : is_dead text b ≡ false
@@ -77,9 +77,9 @@ pause_is old seam text b h =
 abbrev next_line : Bool → ℕ → ℕ
 next_line cr line = if cr then limit (line + 1) else line
 
-line_behind : (cr : Bool) (line count : ℕ) → line ≡ limit (1 + count) → next_line cr line ≡ limit (1 + ((if cr then 1 else 0) + count))
-line_behind true line count e = omega arith
-line_behind false line count e = omega arith
+line_following : (cr : Bool) (line count : ℕ) → line ≡ limit (1 + count) → next_line cr line ≡ limit (1 + ((if cr then 1 else 0) + count))
+line_following true line count e = omega arith
+line_following false line count e = omega arith
 
 read_by : (dollar : Bool) (old : Progress) (seam : ℕ) (text : List ℕ) (b : ℕ) (s : Said) → Here old seam text b → old.state ≡ Reading → nat_eq b 36 ≡ dollar
     → first_fault (statements (b ∷ text)) ≡ None → radix_after (statements (b ∷ text)) ≡ radix_by s.body (radix_after (statements text))
@@ -89,7 +89,7 @@ read_by false old seam text b s h state e none radix = subst (λ (s' : State). S
   begun = omega (arith, h.now.begun);
   comment = ap (λ (c : Bool). comment_after c b) h.now.comment;
   place = omega (arith, h.now.begun, h.now.place);
-  line = line_behind (nat_eq b 13) old.line (cr_count text) h.now.line;
+  line = line_following (nat_eq b 13) old.line (cr_count text) h.now.line;
   radix = ap (radix_by s.body) h.now.radix ∙ sym radix;
   draft = let nothing : stretch (b ∷ text) ≡ [] = rw (h.dead, h.end) refl in ap (λ l. cut (radix_after (statements (b ∷ text))) (since seam l)) (sym nothing);
   no_fault = none;
@@ -207,7 +207,7 @@ fault_finished old new seam text b (SY line) h quiet judges becomes =
 fault_finished old new seam text b (NE line) h quiet judges becomes = absurd judges
 fault_finished old new seam text b Memory h quiet judges becomes = (h.now.no_fault, h.now.not_over, h.dead, becomes)
 
--- ## Behind the end
+-- ## Beyond the end
 
 over_all : (bytes text : List ℕ) → is_over text ≡ true → (statements (text_from text bytes) ≡ statements text) × (is_over (text_from text bytes) ≡ true)
 over_all [] text over = (refl, over)

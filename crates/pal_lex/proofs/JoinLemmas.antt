@@ -1,4 +1,4 @@
--- Several sources, and a text that is cut behind its last end.
+-- Several sources, and a text that is cut after its last end.
 use Rattle.std.proofs.Common.{◌≡◌, ℕ, ◌+◌, nat_eq, Bool, true, false, ◌&&◌, ◌||◌, not, if◌then◌else◌, Option, Some, None, Result, Err, length, List, [], ◌∷◌, ◌++◌, refl, ap, sym, subst, ◌∙◌, arith, append_assoc}
 use Rattle.std.proofs.lemmas.Bool.Decides.{nat_tests}
 use Rattle.pal_lex.specs.Text.{is_ignored, in_comment, is_dead, is_end, is_over, ends_statement, stretch, up_to_end, cr_count, limit, line_after}
@@ -106,7 +106,7 @@ clear_comment text e = sym (ap in_comment e) ∙ ended_comment text
 pub clear_stretch : (text : List ℕ) → up_to_end text ≡ text → stretch text ≡ []
 clear_stretch text e = sym (ap stretch e) ∙ ended_stretch text
 
--- ## A source behind a text that ends behind a statement
+-- ## A source after a text that ends after a statement
 
 comment_joined : (here before : List ℕ) → in_comment before ≡ false → in_comment (here ++ before) ≡ in_comment here
 comment_joined [] before quiet = quiet
@@ -208,46 +208,46 @@ pause_joins before here later b next others clear none pausing =
     ∙ append_assoc (join_of (next ∷ others)) (up_to_end here) before
     ∙ ap (λ l. join_of (next ∷ others) ++ l) (sym (cut_joined here before clear))
 
--- statements behind others
-abbrev Behind : List (Result Statement LexFault) → List (Result Statement LexFault) → Type 0
-Behind whole older = (more : List (Result Statement LexFault)) × (whole ≡ more ++ older)
+-- statements after others
+abbrev Beyond : List (Result Statement LexFault) → List (Result Statement LexFault) → Type 0
+Beyond whole older = (more : List (Result Statement LexFault)) × (whole ≡ more ++ older)
 
-further : (whole middle older : List (Result Statement LexFault)) → Behind whole middle → Behind middle older → Behind whole older
+further : (whole middle older : List (Result Statement LexFault)) → Beyond whole middle → Beyond middle older → Beyond whole older
 further whole middle older last first = (last.0 ++ first.0, last.1 ∙ ap (λ s. last.0 ++ s) first.1 ∙ sym (append_assoc last.0 first.0 older))
 
 same_some : {A : Type 0} {a b : A} → Some a ≡ Some b → a ≡ b
 same_some e = cc
 
-whole_prefix : (later text before : List ℕ) → Behind (statements ((later ++ text) ++ before)) (statements (text ++ before))
+whole_prefix : (later text before : List ℕ) → Beyond (statements ((later ++ text) ++ before)) (statements (text ++ before))
 whole_prefix later text before = let s = stays (text ++ before) later in (s.0, ap statements (append_assoc later text before) ∙ s.1)
 
 prefix_of : (later text before prefix : List ℕ) → IsClear before → before_pause text ≡ None → before_pause (later ++ text) ≡ Some prefix
-    → Behind (statements (prefix ++ before)) (statements (text ++ before))
+    → Beyond (statements (prefix ++ before)) (statements (text ++ before))
 prefix_of [] text before prefix clear none some = none_some (sym none ∙ some)
 prefix_of (b ∷ later) text before prefix clear none some = by_prefix (before_pause (later ++ text)) refl (λ f is. prefix_of later text before f clear none is)
   where
-    by_test : (test : Bool) → (if test then Some (up_to_end (later ++ text)) else None) ≡ Some prefix → Behind (statements (prefix ++ before)) (statements (text ++ before))
+    by_test : (test : Bool) → (if test then Some (up_to_end (later ++ text)) else None) ≡ Some prefix → Beyond (statements (prefix ++ before)) (statements (text ++ before))
     by_test true e =
         let w = whole_prefix later text before in
         (w.0, ap (λ f. statements (f ++ before)) (sym (same_some e)) ∙ ap statements (sym (cut_joined (later ++ text) before clear)) ∙ cut_statements ((later ++ text) ++ before) ∙ w.1)
     by_test false e = none_some e
 
     by_prefix : (f : Option (List ℕ)) → before_pause (later ++ text) ≡ f
-        → ((g : List ℕ) → before_pause (later ++ text) ≡ Some g → Behind (statements (g ++ before)) (statements (text ++ before)))
-        → Behind (statements (prefix ++ before)) (statements (text ++ before))
+        → ((g : List ℕ) → before_pause (later ++ text) ≡ Some g → Beyond (statements (g ++ before)) (statements (text ++ before)))
+        → Beyond (statements (prefix ++ before)) (statements (text ++ before))
     by_prefix (Some g) e earlier =
         let same : Some g ≡ Some prefix = sym (ap (λ f. first_text f (if pauses (later ++ text) b then Some (up_to_end (later ++ text)) else None)) e) ∙ some in
-        subst (λ f. Behind (statements (f ++ before)) (statements (text ++ before))) (same_some same) (earlier g e)
+        subst (λ f. Beyond (statements (f ++ before)) (statements (text ++ before))) (same_some same) (earlier g e)
     by_prefix None e earlier =
         by_test (pauses (later ++ text) b) (sym (ap (λ f. first_text f (if pauses (later ++ text) b then Some (up_to_end (later ++ text)) else None)) e) ∙ some)
 
 join_front : (later text before : List ℕ) (others : List (List ℕ)) → IsClear before → (has_next others ≡ true → before_pause text ≡ None)
-    → Behind (statements (join_of ((later ++ text) ∷ others) ++ before)) (statements (text ++ before))
+    → Beyond (statements (join_of ((later ++ text) ∷ others) ++ before)) (statements (text ++ before))
 join_front later text before [] clear none = whole_prefix later text before
 join_front later text before (next ∷ others) clear none = by_prefix (before_pause (later ++ text)) refl
   where
     by_prefix : (f : Option (List ℕ)) → before_pause (later ++ text) ≡ f
-        → Behind (statements (text_with_next (later ++ text) f (join_of (next ∷ others)) ++ before)) (statements (text ++ before))
+        → Beyond (statements (text_with_next (later ++ text) f (join_of (next ∷ others)) ++ before)) (statements (text ++ before))
     by_prefix None e = whole_prefix later text before
     by_prefix (Some prefix) e =
         further _ _ _ (whole_prefix (join_of (next ∷ others)) prefix before) (prefix_of later text before prefix clear (none refl) e)

@@ -45,9 +45,9 @@ calm_definition : (name : Option ℕ) (e : Option (List Part)) → calm (definit
 calm_definition None e = refl
 calm_definition (Some name) e = calm_map (Define name) (λ v. refl) e
 
-calm_spaced : (op : Option Operation) (whole behind : List Token) → calm (spaced_body op whole behind) ≡ true
-calm_spaced None whole behind = calm_map Word (λ e. refl) (expression whole)
-calm_spaced (Some op) whole behind = calm_reference op false behind
+calm_spaced : (op : Option Operation) (whole following : List Token) → calm (spaced_body op whole following) ≡ true
+calm_spaced None whole following = calm_map Word (λ e. refl) (expression whole)
+calm_spaced (Some op) whole following = calm_reference op false following
 
 calm_operation : (op : Option Operation) (t : Token) → calm (operation_body op t) ≡ true
 calm_operation None t = calm_map Word (λ e. refl) (expression (t ∷ []))

@@ -1,4 +1,4 @@
--- What a lexer knows behind one more byte.
+-- What a lexer knows after one more byte.
 use Rattle.std.proofs.Common.{◌≡◌, ℕ, nat_eq, Bool, true, false, if◌then◌else◌, Option, Some, None, Result, Err, List, [], ◌∷◌, refl, ap, sym, subst, ◌∙◌, arith}
 use Rattle.std.proofs.lemmas.Bool.Decides.{nat_tests}
 use Rattle.pal_lex.specs.Text.{ends_statement, stretch, line_after}
@@ -30,7 +30,7 @@ has_read l seam text state e h = subst (λ (s : State). StateIs s l seam text) (
 abbrev newest : List ℕ → ℕ → Result Statement LexFault
 newest text b = judge_statement (line_after text) (nat_eq b 36) (stretch text) (radix_after (statements text))
 
--- ## Behind a fault
+-- ## Beyond a fault
 
 abbrev IsOfStatements : Option LexFault → Type 0
 IsOfStatements None = Unit {0}

@@ -79,7 +79,7 @@ longer_run base first others at run kind end least is short coded grows ends =
     next : (n : ℕ) → n + 1 ≡ suc n
     next n = omega arith
 
--- ## A run behind other pieces
+-- ## A run after other pieces
 
 abbrev NoRun : List Piece → Type 0
 NoRun before = (weight : ℕ) → tail_of before ≡ tail.Run weight → ⊥
@@ -149,7 +149,7 @@ puts_legal base true before first others at more old new e legal put = absurd (t
 
 -- ## A run in a text
 
--- what letters and digits behind a text change
+-- what letters and digits after a text change
 record Passes (seam : ℕ) (text run : List ℕ) : Type 0 where
   same_statements : statements (text_from text run) ≡ statements text
   no_comment : in_comment (text_from text run) ≡ false
@@ -233,7 +233,7 @@ has_read l seam text e read = subst (λ (s : State). StateIs s l seam text) (sym
 abbrev pub moved : Progress → ℕ → Cut → Progress
 moved l place draft = record { state = l.state; source = l.source; may_pause = l.may_pause; comment = l.comment; place = place; line = l.line; radix = l.radix; keeps_tokens = l.keeps_tokens; draft = draft }
 
--- letters and digits that were put behind a stretch
+-- letters and digits that were put after a stretch
 pub run_read : (old : Progress) (seam : ℕ) (text bytes others : List ℕ) (first more count place : ℕ) (draft : Cut) → old.state ≡ Reading → old.comment ≡ false → is_coded first ≡ true
     → bytes ≡ first ∷ others → count ≡ length bytes - (length others - more) → HasRead old seam text
     → ((illegal : Bool) (before : List Piece) (at : ℕ) → old.place ≡ limit at → old.draft ≡ cut_of (base old.radix) illegal before
@@ -286,7 +286,7 @@ no_cr_more l n short other none = ap (λ k. has_cr (take k l)) (next n) ∙ cr_m
     next : (n : ℕ) → n + 1 ≡ suc n
     next n = omega arith
 
--- what bytes of a comment behind a text change
+-- what bytes of a comment after a text change
 record Dies (text bytes : List ℕ) : Type 0 where
   same_statements : statements (text_from text bytes) ≡ statements text
   still_comment : in_comment (text_from text bytes) ≡ true

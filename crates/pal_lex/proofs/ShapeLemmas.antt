@@ -158,9 +158,9 @@ bare_field : (u : Token) (others : List Token) → field_number (bare u) (all_ba
 bare_field u others =
     both_ways (is_blank u.kind) _ _ _ _ (bare_expression others) (both_ways (is_sign u.kind) _ _ _ _ (bare_expression (u ∷ others)) refl)
 
-bare_spaced : (op : Option Operation) (whole behind : List Token) → spaced_body op (all_bare whole) (all_bare behind) ≡ spaced_body op whole behind
-bare_spaced None whole behind = ap (map_body Word) (bare_expression whole)
-bare_spaced (Some op) whole behind = bare_reference op false behind
+bare_spaced : (op : Option Operation) (whole following : List Token) → spaced_body op (all_bare whole) (all_bare following) ≡ spaced_body op whole following
+bare_spaced None whole following = ap (map_body Word) (bare_expression whole)
+bare_spaced (Some op) whole following = bare_reference op false following
 
 bare_operation : (op : Option Operation) (t : Token) → operation_body op (bare t) ≡ operation_body op t
 bare_operation None t = ap (map_body Word) (bare_expression (t ∷ []))

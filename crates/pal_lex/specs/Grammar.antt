@@ -143,8 +143,8 @@ field_number u others =
 
 -- a name of an operation with a blank after it begins a memory reference
 abbrev pub spaced_body : Option Operation → List Token → List Token → Option Body
-spaced_body None whole behind = map_body Word (expression whole)
-spaced_body (Some op) whole behind = reference op false behind
+spaced_body None whole following = map_body Word (expression whole)
+spaced_body (Some op) whole following = reference op false following
 
 -- a name of an operation alone is a memory reference
 abbrev pub operation_body : Option Operation → Token → Option Body

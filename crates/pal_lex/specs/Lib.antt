@@ -1,4 +1,4 @@
-pub mod BehindSteps
+pub mod AfterSteps
 pub mod Cutting
 pub mod Drafting
 pub mod Grammar

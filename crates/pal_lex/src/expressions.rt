@@ -1,6 +1,6 @@
 ghost use Rattle.std.specs.Prelude.{◌≡◌, true, Some, IfOk};
 ghost use Rattle.pal_lex.specs.Grammar.{joint_of, free_term, term_of, parts, terms, expression};
-ghost use Rattle.pal_lex.specs.BehindSteps.{parts_after};
+ghost use Rattle.pal_lex.specs.AfterSteps.{parts_after};
 
 use crate::kinds::is_sign;
 use crate::language::is_reserved;

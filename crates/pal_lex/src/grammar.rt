@@ -1,7 +1,7 @@
 ghost use Rattle.std.specs.Prelude.{◌≡◌, true, false, Some, IfOk, [], ◌∷◌};
 ghost use Rattle.pal_lex.specs.Language.{free_name};
 ghost use Rattle.pal_lex.specs.Grammar.{sum, expression, map_body, reference, definition, field_number, lone_body, longer_body, body, without_tags, phrase_of_tokens, has_bad_number};
-ghost use Rattle.pal_lex.specs.BehindSteps.{with_tags_before};
+ghost use Rattle.pal_lex.specs.AfterSteps.{with_tags_before};
 
 use crate::expressions::{expression, terms};
 use crate::kinds::{is_bad, is_blank, is_comma, is_equals, is_sign, is_star};
@@ -55,8 +55,8 @@ fn reference(
         if is_named(INDIRECT, word.kind) {
             indirect = true;
         } else if !is_named(ZERO_PAGE, word.kind) {
-            let (_, behind) = rest.split_at(1);
-            return reference_body(alloc, operation, indirect, behind);
+            let (_, following) = rest.split_at(1);
+            return reference_body(alloc, operation, indirect, following);
         }
         rest = others;
     }
@@ -144,19 +144,19 @@ fn longer_body(
     requires { tokens.now ≡ first.now ∷ second.now ∷ others.now }
     ensures { IfOk result (λ b. b ≡ longer_body first.now second.now others.now) }
 {
-    let (_, behind) = tokens.split_at(1);
+    let (_, following) = tokens.split_at(1);
     if is_star(first.kind) {
-        return origin(alloc, behind);
+        return origin(alloc, following);
     }
     if is_equals(second.kind) {
         return definition(alloc, first.kind, others);
     }
     if is_named(FIELD, first.kind) {
-        return field(alloc, behind, second, others);
+        return field(alloc, following, second, others);
     }
     if is_blank(second.kind) {
         if let Some(operation) = operation_in(first.kind) {
-            return reference(alloc, operation, behind);
+            return reference(alloc, operation, following);
         }
     }
     word(alloc, tokens)

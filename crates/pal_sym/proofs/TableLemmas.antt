@@ -213,7 +213,7 @@ module _ (entries : Entries) (room name : ℕ) (table : SymbolTable) (is : table
   tag_kept found value (Err fault) there tag told = subst (λ f. DefinesValue name value table table (Err f)) (sym told.0) (tag_other found value there tag told.1)
 
   full : (new : Entries) (less : ℕ) → new ≡ entries → room ≡ 0 → less ≡ 0 → table_of new less ≡ table
-  full new less kept none_before none_behind = ap (λ e. table_of e less) kept ∙ ap (table_of entries) (none_behind ∙ sym none_before) ∙ is
+  full new less kept none_before none_after = ap (λ e. table_of e less) kept ∙ ap (table_of entries) (none_after ∙ sym none_before) ∙ is
 
   -- a name that no memory was there for
   pub not_added : (new : Entries) (less : ℕ) → find nat_cmp name entries ≡ None → (new ≡ entries) × (room ≡ 0) × (less ≡ 0)

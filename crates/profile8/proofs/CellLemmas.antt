@@ -125,7 +125,7 @@ stands_before : (counts : List ℕ) (a b : ℕ) → IsNoLater counts a b → (a 
 stands_before counts a b (inl more) apart = inl more
 stands_before counts a b (inr same) apart = inr (same.0, omega (arith, same.1, apart))
 
--- cells that are no later than those behind them, and are there once
+-- cells that are no later than those after them, and are there once
 in_order : (counts xs : List ℕ) → ((k d : ℕ) → suc k < length xs → IsNoLater counts (slice_index_or xs k d) (slice_index_or xs (suc k) d))
     → ((cell : ℕ) → tally cell xs ≤ 1) → AreInOrder counts xs
 in_order counts [] steps once = tt

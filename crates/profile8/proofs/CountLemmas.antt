@@ -106,7 +106,7 @@ zeros_are count cell = at (cases_lt cell count)
     at (inl within) = get_or-replicate count cell 0 0 within
     at (inr beyond) = get_or-eq_default (replicate count 0) 0 (omega (arith, beyond, length-replicate {A = ℕ} count 0))
 
--- ## Steps behind others
+-- ## Steps after others
 
 pub counts-add : ((a b : ℕ) (t : Terminal) → later (a + b) t ≡ later b (later a t)) → (a b : ℕ) (t : Terminal) (cell : ℕ)
     → fetch_count (a + b) t cell ≡ fetch_count a t cell + fetch_count b (later a t) cell
@@ -123,7 +123,7 @@ counts-add adds a (suc b) t cell =
     count-next (a + b) t cell ∙ ap (λ x. fetch_count (a + b) t cell + (if fetches x cell then 1 else 0)) (adds a b t) in
     omega (arith, left, right, last, count-next b (later a t) cell, counts-add adds a b t cell)
 
--- the counts of steps, to which those of steps behind them were added
+-- the counts of steps, to which those of steps after them were added
 pub counts-more : ((a b : ℕ) (t : Terminal) → later (a + b) t ≡ later b (later a t)) → (a b : ℕ) (t : Terminal) (counts counts' : List ℕ)
     → AreCounts a t counts → AddsFetches b (later a t) counts counts' → AreCounts (a + b) t counts'
 counts-more adds a b t counts counts' are more = record {

@@ -14,9 +14,9 @@ before_both counts a b c (inl more) (inr as_many) = inl (omega (arith, more, as_
 before_both counts a b c (inr as_many) (inl most) = inl (omega (arith, as_many.0, most))
 before_both counts a b c (inr as_many) (inr as_most) = inr (omega (arith, as_many.0, as_most.0), omega (arith, as_many.1, as_most.1))
 
-order_behind : (counts : List ℕ) (x : ℕ) (xs : List ℕ) → AreInOrder counts (x ∷ xs) → AreInOrder counts xs
-order_behind counts x [] order = tt
-order_behind counts x (y ∷ ys) order = order.1
+order_after : (counts : List ℕ) (x : ℕ) (xs : List ℕ) → AreInOrder counts (x ∷ xs) → AreInOrder counts xs
+order_after counts x [] order = tt
+order_after counts x (y ∷ ys) order = order.1
 
 before_all : (counts : List ℕ) (x : ℕ) (xs : List ℕ) (cell : ℕ) → AreInOrder counts (x ∷ xs) → IsAmong cell xs → StandsBefore counts x cell
 before_all counts x [] cell order is = absurd is
@@ -46,7 +46,7 @@ same_cells counts (x ∷ xs) [] left right there back = absurd (there x (inl ref
 same_cells counts (x ∷ xs) (y ∷ ys) left right there back =
     let same : x ≡ y = same_first counts x y xs ys left right (there x (inl refl)) (back y (inl refl)) in
     let others : xs ≡ ys =
-    same_cells counts xs ys (order_behind counts x xs left) (order_behind counts y ys right)
+    same_cells counts xs ys (order_after counts x xs left) (order_after counts y ys right)
     (λ cell is. among_others counts x y xs ys cell left same is (there cell (inr is)))
     (λ cell is. among_others counts y x ys xs cell right (sym same) is (back cell (inr is))) in
     ap (λ c. c ∷ xs) same ∙ ap (λ l. y ∷ l) others

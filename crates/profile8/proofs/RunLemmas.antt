@@ -94,7 +94,7 @@ begun t counts running size zeros = record {
   are = counts-none t counts size zeros;
 }
 
--- what the counts are behind a step
+-- what the counts are after a step
 next-counts : (t now : Terminal) (made : ℕ) (counts counts' : List ℕ) → IsCounting t now made counts → next_cell now.machine < CORE
     → counts' ≡ counts_with counts (next_cell now.machine) (is_fetch (after_step now).1) → AreCounts (made + 1) t counts'
 next-counts t now made counts counts' i within is =

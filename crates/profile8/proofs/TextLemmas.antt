@@ -10,7 +10,7 @@ pub never-next : (is_never : ℕ → Bool) (n : ℕ) → never_lines is_never (n
 unfolding never_lines
 never-next is_never n = let e : n + 1 ≡ suc n = omega arith in ap (λ k. never_lines is_never k) e
 
--- the lines so far, behind a text
+-- the lines so far, after a text
 pub never-more : (is_never : ℕ → Bool) (n : ℕ) (text text' text'' : List ℕ) → text' ≡ text ++ never_lines is_never n
     → text'' ≡ text' ++ never_text is_never n → text'' ≡ text ++ never_lines is_never (n + 1)
 never-more is_never n text text' text'' before more =

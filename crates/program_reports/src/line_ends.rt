@@ -10,20 +10,20 @@ pub fn with_line_feeds(alloc: Global, bytes: &[u8]) -> Result<Vec<u8>, AllocErro
     ensures { IfOk result (λ text. text.items ≡ with_line_feeds bytes.now) }
 {
     let mut text = Vec::new(alloc);
-    let mut behind_return = false;
+    let mut after_return = false;
     for byte in bytes {
-        put_byte(&mut text, behind_return, *byte)?;
-        behind_return = *byte == CR;
+        put_byte(&mut text, after_return, *byte)?;
+        after_return = *byte == CR;
     }
     Ok(text)
 }
 
 /// Appends what a byte becomes, after a CR or not.
-fn put_byte(text: &mut Vec<u8>, behind_return: bool, byte: u8) -> Result<(), AllocError>
-    ensures { OnOk result (text.new.items ≡ text.old.items ++ line_end_of behind_return byte) }
+fn put_byte(text: &mut Vec<u8>, after_return: bool, byte: u8) -> Result<(), AllocError>
+    ensures { OnOk result (text.new.items ≡ text.old.items ++ line_end_of after_return byte) }
 {
     match byte {
-        LF if behind_return => Ok(()),
+        LF if after_return => Ok(()),
         CR => {
             text.push(LF)?;
             Ok(())

@@ -62,7 +62,7 @@ part_more (a ∷ []) bits begun short small = (begun.0, begun.1, omega (arith, s
 part_more (a ∷ b ∷ []) bits begun short small = (begun.0, begun.1, begun.2, omega (arith, small))
 part_more (a ∷ b ∷ c ∷ rest) bits begun short small = absurd (omega (arith, short))
 
--- one frame more behind a part that isn't whole by it
+-- one frame more after a part that isn't whole by it
 pub open_more : (frames : List ℕ) (place mark bits : ℕ) (pairs : List (ℕ × ℕ)) (part : List ℕ) → IsOpen (take place frames) pairs part
     → mark ≡ mark_of part → length part < 3 → HasBits frames place mark bits
     → IsOpen (take (place + 1) frames) pairs (part ++ (mark + bits) ∷ [])
@@ -168,7 +168,7 @@ trailer_ends frames place pairs inside is read = record {
   words = read.is_open.words;
 }
 
--- ## What comes behind what was read
+-- ## What comes after what was read
 
 pub some_read : (frames : List ℕ) (place : ℕ) (met : Option (ℕ × ℕ)) → is_some met ≡ true → (read : HasReadSome frames place)
     → Goes frames place read.pairs (Ok met) → HasReadSome frames (place + 4)

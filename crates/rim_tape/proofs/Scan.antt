@@ -19,12 +19,12 @@ told (Open pairs part) = NoTrailer
 told (Tape pairs) = Memory
 told (Refused place frame) = BadFrame place frame
 
--- 0200 is leader before the first word, and behind it the trailer
+-- 0200 is leader before the first word, and after it the trailer
 abbrev trailer : List (ℕ × ℕ) → Outcome
 trailer [] = Open [] []
 trailer (pair ∷ others) = Tape (pair ∷ others)
 
--- one frame more behind a part
+-- one frame more after a part
 abbrev longer : List (ℕ × ℕ) → List ℕ → ℕ → Outcome
 longer pairs [] f = Open pairs (f ∷ [])
 longer pairs (a ∷ []) f = Open pairs (a ∷ f ∷ [])

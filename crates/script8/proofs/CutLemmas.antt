@@ -25,7 +25,7 @@ taken is_end begun zero bs = Some []
 taken is_end begun (suc n) [] = last_of is_end begun n
 taken is_end begun (suc n) (b ∷ bs) = if b == 10 then onto b (taken is_end false n bs) else onto b (taken is_end true (suc n) bs)
 
--- the number of some bytes behind so many
+-- the number of some bytes after so many
 abbrev pub size_from : ℕ → Option (List ℕ) → Option ℕ
 size_from i None = None
 size_from i (Some bs) = Some (i + length bs)
@@ -152,15 +152,15 @@ cuts_by text is_end count bytes xs is met = record {
   within = rw is (rw met.parts (prefix_within xs met.rest));
   size = met.size;
   content = met.content ∙ ap with_line_end (sym (ap (λ n. take n text) is ∙ ap (take (length xs)) met.parts ∙ take_prefix xs met.rest));
-  script = sym (lines_same text) ∙ met.script ∙ ap (λ r. met.prefix ++ lines_of r) (sym behind);
+  script = sym (lines_same text) ∙ met.script ∙ ap (λ r. met.prefix ++ lines_of r) (sym following);
   on = λ goes_on. record {
-    script = λ more. sym (lines_same (text ++ more)) ∙ (met.on goes_on).script more ∙ ap (λ r. met.prefix ++ lines_of (r ++ more)) (sym behind);
-    whole = λ more. (met.on goes_on).whole more ∙ ap (λ r. met.prefix ++ ended_lines (r ++ more)) (sym behind);
+    script = λ more. sym (lines_same (text ++ more)) ∙ (met.on goes_on).script more ∙ ap (λ r. met.prefix ++ lines_of (r ++ more)) (sym following);
+    whole = λ more. (met.on goes_on).whole more ∙ ap (λ r. met.prefix ++ ended_lines (r ++ more)) (sym following);
   };
 }
   where
-    behind : drop bytes text ≡ met.rest
-    behind = ap (λ n. drop n text) is ∙ ap (drop (length xs)) met.parts ∙ drop_prefix xs met.rest
+    following : drop bytes text ≡ met.rest
+    following = ap (λ n. drop n text) is ∙ ap (drop (length xs)) met.parts ∙ drop_prefix xs met.rest
 
 -- the lines that were looked for are found, or are too few
 abbrev CutBy : List ℕ → Bool → ℕ → Option ℕ → Type 0
@@ -226,7 +226,7 @@ ends_same text i inside other =
     found : length (ended_lines (get_or text i 0 ∷ drop (suc i) text)) ≡ length (ended_lines (drop (suc i) text))
     found = elim (eqb_tells (get_or text i 0) 10) [ inl h ↦ absurd (other h.1) | inr h ↦ rw h.0 (ended_length (get_or text i 0) (ended_lines (drop (suc i) text))) ]
 
--- the ended lines of a text, and those of the text behind it
+-- the ended lines of a text, and those of the text after it
 pub ends_append : (a b : List ℕ) → length (ended_lines (a ++ b)) ≡ length (ended_lines a) + length (ended_lines b)
 ends_append [] b = omega arith
 ends_append (x ∷ a) b = elim (eqb_tells x 10) [
@@ -234,7 +234,7 @@ ends_append (x ∷ a) b = elim (eqb_tells x 10) [
   | inr h ↦ rw h.0 (ended_length x (ended_lines (a ++ b)) ∙ ends_append a b ∙ ap (λ n. n + length (ended_lines b)) (sym (ended_length x (ended_lines a))))
 ]
 
--- behind an LF a line is found
+-- after an LF a line is found
 pub next_end : (is_end begun : Bool) (left less i : ℕ) (text : List ℕ) → i < length text → 0 < left → less ≡ left - 1 → get_or text i 0 ≡ 10
     → size_from i (taken is_end begun left (drop i text)) ≡ size_from (i + 1) (taken is_end false less (drop (i + 1) text))
 next_end is_end begun zero less i text inside some is same = absurd (none_length some)
@@ -251,7 +251,7 @@ next_end is_end begun (suc n) less i text inside some is same =
     found : size_from i (taken is_end begun (suc n) (get_or text i 0 ∷ drop (suc i) text)) ≡ size_from i (onto (get_or text i 0) (taken is_end false n (drop (suc i) text)))
     found = elim (eqb_tells (get_or text i 0) 10) [ inl h ↦ rw h.0 refl | inr h ↦ absurd (h.1 same) ]
 
--- behind any other byte it is begun
+-- after any other byte it is begun
 pub next_byte : (is_end begun : Bool) (left i : ℕ) (text : List ℕ) → i < length text → 0 < left → get_or text i 0 ≢ 10
     → size_from i (taken is_end begun left (drop i text)) ≡ size_from (i + 1) (taken is_end true left (drop (i + 1) text))
 next_byte is_end begun zero i text inside some other = absurd (none_length some)
@@ -264,26 +264,26 @@ next_byte is_end begun (suc n) i text inside some other =
     found : size_from i (taken is_end begun (suc n) (get_or text i 0 ∷ drop (suc i) text)) ≡ size_from i (onto (get_or text i 0) (taken is_end true (suc n) (drop (suc i) text)))
     found = elim (eqb_tells (get_or text i 0) 10) [ inl h ↦ absurd (other h.1) | inr h ↦ rw h.0 refl ]
 
--- behind bytes that end fewer lines than are left, and before others, it doesn't matter whether a line is begun
-behind_block : (is_end begun : Bool) (left less i : ℕ) (block rest : List ℕ) → 0 < length rest → 0 < less → left ≡ less + length (ended_lines block)
+-- after bytes that end fewer lines than are left, and before others, it doesn't matter whether a line is begun
+after_block : (is_end begun : Bool) (left less i : ℕ) (block rest : List ℕ) → 0 < length rest → 0 < less → left ≡ less + length (ended_lines block)
     → size_from i (taken is_end begun left (block ++ rest)) ≡ size_from (i + length block) (taken is_end false less rest)
-behind_block is_end begun left less i [] [] some more is = absurd (none_length some)
-behind_block is_end begun left zero i [] (b ∷ rest) some more is = absurd (none_length more)
-behind_block is_end begun zero (suc n) i [] (b ∷ rest) some more is = absurd (none_some (n + 0) (is ∙ omega arith))
-behind_block is_end begun (suc m) (suc n) i [] (b ∷ rest) some more is =
+after_block is_end begun left less i [] [] some more is = absurd (none_length some)
+after_block is_end begun left zero i [] (b ∷ rest) some more is = absurd (none_length more)
+after_block is_end begun zero (suc n) i [] (b ∷ rest) some more is = absurd (none_some (n + 0) (is ∙ omega arith))
+after_block is_end begun (suc m) (suc n) i [] (b ∷ rest) some more is =
     let same : m ≡ n = omega (arith, is) in
     let here : i ≡ i + 0 = omega arith in
     ap (λ k. size_from i (taken is_end false (suc k) (b ∷ rest))) same ∙ ap (λ k. size_from k (taken is_end false (suc n) (b ∷ rest))) here
-behind_block is_end begun zero less i (b ∷ block) rest some more is = absurd (none_left less (length (ended_lines (b ∷ block))) more is)
+after_block is_end begun zero less i (b ∷ block) rest some more is = absurd (none_left less (length (ended_lines (b ∷ block))) more is)
   where
     none_left : (k l : ℕ) → 0 < k → 0 ≡ k + l → ⊥
     none_left k l h e = omega (arith, h, e)
-behind_block is_end begun (suc n) less i (b ∷ block) rest some more is = elim (eqb_tells b 10) [
+after_block is_end begun (suc n) less i (b ∷ block) rest some more is = elim (eqb_tells b 10) [
   | inl h ↦ rw h.0 (size_onto i b (taken is_end false n (block ++ rest))
-      ∙ behind_block is_end false n less (suc i) block rest some more (one_end h.0)
+      ∙ after_block is_end false n less (suc i) block rest some more (one_end h.0)
       ∙ ap (λ m. size_from m (taken is_end false less rest)) step)
   | inr h ↦ rw h.0 (size_onto i b (taken is_end true (suc n) (block ++ rest))
-      ∙ behind_block is_end true (suc n) less (suc i) block rest some more (no_end h.0)
+      ∙ after_block is_end true (suc n) less (suc i) block rest some more (no_end h.0)
       ∙ ap (λ m. size_from m (taken is_end false less rest)) step)
 ]
   where
@@ -315,7 +315,7 @@ pub block_passed : (text block : List ℕ) (is_end : Bool) (left less place n si
     → size_from place (taken is_end false left (drop place text)) ≡ size_from (place + size) (taken is_end false less (drop (place + size) text))
 block_passed text block is_end left less place n size is same inside more ends =
     ap (λ l. size_from place (taken is_end false left l)) (block_before text block place n size is same)
-    ∙ behind_block is_end false left less place block (drop (place + size) text) some more ends
+    ∙ after_block is_end false left less place block (drop (place + size) text) some more ends
     ∙ ap (λ m. size_from (place + m) (taken is_end false less (drop (place + size) text))) long
   where
     some : 0 < length (drop (place + size) text)

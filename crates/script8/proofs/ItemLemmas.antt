@@ -1,4 +1,4 @@
--- The items of a text and those of what stands behind them.
+-- The items of a text and those of what stands after them.
 use Rattle.std.proofs.Common.{◌≡◌, ◌≢◌, subst, ◌<◌, ◌≤◌, ◌+◌, ◌-◌, zero, suc, arith, true≢false, ℕ, refl, sym, ◌∙◌, ap, inl, inr, Bool, true, false, List, [], ◌∷◌, ◌++◌, length, take, drop, append_assoc, append-nil, Result, Ok, Err}
 use Rattle.std.specs.Prelude.{nat_lt}
 use Rattle.std.proofs.lemmas.Bool.Decides.{leb_tells}
@@ -74,7 +74,7 @@ opens text prefix command is_end bytes said cuts prefix_is command_is meaning_is
       on = λ goes_on. subst (λ (f : List (List ℕ)). HasPrefix text f (drop bytes text)) one.1 (cuts.on goes_on);
     }
 
--- the items of a first line, and those behind it
+-- the items of a first line, and those after it
 script_opens : (text line rest : List ℕ) (said : Result Line SessionFault) → says line ≡ said → lines_of text ≡ line ∷ lines_of rest
     → script_of text ≡ items_of_line (Refused BadLine ∷ []) said (lines_of rest) ++ items_of (Refused BadLine ∷ []) (lines_taken said) (lines_of rest)
 unfolding script_of
@@ -161,17 +161,17 @@ unfolding script_of whole_of
 stores text rest prefix content name is_end count bytes more sum o rest_is cuts prefix_is content_is sum_is = record {
   some = omega (arith, o.some, sum_is);
   within = omega (arith, sum_is, cuts.within, o.within, rest_length);
-  script = script text (drop bytes text) (drop more rest) o.script (ap lines_of (sym rest_is) ∙ cuts.script) ∙ ap (λ r. Do (entry.Files (files.Store name content)) ∷ script_of r) behind;
+  script = script text (drop bytes text) (drop more rest) o.script (ap lines_of (sym rest_is) ∙ cuts.script) ∙ ap (λ r. Do (entry.Files (files.Store name content)) ∷ script_of r) following;
   on = λ goes_on. record {
     script = λ last. script (text ++ last) (drop bytes text ++ last) (drop more rest ++ last) ((o.on goes_on).script last) (ap (λ r. lines_of (r ++ last)) (sym rest_is) ∙ (cuts.on goes_on).script last)
-        ∙ ap (λ r. Do (entry.Files (files.Store name content)) ∷ script_of (r ++ last)) behind;
+        ∙ ap (λ r. Do (entry.Files (files.Store name content)) ∷ script_of (r ++ last)) following;
     whole = λ last. whole (text ++ last) (drop bytes text ++ last) (drop more rest ++ last) ((o.on goes_on).whole last) (ap (λ r. ended_lines (r ++ last)) (sym rest_is) ∙ (cuts.on goes_on).whole last)
-        ∙ ap (λ r. Do (entry.Files (files.Store name content)) ∷ whole_of (r ++ last)) behind;
+        ∙ ap (λ r. Do (entry.Files (files.Store name content)) ∷ whole_of (r ++ last)) following;
   };
 }
   where
-    behind : drop more rest ≡ drop sum text
-    behind = ap (drop more) rest_is ∙ drop-drop more bytes text ∙ ap (λ n. drop n text) (sym sum_is)
+    following : drop more rest ≡ drop sum text
+    following = ap (drop more) rest_is ∙ drop-drop more bytes text ∙ ap (λ n. drop n text) (sym sum_is)
 
     content_same : text_of cuts.prefix ≡ content
     content_same = cuts.content ∙ ap with_line_end (sym prefix_is) ∙ sym content_is

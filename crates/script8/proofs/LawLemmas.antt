@@ -18,7 +18,7 @@ use Rattle.script8.specs.Shown.{name_text, shown_code, shown_words, shown_extens
 both : (a b : Bool) → a ≡ true → b ≡ true → a && b ≡ true
 both a b one two = rw (one, two) refl
 
--- digits that are read behind a number
+-- digits that are read after a number
 read_digits : (n : ℕ) (digits : List ℕ) → AllDigits 10 digits → digits_from n digits ≡ Some (digits_value_after 10 n digits)
 read_digits n [] all = refl
 read_digits n (c ∷ cs) (one, all) =
@@ -47,7 +47,7 @@ number_as_shown number small =
     let own = decimal_is_IsNumeral number (omega (arith, small)) in
     read_number (decimal number) own.0.0 (length-decimal-le 7 number (omega arith) small (omega (arith, small))) own.0.1 ∙ ap Some own.1
 
--- an octal digit that is read behind a number
+-- an octal digit that is read after a number
 octal_digit_read : (v n : ℕ) (rest : List ℕ) → octal_from v (octal_digit n ∷ rest) ≡ octal_from (8 * v + n % 8) rest
 octal_digit_read v n rest = by_digit (n % 8) (omega arith)
   where
@@ -174,7 +174,7 @@ abbrev AreCodes : List ℕ → Type 0
 AreCodes [] = Unit {0}
 AreCodes (code ∷ codes) = (code < 64) × AreCodes codes
 
--- zeros behind codes are not shown
+-- zeros after codes are not shown
 show_padded : (size : ℕ) (text codes : List ℕ) → ShowAll text codes → length text ≤ size → shown_codes (with_end_zeros size codes) ≡ text
 show_padded zero [] [] all few = refl
 show_padded zero [] (code ∷ codes) all few = absurd all
@@ -242,7 +242,7 @@ extension_shows g h some small low = by_word (64 * g + h - 1) (64 * g + h) (omeg
     by_word : (n word : ℕ) → word ≡ suc n → word ≡ 64 * g + h → shown_extension word ≡ 46 ∷ shown_codes (g ∷ h ∷ [])
     by_word n word is word_is = rw is (ap (λ t. 46 ∷ t) (ap (λ w. shown_words (w ∷ [])) (sym is ∙ word_is) ∙ rw (high_code g h low, low_code g h low) (append_assoc (shown_code g) (shown_code h) [])))
 
--- a text is what stands before its first dot, and the dot with what stands behind
+-- a text is what stands before its first dot, and the dot with what stands after
 abbrev dotted : Option (List ℕ) → List ℕ
 dotted None = []
 dotted (Some text) = 46 ∷ text
@@ -307,13 +307,13 @@ names_text : (stem text codes : List ℕ) (extension : Option (List ℕ)) (name 
     → name_of_codes (Some codes) (extension_codes extension) ≡ Some name → name_text name ≡ text
 names_text stem text codes None name has parts is =
     ap name_text (sym (taken (name_of (words_of_codes (with_end_zeros 6 codes ++ 0 ∷ 0 ∷ []))) name is)) ∙ both_show stem codes (0 ∷ 0 ∷ []) 0 0 has refl (omega arith) (omega arith) ∙ parts
-names_text stem text codes (Some behind) name has parts is = of_codes (codes_within 2 behind) (has_codes 2 behind) is
+names_text stem text codes (Some following) name has parts is = of_codes (codes_within 2 following) (has_codes 2 following) is
   where
-    of_codes : (own : Option (List ℕ)) → ((codes : List ℕ) → own ≡ Some codes → HasCodes 2 behind codes) → name_of_codes (Some codes) own ≡ Some name → name_text name ≡ text
+    of_codes : (own : Option (List ℕ)) → ((codes : List ℕ) → own ≡ Some codes → HasCodes 2 following codes) → name_of_codes (Some codes) own ≡ Some name → name_text name ≡ text
     of_codes None has_own is = cc
     of_codes (Some others) has_own is =
         let own = has_own others refl in
-        let e = has_extension behind others own.some own.few own.all in
+        let e = has_extension following others own.some own.few own.all in
         ap name_text (sym (taken (name_of (words_of_codes (with_end_zeros 6 codes ++ with_end_zeros 2 others))) name is)) ∙ both_show stem codes (with_end_zeros 2 others) e.g e.h has e.are e.high e.low
         ∙ ap (λ t. stem ++ t) (extension_shows e.g e.h e.some e.high e.low ∙ ap (λ t. 46 ∷ t) e.shows) ∙ parts
 

@@ -27,21 +27,21 @@ no_return [] other = refl
 no_return (b ∷ []) other = elim (eqb_tells b 13) [ inl h ↦ absurd (other [] (ap (λ t. t ∷ []) h.1)) | inr h ↦ rw h.0 refl ]
 no_return (b ∷ c ∷ bs) other = ap (λ t. b ∷ t) (no_return (c ∷ bs) (λ prefix is. other (b ∷ prefix) (ap (λ t. b ∷ t) is)))
 
--- what stands behind the first part of a text
-abbrev pub behind_part : ℕ → List ℕ → List (List ℕ)
-behind_part mark [] = []
-behind_part mark (b ∷ bs) = parts_of mark bs
+-- what stands after the first part of a text
+abbrev pub after_part : ℕ → List ℕ → List (List ℕ)
+after_part mark [] = []
+after_part mark (b ∷ bs) = parts_of mark bs
 
--- a text is its first part, and the parts behind it
-cut : (mark : ℕ) (text : List ℕ) → parts_of mark text ≡ take (length (part_of mark text)) text ∷ behind_part mark (drop (length (part_of mark text)) text)
+-- a text is its first part, and the parts after it
+cut : (mark : ℕ) (text : List ℕ) → parts_of mark text ≡ take (length (part_of mark text)) text ∷ after_part mark (drop (length (part_of mark text)) text)
 cut mark [] = refl
 cut mark (b ∷ bs) = elim (eqb_tells b mark) [ inl is ↦ rw is.0 refl | inr other ↦ rw other.0 (ap (onto_first b) (cut mark bs)) ]
 
-cut_at : (mark : ℕ) (text part rest : List ℕ) (size : ℕ) → size ≡ length (part_of mark text) → part ≡ take size text → rest ≡ drop size text → parts_of mark text ≡ part ∷ behind_part mark rest
+cut_at : (mark : ℕ) (text part rest : List ℕ) (size : ℕ) → size ≡ length (part_of mark text) → part ≡ take size text → rest ≡ drop size text → parts_of mark text ≡ part ∷ after_part mark rest
 cut_at mark text part rest size is part_is rest_is =
     cut mark text
-    ∙ ap (λ w. w ∷ behind_part mark (drop (length (part_of mark text)) text)) (sym (part_is ∙ ap (λ n. take n text) is))
-    ∙ ap (λ r. part ∷ behind_part mark r) (sym (rest_is ∙ ap (λ n. drop n text) is))
+    ∙ ap (λ w. w ∷ after_part mark (drop (length (part_of mark text)) text)) (sym (part_is ∙ ap (λ n. take n text) is))
+    ∙ ap (λ r. part ∷ after_part mark r) (sym (rest_is ∙ ap (λ n. drop n text) is))
 
 -- the first part is as long as the place of the first mark says
 pub before_mark : (mark : ℕ) (text : List ℕ) → unwrap_or (position (is_mark mark) text) (length text) ≡ length (part_of mark text)
@@ -70,7 +70,7 @@ none_length h = omega (arith, h)
 pub last_part : (mark : ℕ) (text part rest : List ℕ) (size : ℕ) → size ≡ length (part_of mark text) → part ≡ take size text → rest ≡ drop size text → length rest < 1 → parts_of mark text ≡ part ∷ []
 last_part mark text part rest size is part_is rest_is none = cut_at mark text part rest size is part_is rest_is ∙ ap (λ w. part ∷ w) (nothing rest none)
   where
-    nothing : (rest : List ℕ) → length rest < 1 → behind_part mark rest ≡ []
+    nothing : (rest : List ℕ) → length rest < 1 → after_part mark rest ≡ []
     nothing [] none = refl
     nothing (b ∷ bs) none = absurd (some_length (length bs) none)
 
@@ -79,7 +79,7 @@ pub ended_part : (mark : ℕ) (text part rest : List ℕ) (size : ℕ) → size 
     → parts_of mark text ≡ part ∷ parts_of mark (take (length rest - 1) (drop 1 rest))
 ended_part mark text part rest size is part_is rest_is some = cut_at mark text part rest size is part_is rest_is ∙ ap (λ w. part ∷ w) (all rest some)
   where
-    all : (rest : List ℕ) → 1 ≤ length rest → behind_part mark rest ≡ parts_of mark (take (length rest - 1) (drop 1 rest))
+    all : (rest : List ℕ) → 1 ≤ length rest → after_part mark rest ≡ parts_of mark (take (length rest - 1) (drop 1 rest))
     all [] some = absurd (none_length some)
     all (b ∷ bs) some = ap (parts_of mark) (sym (take_all (length (b ∷ bs) - 1) bs (omega arith)))
 
@@ -104,11 +104,11 @@ pub no_names : (most : ℕ) (list : List ℕ) → most ≡ 0 → false ≡ lists
 no_names most list none = elim (leb_tells (length (parts_of_list list)) most) [ inl h ↦ absurd (too_many most _ none (some_part 44 list) h.1) | inr h ↦ rw h.0 (and_false (list_all is_name (parts_of_list list))) ]
 
 -- an `ASSEMBLE` with two `<` is none
-pub many_targets : (word rest behind to from : List ℕ) (is_one is_two : Bool) → parts_of 60 word ≡ to ∷ (if is_one then [] else parts_of 60 rest) → is_one ≡ false
-    → parts_of 60 rest ≡ from ∷ (if is_two then [] else parts_of 60 behind) → is_two ≡ false → Err BadLine ≡ whole (assemble_of word)
-many_targets word rest behind to from is_one is_two one some two more =
+pub many_targets : (word rest following to from : List ℕ) (is_one is_two : Bool) → parts_of 60 word ≡ to ∷ (if is_one then [] else parts_of 60 rest) → is_one ≡ false
+    → parts_of 60 rest ≡ from ∷ (if is_two then [] else parts_of 60 following) → is_two ≡ false → Err BadLine ≡ whole (assemble_of word)
+many_targets word rest following to from is_one is_two one some two more =
     sym (ap (λ parts. whole (assemble_entry parts)) (one ∙ ap (λ b. to ∷ (if b then [] else parts_of 60 rest)) some
-    ∙ ap (λ w. to ∷ w) (two ∙ ap (λ b. from ∷ (if b then [] else parts_of 60 behind)) more ∙ ap (λ w. from ∷ w) (cut 60 behind))))
+    ∙ ap (λ w. to ∷ w) (two ∙ ap (λ b. from ∷ (if b then [] else parts_of 60 following)) more ∙ ap (λ w. from ∷ w) (cut 60 following))))
 
 -- four words or more are none of the forms
 pub many_words : (command second third fourth verb word other : List ℕ) (is_one is_two is_three : Bool) → words_of command ≡ verb ∷ (if is_one then [] else words_of second) → is_one ≡ false

@@ -10,11 +10,11 @@ two_pieces a b c x y first second = second ∙ ap (λ l. l ++ y) first ∙ appen
 pub three_pieces : (a b c d x y z : List ℕ) → b ≡ a ++ x → c ≡ b ++ y → d ≡ c ++ z → d ≡ a ++ (x ++ (y ++ z))
 three_pieces a b c d x y z first second third = two_pieces a b d x (y ++ z) first (two_pieces b c d y z second third)
 
--- two pieces, the first with nothing behind it
+-- two pieces, the first with nothing after it
 pub job_pieces : (a b c x y : List ℕ) → b ≡ a ++ (x ++ []) → c ≡ b ++ y → c ≡ a ++ (x ++ y)
 job_pieces a b c x y first second = two_pieces a b c x y (first ∙ ap (λ l. a ++ l) (append-nil x)) second
 
--- four pieces, the third with a blank behind it
+-- four pieces, the third with a blank after it
 pub blank_pieces : (a b c d e x y z w : List ℕ) → b ≡ a ++ x → c ≡ b ++ y → d ≡ (c ++ z) ++ 32 ∷ [] → e ≡ d ++ w → e ≡ a ++ (x ++ (y ++ (z ++ 32 ∷ w)))
 blank_pieces a b c d e x y z w first second third fourth =
     two_pieces _ _ _ x (y ++ (z ++ 32 ∷ w)) first (two_pieces _ _ _ y (z ++ 32 ∷ w) second (three_pieces c (c ++ z) d e z (32 ∷ []) w refl third fourth))

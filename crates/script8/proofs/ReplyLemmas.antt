@@ -19,7 +19,7 @@ more_err (Err e) old mid new lines same is = (lines, same ∙ is)
 pub line_err : {A E : Type 0} (r : Result A E) (old mid new lines : List ℕ) → new ≡ mid → mid ≡ old ++ lines → OnErr r ((more : List ℕ) × new ≡ old ++ more)
 line_err r old mid new lines same is = on_err r _ (lines, same ∙ is)
 
--- behind the pieces of all elements comes the last
+-- after the pieces of all elements comes the last
 pub all_pieces : {X A E : Type 0} (f : X → List ℕ) (r : Result A E) (old mid new tail : List ℕ) (xs : List X) (count : ℕ) → length xs ≤ count → OnOk r (new ≡ mid ++ tail) → mid ≡ old ++ flat_map f (take count xs) → OnOk r (new ≡ old ++ flat_map f xs ++ tail)
 all_pieces f (Ok x) old mid new tail xs count all is pieces = is ∙ ap (λ l. l ++ tail) (pieces ∙ ap (λ l. old ++ flat_map f l) (take_all count xs all))
 all_pieces f (Err e) old mid new tail xs count all is pieces = tt

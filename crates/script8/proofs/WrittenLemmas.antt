@@ -24,9 +24,9 @@ parts_alone : (mark : ℕ) (part : List ℕ) → HasNo mark part → parts_of ma
 parts_alone mark [] free = refl
 parts_alone mark (b ∷ bs) (one, free) = rw one (ap (onto_first b) (parts_alone mark bs free))
 
-no_behind : (mark : ℕ) (prefix rest : List ℕ) → HasNo mark prefix → HasNo mark rest → HasNo mark (prefix ++ rest)
-no_behind mark [] rest prefix_free free = free
-no_behind mark (b ∷ bs) rest (one, prefix_free) free = (one, no_behind mark bs rest prefix_free free)
+no_after : (mark : ℕ) (prefix rest : List ℕ) → HasNo mark prefix → HasNo mark rest → HasNo mark (prefix ++ rest)
+no_after mark [] rest prefix_free free = free
+no_after mark (b ∷ bs) rest (one, prefix_free) free = (one, no_after mark bs rest prefix_free free)
 
 -- plain names have none of the marks
 no_return : (name : List ℕ) → IsPlain name → HasNo 13 name
@@ -48,7 +48,7 @@ no_target (b ∷ bs) (one, two, three, four, plain) = (four, no_target bs plain)
 -- nor have they, with commas between
 none_joined : (mark : ℕ) → (44 == mark) ≡ false → ((name : List ℕ) → IsPlain name → HasNo mark name) → (name : List ℕ) (others : List (List ℕ)) → ArePlain (name ∷ others) → HasNo mark (with_commas name others)
 none_joined mark comma none name [] (some, plain, rest) = none name plain
-none_joined mark comma none name (other ∷ others) (some, plain, rest) = no_behind mark name _ (none name plain) (comma, none_joined mark comma none other others rest)
+none_joined mark comma none name (other ∷ others) (some, plain, rest) = no_after mark name _ (none name plain) (comma, none_joined mark comma none other others rest)
 
 listed_joined : (name : List ℕ) (others : List (List ℕ)) → ArePlain (name ∷ others) → parts_of_list (with_commas name others) ≡ name ∷ others
 listed_joined name [] (some, plain, rest) = parts_alone 44 name (no_comma name plain)
@@ -81,8 +81,8 @@ pub assemble_as_written : AssembleAsWritten
 unfolding says
 assemble_as_written to source others (some, plain, rest) few =
     let word = to ++ 60 ∷ with_commas source others in
-    let returns = no_behind 13 to _ (no_return to plain) (refl, none_joined 13 refl no_return source others rest) in
-    let blanks = no_behind 32 to _ (no_blank to plain) (refl, none_joined 32 refl no_blank source others rest) in
+    let returns = no_after 13 to _ (no_return to plain) (refl, none_joined 13 refl no_return source others rest) in
+    let blanks = no_after 32 to _ (no_blank to plain) (refl, none_joined 32 refl no_blank source others rest) in
     ap command_says (command_same (codes "ASSEMBLE " ++ word) (refl, (refl, (refl, (refl, (refl, (refl, (refl, (refl, (refl, returns))))))))))
     ∙ ap (λ words. form_of (codes "ASSEMBLE" ∷ words)) (parts_alone 32 word blanks)
     ∙ ap (λ parts. whole (assemble_entry parts)) (parts_before 60 to _ (no_target to plain) ∙ ap (λ parts. to ∷ parts) (parts_alone 60 (with_commas source others) (none_joined 60 refl no_target source others rest)))

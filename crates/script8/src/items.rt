@@ -108,10 +108,10 @@ fn store_item(
     requires { FirstLineSays text.now is_end (Ok (Store name lines)) bytes }
     ensures { BeginsWith text.now is_end result }
 {
-    let (_, behind) = text.split_at(bytes);
-    match lines_length(behind, lines, is_end) {
+    let (_, following) = text.split_at(bytes);
+    match lines_length(following, lines, is_end) {
         Ok(more) => {
-            let (lines, _) = behind.split_at(more);
+            let (lines, _) = following.split_at(more);
             let text = ended_text(alloc, lines)?;
             Ok(Next::Item {
                 item: Item::Do(Entry::Files(FileEntry::Store { name, text })),

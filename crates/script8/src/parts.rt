@@ -13,7 +13,7 @@ pub(crate) fn first_part(text: &[u8], mark: u8) -> (&[u8], bool, &[u8])
     let (part, rest) = text.split_at(part_length(text, mark));
     match rest {
         [] => (part, true, rest),
-        [_, behind @ ..] => (part, false, behind),
+        [_, following @ ..] => (part, false, following),
     }
 }
 

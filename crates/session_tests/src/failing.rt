@@ -95,13 +95,14 @@ fn read_lost(alloc: Global, script: &[u8], number: u32) -> Option<bool> {
 
 /// Whether each file of an image stands in another one in full: at its old blocks, or where it stands after the entry that was
 /// begun. Where the directory is the old one, only a file that is being moved may be missing.
-fn stand_in(old: &[u8], new: &[u8], before: &Directory, behind: &Directory) -> bool {
+fn stand_in(old: &[u8], new: &[u8], before: &Directory, following: &Directory) -> bool {
     let same = blocks_of(old, 1, 6) == blocks_of(new, 1, 6);
     for entry in before.entries() {
         if let Some(name) = entry.name() {
             let was = file_in(before, old, &name);
-            let moved = before.find(&name) != behind.find(&name);
-            let stands = file_in(before, new, &name) == was || file_in(behind, new, &name) == was;
+            let moved = before.find(&name) != following.find(&name);
+            let stands = file_in(before, new, &name) == was
+                || file_in(following, new, &name) == was;
             if !stands && !(same && moved) {
                 return false;
             }
@@ -120,11 +121,11 @@ fn write_lost(alloc: Global, script: &[u8], number: u32) -> Option<bool> {
     let old = image_after(alloc, script, done.saturating_sub(1))?;
     let next = image_after(alloc, script, done)?;
     let before = directory_of(alloc, &old).ok()?;
-    let behind = directory_of(alloc, &next).ok()?;
+    let following = directory_of(alloc, &next).ok()?;
     let new = image?;
     let is_read = directory_of(alloc, &new).is_ok();
     let kept = blocks_of(&old, 1, 6) != blocks_of(&new, 1, 6) || is_read;
-    Some(kept && stand_in(&old, &new, &before, &behind))
+    Some(kept && stand_in(&old, &new, &before, &following))
 }
 
 /// How many calls of a script were let fail, one in each run of it, until none did; 1000 more where one left what it may not.

@@ -5,8 +5,8 @@
 #[cfg(test)]
 mod failing;
 #[cfg(test)]
+mod fault_lines;
+#[cfg(test)]
 mod items;
 #[cfg(test)]
 mod storing;
-#[cfg(test)]
-mod telling;

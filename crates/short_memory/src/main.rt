@@ -26,15 +26,15 @@ const SPOILING: &[u8] = b"DEPOSIT 77777 7777\nSTORE SPOILT.PA 0\n";
 
 /// What is done after an item that was refused.
 #[derive(Clone, Copy)]
-struct Behind {
+struct AfterRefusal {
     spoils: bool,
     stops: bool,
 }
 
 fn main(rt: HostRuntime) -> ExitCode {
     let mut script = [0u8; MOST];
-    let behind = match env::args(&rt) {
-        Ok(words) => name_count(words.count()),
+    let after = match env::args(&rt) {
+        Ok(words) => after_refusal(words.count()),
         Err(_) => return ExitCode::from(3),
     };
     let Ok(length) = fill_buffer(&mut rt.reader(), &mut script) else {
@@ -46,7 +46,7 @@ fn main(rt: HostRuntime) -> ExitCode {
     let text = &script[..length.min(MOST)];
     let status = match fresh(rt.alloc()) {
         None => 3,
-        Some(session) => run(rt.alloc(), session, text, behind, &mut out),
+        Some(session) => run(rt.alloc(), session, text, after, &mut out),
     };
     match io::writer(&rt).write_all(&out) {
         Ok(()) => ExitCode::from(status),
@@ -55,8 +55,8 @@ fn main(rt: HostRuntime) -> ExitCode {
 }
 
 /// What the program is asked for by so many words, its name among them.
-fn name_count(words: usize) -> Behind {
-    Behind {
+fn after_refusal(words: usize) -> AfterRefusal {
+    AfterRefusal {
         spoils: words > 2,
         stops: words == 2 || words == 4,
     }
@@ -95,7 +95,7 @@ fn run(
     alloc: Global,
     session: Session<MemoryVolume>,
     script: &[u8],
-    behind: Behind,
+    after: AfterRefusal,
     out: &mut Vec<u8>,
 ) -> u8 {
     let mut own = session;
@@ -106,11 +106,11 @@ fn run(
             None => break,
             Some((place, bytes)) => {
                 let (prefix, rest) = script.split_at(place.min(script.len()));
-                if behind.spoils {
+                if after.spoils {
                     let mut told = Vec::new(alloc);
                     let _ = run_item(alloc, &mut own, SPOILING, &mut told);
                 }
-                if behind.stops {
+                if after.stops {
                     return same_files(alloc, own.into_store(), prefix).status();
                 }
                 let item = rest.split_at(bytes.min(rest.len())).0;

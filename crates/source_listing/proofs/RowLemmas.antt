@@ -42,19 +42,19 @@ word_put old a b c d digit at blanks digits field address cell word ea eb ec ed 
 -- ## Lines
 
 -- a line so far in front of the first of lines
-behind_line : List ℕ → List (List ℕ) → List (List ℕ)
-behind_line so_far [] = so_far ∷ []
-behind_line so_far (line ∷ lines) = (so_far ++ line) ∷ lines
+after_line : List ℕ → List (List ℕ) → List (List ℕ)
+after_line so_far [] = so_far ∷ []
+after_line so_far (line ∷ lines) = (so_far ++ line) ∷ lines
 
-in_line : (so_far : List ℕ) (b : ℕ) (l : List (List ℕ)) → behind_line (so_far ++ b ∷ []) l ≡ behind_line so_far (in_front b l)
-unfolding behind_line
+in_line : (so_far : List ℕ) (b : ℕ) (l : List (List ℕ)) → after_line (so_far ++ b ∷ []) l ≡ after_line so_far (in_front b l)
+unfolding after_line
 in_line so_far b [] = refl
 in_line so_far b (line ∷ lines) = ap (λ x. x ∷ lines) (append_assoc so_far (b ∷ []) line)
 
-lines_by : (cr lf : Bool) (so_far : List ℕ) (b : ℕ) (source : List ℕ) (at_cr at_lf at_other : List (List ℕ)) → at_cr ≡ behind_line so_far (lines source) → at_lf ≡ so_far ∷ lines source
-    → at_other ≡ behind_line (so_far ++ b ∷ []) (lines source)
-    → (if cr then at_cr else (if lf then at_lf else at_other)) ≡ behind_line so_far (if cr then lines source else (if lf then [] ∷ lines source else in_front b (lines source)))
-unfolding behind_line
+lines_by : (cr lf : Bool) (so_far : List ℕ) (b : ℕ) (source : List ℕ) (at_cr at_lf at_other : List (List ℕ)) → at_cr ≡ after_line so_far (lines source) → at_lf ≡ so_far ∷ lines source
+    → at_other ≡ after_line (so_far ++ b ∷ []) (lines source)
+    → (if cr then at_cr else (if lf then at_lf else at_other)) ≡ after_line so_far (if cr then lines source else (if lf then [] ∷ lines source else in_front b (lines source)))
+unfolding after_line
 lines_by true lf so_far b source at_cr at_lf at_other c l o = c
 lines_by false true so_far b source at_cr at_lf at_other c l o = l ∙ ap (λ x. x ∷ lines source) (sym (append-nil so_far))
 lines_by false false so_far b source at_cr at_lf at_other c l o = o ∙ in_line so_far b (lines source)
@@ -74,12 +74,12 @@ some_line (b ∷ source) = by_tests (nat_eq b 13) (nat_eq b 10) (some_line sourc
     by_tests false true some = ([], (lines source, refl))
     by_tests false false some = (b ∷ some.0, (some.1.0, ap (in_front b) some.1.1))
 
-nothing_before : (source : List ℕ) → behind_line [] (lines source) ≡ lines source
-unfolding behind_line
-nothing_before source = let some = some_line source in ap (behind_line []) some.1.1 ∙ sym some.1.1
+nothing_before : (source : List ℕ) → after_line [] (lines source) ≡ lines source
+unfolding after_line
+nothing_before source = let some = some_line source in ap (after_line []) some.1.1 ∙ sym some.1.1
 
-row_by_row : (so_far : List ℕ) (words : ℕ) (source : List ℕ) (ends : List Bool) → row_lines (rows so_far words source ends) ≡ behind_line so_far (lines source)
-unfolding behind_line
+row_by_row : (so_far : List ℕ) (words : ℕ) (source : List ℕ) (ends : List Bool) → row_lines (rows so_far words source ends) ≡ after_line so_far (lines source)
+unfolding after_line
 row_by_row so_far words [] ends = ap (λ x. x ∷ []) (sym (append-nil so_far))
 row_by_row so_far words (b ∷ source) ends =
     rows_if (nat_eq b 13) (nat_eq b 10) (rows so_far words source ends)
@@ -106,7 +106,7 @@ source_by_source (source ∷ others) counts ends =
 pub lines_listed : LinesAreListed
 lines_listed sources = source_by_source sources (counts_of (texts_of sources)) (word_ends (newest_first sources))
 
--- ## Sources behind the last that counts
+-- ## Sources after the last that counts
 
 abbrev pub no_ends : List Bool
 no_ends = []

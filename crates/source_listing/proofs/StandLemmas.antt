@@ -158,7 +158,7 @@ none_stand number (source ∷ others) counts =
     (one_stands number source.now (own_ends counts []) ∙ ap (λ l. picked l (byte_spots number 1 source.now)) (own_none counts))
     ∙ ap (λ l. word_spots (all_rows others (drop 1 counts) l) (row_spots (number + 1) others)) (later_none counts) ∙ none_stand (number + 1) others (drop 1 counts)
 
--- a source that has so many bytes in the join, with others behind it
+-- a source that has so many bytes in the join, with others after it
 part_stands : (number n : ℕ) (source : List ℕ) (ends : List Bool) (later : List Spot) → n ≤ length (host_text source) → n ≤ length ends
     → picked (take n ends) (byte_spots number 1 source) ++ picked (drop n ends) later ≡ picked ends (take n (byte_spots number 1 source) ++ later)
 part_stands number n source ends later inside size =
@@ -239,21 +239,21 @@ same_spots f g (b ∷ older) same =
 
 -- ## The spot of a byte
 
-spot_behind : ℕ → List ℕ → Spot
-spot_behind number text = record { source = number; line = next_line text }
+spot_following : ℕ → List ℕ → Spot
+spot_following number text = record { source = number; line = next_line text }
 
 spot_by_tests : (cr lf : Bool) (number b : ℕ) (before source : List ℕ) → nat_eq b 10 ≡ lf
-    → ((n : ℕ) → n < length (host_text source) → get_or (byte_spots number (next_line before) source) n no_spot ≡ spot_behind number (text_from before (take n (host_text source))))
+    → ((n : ℕ) → n < length (host_text source) → get_or (byte_spots number (next_line before) source) n no_spot ≡ spot_following number (text_from before (take n (host_text source))))
     → ((n : ℕ) → n < length (host_text source)
-    → get_or (byte_spots number (next_line (10 ∷ 13 ∷ before)) source) n no_spot ≡ spot_behind number (text_from (10 ∷ 13 ∷ before) (take n (host_text source))))
-    → ((n : ℕ) → n < length (host_text source) → get_or (byte_spots number (next_line (b ∷ before)) source) n no_spot ≡ spot_behind number (text_from (b ∷ before) (take n (host_text source))))
+    → get_or (byte_spots number (next_line (10 ∷ 13 ∷ before)) source) n no_spot ≡ spot_following number (text_from (10 ∷ 13 ∷ before) (take n (host_text source))))
+    → ((n : ℕ) → n < length (host_text source) → get_or (byte_spots number (next_line (b ∷ before)) source) n no_spot ≡ spot_following number (text_from (b ∷ before) (take n (host_text source))))
     → (at : ℕ) → at < length ((if cr then [] else (if lf then 13 ∷ 10 ∷ [] else b ∷ [])) ++ host_text source)
     → get_or
     (if cr then byte_spots number (next_line before) source
     else (if lf then record { source = number; line = next_line before } ∷ record { source = number; line = next_line before } ∷ byte_spots number (next_line before + 1) source
     else record { source = number; line = next_line before } ∷ byte_spots number (next_line before) source)) at no_spot
-    ≡ spot_behind number (text_from before (take at ((if cr then [] else (if lf then 13 ∷ 10 ∷ [] else b ∷ [])) ++ host_text source)))
-unfolding spot_behind
+    ≡ spot_following number (text_from before (take at ((if cr then [] else (if lf then 13 ∷ 10 ∷ [] else b ∷ [])) ++ host_text source)))
+unfolding spot_following
 spot_by_tests true lf number b before source is same next other at inside = same at inside
 spot_by_tests false true number b before source is same next other zero inside = refl
 spot_by_tests false true number b before source is same next other (suc zero) inside =
@@ -269,7 +269,7 @@ spot_by_tests false false number b before source is same next other (suc n) insi
     ap (λ l. get_or (byte_spots number l source) n no_spot) line ∙ other n (omega (arith, inside))
 
 byte_spot : (number : ℕ) (before source : List ℕ) (at : ℕ) → at < length (host_text source)
-    → get_or (byte_spots number (next_line before) source) at no_spot ≡ spot_behind number (text_from before (take at (host_text source)))
+    → get_or (byte_spots number (next_line before) source) at no_spot ≡ spot_following number (text_from before (take at (host_text source)))
 byte_spot number before [] at inside = absurd (omega (arith, inside))
 byte_spot number before (b ∷ source) at inside =
     spot_by_tests (nat_eq b 13) (nat_eq b 10) number b before source refl (byte_spot number before source) (byte_spot number (10 ∷ 13 ∷ before) source)
@@ -287,7 +287,7 @@ spot_of number sources at = record { source = at.0 + number; line = next_line (b
 
 first_spot : (number : ℕ) (source : Bor (List ℕ)) (others : List (Bor (List ℕ))) (later : List Spot) (at : ℕ) → at < length (host_text source.now)
     → get_or (byte_spots number 1 source.now ++ later) at no_spot ≡ spot_of number (source ∷ others) (0, at)
-unfolding spot_of spot_behind
+unfolding spot_of spot_following
 first_spot number source others later at inside =
     let all = length-byte_spots number 1 source.now in
     let same : number ≡ 0 + number = omega arith in
@@ -296,7 +296,7 @@ first_spot number source others later at inside =
 
 cut_spot : (number n : ℕ) (source : Bor (List ℕ)) (others : List (Bor (List ℕ))) (later : List Spot) (at : ℕ) → n ≤ length (host_text source.now) → at < n
     → get_or (take n (byte_spots number 1 source.now) ++ later) at no_spot ≡ spot_of number (source ∷ others) (0, at)
-unfolding spot_of spot_behind
+unfolding spot_of spot_following
 cut_spot number n source others later at inside below =
     let all = length-byte_spots number 1 source.now in
     let mine = length-take-le n (byte_spots number 1 source.now) (omega (arith, inside, all)) in

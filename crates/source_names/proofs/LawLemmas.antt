@@ -197,16 +197,16 @@ one_cell words (entry ∷ older) a b six other sound is is' same =
     elim (eqb_tells entry.cell a) [
       | inl first ↦ elim (eqb_tells entry.cell b) [
         | inl second ↦ sym first.1 ∙ second.1
-        | inr apart ↦ absurd (never six other (at_first a six first.0 is) (named words older b other sound.2 (behind b other apart.0 is')) same)
+        | inr apart ↦ absurd (never six other (at_first a six first.0 is) (named words older b other sound.2 (following b other apart.0 is')) same)
       ]
       | inr apart ↦ elim (eqb_tells entry.cell b) [
-        | inl second ↦ absurd (never other six (at_first b other second.0 is') (named words older a six sound.2 (behind a six apart.0 is)) (sym same))
-        | inr apart' ↦ one_cell words older a b six other sound.2 (behind a six apart.0 is) (behind b other apart'.0 is') same
+        | inl second ↦ absurd (never other six (at_first b other second.0 is') (named words older a six sound.2 (following a six apart.0 is)) (sym same))
+        | inr apart' ↦ one_cell words older a b six other sound.2 (following a six apart.0 is) (following b other apart'.0 is') same
       ]
     ]
   where
-    behind : (cell : ℕ) (six : List ℕ) → nat_eq entry.cell cell ≡ false → name_at (entry ∷ older) cell ≡ Some six → name_at older cell ≡ Some six
-    behind cell six apart is = sym (ap (λ (b : Bool). if b then Some (six_places entry.name) else name_at older cell) apart) ∙ is
+    following : (cell : ℕ) (six : List ℕ) → nat_eq entry.cell cell ≡ false → name_at (entry ∷ older) cell ≡ Some six → name_at older cell ≡ Some six
+    following cell six apart is = sym (ap (λ (b : Bool). if b then Some (six_places entry.name) else name_at older cell) apart) ∙ is
 
     at_first : (cell : ℕ) (six : List ℕ) → nat_eq entry.cell cell ≡ true → name_at (entry ∷ older) cell ≡ Some six → visible_name six ≡ entry.name
     at_first cell six here is =

@@ -179,7 +179,7 @@ pub record TakesTo (words : ℕ → Option ℕ) (text rest : List ℕ) (number :
   pub is : read_of words text ≡ with_lines words (Ok read) (lines_from [] rest)
   pub holds : Holds table given read.entries
 
--- a line, and what stands behind its LF
+-- a line, and what stands after its LF
 cut : (before rest : List ℕ) (first : ℕ) (others : List ℕ) → drop (line_length rest) rest ≡ first ∷ others
     → lines_from before rest ≡ without_return (before ++ take (line_length rest) rest) ∷ lines_from [] others
 cut before [] first others is = absurd cc
@@ -228,8 +228,8 @@ lines_split (byte ∷ bytes) some = by_end (drop (line_length (byte ∷ bytes)) 
     last [] some = absurd (some refl)
     last (b ∷ l) some = refl
 
-    by_end : (behind : List ℕ) → drop (line_length (byte ∷ bytes)) (byte ∷ bytes) ≡ behind
-        → lines_from [] (byte ∷ bytes) ≡ without_return line ∷ lines_from [] (drop 1 behind)
+    by_end : (following : List ℕ) → drop (line_length (byte ∷ bytes)) (byte ∷ bytes) ≡ following
+        → lines_from [] (byte ∷ bytes) ≡ without_return line ∷ lines_from [] (drop 1 following)
     by_end [] is =
         end [] (byte ∷ bytes) is
         ∙ last line (λ none. empty (sym (take-append-drop count (byte ∷ bytes)) ∙ ap (λ l. l ++ drop count (byte ∷ bytes)) none ∙ is))
@@ -266,32 +266,32 @@ pub takes_none : (words : ℕ → Option ℕ) (text : List ℕ) (table : List (O
 takes_none words text table given holds = record { read = record { lines = 0; entries = [] }; count = refl; is = refl; holds = holds }
 
 -- the lines that are left begin with this one
-next_line : (words : ℕ → Option ℕ) (text rest line behind : List ℕ) (read : Reading)
+next_line : (words : ℕ → Option ℕ) (text rest line following : List ℕ) (read : Reading)
     → read_of words text ≡ with_lines words (Ok read) (lines_from [] rest) → 0 < length rest
-    → line ≡ without_return (take (line_length rest) rest) → behind ≡ drop 1 (drop (line_length rest) rest)
-    → read_of words text ≡ with_lines words (with_line words read line) (lines_from [] behind)
-next_line words text rest line behind read is some line_is behind_is =
+    → line ≡ without_return (take (line_length rest) rest) → following ≡ drop 1 (drop (line_length rest) rest)
+    → read_of words text ≡ with_lines words (with_line words read line) (lines_from [] following)
+next_line words text rest line following read is some line_is following_is =
     is
     ∙ ap (with_lines words (Ok read)) (lines_split rest some)
     ∙ ap (λ l. with_lines words (with_line words read l) (lines_from [] (drop 1 (drop (line_length rest) rest)))) (sym line_is)
-    ∙ ap (λ l. with_lines words (with_line words read line) (lines_from [] l)) (sym behind_is)
+    ∙ ap (λ l. with_lines words (with_line words read line) (lines_from [] l)) (sym following_is)
 
-pub takes_more : (words : ℕ → Option ℕ) (text rest line behind : List ℕ) (number number' : ℕ) (table table' : List (Option (List ℕ)))
+pub takes_more : (words : ℕ → Option ℕ) (text rest line following : List ℕ) (number number' : ℕ) (table table' : List (Option (List ℕ)))
     (given given' : SymbolTable)
-    → 0 < length rest → line ≡ without_return (take (line_length rest) rest) → behind ≡ drop 1 (drop (line_length rest) rest) → number' ≡ number + 1
+    → 0 < length rest → line ≡ without_return (take (line_length rest) rest) → following ≡ drop 1 (drop (line_length rest) rest) → number' ≡ number + 1
     → TakesTo words text rest number table given
     → ((read : Reading) → number' ≡ read.lines + 1 → Holds table given read.entries → (now : Reading) × (with_line words read line ≡ Ok now) × Holds
     table' given' now.entries)
-    → TakesTo words text behind number' table' given'
-takes_more words text rest line behind number number' table table' given given' some line_is behind_is next so_far takes =
+    → TakesTo words text following number' table' given'
+takes_more words text rest line following number number' table table' given given' some line_is following_is next so_far takes =
     let counts = next ∙ ap (λ n. n + 1) so_far.count in
     let more = takes so_far.read counts so_far.holds in
     record {
       read = more.0;
       count = counts ∙ sym (counted words so_far.read more.0 line more.1);
       is =
-          next_line words text rest line behind so_far.read so_far.is some line_is behind_is
-          ∙ ap (λ r. with_lines words r (lines_from [] behind)) more.1;
+          next_line words text rest line following so_far.read so_far.is some line_is following_is
+          ∙ ap (λ r. with_lines words r (lines_from [] following)) more.1;
       holds = more.2;
     }
 
@@ -329,9 +329,9 @@ pub line_before : (rest front line : List ℕ) (count : ℕ) → count ≡ line_
     → line ≡ without_return (take (line_length rest) rest)
 line_before rest front line count size front_is line_is = line_is ∙ ap without_return (front_is ∙ ap (λ n. take n rest) size)
 
-pub line_behind : (rest back behind : List ℕ) (count : ℕ) → count ≡ line_length rest → back ≡ drop count rest → behind ≡ drop 1 back
-    → behind ≡ drop 1 (drop (line_length rest) rest)
-line_behind rest back behind count size back_is behind_is = behind_is ∙ ap (λ l. drop 1 l) (back_is ∙ ap (λ n. drop n rest) size)
+pub line_following : (rest back following : List ℕ) (count : ℕ) → count ≡ line_length rest → back ≡ drop count rest → following ≡ drop 1 back
+    → following ≡ drop 1 (drop (line_length rest) rest)
+line_following rest back following count size back_is following_is = following_is ∙ ap (λ l. drop 1 l) (back_is ∙ ap (λ n. drop n rest) size)
 
 -- ## The table
 

@@ -88,7 +88,7 @@ judges words read older line tells =
 
 -- ## All lines
 
--- what lines come to behind others
+-- what lines come to after others
 abbrev Reads : (ℕ → Option ℕ) → List (List ℕ) → Result Reading NamesFault → Type 0
 Reads words lines (Ok now) = (all : List (List ℕ)) × (lines ≡ reverse all) × AreTaken words all × Tells now all
 Reads words lines (Err (At number why)) = IsFirstRefused words lines number why

@@ -59,7 +59,7 @@ same_byte a b (inr (inr x)) (inl y) same = absurd (omega (arith, y.0, y.2, x.1, 
 same_byte a b (inr (inr x)) (inr (inl y)) same = absurd (omega (arith, y.0, y.2, x.1, same))
 same_byte a b (inr (inr x)) (inr (inr y)) same = omega (arith, x.0, y.0)
 
--- a digit to the base 64 behind others
+-- a digit to the base 64 after others
 last_digit : (x y a b : ℕ) → a < 0o100 → b < 0o100 → 0o100 * x + a ≡ 0o100 * y + b → (x ≡ y) × (a ≡ b)
 last_digit x y a b below below' same = (omega (arith, below, below', same), omega (arith, below, below', same))
 

@@ -79,10 +79,10 @@ fn take_all(
     let mut rest = text;
     let mut number = 0;
     while !rest.is_empty() {
-        let (line, behind) = rest.split_at(line_length(rest));
+        let (line, following) = rest.split_at(line_length(rest));
         number += 1;
         take(table, given, without_return(line), number, words)?;
-        rest = after_end(behind);
+        rest = after_end(following);
     }
     Ok(())
 }

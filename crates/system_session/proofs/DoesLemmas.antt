@@ -111,12 +111,12 @@ undone e old new halts may still same = record {
 }
 
 -- no failure is forgotten
-pub record IsBehind (old new : MountState) : Type 0 where
+pub record IsBeyond (old new : MountState) : Type 0 where
   pub reads : old.failed_reads ≤ new.failed_reads
   pub writes : old.failed_writes ≤ new.failed_writes
 
-pub behind_same : (old new : MountState) → new ≡ old → IsBehind old new
-behind_same old new is = record {
+pub after_same : (old new : MountState) → new ≡ old → IsBeyond old new
+after_same old new is = record {
   reads = omega (arith, ap (λ (m : MountState). m.failed_reads) is);
   writes = omega (arith, ap (λ (m : MountState). m.failed_writes) is);
 }
@@ -124,7 +124,7 @@ behind_same old new is = record {
 -- a write failed, which left what it leaves of the volume
 pub record HasFailed (old new : MountState) : Type 0 where
   pub left : Survives old.blocks new.blocks
-  pub behind : IsBehind old new
+  pub following : IsBeyond old new
   pub more : old.failed_writes < new.failed_writes
   pub running : old.stopped ≡ false
   pub stopped : new.stopped ≡ true
@@ -133,7 +133,7 @@ pub record HasFailed (old new : MountState) : Type 0 where
 pub failed : (e : Entry) (old new : SessionView) → HasFailed old.volume new.volume → new.jobs ≡ (after_refusal (state_of old) e).jobs → new.console ≡ old.console → DoesEntry e old (Err (fault.File file.Device)) new
 failed e old new has jobs console = record {
   step = λ quiet. absurd (loud quiet);
-  later = record { reads = has.behind.reads; writes = has.behind.writes };
+  later = record { reads = has.following.reads; writes = has.following.writes };
   files = λ running more. (old.volume.blocks, refl, has.left);
   running = λ quiet. absurd (loud quiet);
   memory = λ is. absurd (not_memory file.Device is);
@@ -147,10 +147,10 @@ failed e old new has jobs console = record {
     loud quiet = omega (arith, has.more, quiet.writes)
 
 -- a write had failed before
-pub stopped : (e : Entry) (old new : SessionView) → MayAnswerStopped (state_of old) e (Err (fault.File file.Stopped)) (state_of new) → old.volume.stopped ≡ true → IsBehind old.volume new.volume → DoesEntry e old (Err (fault.File file.Stopped)) new
-stopped e old new step halted behind = record {
+pub stopped : (e : Entry) (old new : SessionView) → MayAnswerStopped (state_of old) e (Err (fault.File file.Stopped)) (state_of new) → old.volume.stopped ≡ true → IsBeyond old.volume new.volume → DoesEntry e old (Err (fault.File file.Stopped)) new
+stopped e old new step halted following = record {
   step = λ quiet. absurd (true≢false (sym halted ∙ quiet.running));
-  later = record { reads = behind.reads; writes = behind.writes };
+  later = record { reads = following.reads; writes = following.writes };
   files = λ running more. absurd (true≢false (sym halted ∙ running));
   running = λ quiet. absurd (true≢false (sym halted ∙ quiet.running));
   memory = λ is. absurd (not_memory file.Stopped is);

@@ -31,7 +31,7 @@ use Rattle.system_session.specs.SessionSteps.{DoesEntry, job_reply}
 use Rattle.system_session.specs.State.{State}
 use Rattle.system_session.specs.System.{Answer, MayReply, MayAnswer}
 use Rattle.system_session.specs.Work.{job_state, with_core, with_work, turn_reply, fault_of_job}
-use Rattle.system_session.proofs.DoesLemmas.{IsSteady, replied, undone, behind_same, stopped}
+use Rattle.system_session.proofs.DoesLemmas.{IsSteady, replied, undone, after_same, stopped}
 use Rattle.system_session.proofs.SessionLemmas.{over_with}
 
 bool_cases : (b : Bool) → (b ≡ true) ⊎ (b ≡ false)
@@ -96,7 +96,7 @@ ends old after number why other turn = of_job (job_of number old.jobs) refl turn
 
     of_job : (it : Option Job) → job_of number old.jobs ≡ it → JobTurn old number it (Err why) after → after ≡ record old { jobs = with_job number None old.jobs }
     of_job None is turn = of_none why is turn
-    of_job (Some it) is turn = of_work it.work it.left why other turn
+    of_job (Some it) is turn = of_work it.work it.turns why other turn
 
 -- want of memory comes only where there is a job, and changes nothing
 lacks : (old after : jobs.State) (number : ℕ) → Turns old number (Err job.Memory) after → ((it : Job) × (job_of number old.jobs ≡ Some it)) × (after ≡ old)
@@ -109,7 +109,7 @@ lacks old after number turn = of_job (job_of number old.jobs) refl turn
 
     of_job : (it : Option Job) → job_of number old.jobs ≡ it → JobTurn old number it (Err job.Memory) after → ((it : Job) × (job_of number old.jobs ≡ Some it)) × (after ≡ old)
     of_job None is turn = absurd turn
-    of_job (Some it) is turn = ((it, is), of_work it.work it.left turn)
+    of_job (Some it) is turn = ((it, is), of_work it.work it.turns turn)
 
 -- ## Answers
 
@@ -292,7 +292,7 @@ not_lacking r (job.Tape why) other is same = cc
 
 -- ## Starts
 
--- a refusal, behind which the volume is as steady as before
+-- a refusal, after which the volume is as steady as before
 pub declined : (e : Entry) (s new : SessionView) (why : JobFault) → why ≢ job.Memory → s.volume.stopped ≡ false → (NoCallFailed s new → TellsBlockCalls e s (Err (fault_of_job why)) new) → IsSteady s.volume new.volume → MayRefuse (state_of s) e (fault_of_job why) → state_of new ≡ after_refusal (state_of s) e → DoesEntry e s (Err (fault_of_job why)) new
 declined e s new why other running tells still may after = record {
   step = λ quiet. refused_step e (state_of s) (state_of new) why other may after;
@@ -316,7 +316,7 @@ start_steady old new is = record {
 
 -- where a write had failed before, nothing is begun
 pub start_stopped : (it : JobEntry) (s new : SessionView) (why : JobFault) → JobsStopFor (state_of s) it (fault.File file.Stopped) → state_of new ≡ after_refusal (state_of s) (entry.Jobs it) → s.volume.stopped ≡ true → why ≡ job.File file.Stopped → new.volume ≡ s.volume → DoesEntry (entry.Jobs it) s (Err (fault_of_job why)) new
-start_stopped it s new why for after halted is same = subst (λ w. DoesEntry (entry.Jobs it) s (Err (fault_of_job w)) new) (sym is) (stopped _ s new (for, after) halted (behind_same _ _ same))
+start_stopped it s new why for after halted is same = subst (λ w. DoesEntry (entry.Jobs it) s (Err (fault_of_job w)) new) (sym is) (stopped _ s new (for, after) halted (after_same _ _ same))
 
 pub never_number : {A E : Type 0} (number : A) (why : E) → Ok number ≡ Err why → ⊥
 never_number number why is = cc

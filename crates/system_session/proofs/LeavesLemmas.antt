@@ -80,11 +80,11 @@ MovesLaw = (old new : MountState) (it : Work) (left : ℕ) → WorkCalls it left
 
 turn_reads : ReadsLaw → (old new : MountState) (it : Option Job) → CallsOf it old new → TurnReads (plain_job it) old new
 turn_reads law old new None calls = ap (λ (m : MountState). m.reads) calls
-turn_reads law old new (Some it) calls = law old new it.work it.left calls
+turn_reads law old new (Some it) calls = law old new it.work it.turns calls
 
 turn_places : MovesLaw → (old new : MountState) (it : Option Job) → CallsOf it old new → TurnPlaces (plain_job it) old new
 turn_places law old new None calls = λ name running. ap (λ (m : MountState). extent_on m name) calls
-turn_places law old new (Some it) calls = law old new it.work it.left calls
+turn_places law old new (Some it) calls = law old new it.work it.turns calls
 
 -- the job of a number without what it keeps
 plain_at : (number : ℕ) (js : List (Option Job)) → job_of number (plain_jobs js) ≡ plain_job (job_at number js)

@@ -65,10 +65,10 @@ held_before (Squeezing clean) left js same = same
 lasting_holds : (js : Jobs) → names_of_jobs (lasting_jobs js) ≡ names_of_jobs js
 lasting_holds [] = refl
 lasting_holds (None ∷ js) = lasting_holds js
-lasting_holds (Some it ∷ js) = held_before it.work it.left js (lasting_holds js)
+lasting_holds (Some it ∷ js) = held_before it.work it.turns js (lasting_holds js)
 
 -- no other job is told that the directory has changed
-disturbed_job_lasts : (w : Work) (left : ℕ) → lasting_job (disturbed_job (Some (record { work = w; left = left }))) ≡ lasting_work w left
+disturbed_job_lasts : (w : Work) (left : ℕ) → lasting_job (disturbed_job (Some (record { work = w; turns = left }))) ≡ lasting_work w left
 disturbed_job_lasts (Assembling to from) left = refl
 disturbed_job_lasts (Loading from) left = refl
 disturbed_job_lasts (Squeezing clean) left = refl
@@ -76,7 +76,7 @@ disturbed_job_lasts (Squeezing clean) left = refl
 lasting_disturbed : (js : Jobs) → lasting_jobs (with_disturbance js) ≡ lasting_jobs js
 lasting_disturbed [] = refl
 lasting_disturbed (None ∷ js) = ap (λ (l : Jobs). None ∷ l) (lasting_disturbed js)
-lasting_disturbed (Some it ∷ js) = ap (λ (o : Option Job). o ∷ lasting_jobs (with_disturbance js)) (disturbed_job_lasts it.work it.left) ∙ ap (λ (l : Jobs). lasting_work it.work it.left ∷ l) (lasting_disturbed js)
+lasting_disturbed (Some it ∷ js) = ap (λ (o : Option Job). o ∷ lasting_jobs (with_disturbance js)) (disturbed_job_lasts it.work it.turns) ∙ ap (λ (l : Jobs). lasting_work it.work it.turns ∷ l) (lasting_disturbed js)
 
 same_holds : (one two : Jobs) → AreAlike one two → names_of_jobs one ≡ names_of_jobs two
 same_holds one two same = sym (lasting_holds one) ∙ ap names_of_jobs same ∙ lasting_holds two
@@ -258,14 +258,14 @@ turn_follows one t js number it answer after same lasting room turn = of_job it 
     loads from left (Err job.NoJob) turn = absurd turn
     loads from left (Err job.TooManyJobs) turn = absurd turn
 
-    of_work : (w : Work) (left : ℕ) (answer : turns.Answer) → lasting_work w left ≡ Some (record { work = w; left = left }) → is_of_room answer ≡ false → JobTurn (job_state one) number (Some (record { work = w; left = left })) answer after → TurnFollows one (over one t js) number (Some (record { work = w; left = left })) answer after
+    of_work : (w : Work) (left : ℕ) (answer : turns.Answer) → lasting_work w left ≡ Some (record { work = w; turns = left }) → is_of_room answer ≡ false → JobTurn (job_state one) number (Some (record { work = w; turns = left })) answer after → TurnFollows one (over one t js) number (Some (record { work = w; turns = left })) answer after
     of_work (Assembling to from) left answer lasting room turn = assembles to from left answer room turn
     of_work (Loading from) left answer lasting room turn = loads from left answer turn
     of_work (Squeezing clean) left answer lasting room turn = cc
 
     of_job : (it : Option Job) (answer : turns.Answer) → lasting_job it ≡ it → is_of_room answer ≡ false → JobTurn (job_state one) number it answer after → TurnFollows one (over one t js) number it answer after
     of_job None answer lasting room turn = of_none answer turn
-    of_job (Some it) answer lasting room turn = of_work it.work it.left answer lasting room turn
+    of_job (Some it) answer lasting room turn = of_work it.work it.turns answer lasting room turn
 
 -- the turn of a number
 number_follows : (one : State) (t : Bool) (js : Jobs) (number : ℕ) (answer : turns.Answer) (after : jobs.State) → AreAlike one.jobs js → JobIsApart (order.Turn number) one (over one t js) → is_of_room answer ≡ false → turns.Turns (job_state one) number answer after

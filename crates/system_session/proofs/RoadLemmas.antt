@@ -1,4 +1,4 @@
--- What becomes of the files and of the console behind an entry, and of a file that a job made, up to the load of it.
+-- What becomes of the files and of the console after an entry, and of a file that a job made, up to the load of it.
 use Rattle.std.proofs.Common.{◌≡◌, ◌≢◌, ◌∙◌, ℕ, nat_eq, cond, unwrap_or, Bool, true, false, true≢false, Option, Some, None, List, [], ◌∷◌, slice_index, Ok, Err, refl, ap, sym, subst, arith}
 use Rattle.std.specs.FinMap.{get, insert, remove, get-insert, get-remove}
 use Rattle.std.specs.Ordering.{nat_cmp, eq_by_cmp}
@@ -104,7 +104,7 @@ turn_leaves old number it does after turn = of_job it turn
 
     of_job : (it : Option Job) → JobTurn (job_state old) number it (Ok does) after → WorkLeaves old (Ok (Line (turn_reply number does))) after
     of_job None turn = absurd turn
-    of_job (Some it) turn = of_work it.work it.left does turn
+    of_job (Some it) turn = of_work it.work it.turns does turn
 
 files_leave : (it : FileEntry) (old new : State) (reply : Reply) → FilesMayReply old it reply new → LeavesAlone (entry.Files it) old (Ok reply) new
 files_leave (filing.Store name text) old new reply done = stored_alone old new name text (λ (r : Reply). LeavesAlone (entry.Files (filing.Store name text)) old (Ok r) new) (λ other blocks done.

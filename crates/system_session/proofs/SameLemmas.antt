@@ -73,7 +73,7 @@ but_kept number old = ap (λ (l : List (Option Job)). record old { jobs = l }) (
 
 -- ## Turns of squeezing jobs
 
--- what holds of a state that stays, or gets another job under a number that is none or squeezes, holds behind a turn that squeezes
+-- what holds of a state that stays, or gets another job under a number that is none or squeezes, holds after a turn that squeezes
 squeezed : (holds : State → Type 0) (old new : State) (number : ℕ) (clean : Bool) (left : ℕ) (answer : Answer) → holds old
     → ((tight : Bool) (j : Option Job) → lasting_job j ≡ None → holds (record old { tight = tight; jobs = with_job number j old.jobs }))
     → job_of number old.jobs ≡ Some (squeezing clean left) → MayAnswer old (entry.Jobs (order.Turn number)) answer new → holds new

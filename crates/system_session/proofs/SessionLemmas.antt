@@ -36,7 +36,7 @@ use Rattle.system_session.specs.Session.{SessionView, state_of}
 use Rattle.system_session.specs.SessionSteps.{DoesEntry}
 use Rattle.system_session.specs.State.{Console, State}
 use Rattle.system_session.specs.Work.{job_state}
-use Rattle.system_session.proofs.DoesLemmas.{steady, steady_same, shown, replied, refused, undone, HasFailed, failed, behind_same, stopped}
+use Rattle.system_session.proofs.DoesLemmas.{steady, steady_same, shown, replied, refused, undone, HasFailed, failed, after_same, stopped}
 
 -- what is seen where the volume is another
 abbrev over : SessionView → MountState → SessionView
@@ -83,7 +83,7 @@ full s after is = record { files = is.files; tight = λ low. is.tight (zero_is _
 write_failed : (v v' : MountState) → v.stopped ≡ false → v' ≡ record v { blocks = v'.blocks; writes = v'.writes; failed_writes = v.failed_writes + 1; stopped = true; last = directory_or (directory_of v.blocks) } → Survives v.blocks v'.blocks → HasFailed v v'
 write_failed v v' running is left = record {
   left = left;
-  behind = record {
+  following = record {
     reads = omega (arith, ap (λ (m : MountState). m.failed_reads) is);
     writes = omega (arith, ap (λ (m : MountState). m.failed_writes) is);
   };
@@ -106,7 +106,7 @@ delete_refused s v bytes name file.NotFound is none alike has = refused _ _ _ _ 
 delete_refused s v bytes name (file.Busy other) is none alike has = refused _ _ _ _ has.0.running (λ quiet. quiet) (steady_same _ _ has.4) (name, is, (has.1, has.2, sym (alike name) ∙ has.3)) (same_state s v has.4)
 delete_refused s v bytes name file.DirectoryFull is none alike has = refused _ _ _ _ has.0.running (λ quiet. quiet) (steady_same _ _ has.5) (name, is, (has.1, sym (alike name) ∙ has.2, full s _ has.4)) (same_state s v has.5)
 delete_refused s v bytes name file.Device is none alike has = failed _ _ _ (write_failed s.volume v has.ready.running has.others (inr (inr (inl (record { files = has.files; directory = has.written.0; part = has.written.2.part }))))) refl refl
-delete_refused s v bytes name file.Stopped is none alike has = stopped _ _ _ ((name, is), same_state s v has.1) has.0 (behind_same s.volume v has.1)
+delete_refused s v bytes name file.Stopped is none alike has = stopped _ _ _ ((name, is), same_state s v has.1) has.0 (after_same s.volume v has.1)
 delete_refused s v bytes name file.Memory is none alike has = undone _ _ _ (λ halted. absurd (true≢false (sym halted ∙ has.0.running))) (name, is, has.1, sym (alike name) ∙ has.2) (steady_same _ _ has.3) (same_state s v has.3)
 delete_refused s v bytes name file.TentativeOpen is none alike has = absurd (not_open s.volume has.1 none has.2)
 delete_refused s v bytes name (file.NoRoom n) is none alike has = absurd has
@@ -114,7 +114,7 @@ delete_refused s v bytes name file.BadName is none alike has = absurd has
 delete_refused s v bytes name file.TooLong is none alike has = absurd has
 delete_refused s v bytes name file.NothingWritten is none alike has = absurd has
 
--- behind a file that is taken out the jobs stand, once they are told
+-- after a file that is taken out the jobs stand, once they are told
 pub delete_settled : (old new : MountState) (js js' : List (Option kept.Job)) (name : ℕ) → ((old new : MountState) (js : List (Option kept.Job)) → IsSettled old js → KeepsHolds old new → new.tentative ≡ None → IsSettled new (settled.with_disturbance js))
     → ((old new : MountState) (name : ℕ) (result : Result (Unit {0}) FileFault) → DeletesFile old name result new → KeepsHolds old new) → IsSettled old js → js' ≡ settled.with_disturbance js → HasDeleted old name new → IsSettled new js'
 delete_settled old new js js' name told kept settled is has =
@@ -142,7 +142,7 @@ put_failed v v' name words has = record {
     | inl file ↦ inl file.files
     | inr entry ↦ inr (inr (inl (record { files = entry.older; directory = entry.directory; part = entry.written.part })))
   ];
-  behind = record {
+  following = record {
     reads = omega (arith, ap (λ (m : MountState). m.failed_reads) has.others);
     writes = omega (arith, ap (λ (m : MountState). m.failed_writes) has.others);
   };
@@ -151,7 +151,7 @@ put_failed v v' name words has = record {
   stopped = ap (λ (m : MountState). m.stopped) has.others;
 }
 
--- behind a file that is put the jobs stand, once they are told
+-- after a file that is put the jobs stand, once they are told
 pub put_settled : (old new : MountState) (js js' : List (Option kept.Job)) (name : ℕ) (words : List ℕ) → ((old new : MountState) (js : List (Option kept.Job)) → IsSettled old js → KeepsHolds old new → new.tentative ≡ None → IsSettled new (settled.with_disturbance js))
     → ((old new : MountState) (name : ℕ) (words : List ℕ) (result : Result (Unit {0}) FileFault) → PutsFile old name words result new → KeepsHolds old new) → IsSettled old js → js' ≡ settled.with_disturbance js → HasPut old name words new → new.tentative ≡ None → IsSettled new js'
 put_settled old new js js' name words told kept settled is has none = subst (λ l. IsSettled new l) (sym is) (told old new js settled (kept old new name words (Ok tt) has) none)
@@ -163,7 +163,7 @@ store_refused s v bytes name text words (file.Busy other) is alike storable word
 store_refused s v bytes name text words (file.NoRoom n) is alike storable words_are has = refused _ _ _ _ has.0.running (λ quiet. quiet) (steady_same _ _ has.4) (name, is, storable, (sym (alike name) ∙ has.1, crowded s _ n (subst (λ (l : List ℕ). n < blocks_filled l) words_are has.2) has.3)) (same_state s v has.4)
 store_refused s v bytes name text words file.DirectoryFull is alike storable words_are has = refused _ _ _ _ has.0.running (λ quiet. quiet) (steady _ _ _ _ _ has.3.others) (name, is, storable, (sym (alike name) ∙ has.1, full s _ (subst (λ (l : List ℕ). IsOver s.volume.blocks (insert (files_of s.volume.blocks) name (plain_file s.volume l))) words_are has.2))) (kept_state s v _ has.3)
 store_refused s v bytes name text words file.Device is alike storable words_are has = failed _ _ _ (put_failed s.volume v name _ has) refl refl
-store_refused s v bytes name text words file.Stopped is alike storable words_are has = stopped _ _ _ (((name, is), storable), same_state s v has.1) has.0 (behind_same _ _ has.1)
+store_refused s v bytes name text words file.Stopped is alike storable words_are has = stopped _ _ _ (((name, is), storable), same_state s v has.1) has.0 (after_same _ _ has.1)
 store_refused s v bytes name text words file.Memory is alike storable words_are has = undone _ _ _ (λ halted. absurd (true≢false (sym halted ∙ has.0.running))) (name, is, storable, sym (alike name) ∙ has.1) (steady _ _ _ _ _ has.2.others) (kept_state s v _ has.2)
 store_refused s v bytes name text words file.NotFound is alike storable words_are has = absurd has
 store_refused s v bytes name text words file.BadName is alike storable words_are has = absurd has
@@ -199,7 +199,7 @@ unstored s bytes name text why is alike held bad halts busy = by_text (is_storab
 
     by_text : (storable halted : Bool) → is_storable text ≡ storable → s.volume.stopped ≡ halted → it why
     by_text false halted no_text stands = subst it (sym (bad no_text)) (no_text_stored s bytes name text is no_text)
-    by_text true true storable stands = subst it (sym (halts storable stands)) (stopped _ _ _ (((name, is), storable), refl) stands (behind_same _ _ refl))
+    by_text true true storable stands = subst it (sym (halts storable stands)) (stopped _ _ _ (((name, is), storable), refl) stands (after_same _ _ refl))
     by_text true false storable stands = subst it (sym (busy storable stands)) (refused _ _ _ _ stands (λ quiet. quiet) (steady_same _ _ refl) (name, is, storable, (refl, sym (alike name) ∙ held stands)) refl)
 
 -- a text that is stored

@@ -16,9 +16,9 @@ use Rattle.system_session.specs.State.{State}
 use Rattle.system_session.specs.RunSteps.{RunsItems, RunsNext, RunsPrefix, RunsGiven, RunsRead, IsRunTo, IsEnded, StartsWithItems, items_in, fault_of}
 use Rattle.system_session.specs.Script.{all_lines, WritesAnswers, WritesPrefix, RunsText}
 use Rattle.script8.proofs.ByteLemmas.{appends_more, consumes_more, consumes_none}
-use Rattle.system_session.proofs.ToldLemmas.{prefix_all, prefix_none, prefix_more, behind_more, writes_prefix_more, writes_append}
+use Rattle.system_session.proofs.ToldLemmas.{prefix_all, prefix_none, prefix_more, after_more, writes_prefix_more, writes_append}
 
--- a last line behind what is written
+-- a last line after what is written
 pub writes_last : (old : State) (items : List Item) (new : State) (w w1 w2 : Option (List ℕ)) (last : List ℕ) → WritesAnswers old items new w w1 [] → Appends w1 w2 last → WritesAnswers old items new w w2 last
 writes_last old items new w w1 w2 last told more = record {
   lines = told.lines;
@@ -37,7 +37,7 @@ heads_items text rest false prefix heads = ap whole_of (sym (append-nil text)) �
 leads_script : (text rest : List ℕ) (prefix : List Item) → LeadsWith text prefix rest → script_of text ≡ prefix ++ script_of rest
 leads_script text rest prefix leads = ap script_of (sym (append-nil text)) ∙ leads.script [] ∙ ap (λ r. prefix ++ script_of r) (append-nil rest)
 
--- a prefix, and the prefix of what stands behind it
+-- a prefix, and the prefix of what stands after it
 heads_more : (a b c : List ℕ) (is_end : Bool) (f g : List Item) → StartsWithItems a is_end f b → StartsWithItems b is_end g c → StartsWithItems a is_end (f ++ g) c
 heads_more a b c true f g first second = first ∙ ap (λ (l : List Item). f ++ l) second ∙ sym (append_assoc f g _)
 heads_more a b c false f g first second = record {
@@ -68,9 +68,9 @@ prefix_stopped text rest is_end prefix old mid new w w1 w2 ending.Reader heads f
 pub item_stopped : (text : List ℕ) (is_end : Bool) (item : Item) (bytes : ℕ) (old new : State) (w w' : Option (List ℕ)) (why : Ending)
     → GivesItems text is_end (item ∷ []) bytes → RunsItems (item ∷ []) old new w w' (Err why) → RunsNext text is_end old new w w' (Err why)
 item_stopped text is_end item bytes old new w w' ending.Memory gives run =
-    (run.0, behind_more (item ∷ []) (items_in (drop bytes text) is_end) (items_in text is_end) old new run.0 (heads_items text _ is_end (item ∷ []) (gives_heads text is_end (item ∷ []) bytes gives)) run.1, run.2)
+    (run.0, after_more (item ∷ []) (items_in (drop bytes text) is_end) (items_in text is_end) old new run.0 (heads_items text _ is_end (item ∷ []) (gives_heads text is_end (item ∷ []) bytes gives)) run.1, run.2)
 item_stopped text is_end item bytes old new w w' ending.Writer gives run =
-    (run.0, behind_more (item ∷ []) (items_in (drop bytes text) is_end) (items_in text is_end) old new run.0 (heads_items text _ is_end (item ∷ []) (gives_heads text is_end (item ∷ []) bytes gives)) run.1)
+    (run.0, after_more (item ∷ []) (items_in (drop bytes text) is_end) (items_in text is_end) old new run.0 (heads_items text _ is_end (item ∷ []) (gives_heads text is_end (item ∷ []) bytes gives)) run.1)
 item_stopped text is_end item bytes old new w w' ending.Reader gives run = absurd run
 
 -- one more item, or a blank line
@@ -79,7 +79,7 @@ pub prefix_next : (text : List ℕ) (is_end : Bool) (done bytes : ℕ) (prefix i
 prefix_next text is_end done bytes prefix items heads gives =
     heads_more text (drop done text) (drop (done + bytes) text) is_end prefix items heads (subst (λ (r : List ℕ). StartsWithItems (drop done text) is_end items r) (drop-drop bytes done text) (gives_heads (drop done text) is_end items bytes gives))
 
--- a text of which a prefix is answered up to some bytes, behind which these lines are written
+-- a text of which a prefix is answered up to some bytes, after which these lines are written
 abbrev pub IsRunUpTo : List ℕ → Bool → List ℕ → State → State → Option (List ℕ) → Option (List ℕ) → Type 0
 IsRunUpTo text is_end rest old new w w' = (items : List Item) × StartsWithItems text is_end items rest × WritesAnswers old items new w w' []
 
@@ -104,7 +104,7 @@ given_done text rest bytes lines old new w w1 w2 (Ok done) is run ok err =
     (run.0, subst (λ (l : List ℕ). LeadsWith text run.0 l) (sym is) run.1, writes_last old run.0 new w w1 w2 [] run.3 ok)
 given_done text rest bytes lines old new w w1 w2 (Err e) is run ok err =
     let all : whole_of text ≡ run.0 ++ whole_of (drop bytes text) = heads_items text (drop bytes text) false run.0 run.1 in
-    subst (λ (e : Ending). RunsGiven text rest old new w w2 (Err e)) (sym err) (_, behind_more run.0 (whole_of (drop bytes text)) (whole_of text) old new _ all (prefix_all run.0 old new run.3.lines run.3.told))
+    subst (λ (e : Ending). RunsGiven text rest old new w w2 (Err e)) (sym err) (_, after_more run.0 (whole_of (drop bytes text)) (whole_of text) old new _ all (prefix_all run.0 old new run.3.lines run.3.told))
 
 -- nothing was taken of a reader
 pub none_run : (old : State) (r w : Option (List ℕ)) (rest : List ℕ) → rest ≡ [] → IsRunTo old old r r w w 0 rest
@@ -247,7 +247,7 @@ text_answers most old new r r' w w' w2 (Err ending.Reader) told = (told.0, told.
 text_answers most old new r r' w w' w2 (Err ending.Memory) told = (told.0, told.1, told.2, told.3, (told.4.0, told.4.1))
 text_answers most old new r r' w w' w2 (Err ending.Writer) told = told
 
--- a fault's line behind a run that it ended
+-- a fault's line after a run that it ended
 fault_ends : (most : ℕ) (old new : State) (r r' w w1 w2 : Option (List ℕ)) (why : Ending) → RunsRead most old new r r' w w1 (Err why) → Appends w1 w2 (fault_line (fault_of why)) → RunsText most old new r r' w w2 (Err (fault_of why))
 fault_ends most old new r r' w w1 w2 ending.Reader told more = (told.0, told.1, told.2, writes_last old _ new w w1 w2 _ told.3 more)
 fault_ends most old new r r' w w1 w2 ending.Memory told more = (told.0, told.1, told.2, told.3, prefix_last old _ new w w1 w2 _ told.4 more)

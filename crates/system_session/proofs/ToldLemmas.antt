@@ -1,4 +1,4 @@
--- Runs of items, one behind another.
+-- Runs of items, one after another.
 use Rattle.std.proofs.Common.{ℕ, ◌≡◌, ◌≢◌, ◌⊎◌, inl, inr, IfErr, OnOk, refl, sym, ◌∙◌, ap, subst, if◌then◌else◌, true, false, List, [], ◌∷◌, ◌++◌, append_assoc, append-nil, Option, Some, None, Result, Ok, Err}
 use Rattle.std.specs.Io.KnownBytes.{Appends}
 use Rattle.script8.proofs.ByteLemmas.{appends_more}
@@ -62,7 +62,7 @@ writes_append a b old mid new w w1 w2 last first second = record {
     bytes : (all_lines first.lines ++ []) ++ (all_lines second.lines ++ last) ≡ all_lines (first.lines ++ second.lines) ++ last
     bytes = ap (λ l. l ++ (all_lines second.lines ++ last)) (append-nil _) ∙ sym (append_assoc (all_lines first.lines) (all_lines second.lines) last) ∙ ap (λ l. l ++ last) (sym (lines_append first.lines second.lines))
 
--- turns are taken of a FINISH, whatever items stand behind it
+-- turns are taken of a FINISH, whatever items stand after it
 begun_more : (turns : List (ℕ × Answer)) (rest c : List Item) → HasBegun turns rest → HasBegun turns (rest ++ c)
 begun_more [] rest c begun = tt
 begun_more (t ∷ turns) [] c begun = absurd begun
@@ -71,8 +71,8 @@ begun_more (t ∷ turns) (Finish ∷ rest) c begun = tt
 begun_more (t ∷ turns) (Refused why ∷ rest) c begun = absurd begun
 
 -- a prefix of items before others
-pub behind_more : (b c items : List Item) (old new : State) (bytes : List ℕ) → items ≡ b ++ c → AnswersPrefix old b new bytes → AnswersPrefix old items new bytes
-behind_more b c items old new bytes is told = record {
+pub after_more : (b c items : List Item) (old new : State) (bytes : List ℕ) → items ≡ b ++ c → AnswersPrefix old b new bytes → AnswersPrefix old items new bytes
+after_more b c items old new bytes is told = record {
   prefix = told.prefix;
   rest = told.rest ++ c;
   parts = is ∙ ap (λ (l : List Item). l ++ c) told.parts ∙ append_assoc told.prefix told.rest c;
@@ -85,7 +85,7 @@ behind_more b c items old new bytes is told = record {
   shown = told.shown;
 }
 
--- a prefix of items behind others, before others
+-- a prefix of items after others, before others
 pub prefix_more : (items a b c : List Item) (old mid new : State) (w w1 : Option (List ℕ)) (bytes : List ℕ) → items ≡ a ++ (b ++ c) → (first : WritesAnswers old a mid w w1 []) → AnswersPrefix mid b new bytes → AnswersPrefix old items new (all_lines first.lines ++ bytes)
 prefix_more items a b c old mid new w w1 bytes is first second = record {
   prefix = a ++ second.prefix;

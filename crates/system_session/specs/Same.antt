@@ -18,7 +18,7 @@ lasting_work (Squeezing clean) left = None
 
 abbrev pub lasting_job : Option Job → Option Job
 lasting_job None = None
-lasting_job (Some it) = lasting_work it.work it.left
+lasting_job (Some it) = lasting_work it.work it.turns
 
 -- the jobs without those that squeeze: each other one keeps its number
 abbrev pub lasting_jobs : List (Option Job) → List (Option Job)

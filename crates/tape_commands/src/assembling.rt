@@ -52,12 +52,12 @@ fn assemble_pal3<R: Files<File = File> + Input + Print + Eprint + AllocGlobal>(
         ))?;
         return write_tape(rt, form, volume, &tape);
     };
-    let behind = if form.is_cross {
+    let following = if form.is_cross {
         ListingForm::Cross
     } else {
         ListingForm::Symbols
     };
-    let listing = list_sources(rt.alloc(), &sources, behind).map_err(|fault| refusal(
+    let listing = list_sources(rt.alloc(), &sources, following).map_err(|fault| refusal(
         rt, form, &sources, fault,
     ))?;
     write_to(rt, list, &listing.text, Content::Listing)?;

@@ -13,7 +13,7 @@ abbrev of_2 : ℕ → Bool
 of_2 word = (nat_eq word 3712 || (nat_le 3840 word && nat_lt word 4096)) && are_of group_2 (values_of (patterns_of word patterns))
 
 abbrev named : List Pattern → ℕ → Bool
-named table word = nat_lt 3071 word && nat_eq (or_after 0 (patterns_of word table)) word
+named table word = nat_lt 0o5777 word && nat_eq (or_after 0 (patterns_of word table)) word
 
 -- a word is shown by no more names than so many
 abbrev within : List Pattern → (ℕ → Bool) → ℕ → ℕ → Bool
@@ -23,7 +23,7 @@ abbrev steps : List Pattern → (ℕ → Bool) → ℕ → ℕ → List ℕ → 
 steps table ok word count [] = true
 steps table ok word count (value ∷ values) = within table ok (bit_or word value) (suc count) && steps table ok word count values
 
--- a name more, behind a word that is shown by names
+-- a name more, after a word that is shown by names
 abbrev step_of : List Pattern → (ℕ → Bool) → List ℕ → ℕ → Bool
 step_of table ok group word = not (ok word) || (not (named table word) || steps table ok word (length (patterns_of word table)) group)
 

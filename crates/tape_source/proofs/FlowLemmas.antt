@@ -49,7 +49,7 @@ pub none_is : (word : Option ℕ) → is_some word ≡ false → word ≡ None
 none_is None none = refl
 none_is (Some word) none = absurd (true≢false none)
 
--- the one at this place, behind those before it
+-- the one at this place, after those before it
 pub first_at : (words : ℕ → Option ℕ) (cells : List ℕ) (place cell : ℕ) → place < length cells → cell ≡ slice_index_or cells place cell → AllGiven words (take place cells)
     → words cell ≡ None → IsFirstWithout words cells cell
 first_at words cells place cell inside is given none = record {

@@ -15,7 +15,7 @@ goes_on n a digits =
     ap (λ (b : Bool). if b then octal_from (8 * n + (octal_digit a - 0o60)) digits else None)
     (and_from (nat_le 0o60 (octal_digit a)) (nat_lt (octal_digit a) 0o70) (le-leb 0o60 (octal_digit a) (omega arith)) (lt-ltb (octal_digit a) 0o70 (omega arith)))
 
--- behind any number digits go on to one
+-- after any number digits go on to one
 abbrev AreDigits : List ℕ → Type 0
 AreDigits digits = (n : ℕ) → is_some (octal_from n digits) ≡ true
 
@@ -33,7 +33,7 @@ tag_form cell = are_digits (cell / FIELD) (cell % FIELD / 0o1000) (cell % FIELD 
 
 -- ## What has it is one
 
--- the first of digits, and those behind it
+-- the first of digits, and those after it
 first_digit : (n a : ℕ) (digits : List ℕ) → is_some (octal_from n (a ∷ digits)) ≡ true
     → (0o60 ≤ a) × (a < 0o70) × (is_some (octal_from (8 * n + (a - 0o60)) digits) ≡ true)
 first_digit n a digits some = split (nat_le 0o60 a && nat_lt a 0o70) refl some

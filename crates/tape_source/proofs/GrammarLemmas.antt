@@ -80,7 +80,7 @@ name_kind (first ∷ others) e =
 
 -- ## Statements
 
--- tokens say a body behind tags
+-- tokens say a body after tags
 pub record Say (tokens : List Token) (tags : List ℕ) (body : Body) : Type 0 where
   pub fine : has_bad_number tokens ≡ false
   pub said_is : phrase_of_tokens tokens ≡ Some record { tags = tags; body = body }

@@ -90,10 +90,10 @@ record IsTerm (kind : Kind) (t : term.Term) (value : ℕ) : Type 0 where
   value_is : (known : Meanings) → Keeps known → (place : ℕ) → term_value known place t ≡ Some value
   no_fault : (known : Meanings) → Keeps known → (place : ℕ) → term_fault known place t ≡ None
   lone : (start end : ℕ) → phrase_of_tokens (record { kind = Term t; start = start; end = end } ∷ []) ≡ Some record { tags = []; body = Word (record { joint = Add; term = t } ∷ []) }
-  first : (start end blank stop : ℕ) (next : Token) (others : List Token) (behind : List Part)
-      → parts true (record { kind = Blank; start = blank; end = stop } ∷ next ∷ others) ≡ Some behind
+  first : (start end blank stop : ℕ) (next : Token) (others : List Token) (following : List Part)
+      → parts true (record { kind = Blank; start = blank; end = stop } ∷ next ∷ others) ≡ Some following
       → phrase_of_tokens (record { kind = Term t; start = start; end = end } ∷ record { kind = Blank; start = blank; end = stop } ∷ next ∷ others)
-      ≡ Some record { tags = []; body = Word (record { joint = Add; term = t } ∷ behind) }
+      ≡ Some record { tags = []; body = Word (record { joint = Add; term = t } ∷ following) }
 
 equal : (a b : ℕ) → nat_eq a b ≡ true → a ≡ b
 equal a b e = grind (arith, nat_tests)
@@ -105,7 +105,7 @@ number_term w value e = record {
   value_is = λ known keeps place. ap (λ n. Some n) (equal w value e);
   no_fault = λ known keeps place. refl;
   lone = λ start end. refl;
-  first = λ start end blank stop next others behind is. rw is refl;
+  first = λ start end blank stop next others following is. rw is refl;
 }
 
 value_there : (o : Option ℕ) (value : ℕ) → has_value o value ≡ true → o ≡ Some value
@@ -151,7 +151,7 @@ name_term n value is free plain = record {
   value_is = λ known keeps place. keeps n value is;
   no_fault = λ known keeps place. ap fault_of_name (keeps n value is);
   lone = λ start end. lone_name n start end free plain;
-  first = λ start end blank stop next others behind e. rw (free.field, plain, free.reserved, e) refl;
+  first = λ start end blank stop next others following e. rw (free.field, plain, free.reserved, e) refl;
 }
 
 term_there : (kind : Kind) (value : ℕ) → fits_kind kind value ≡ true → IsTerm kind (the_term kind) value
@@ -217,12 +217,12 @@ joined_names before blank stop at p (q ∷ others) e =
     let is = here.is_term in
     let end = at + length (shown_name p.2) in
     let rest = joined_names (bit_or before p.3) (blank_token end).start (blank_token end).end (suc end) q others split.1 in
-    let behind = tokens_at (suc end) (names (q ∷ others)) in
+    let following = tokens_at (suc end) (names (q ∷ others)) in
     record {
-      fine_tokens = ap (λ k. has_bad_number (with_kind t k ∷ blank_token end ∷ behind)) is.kind_is ∙ rest.fine_tokens;
+      fine_tokens = ap (λ k. has_bad_number (with_kind t k ∷ blank_token end ∷ following)) is.kind_is ∙ rest.fine_tokens;
       parts_are =
-          ap (λ k. parts true (record { kind = Blank; start = blank; end = stop } ∷ with_kind t k ∷ blank_token end ∷ behind)) is.kind_is
-          ∙ ap (λ o. with_part (part_of (Some Or) o) (parts true (blank_token end ∷ behind))) is.free
+          ap (λ k. parts true (record { kind = Blank; start = blank; end = stop } ∷ with_kind t k ∷ blank_token end ∷ following)) is.kind_is
+          ∙ ap (λ o. with_part (part_of (Some Or) o) (parts true (blank_token end ∷ following))) is.free
           ∙ ap (with_part (Some record { joint = Or; term = the_term (kind_of (shown_name p.2)) })) rest.parts_are;
       value_is = λ known keeps place.
           ap (λ v. value_after known place (joined_values Or (Some before) v) (or_parts (q ∷ others))) (is.value_is known keeps place) ∙ rest.value_is known keeps place;
@@ -329,8 +329,8 @@ named look tagged cell word (p ∷ others) e comes some code apart = record {
 
 pub shown_names : (look : Look) (tagged : ℕ → Bool) (cell word : ℕ) → look.is_code cell ≡ true → is_reference (cell % 4096) word ≡ false → is_named word ≡ true → IsShown look tagged cell word (names (patterns_of word patterns))
 shown_names look tagged cell word code apart shown =
-    let split = both (nat_lt 3071 word) (nat_eq (or_after 0 (patterns_of word patterns)) word) shown in
+    let split = both (nat_lt 0o5777 word) (nat_eq (or_after 0 (patterns_of word patterns)) word) shown in
     named look tagged cell word (patterns_of word patterns) (chosen_fit word patterns table_fits) (equal (or_after 0 (patterns_of word patterns)) word split.1) (some word split.0) code apart
   where
-    some : (n : ℕ) → nat_lt 3071 n ≡ true → 0 < n
+    some : (n : ℕ) → nat_lt 0o5777 n ≡ true → 0 < n
     some n e = grind (arith, nat_tests)

@@ -99,9 +99,9 @@ same_lines c d f g look same (pair ∷ older) all =
 
 -- ## The source of a tape
 
-nothing_behind : (a b : List ℕ) → a ++ b ≡ [] → b ≡ []
-nothing_behind [] b e = e
-nothing_behind (x ∷ a) b e = absurd cc
+nothing_after : (a b : List ℕ) → a ++ b ≡ [] → b ≡ []
+nothing_after [] b e = e
+nothing_after (x ∷ a) b e = absurd cc
 
 not_nothing : (x : ℕ) (l : List ℕ) → x ∷ l ≡ [] → ⊥
 not_nothing x l e = cc
@@ -112,13 +112,13 @@ nothing_before (x ∷ a) b e = absurd (not_nothing x (a ++ b) e)
 
 some_line : (before line gap : List ℕ) → before ++ (line ++ 13 ∷ 10 ∷ []) ++ gap ≡ [] → ⊥
 some_line before line gap e =
-    not_nothing 13 (10 ∷ []) (nothing_behind line (13 ∷ 10 ∷ []) (nothing_behind before (line ++ 13 ∷ 10 ∷ []) (nothing_before (before ++ (line ++ 13 ∷ 10 ∷ [])) gap e)))
+    not_nothing 13 (10 ∷ []) (nothing_after line (13 ∷ 10 ∷ []) (nothing_after before (line ++ 13 ∷ 10 ∷ []) (nothing_before (before ++ (line ++ 13 ∷ 10 ∷ [])) gap e)))
 
 no_lines : (look : Look) (tagged : ℕ → Bool) (pairs : List (ℕ × ℕ)) → lines_of look tagged pairs ≡ [] → pairs ≡ []
 no_lines look tagged [] e = refl
 no_lines look tagged (pair ∷ older) e =
     absurd (some_line _ (tag_part look.name tagged pair.0 ++ with_lead 9 (statement look tagged pair.0 pair.1) ++ 9 ∷ comment pair.0 pair.1 ++ look.remark pair.0) _
-    (nothing_behind (lines_of look tagged older) (cell_lines look tagged (newest_cell older) pair.0 pair.1) e))
+    (nothing_after (lines_of look tagged older) (cell_lines look tagged (newest_cell older) pair.0 pair.1) e))
 
 some_pair : (look : Look) (tagged : ℕ → Bool) (pairs : List (ℕ × ℕ)) → lines_of look tagged pairs ≢ [] → 0 < length pairs
 some_pair look tagged [] some = absurd (some refl)

@@ -93,11 +93,11 @@ tag_cut : (first : ℕ) (others : List ℕ) (at : ℕ) → are_coded (first ∷ 
 tag_cut first others at coded =
     ap pieces (laid_append (first ∷ others) (44 ∷ []) [] at) ∙ ap (λ l. with_byte 44 (at + length (first ∷ others)) l) (run first others [] at coded tt)
 
--- pieces between tabs behind a tag and a comma
-behind_tag : (first : ℕ) (others : List ℕ) (piece : List ℕ) (words : List (List ℕ)) (body : Body) → is_name (first ∷ others) ≡ true
+-- pieces between tabs after a tag and a comma
+following_tag : (first : ℕ) (others : List ℕ) (piece : List ℕ) (words : List (List ℕ)) (body : Body) → is_name (first ∷ others) ≡ true
     → is_reserved (name_number (first ∷ others)) ≡ false → are_runs (piece ∷ words) ≡ true → ((at : ℕ) → Say (tokens_at at (piece ∷ words)) [] body)
     → Codes (((first ∷ others) ++ 44 ∷ []) ++ 9 ∷ (spaced (piece ∷ words) ++ 9 ∷ [])) (name_number (first ∷ others) ∷ []) body
-behind_tag first others piece words body is free runs says =
+following_tag first others piece words body is free runs says =
     let name = first ∷ others in
     let coded = name_run name is in
     let prefix = name ++ 44 ∷ [] in
@@ -124,7 +124,7 @@ labelled : (b : Bool) (name : List ℕ) (piece : List ℕ) (words : List (List �
     → are_runs (piece ∷ words) ≡ true → ((at : ℕ) → Say (tokens_at at (piece ∷ words)) [] body)
     → Codes ((if b then name ++ 44 ∷ [] else []) ++ 9 ∷ (spaced (piece ∷ words) ++ 9 ∷ [])) (label b (name_number name)) body
 labelled true [] piece words body is free runs says = absurd (cc is)
-labelled true (first ∷ others) piece words body is free runs says = behind_tag first others piece words body is free runs says
+labelled true (first ∷ others) piece words body is free runs says = following_tag first others piece words body is free runs says
 labelled false name piece words body is free runs says = tabbed piece words body runs says
 
 pub origin_codes : (a : ℕ) → a < 4096 → Codes (42 ∷ octal4 a) [] (Origin (number_parts a))
@@ -177,7 +177,7 @@ field_codes n small = record {
 nothing_codes : Codes [] [] Nothing
 nothing_codes = record { legal = refl; tokens_of = λ at. []; cut = λ at. refl; say = λ at. record { fine = refl; said_is = refl } }
 
--- ## Lines behind a text
+-- ## Lines after a text
 
 -- a text stands at the beginning of a line, and its statements say this
 pub record StandsAt (look : Look) (tagged : ℕ → Bool) (text : List ℕ) (place field : ℕ) (pairs : List (ℕ × ℕ)) : Type 0 where
@@ -205,10 +205,10 @@ line_step look tagged text code tags after place field pairs next_place next_fie
 
 -- ## The lines of a cell
 
--- the place and the field behind a word for this cell, or behind none
-abbrev pub Behind : Option ℕ → ℕ → ℕ → Type 0
-Behind None place field = (place ≡ 128) × (field ≡ 0)
-Behind (Some cell) place field = (place ≡ cell % 4096 + 1) × (field ≡ cell / 4096)
+-- the place and the field after a word for this cell, or after none
+abbrev pub Beyond : Option ℕ → ℕ → ℕ → Type 0
+Beyond None place field = (place ≡ 128) × (field ≡ 0)
+Beyond (Some cell) place field = (place ≡ cell % 4096 + 1) × (field ≡ cell / 4096)
 
 -- the pieces of a statement are a word at a cell
 pub record IsShown (look : Look) (tagged : ℕ → Bool) (cell word : ℕ) (words : List (List ℕ)) : Type 0 where
@@ -225,9 +225,9 @@ field_part : (look : Look) (tagged : ℕ → Bool) (text : List ℕ) (before : O
     → field ≡ next_field before
     → StandsAt look tagged (text_from text (if nat_eq (cell / 4096) (next_field before) then [] else field_line cell))
     (if nat_eq (cell / 4096) (next_field before) then place else 128) (cell / 4096) pairs
-field_part look tagged text before cell place field pairs small is behind =
+field_part look tagged text before cell place field pairs small is following =
     elim (eqb_tells (cell / 4096) (next_field before)) [
-      | inl same ↦ rw same.0 (subst (λ f. StandsAt look tagged text place f pairs) (behind ∙ sym same.1) is)
+      | inl same ↦ rw same.0 (subst (λ f. StandsAt look tagged text place f pairs) (following ∙ sym same.1) is)
       | inr other ↦
           let n = cell / 4096 in
           let code = codes "FIELD " ++ octal_digit n ∷ [] in
@@ -323,12 +323,12 @@ word_part look tagged text cell word pairs notes naming small shown is =
         ∙ sym (append_assoc p (9 ∷ (w ++ 9 ∷ [])) ((c ++ r) ++ e))
 
 -- where the cell is the next, its place is the next
-next_place : (before : Option ℕ) (cell place field : ℕ) → Behind before place field → is_next before cell ≡ true
+next_place : (before : Option ℕ) (cell place field : ℕ) → Beyond before place field → is_next before cell ≡ true
     → (if nat_eq (cell / 4096) (next_field before) then place else 128) ≡ cell % 4096
-next_place None cell place field behind next = absurd cc
-next_place (Some b) cell place field behind next =
+next_place None cell place field following next = absurd cc
+next_place (Some b) cell place field following next =
     let parts = both (nat_eq (cell / 4096) (b / 4096)) (nat_eq (cell % 4096) (b % 4096 + 1)) next in
-    rw parts.0 (behind.0 ∙ sym (equal (cell % 4096) (b % 4096 + 1) parts.1))
+    rw parts.0 (following.0 ∙ sym (equal (cell % 4096) (b % 4096 + 1) parts.1))
   where
     equal : (a b : ℕ) → nat_eq a b ≡ true → a ≡ b
     equal a b e = elim (eqb_tells a b) [ inl same ↦ same.1 | inr other ↦ absurd (clash (nat_eq a b) e other.0) ]
@@ -337,14 +337,14 @@ next_place (Some b) cell place field behind next =
         clash true e f = cc
         clash false e f = cc
 
-field_then : (before : Option ℕ) (place field : ℕ) → Behind before place field → field ≡ next_field before
-field_then None place field behind = behind.1
-field_then (Some b) place field behind = behind.1
+field_then : (before : Option ℕ) (place field : ℕ) → Beyond before place field → field ≡ next_field before
+field_then None place field following = following.1
+field_then (Some b) place field following = following.1
 
 cell_step : (look : Look) (tagged : ℕ → Bool) (text : List ℕ) (before : Option ℕ) (cell word place field : ℕ) (pairs : List (ℕ × ℕ)) → AreNotes look → IsNaming look.name
-    → cell < 32768 → IsShown look tagged cell word (statement look tagged cell word) → Behind before place field → StandsAt look tagged text place field pairs
+    → cell < 32768 → IsShown look tagged cell word (statement look tagged cell word) → Beyond before place field → StandsAt look tagged text place field pairs
     → StandsAt look tagged (text_from text (cell_lines look tagged before cell word)) (cell % 4096 + 1) (cell / 4096) (pairs ++ (cell, word) ∷ [])
-cell_step look tagged text before cell word place field pairs notes naming small shown behind is =
+cell_step look tagged text before cell word place field pairs notes naming small shown following is =
     let a = if nat_eq (cell / 4096) (next_field before) then [] else field_line cell in
     let b = if is_next before cell then [] else origin_line cell in
     let n = note_lines (look.above cell) in
@@ -353,9 +353,9 @@ cell_step look tagged text before cell word place field pairs notes naming small
     let t = text_from text a in
     let u = text_from t b in
     let v = text_from u n in
-    let first = field_part look tagged text before cell place field pairs small is (field_then before place field behind) in
+    let first = field_part look tagged text before cell place field pairs small is (field_then before place field following) in
     let second =
-    origin_part look tagged t (is_next before cell) cell (if nat_eq (cell / 4096) (next_field before) then place else 128) pairs first (next_place before cell place field behind) in
+    origin_part look tagged t (is_next before cell) cell (if nat_eq (cell / 4096) (next_field before) then place else 128) pairs first (next_place before cell place field following) in
     let third = notes_part look tagged u (look.above cell) (cell % 4096) (cell / 4096) pairs (notes.above cell small) second in
     let fourth = word_part look tagged v cell word pairs notes naming small shown third in
     let whole : text_from text (cell_lines look tagged before cell word) ≡ text_from (text_from v w) g =
@@ -368,10 +368,10 @@ cell_step look tagged text before cell word place field pairs notes naming small
 
 -- ## All lines
 
-pub record StandsBehind (look : Look) (tagged : ℕ → Bool) (text : List ℕ) (before : Option ℕ) (pairs : List (ℕ × ℕ)) : Type 0 where
+pub record StandsBeyond (look : Look) (tagged : ℕ → Bool) (text : List ℕ) (before : Option ℕ) (pairs : List (ℕ × ℕ)) : Type 0 where
   pub place : ℕ
   pub field : ℕ
-  pub behind : Behind before place field
+  pub following : Beyond before place field
   pub stands : StandsAt look tagged text place field pairs
 
 -- each cell's statement is its word
@@ -386,17 +386,17 @@ text_begun : (look : Look) (tagged : ℕ → Bool) → IsNaming look.name → St
 unfolding statements
 text_begun look tagged naming = record { no_comment = refl; not_over = refl; begins = refl; stands = stands_first look tagged naming }
 
-lines_stand : (look : Look) (tagged : ℕ → Bool) (pairs : List (ℕ × ℕ)) → AreNotes look → IsNaming look.name → AreShown look tagged pairs → StandsBehind look tagged (text_of (lines_of look tagged pairs)) (newest_cell pairs) (reverse pairs)
-lines_stand look tagged [] notes naming shown = record { place = 128; field = 0; behind = (refl, refl); stands = text_begun look tagged naming }
+lines_stand : (look : Look) (tagged : ℕ → Bool) (pairs : List (ℕ × ℕ)) → AreNotes look → IsNaming look.name → AreShown look tagged pairs → StandsBeyond look tagged (text_of (lines_of look tagged pairs)) (newest_cell pairs) (reverse pairs)
+lines_stand look tagged [] notes naming shown = record { place = 128; field = 0; following = (refl, refl); stands = text_begun look tagged naming }
 lines_stand look tagged (pair ∷ older) notes naming shown =
     let before = lines_stand look tagged older notes naming shown.2 in
     let lines = cell_lines look tagged (newest_cell older) pair.0 pair.1 in
     let done =
-    cell_step look tagged (text_of (lines_of look tagged older)) (newest_cell older) pair.0 pair.1 before.place before.field (reverse older) notes naming shown.0 shown.1 before.behind before.stands in
+    cell_step look tagged (text_of (lines_of look tagged older)) (newest_cell older) pair.0 pair.1 before.place before.field (reverse older) notes naming shown.0 shown.1 before.following before.stands in
     record {
       place = pair.0 % 4096 + 1;
       field = pair.0 / 4096;
-      behind = (refl, refl);
+      following = (refl, refl);
       stands =
           subst (λ t. StandsAt look tagged t (pair.0 % 4096 + 1) (pair.0 / 4096) (reverse (pair ∷ older))) (sym (text_append (lines_of look tagged older) lines []))
           (subst (λ p. StandsAt look tagged (text_from (text_of (lines_of look tagged older)) lines) (pair.0 % 4096 + 1) (pair.0 / 4096) p) (sym (newest_last pair older)) done);

@@ -44,11 +44,11 @@ pub record Knows (look : Look) (tagged : ℕ → Bool) (known : Meanings) : Type
   pub keeps : Keeps known
   pub tags_are : (cell : ℕ) → cell < 32768 → tagged cell ≡ true → known (name_in look.name cell) ≡ Some (cell % 4096)
 
--- what a cell's tag stands for behind these words
+-- what a cell's tag stands for after these words
 abbrev pub tag_value : (ℕ → Bool) → List (ℕ × ℕ) → ℕ → Option ℕ
 tag_value tagged pairs cell = if is_given pairs cell && tagged cell then Some (cell % 4096) else None
 
--- Behind these statements the next word goes to this place of this field, and these words stand in cells; no statement has
+-- Beyond these statements the next word goes to this place of this field, and these words stand in cells; no statement has
 -- a fault, and names stand for their permanent values, but for the tags of these words' cells.
 pub record Stands (look : Look) (tagged : ℕ → Bool) (source : Source) (place field : ℕ) (pairs : List (ℕ × ℕ)) : Type 0 where
   pub place_is : place_at source ≡ place
@@ -201,7 +201,7 @@ not_tagged : (given tagged : Bool) (value : ℕ) → tagged ≡ false → (if gi
 not_tagged true tagged value e = rw e refl
 not_tagged false tagged value e = refl
 
--- a cell's tag behind one word more, which is at this cell
+-- a cell's tag after one word more, which is at this cell
 same_cell : (look : Look) (tagged : ℕ → Bool) (b : Bool) (given : Bool) (at cell : ℕ) (known : Meanings) → tagged at ≡ b → at ≡ cell
     → known (name_in look.name cell) ≡ (if given && tagged cell then Some (cell % 4096) else None)
     → with_tags (label b (name_in look.name at)) (at % 4096) known (name_in look.name cell) ≡ (if tagged cell then Some (cell % 4096) else None)
@@ -219,10 +219,10 @@ other_cell : (look : Look) (b : Bool) (at cell place : ℕ) (known : Meanings) �
 other_cell look b at cell place known naming inside small ne =
     other_name b (name_in look.name at) place (name_in look.name cell) known (λ e. ne (naming.differ at cell inside small e))
 
-tag_behind : (look : Look) (tagged : ℕ → Bool) (pairs : List (ℕ × ℕ)) (at word cell : ℕ) (known : Meanings) → IsNaming look.name → at < 32768 → cell < 32768
+tag_after : (look : Look) (tagged : ℕ → Bool) (pairs : List (ℕ × ℕ)) (at word cell : ℕ) (known : Meanings) → IsNaming look.name → at < 32768 → cell < 32768
     → known (name_in look.name cell) ≡ tag_value tagged pairs cell
     → with_tags (label (tagged at) (name_in look.name at)) (at % 4096) known (name_in look.name cell) ≡ tag_value tagged (pairs ++ (at, word) ∷ []) cell
-tag_behind look tagged pairs at word cell known naming inside small before =
+tag_after look tagged pairs at word cell known naming inside small before =
     elim (eqb_tells at cell) [
       | inl same ↦
           same_cell look tagged (tagged at) (is_given pairs cell) at cell known refl same.1 before
@@ -265,7 +265,7 @@ tag_fault false place tag known small before = refl
 
 -- ## What names stand for in a word
 
--- In a word behind statements names stand for what they stand for there, or at last.
+-- In a word after statements names stand for what they stand for there, or at last.
 knows_there : (look : Look) (tagged : ℕ → Bool) (there last : Meanings) → Keeps there → ((cell : ℕ) → cell < 32768 → Is (there (name_in look.name cell)) (cell % 4096))
     → Knows look tagged last → Knows look tagged (λ name. if_none (there name) (last name))
 knows_there look tagged there last keeps tags knows = record {
@@ -286,7 +286,7 @@ knows_here look tagged source field pairs at word last naming small is knows =
     (λ name value e.
     let free = permanent_is_no_tag look naming name value e in
     other_name (tagged at) tag (at % 4096) name (values source) (free at small) ∙ is.others_are name free ∙ e)
-    (λ cell inside. subst (λ o. Is o (cell % 4096)) (sym (tag_behind look tagged pairs at word cell (values source) naming small inside (is.values_are cell inside)))
+    (λ cell inside. subst (λ o. Is o (cell % 4096)) (sym (tag_after look tagged pairs at word cell (values source) naming small inside (is.values_are cell inside)))
     (tag_value_is tagged (pairs ++ (at, word) ∷ []) cell))
     knows)
 
@@ -348,10 +348,10 @@ names_here Is look tagged source pairs s cell names is = record {
 same_word : (a b : ℕ) → Some a ≡ Some b → a ≡ b
 same_word a b e = cc
 
-names_behind : (look : Look) (tagged : ℕ → Bool) (source : Source) (pairs : List (ℕ × ℕ)) (s : Statement) (cell word : ℕ) → IsByTag look tagged cell word s.body
+names_following : (look : Look) (tagged : ℕ → Bool) (source : Source) (pairs : List (ℕ × ℕ)) (s : Statement) (cell word : ℕ) → IsByTag look tagged cell word s.body
     → Stands look tagged source (cell % 4096) (cell / 4096) pairs
     → (other there : ℕ) → last_word (pairs ++ (cell, word) ∷ []) other ≡ Some there → IsThere (IsByTag look tagged other there) (Ok s ∷ source) other
-names_behind look tagged source pairs s cell word names is other there e =
+names_following look tagged source pairs s cell word names is other there e =
     let step = sym (last_append pairs cell word other) ∙ e in
     elim (eqb_tells cell other) [
       | inl same ↦
@@ -380,7 +380,7 @@ word_step look tagged source pairs line tokens body cell word naming small means
       values_are = λ other low.
           stated.values_are (name_in look.name other)
           ∙ ap (λ p. with_tags tags p (values source) (name_in look.name other)) is.place_is
-          ∙ tag_behind look tagged pairs cell word other (values source) naming small low (is.values_are other low);
+          ∙ tag_after look tagged pairs cell word other (values source) naming small low (is.values_are other low);
       tags_are = ap (λ l. l ++ tags) is.tags_are ∙ sym (listed_more look.name tagged pairs cell word);
       radix_is = stated.radix_is ∙ is.radix_is;
       no_fault =
@@ -399,7 +399,7 @@ word_step look tagged source pairs line tokens body cell word naming small means
           ∙ ap (λ f. pairs ++ (4096 * f + place, word) ∷ []) is.field_is
           ∙ ap (λ c. pairs ++ (c, word) ∷ []) (again cell);
       word_is = stated.word_is ∙ one_more pairs (cell, word);
-      named_are = names_behind look tagged source pairs (statement_of line false tokens tags body) cell word names is;
+      named_are = names_following look tagged source pairs (statement_of line false tokens tags body) cell word names is;
     }
   where
     next : (a b c : ℕ) → a + b ≡ c → a + (1 + b) ≡ c + 1

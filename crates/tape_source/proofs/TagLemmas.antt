@@ -35,7 +35,7 @@ digit_code n =
     other false b e f = f
     other true b e f = absurd (cc e)
 
--- a name that begins with `A`, by the codes of five characters behind it
+-- a name that begins with `A`, by the codes of five characters after it
 abbrev named_by : ℕ → ℕ → ℕ → ℕ → ℕ → ℕ
 named_by f a b c d = 1073741824 * 1 + 16777216 * f + 262144 * a + 4096 * b + 64 * c + d
 

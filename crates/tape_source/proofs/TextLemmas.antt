@@ -1,4 +1,4 @@
--- Lines behind a text.
+-- Lines after a text.
 use Rattle.std.proofs.Common.{◌≡◌, ℕ, nat_eq, nat_le, nat_lt, Bool, true, false, ◌&&◌, ◌||◌, not, if◌then◌else◌, suc, length, List, [], ◌∷◌, ◌++◌, refl, ap, ◌∙◌, arith}
 use Rattle.std.proofs.lemmas.Bool.Decides.{nat_tests}
 use Rattle.pal_lex.specs.Text.{is_ignored, in_comment, is_dead, is_end, is_over, stretch, line_after, text_from}
@@ -12,7 +12,7 @@ pub text_append : (a b text : List ℕ) → text_from text (a ++ b) ≡ text_fro
 text_append [] b text = refl
 text_append (x ∷ a) b text = text_append a b (x ∷ text)
 
--- live bytes behind others, from a place on
+-- live bytes after others, from a place on
 abbrev pub laid : List (ℕ × ℕ) → ℕ → List ℕ → List (ℕ × ℕ)
 laid live at [] = live
 laid live at (b ∷ bytes) = laid ((b, at) ∷ live) (suc at) bytes
@@ -123,7 +123,7 @@ no_return_more (x ∷ a) b e f =
 
 -- ## Whole lines
 
--- a line with these live bytes behind a text ends one statement more, and leaves the beginning of a line
+-- a line with these live bytes after a text ends one statement more, and leaves the beginning of a line
 pub record Ends (text code after : List ℕ) : Type 0 where
   pub line : ℕ
   pub statement : statements after ≡ judge_statement line false (laid (stretch text) (length text) code) (radix_after (statements text)) ∷ statements text

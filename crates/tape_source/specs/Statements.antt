@@ -20,7 +20,7 @@ reference name tagged cell word =
 
 -- whether the names of a word's patterns make the word
 abbrev pub is_named : ℕ → Bool
-is_named word = nat_lt 3071 word && nat_eq (or_after 0 (patterns_of word patterns)) word
+is_named word = nat_lt 0o5777 word && nat_eq (or_after 0 (patterns_of word patterns)) word
 
 -- the pieces of an instruction: a memory reference or names where they make the word, else its number
 abbrev pub instruction_by : (ℕ → List ℕ) → (ℕ → Bool) → ℕ → ℕ → List (List ℕ)

@@ -56,7 +56,7 @@ unassigned-not did word is r = true≢false (sym r ∙ ap (λ d. runs_on d) is)
 unassigned-halted : (did : Stepped) (word : ℕ) → did ≡ Unassigned word → has_halted did ≡ true → ⊥
 unassigned-halted did word is h = true≢false (sym h ∙ ap (λ d. has_halted d) is)
 
--- behind fewer steps there is no end
+-- after fewer steps there is no end
 goes-past : (t : Terminal) (n steps : ℕ) (y : TerminalEnd) → Ends t n steps y → GoesOn t steps → steps < n → ⊥
 goes-past t n steps why.Halt ends goes below = halted-not (last_did steps t) ends goes.runs
 goes-past t n steps why.Unassigned ends goes below = unassigned-not (last_did steps t) ends.0 ends.1 goes.runs

@@ -4,16 +4,16 @@ use Rattle.std.proofs.lemmas.List.{at_drop_more}
 use Rattle.terminal8.specs.Keys.{Keyboard, key_of_byte, after_byte, keys_from}
 use Rattle.terminal8.specs.KeySteps.{keyboard_after}
 
--- bytes behind others
+-- bytes after others
 pub keys_more : (k : Keyboard) (bytes more : List ℕ) → keys_from k (bytes ++ more) ≡ keys_from k bytes ++ keys_from (keyboard_after k bytes) more
 keys_more k [] more = refl
 keys_more k (byte ∷ bytes) more =
     ap (λ keys. option_to_list (key_of_byte k byte) ++ keys) (keys_more (after_byte k byte) bytes more)
     ∙ sym (append_assoc (option_to_list (key_of_byte k byte)) (keys_from (after_byte k byte) bytes) (keys_from (keyboard_after (after_byte k byte) bytes) more))
 
-pub behind_more : (k : Keyboard) (bytes more : List ℕ) → keyboard_after k (bytes ++ more) ≡ keyboard_after (keyboard_after k bytes) more
-behind_more k [] more = refl
-behind_more k (byte ∷ bytes) more = behind_more (after_byte k byte) bytes more
+pub after_more : (k : Keyboard) (bytes more : List ℕ) → keyboard_after k (bytes ++ more) ≡ keyboard_after (keyboard_after k bytes) more
+after_more k [] more = refl
+after_more k (byte ∷ bytes) more = after_more (after_byte k byte) bytes more
 
 -- the next byte of several
 pub keys_next : (k after : Keyboard) (keys struck bytes all : List ℕ) (i : ℕ) (key : Option ℕ) → i < length bytes

@@ -11,7 +11,7 @@ use Rattle.terminal8.specs.RunSteps.{Strikes, StrikesKeys, IsDry, Looks, Attends
 use Rattle.terminal8.specs.declared.inputs.Input.{Input}
 use Rattle.terminal8.specs.declared.inputs.Input.TheVariants.{Ending, Live}
 use Rattle.terminal8.proofs.ByteLemmas.{strikes-none, strikes-more}
-use Rattle.terminal8.proofs.KeyLemmas.{keys_more, behind_more}
+use Rattle.terminal8.proofs.KeyLemmas.{keys_more, after_more}
 use Rattle.terminal8.proofs.WaitLemmas.{waits-asks}
 
 -- ## Bytes up to a key
@@ -24,7 +24,7 @@ pub keys-byte : (k k' new : Keyboard) (a a' a'' : List ℕ) (r r' r'' : Option (
 keys-byte k k' new a a' a'' r r' r'' byte key t strikes key_is new_is = record {
   bytes = t.bytes ++ byte ∷ [];
   strikes = strikes-more a a' a'' r r' r'' t.bytes (byte ∷ []) t.strikes strikes;
-  keyboard = new_is ∙ ap (λ k. after_byte k byte) t.keyboard ∙ sym (behind_more k t.bytes (byte ∷ []));
+  keyboard = new_is ∙ ap (λ k. after_byte k byte) t.keyboard ∙ sym (after_more k t.bytes (byte ∷ []));
   keys_are =
       keys_more k t.bytes (byte ∷ [])
       ∙ ap (λ keys. keys ++ (option_to_list (key_of_byte (keyboard_after k t.bytes) byte) ++ [])) t.keys_are

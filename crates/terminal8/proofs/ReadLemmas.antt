@@ -16,7 +16,7 @@ use Rattle.terminal8.proofs.WaitLemmas.{Waits, waits, waits-asks, printing_step-
 use Rattle.terminal8.proofs.LookLemmas.{starves-not}
 use Rattle.terminal8.proofs.TerminalLemmas.{later-none, later-next, did-none, did-next, printed-none, printed-next}
 
--- ## Steps behind others
+-- ## Steps after others
 
 pub later-add : (a b : ℕ) (t : Terminal) → later (a + b) t ≡ later b (later a t)
 later-add a zero t = let e : a + 0 ≡ a = omega arith in ap (λ k. later k t) e ∙ sym (later-none (later a t))
@@ -78,7 +78,7 @@ not-ksf true w is jmp = let e : w / 8 ≡ 387 = eqb-true (w / 8) 387 is in absur
 none-off : (waits held requests : Bool) (on : Bool) → on ≡ false → (on && (not waits && (not held && requests))) ≡ false
 none-off waits held requests on off = ap (λ b. b && (not waits && (not held && requests))) off
 
--- behind the KSF that finds no key it doesn't ask for one
+-- after the KSF that finds no key it doesn't ask for one
 asks-not : (s : State) (since : ℕ) → Waits s → s.interrupts_on ≡ false → asks_for_key since (after_fetch s) ≡ false
 asks-not s since w off = rw (w.clear, off, not-ksf (nat_eq (word_after s / 8) 387) (word_after s) refl w.jmp) refl
 
@@ -109,7 +109,7 @@ none-twice s looks since r =
       };
     }
 
--- the machine behind the KSF that found a key
+-- the machine after the KSF that found a key
 abbrev found : State → ℕ → State
 found s key = record (key_struck s key) { pc = (s.pc + 2) % 4096; waiting = false }
 
@@ -120,7 +120,7 @@ ksf-found s key w off = rw (w.running, off, w.word) refl
 printing_step-found : (s : State) (key : ℕ) → Waits s → s.interrupts_on ≡ false → printing_step true (key_struck s key) ≡ (found s key, Ran None)
 printing_step-found s key w off = printing_step-idle (key_struck s key) w.idle ∙ ksf-found s key w off
 
--- and behind its KRB, with PC and AC as they are computed
+-- and after its KRB, with PC and AC as they are computed
 abbrev read_from : State → ℕ → ℕ → ℕ → Bool → State
 read_from s key pc ac waiting = record s { pc = pc; ac = ac; waiting = waiting; teletype = record s.teletype { buffer = key; keyboard_flag = false } }
 

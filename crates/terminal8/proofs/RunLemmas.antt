@@ -20,7 +20,7 @@ use Rattle.terminal8.specs.declared.outcomes.Ended.{Ended}
 use Rattle.terminal8.specs.declared.outcomes.TerminalEnd.{TerminalEnd}
 use Rattle.terminal8.specs.declared.outcomes.TerminalEnd.TheVariants as why
 use Rattle.terminal8.proofs.ByteLemmas.{consumes_more, consumes_none, passes-none, passes-more, passed}
-use Rattle.terminal8.proofs.KeyLemmas.{keys_more, behind_more}
+use Rattle.terminal8.proofs.KeyLemmas.{keys_more, after_more}
 use Rattle.terminal8.proofs.LookLemmas.{finds-none, finds-more, finds-found, starves-not}
 use Rattle.terminal8.proofs.TerminalLemmas.{later-none, later-next, did-none, did-next, printed-none, printed-next, shown-more}
 
@@ -44,7 +44,7 @@ pub record IsTaken (form : Form) (input : Input) (k : Keyboard) (ahead : List �
   pub none_only : (before after : List (Option ℕ)) → before ++ None ∷ after ≡ looks → FindsNone form r before
   pub at_end : over ≡ true → HaveEnded input ahead r'
 
--- All that: the run goes on behind so many steps.
+-- All that: the run goes on after so many steps.
 pub record IsRunning (form : Form) (input : Input) (old new : State) (k : Keyboard) (ahead : List ℕ) (over : Bool) (since : ℕ)
     (r r' w w' : Option (List ℕ)) (paper : List ℕ) (steps : ℕ) : Type 0 where
   pub looks : List (Option ℕ)
@@ -118,7 +118,7 @@ taken-all form input k k' a a' over r r' r'' looks keys i s =
     (append_assoc i.bytes a s.strikes.read ∙ ap (λ l. i.bytes ++ l) s.strikes.in_order ∙ sym (append_assoc i.bytes s.bytes a'))
     (consumes_more r r' r'' (i.bytes ++ a) s.strikes.read i.taken s.strikes.taken)
 
--- a look behind these found none
+-- a look after these found none
 finds-here : (form : Form) (input : Input) (k k' : Keyboard) (a a' : List ℕ) (over : Bool) (r r' r'' : Option (List ℕ)) (looks : List (Option ℕ)) (keys : List ℕ)
     → IsTaken form input k a over r r' looks → StrikesKeys k k' a a' r' r'' keys → keys ≡ [] → IsDry a' r'' → FindsNone form r looks
 finds-here form input k k' a a' over r r' r'' looks keys i s none dry = record {
@@ -160,7 +160,7 @@ taken-more : (form : Form) (input : Input) (k k' : Keyboard) (a a' : List ℕ) (
 taken-more form input k k' a a' over over' r r' r'' looks found keys i s finds none end = record {
   bytes = i.bytes ++ s.bytes;
   taken = taken-all form input k k' a a' over r r' r'' looks keys i s;
-  keyboard = s.keyboard ∙ ap (λ k. keyboard_after k s.bytes) i.keyboard ∙ sym (behind_more (fresh form) i.bytes s.bytes);
+  keyboard = s.keyboard ∙ ap (λ k. keyboard_after k s.bytes) i.keyboard ∙ sym (after_more (fresh form) i.bytes s.bytes);
   finds =
       subst (λ ks. FindsKey input (looks ++ found) ks) (keys-sum form input k k' a a' over r r' r'' looks keys i s)
       (finds-more input looks found (keys_of form i.bytes) keys i.finds finds);
@@ -174,7 +174,7 @@ taken-next : (form : Form) (input : Input) (k k' : Keyboard) (a a' : List ℕ) (
 taken-next form input k k' a a' over over' s s' since since' r r' r'' looks starved i at =
     taken-more form input k k' a a' over over' r r' r'' looks at.found at.keys i at.strikes at.finds at.none_only (at.at_end i.at_end)
 
--- the step behind that
+-- the step after that
 step-at : (input : Input) (old s s' new : State) (k k' : Keyboard) (a a' : List ℕ) (over over' : Bool) (since since' : ℕ) (r r' : Option (List ℕ)) (looks : List (Option ℕ)) (steps : ℕ) (starved : Bool)
     → IsAt old looks over steps s since → RunsOn old looks over steps → (at : Attends input k k' a a' over over' s s' since since' r r' starved) → starved ≡ false
     → new ≡ (printing_step true s').0 → IsAt old (looks ++ at.found) over' (steps + 1) new (since' + 1)
@@ -282,7 +282,7 @@ limit-keys = refl
 
 -- ## A run that goes on
 
--- behind a step
+-- after a step
 pub running-next : (form : Form) (input : Input) (old s s' new : State) (k k' : Keyboard) (a a' : List ℕ) (over over' : Bool) (since since' : ℕ)
     (r r' r'' w w' w'' w''' : Option (List ℕ)) (p p' p'' : List ℕ) (steps : ℕ) (did : Stepped)
     → IsRunning form input old s k a over since r r' w w' p steps → Attends input k k' a a' over over' s s' since since' r' r'' false
@@ -298,7 +298,7 @@ running-next form input old s s' new k k' a a' over over' since since' r r' r'' 
   prints = step-prints input old s s' k k' a a' over over' since since' r' r'' w w' w'' w''' p p' p'' i.looks steps false did i.is_at i.prints at none did_is some;
 }
 
--- behind a step in which the program asks for no key and that prints nothing
+-- after a step in which the program asks for no key and that prints nothing
 quiet-at : (old s : State) (looks : List (Option ℕ)) (over : Bool) (steps since : ℕ) → IsAt old looks over steps s since → RunsOn old looks over steps
     → asks_for_key since s ≡ false → IsAt old looks over (steps + 1) (printing_step true s).0 (since + 1)
 quiet-at old s looks over steps since i runs asks = record {
@@ -349,7 +349,7 @@ after-suc : (k : ℕ) (s : State) → (printing_step true (after true k s)).0 �
 unfolding after
 after-suc k s = refl
 
--- behind several such steps
+-- after several such steps
 quiet-more : (form : Form) (input : Input) (old s : State) (k : Keyboard) (a : List ℕ) (over : Bool) (since : ℕ) (r r' w w' : Option (List ℕ)) (p : List ℕ) (steps count : ℕ)
     → IsRunning form input old s k a over since r r' w w' p steps
     → ((m : ℕ) → m < count → answer true m s ≡ Ran None)
@@ -365,11 +365,11 @@ quiet-more form input old s k a over since r r' w w' p steps (suc count) i answe
     let e : steps + count + 1 ≡ steps + suc count = omega arith in
     let f : since + count + 1 ≡ since + suc count = omega arith in
     let before = quiet-more form input old s k a over since r r' w w' p steps count i (λ m below. answers m (omega (arith, below))) (λ m below. asks m (omega (arith, below))) in
-    let behind_it : IsRunning form input old (printing_step true (after true count s)).0 k a over (since + count + 1) r r' w w' p (steps + count + 1) =
+    let after_it : IsRunning form input old (printing_step true (after true count s)).0 k a over (since + count + 1) r r' w w' p (steps + count + 1) =
     quiet-next form input old (after true count s) k a over (since + count) r r' w w' p (steps + count) before (asks count (omega arith)) (answers count (omega arith)) in
     subst (λ x. IsRunning form input old x k a over (since + suc count) r r' w w' p (steps + suc count)) (after-suc count s)
     (subst (λ (m : ℕ). IsRunning form input old (printing_step true (after true count s)).0 k a over m r r' w w' p (steps + suc count)) f
-    (subst (λ (m : ℕ). IsRunning form input old (printing_step true (after true count s)).0 k a over (since + count + 1) r r' w w' p m) e behind_it))
+    (subst (λ (m : ℕ). IsRunning form input old (printing_step true (after true count s)).0 k a over (since + count + 1) r r' w w' p m) e after_it))
 
 pub running-more : (form : Form) (input : Input) (old s new : State) (k : Keyboard) (a : List ℕ) (over : Bool) (since : ℕ) (r r' w w' : Option (List ℕ)) (p : List ℕ) (steps count : ℕ)
     → IsRunning form input old s k a over since r r' w w' p steps → new ≡ after true count s

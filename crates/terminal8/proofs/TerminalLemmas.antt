@@ -28,7 +28,7 @@ pub printed-next : (k : ℕ) (t : Terminal) → characters_of (k + 1) t ≡ char
 unfolding characters_of
 printed-next k t = rw add-one refl
 
--- what is shown of characters behind others
+-- what is shown of characters after others
 shown-if : (b : Bool) (c : ℕ) (xs ys : List ℕ) → (if b then xs ++ ys else c ∷ (xs ++ ys)) ≡ (if b then xs else c ∷ xs) ++ ys
 shown-if true c xs ys = refl
 shown-if false c xs ys = refl

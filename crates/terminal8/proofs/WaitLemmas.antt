@@ -95,14 +95,14 @@ as-before s w =
     ∙ ap (λ b. record s { held_off = b; instruction_field = s.instruction_buffer }) (sym w.held_off)
     ∙ ap (λ f. record s { instruction_field = f }) w.field
 
-none-behind : (s : State) → Waits s → grants_interrupt (after_fetch s) ≡ false
-none-behind s w =
+none-following : (s : State) → Waits s → grants_interrupt (after_fetch s) ≡ false
+none-following s w =
     ap (λ b. s.interrupts_on && (true && (not b && (s.teletype.keyboard_flag || s.teletype.printer_flag)))) w.held_off
     ∙ none-granted s.interrupts_on s.teletype.keyboard_flag s.teletype.printer_flag w.clear w.requested
 
 jmp-next : (s : State) → Waits s → step (after_fetch s) ≡ (jmp_row (after_fetch s) (word_after s), Ran None)
 unfolding step after_instruction
-jmp-next s w = rw (none-behind s w, w.running, by-512 (word_after s) w.jmp) refl
+jmp-next s w = rw (none-following s w, w.running, by-512 (word_after s) w.jmp) refl
 
 jmp-step : (s : State) → Waits s → step (after_fetch s) ≡ (s, Ran None)
 jmp-step s w =

@@ -6,32 +6,32 @@ use Rattle.terminal8.specs.declared.keyboards.Form.TheVariants.{Text, Raw}
 -- A keyboard on which bytes are struck: how they are, and whether the last one was a CR.
 pub record Keyboard : Type 0 where
   pub form : Form
-  pub behind_return : Bool
+  pub after_return : Bool
 
 -- no byte was struck
 abbrev pub fresh : Form → Keyboard
-fresh form = record { form = form; behind_return = false }
+fresh form = record { form = form; after_return = false }
 
 -- The key of a byte of a text. LF is struck as CR (0215), except the LF of CR LF, which is none. Any other byte below 0200
 -- is struck with its top bit set, and one above 0177 is none.
 abbrev pub text_key : Bool → ℕ → Option ℕ
-text_key behind_return byte =
-    if nat_eq byte 0o12 then (if behind_return then None else Some 0o215)
+text_key after_return byte =
+    if nat_eq byte 0o12 then (if after_return then None else Some 0o215)
     else if nat_lt byte 0o200 then Some (byte + 0o200)
     else None
 
 -- the key of a byte in a form; in the raw one each byte is a key, as it is
 abbrev pub key_by_form : Form → Bool → ℕ → Option ℕ
-key_by_form Text behind_return byte = text_key behind_return byte
-key_by_form Raw behind_return byte = Some byte
+key_by_form Text after_return byte = text_key after_return byte
+key_by_form Raw after_return byte = Some byte
 
 -- the key of the next byte on a keyboard
 abbrev pub key_of_byte : Keyboard → ℕ → Option ℕ
-key_of_byte k byte = key_by_form k.form k.behind_return byte
+key_of_byte k byte = key_by_form k.form k.after_return byte
 
 -- the keyboard once a byte was struck
 abbrev pub after_byte : Keyboard → ℕ → Keyboard
-after_byte k byte = record k { behind_return = nat_eq byte 0o15 }
+after_byte k byte = record k { after_return = nat_eq byte 0o15 }
 
 -- the keys of the next bytes
 abbrev pub keys_from : Keyboard → List ℕ → List ℕ

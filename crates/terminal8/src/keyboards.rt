@@ -20,7 +20,7 @@ pub enum Form {
 #[derive(Clone, Copy, PartialEq, Eq, Debug)]
 pub struct Keyboard {
     form: Form,
-    behind_return: bool,
+    after_return: bool,
 }
 
 impl Model for Keyboard {
@@ -28,9 +28,9 @@ impl Model for Keyboard {
 
     ghost Value = { spec.Keyboard };
 
-    ghost view = { λ k. record { form = k.form; behind_return = k.behind_return } };
+    ghost view = { λ k. record { form = k.form; after_return = k.after_return } };
 
-    ghost inverse = { λ s. record { form = s.form; behind_return = s.behind_return } };
+    ghost inverse = { λ s. record { form = s.form; after_return = s.after_return } };
 }
 
 impl Keyboard {
@@ -40,30 +40,30 @@ impl Keyboard {
     {
         Keyboard {
             form,
-            behind_return: false,
+            after_return: false,
         }
     }
 
     /// Strikes the next byte: the key that it is, of eight bits, if it is one.
     pub fn strike(&mut self, byte: u8) -> Option<u8>
         ensures key { result ≡ key_of_byte self.old byte }
-        ensures behind { self.new ≡ after_byte self.old byte }
+        ensures following { self.new ≡ after_byte self.old byte }
     {
-        let behind_return = self.behind_return;
-        self.behind_return = byte == CR;
+        let after_return = self.after_return;
+        self.after_return = byte == CR;
         match self.form {
             Form::Raw => Some(byte),
-            Form::Text => text_key(behind_return, byte),
+            Form::Text => text_key(after_return, byte),
         }
     }
 }
 
 /// The key of a byte of a text, after a CR or not.
-fn text_key(behind_return: bool, byte: u8) -> Option<u8>
-    ensures { result ≡ text_key behind_return byte }
+fn text_key(after_return: bool, byte: u8) -> Option<u8>
+    ensures { result ≡ text_key after_return byte }
 {
     match byte {
-        LF if behind_return => None,
+        LF if after_return => None,
         LF => Some(CR + TOP_BIT),
         0..TOP_BIT => Some(byte + TOP_BIT),
         _ => None,

@@ -142,7 +142,7 @@ more-lines tagged t w w' lines lines' made are is = record {
       ∙ sym (lines-next tagged made t);
 }
 
--- the run goes on behind these steps, and one more is made
+-- the run goes on after these steps, and one more is made
 goes-further : (t t' : Terminal) (made : ℕ) → t' ≡ later made t → ((k : ℕ) → k < made → GoesOn t k) → runs_on (last_did made t) ≡ true
     → starves t' ≡ false → (k : ℕ) → k < made + 1 → GoesOn t k
 goes-further t t' made is goes runs fed =
@@ -232,7 +232,7 @@ unwritten-trace tagged n t t' w w' w'' lines lines' made fault i within is = rec
   lines = λ memory. absurd (no-memory fault is memory);
 }
 
--- memory ran out behind a step
+-- memory ran out after a step
 pub refused-trace : (tagged : ℕ → Bool) (n : ℕ) (t t' t'' : Terminal) (w w' w'' : Option (List ℕ)) (lines lines' lines'' : List ℕ) (made : ℕ) (fault : TraceFault)
     → IsTracing tagged t t' w w' lines made → made < n → starves t' ≡ false → HandsOn lines lines' w' w'' → t'' ≡ next t'
     → TracesInto tagged n t t'' w w'' lines'' (Err fault)

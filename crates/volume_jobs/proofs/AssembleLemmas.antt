@@ -29,7 +29,7 @@ use Rattle.volume_jobs.proofs.StepLemmas.{state_same, same_put, quiet_over, miss
 
 -- a job of the code that assembles
 abbrev pub the_assembly : Assembly → ℕ → Job
-the_assembly a left = record { work = work.Assembling a; left = left }
+the_assembly a left = record { work = work.Assembling a; turns = left }
 
 -- the words of its sources
 abbrev pub sources_of : MountState → Assembly → List (List ℕ)
@@ -131,7 +131,7 @@ working_on old new core a b left none fits is more to holds on =
         more = more;
         others =
             state_same old new core _ (ap (λ (m : MountState). m.blocks) on.0.1)
-            ∙ ap (λ (w : plain.Work). record (state_over old core l) { jobs = plain.with_job number (Some (record { work = w; left = left - 1 })) l }) (same_work a b to holds);
+            ∙ ap (λ (w : plain.Work). record (state_over old core l) { jobs = plain.with_job number (Some (record { work = w; turns = left - 1 })) l }) (same_work a b to holds);
       },
     ))
     (λ number l there. tt)
@@ -141,7 +141,7 @@ working_on old new core a b left none fits is more to holds on =
     (inl (ap (λ (m : MountState). m.blocks) on.0.1, inr (ap (λ (m : MountState). m.reads) on.0.1))) tt
 
 same_job : (a b : Assembly) (left number : ℕ) (l : List (Option plain.Job)) → b.to ≡ a.to → b.holds ≡ a.holds → plain.job_of number l ≡ Some (plain.assembling a.to (names_of a.holds) left) → plain.with_job number (plain_job (Some (the_assembly b left))) l ≡ l
-same_job a b left number l to holds there = ap (λ (w : plain.Work). plain.with_job number (Some (record { work = w; left = left })) l) (same_work a b to holds) ∙ same_put number (plain.assembling a.to (names_of a.holds) left) l there
+same_job a b left number l to holds there = ap (λ (w : plain.Work). plain.with_job number (Some (record { work = w; turns = left })) l) (same_work a b to holds) ∙ same_put number (plain.assembling a.to (names_of a.holds) left) l there
 
 -- memory ran out in a block
 pub memory_on : (old new : MountState) (core : List ℕ) (a b : Assembly) (left : ℕ) (why : JobFault) → is_memory why ≡ true → old.tentative ≡ None → AssemblyFits a left → AssemblyStands old.blocks a left → b.to ≡ a.to → b.holds ≡ a.holds
@@ -163,7 +163,7 @@ memory_on old new core a b left why memory none fits is to holds reads =
         (λ other. absurd (other refl))
         (inl (ap (λ (m : MountState). m.blocks) on.0.1, inr (ap (λ (m : MountState). m.reads) on.0.1))) tt
 
--- what is left where the job has let go behind a read
+-- what is left where the job has let go after a read
 gone_from : (old mid new : MountState) (places : List (Option ℕ)) (reads failed : ℕ) → mid ≡ record old { reads = reads; failed_reads = failed } → new ≡ record mid { holds = without_holds places mid.holds } → new ≡ record old { reads = reads; failed_reads = failed; holds = without_holds places old.holds }
 gone_from old mid new places reads failed is gone = gone ∙ ap (λ (m : MountState). record m { holds = without_holds places m.holds }) is
 

@@ -17,7 +17,7 @@ none_taken loader fed = record {
 }
 
 pub begun_loading : (old new : MountState) (name hold blocks : ℕ) (loader : load.Loading) (found : Option ℕ) → call.HasTaken old name hold new → (new.stopped ≡ false → found ≡ blocks_of (get (files_of new.blocks) name)) → blocks ≡ unwrap_or found 0 → IsFed loader []
-    → HasBegunLoading old name (record { hold = hold; done = 0; offset = 0; loader = loader }) (blocks + 1) new
+    → HasBegunLoading old name (record { hold = hold; blocks_read = 0; offset = 0; loader = loader }) (blocks + 1) new
 begun_loading old new name hold blocks loader found taken looked is fed = record {
   running = taken.running;
   words = taken.file.1;

@@ -22,9 +22,9 @@ none_held (held ∷ holds) none = absurd (never (none held))
 
 fewer_held : ReleasedLaw → (it : Option Job) (jobs : List (Option Job)) (holds : List ℕ) → AreHeld holds (it ∷ jobs) → AreHeld (without_job it holds) jobs
 fewer_held law None jobs holds held = held
-fewer_held law (Some it) jobs holds held = by_work it.work it.left held
+fewer_held law (Some it) jobs holds held = by_work it.work it.turns held
   where
-    by_work : (w : Work) (left : ℕ) → AreHeld holds (Some (record { work = w; left = left }) ∷ jobs) → AreHeld (without_job (Some (record { work = w; left = left })) holds) jobs
+    by_work : (w : Work) (left : ℕ) → AreHeld holds (Some (record { work = w; turns = left }) ∷ jobs) → AreHeld (without_job (Some (record { work = w; turns = left })) holds) jobs
     by_work (work.Loading l) left h = λ name. omega (arith, h name, law name l.hold holds some)
       where
         some : 1 ≤ times l.hold holds

@@ -13,7 +13,7 @@ length-frames [] = refl
 length-frames (first ∷ []) = refl
 length-frames (first ∷ second ∷ words) = omega (arith, length-frames words)
 
--- the frames of an even list of words stand before those of the words behind
+-- the frames of an even list of words stand before those of the words after
 pub frames-append : (words others : List ℕ) → length words % 2 ≡ 0 → frames (words ++ others) ≡ frames words ++ frames others
 frames-append [] others even = refl
 frames-append (first ∷ []) others even = absurd (omega (arith, even))

@@ -19,24 +19,24 @@ use Rattle.volume_jobs.proofs.TimesLemmas.{self_once}
 
 fits_in : (hold : ℕ) (after : Option Job) → FitsAfter hold after → FitsIn after
 fits_in hold None fits = tt
-fits_in hold (Some it) fits = by_work it.work it.left fits
+fits_in hold (Some it) fits = by_work it.work it.turns fits
   where
-    by_work : (w : Work) (left : ℕ) → FitsOn hold w left → FitsIn (Some (record { work = w; left = left }))
+    by_work : (w : Work) (left : ℕ) → FitsOn hold w left → FitsIn (Some (record { work = w; turns = left }))
     by_work (work.Loading l) left f = f.0
     by_work (work.Assembling a) left f = absurd f
     by_work (work.Squeezing clean) left f = absurd f
 
 holds_after : ReleasedLaw → (hold : ℕ) (after : Option Job) (holds : List ℕ) (name : ℕ) → 1 ≤ times hold holds → FitsAfter hold after → times name (left_holds hold after holds) + times name (hold ∷ []) ≡ times name holds + times name (names_in after)
 holds_after law hold None holds name some fits = omega (arith, law name hold holds some)
-holds_after law hold (Some it) holds name some fits = by_work it.work it.left fits
+holds_after law hold (Some it) holds name some fits = by_work it.work it.turns fits
   where
-    by_work : (w : Work) (left : ℕ) → FitsOn hold w left → times name holds + times name (hold ∷ []) ≡ times name holds + times name (names_in (Some (record { work = w; left = left })))
+    by_work : (w : Work) (left : ℕ) → FitsOn hold w left → times name holds + times name (hold ∷ []) ≡ times name holds + times name (names_in (Some (record { work = w; turns = left })))
     by_work (work.Loading l) left f = ap (λ n. times name holds + times name (n ∷ [])) (sym f.1)
     by_work (work.Assembling a) left f = absurd f
     by_work (work.Squeezing clean) left f = absurd f
 
 pub loading_job : ReleasedLaw → (old new : MountState) (core core2 : List ℕ) (it : Loading) (left : ℕ) (answer : Answer) (after : Option Job) → old.tentative ≡ None → ((name : ℕ) → times name (it.hold ∷ []) ≤ times name old.holds)
-    → TurnsLoading old core it left answer after new core2 → TurnsJob old core (record { work = work.Loading it; left = left }) answer after new core2
+    → TurnsLoading old core it left answer after new core2 → TurnsJob old core (record { work = work.Loading it; turns = left }) answer after new core2
 loading_job law old new core core2 it left answer after none held t = record {
   step = λ number l there named quiet. subst (λ b. LoadingTurn (state_over old core l) number it.hold left answer (state_over new core2 (plain_after b (plain.with_job number (plain_job after) l)))) (sym t.kind) (t.step number l there quiet);
   jobs = t.jobs;

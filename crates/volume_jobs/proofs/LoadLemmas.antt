@@ -137,24 +137,24 @@ met_none none one words turn fine end Memory met = absurd met
 
 -- ## Turns
 
-pub inside_file : (words : List ℕ) (left : ℕ) (old : Loading) → IsLoading words old left → 2 ≤ left → 256 * (old.done + 1) ≤ length words
+pub inside_file : (words : List ℕ) (left : ℕ) (old : Loading) → IsLoading words old left → 2 ≤ left → 256 * (old.blocks_read + 1) ≤ length words
 inside_file words left old is more = omega (arith, is.whole, is.turns, more)
 
 -- a block that was taken
-pub block_taken : (words : List ℕ) (left : ℕ) (old : Loading) (block : List ℕ) (loader : load.Loading) (offset : ℕ) → IsLoading words old left → 2 ≤ left → block ≡ block_at old.done words
+pub block_taken : (words : List ℕ) (left : ℕ) (old : Loading) (block : List ℕ) (loader : load.Loading) (offset : ℕ) → IsLoading words old left → 2 ≤ left → block ≡ block_at old.blocks_read words
     → ((before : List ℕ) → HasTaken old.loader (before ++ take old.offset (frames block)) → TakesFrames before block (Ok tt) loader offset)
-    → HasTaken loader (frames (first_blocks (old.done + 1) words))
+    → HasTaken loader (frames (first_blocks (old.blocks_read + 1) words))
 block_taken words left old block loader offset is more this takes =
-    let taken : HasTaken old.loader (frames (first_blocks old.done words) ++ take old.offset (frames block)) = subst (λ b. HasTaken old.loader (frames (first_blocks old.done words) ++ take old.offset (frames b))) (sym this) is.taken in
-    subst (λ l. HasTaken loader l) (ap (λ b. frames (first_blocks old.done words) ++ frames b) this ∙ sym (one_block old.done words (inside_file words left old is more)))
-    (takes (frames (first_blocks old.done words)) taken).0
+    let taken : HasTaken old.loader (frames (first_blocks old.blocks_read words) ++ take old.offset (frames block)) = subst (λ b. HasTaken old.loader (frames (first_blocks old.blocks_read words) ++ take old.offset (frames b))) (sym this) is.taken in
+    subst (λ l. HasTaken loader l) (ap (λ b. frames (first_blocks old.blocks_read words) ++ frames b) this ∙ sym (one_block old.blocks_read words (inside_file words left old is more)))
+    (takes (frames (first_blocks old.blocks_read words)) taken).0
 
--- the job behind it
+-- the job after it
 abbrev pub next : Loading → load.Loading → Loading
-next old loader = record { hold = old.hold; done = old.done + 1; offset = 0; loader = loader }
+next old loader = record { hold = old.hold; blocks_read = old.blocks_read + 1; offset = 0; loader = loader }
 
 -- fewer turns are left, and none of them is the last
-not_last : (words : List ℕ) (left : ℕ) (old : Loading) (loader : load.Loading) → IsLoading words old left → 3 ≤ left → HasTaken loader (frames (first_blocks (old.done + 1) words)) → IsLoading words (next old loader) (left - 1)
+not_last : (words : List ℕ) (left : ℕ) (old : Loading) (loader : load.Loading) → IsLoading words old left → 3 ≤ left → HasTaken loader (frames (first_blocks (old.blocks_read + 1) words)) → IsLoading words (next old loader) (left - 1)
 not_last words left old loader is more taken = record {
   whole = is.whole;
   turns = omega (arith, is.turns, more);
@@ -169,11 +169,11 @@ not_last words left old loader is more taken = record {
 
 -- a turn that was not the last of those that read
 pub went_on : NoFault → OneFault → (words : List ℕ) (left : ℕ) (old : Loading) (loader : load.Loading) → IsLoading words old left → 2 ≤ left → false ≡ nat_eq left 2
-    → HasTaken loader (frames (first_blocks (old.done + 1) words)) → ReadsBlock words old left (Ok tt) (next old loader)
+    → HasTaken loader (frames (first_blocks (old.blocks_read + 1) words)) → ReadsBlock words old left (Ok tt) (next old loader)
 went_on none one words left old loader is more last taken = (
   not_last words left old loader is three taken,
   refl,
-  met_none none one words (old.done + 1) taken.fine (inl (omega (arith, is.turns, three))),
+  met_none none one words (old.blocks_read + 1) taken.fine (inl (omega (arith, is.turns, three))),
 )
   where
     three : 3 ≤ left
@@ -183,12 +183,12 @@ went_on none one words left old loader is more last taken = (
     ]
 
 -- the frames of all blocks are those of the file
-all_frames : (words : List ℕ) (old : Loading) → IsLoading words old 2 → frames (first_blocks (old.done + 1) words) ≡ frames words
-all_frames words old is = ap frames (all_blocks (old.done + 1) words (omega (arith, is.turns, is.whole)))
+all_frames : (words : List ℕ) (old : Loading) → IsLoading words old 2 → frames (first_blocks (old.blocks_read + 1) words) ≡ frames words
+all_frames words old is = ap frames (all_blocks (old.blocks_read + 1) words (omega (arith, is.turns, is.whole)))
 
 -- the last turn that reads
 pub ended : NoFault → OneFault → (words : List ℕ) (old : Loading) (loader : load.Loading) (r : Result (Unit {0}) JobFault) → IsLoading words old 2
-    → HasTaken loader (frames (first_blocks (old.done + 1) words)) → EndsTape (frames (first_blocks (old.done + 1) words)) r → ReadsBlock words old 2 r (next old loader)
+    → HasTaken loader (frames (first_blocks (old.blocks_read + 1) words)) → EndsTape (frames (first_blocks (old.blocks_read + 1) words)) r → ReadsBlock words old 2 r (next old loader)
 ended none one words old loader (Ok tt) is taken ends = (
   record {
     whole = is.whole;
@@ -199,13 +199,13 @@ ended none one words old loader (Ok tt) is taken ends = (
     at_end = λ one. (refl, tape);
   },
   refl,
-  met_none none one words (old.done + 1) taken.fine (inr tape),
+  met_none none one words (old.blocks_read + 1) taken.fine (inr tape),
 )
   where
     tape : (items : List Item) × IsTape (frames words) items
     tape = (ends.0, subst (λ l. IsTape l ends.0) (all_frames words old is) ends.1)
 ended none one words old loader (Err (fault.Tape why)) is taken ends = (
-  subst (λ f. IsFirstMet words (old.done + 1) f) (sym ends.0) record {
+  subst (λ f. IsFirstMet words (old.blocks_read + 1) f) (sym ends.0) record {
     whole = missing;
     met = (omega (arith, is.turns), missing);
     least = λ earlier met. omega (arith, is.turns, met.0);
@@ -230,18 +230,18 @@ end_told none one given NoTrailer fine is = (refl, is)
 end_told none one given Memory fine is = absurd is
 
 -- memory ran out in a block
-pub broken_off : (words : List ℕ) (left : ℕ) (old : Loading) (block : List ℕ) (loader : load.Loading) (offset : ℕ) → IsLoading words old left → 2 ≤ left → block ≡ block_at old.done words
+pub broken_off : (words : List ℕ) (left : ℕ) (old : Loading) (block : List ℕ) (loader : load.Loading) (offset : ℕ) → IsLoading words old left → 2 ≤ left → block ≡ block_at old.blocks_read words
     → ((before : List ℕ) → HasTaken old.loader (before ++ take old.offset (frames block)) → TakesFrames before block (Err Memory) loader offset)
-    → IsLoading words (record { hold = old.hold; done = old.done; offset = offset; loader = loader }) left
+    → IsLoading words (record { hold = old.hold; blocks_read = old.blocks_read; offset = offset; loader = loader }) left
 broken_off words left old block loader offset is more this takes =
-    let taken : HasTaken old.loader (frames (first_blocks old.done words) ++ take old.offset (frames block)) = subst (λ b. HasTaken old.loader (frames (first_blocks old.done words) ++ take old.offset (frames b))) (sym this) is.taken in
-    let after = takes (frames (first_blocks old.done words)) taken in
+    let taken : HasTaken old.loader (frames (first_blocks old.blocks_read words) ++ take old.offset (frames block)) = subst (λ b. HasTaken old.loader (frames (first_blocks old.blocks_read words) ++ take old.offset (frames b))) (sym this) is.taken in
+    let after = takes (frames (first_blocks old.blocks_read words)) taken in
     record {
       whole = is.whole;
       turns = is.turns;
       more = is.more;
       offset = after.1;
-      taken = subst (λ b. HasTaken loader (frames (first_blocks old.done words) ++ take offset (frames b))) this after.0;
+      taken = subst (λ b. HasTaken loader (frames (first_blocks old.blocks_read words) ++ take offset (frames b))) this after.0;
       at_end = λ one. absurd (never one);
     }
   where
@@ -249,21 +249,21 @@ broken_off words left old block loader offset is more this takes =
     never one = omega (arith, one, more)
 
 -- a block was not taken to its end
-pub not_taken : NoFault → OneFault → (words : List ℕ) (left : ℕ) (old : Loading) (block : List ℕ) (loader : load.Loading) (offset : ℕ) (fault : TapeFault) → IsLoading words old left → 2 ≤ left → block ≡ block_at old.done words
+pub not_taken : NoFault → OneFault → (words : List ℕ) (left : ℕ) (old : Loading) (block : List ℕ) (loader : load.Loading) (offset : ℕ) (fault : TapeFault) → IsLoading words old left → 2 ≤ left → block ≡ block_at old.blocks_read words
     → ((before : List ℕ) → HasTaken old.loader (before ++ take old.offset (frames block)) → TakesFrames before block (Err fault) loader offset)
-    → ReadsBlock words old left (Err (fault_of_tape fault)) (record { hold = old.hold; done = old.done; offset = offset; loader = loader })
+    → ReadsBlock words old left (Err (fault_of_tape fault)) (record { hold = old.hold; blocks_read = old.blocks_read; offset = offset; loader = loader })
 not_taken none one words left old block loader offset fault is more this takes = by_fault fault takes
   where
-    told_by : (f : TapeFault) → ((before : List ℕ) → HasTaken old.loader (before ++ take old.offset (frames block)) → TakesFrames before block (Err f) loader offset) → TakesFrames (frames (first_blocks old.done words)) block (Err f) loader offset
-    told_by f told = told (frames (first_blocks old.done words)) (subst (λ b. HasTaken old.loader (frames (first_blocks old.done words) ++ take old.offset (frames b))) (sym this) is.taken)
+    told_by : (f : TapeFault) → ((before : List ℕ) → HasTaken old.loader (before ++ take old.offset (frames block)) → TakesFrames before block (Err f) loader offset) → TakesFrames (frames (first_blocks old.blocks_read words)) block (Err f) loader offset
+    told_by f told = told (frames (first_blocks old.blocks_read words)) (subst (λ b. HasTaken old.loader (frames (first_blocks old.blocks_read words) ++ take old.offset (frames b))) (sym this) is.taken)
 
-    met : (f : TapeFault) → IsEarly f → IsFault (frames (first_blocks old.done words) ++ frames block) f → IsFirstMet words (old.done + 1) f
+    met : (f : TapeFault) → IsEarly f → IsFault (frames (first_blocks old.blocks_read words) ++ frames block) f → IsFirstMet words (old.blocks_read + 1) f
     met f early told =
-        first_met none one words old.done _ f early (inside_file words left old is more) is.taken.fine
-        (subst (λ b. IsFault (frames (first_blocks old.done words) ++ frames b) f) this told)
+        first_met none one words old.blocks_read _ f early (inside_file words left old is more) is.taken.fine
+        (subst (λ b. IsFault (frames (first_blocks old.blocks_read words) ++ frames b) f) this told)
 
     by_fault : (f : TapeFault) → ((before : List ℕ) → HasTaken old.loader (before ++ take old.offset (frames block)) → TakesFrames before block (Err f) loader offset)
-        → ReadsBlock words old left (Err (fault_of_tape f)) (record { hold = old.hold; done = old.done; offset = offset; loader = loader })
+        → ReadsBlock words old left (Err (fault_of_tape f)) (record { hold = old.hold; blocks_read = old.blocks_read; offset = offset; loader = loader })
     by_fault (BadFrame at) told = (met (BadFrame at) tt (told_by (BadFrame at) told), refl)
     by_fault NoOrigin told = (met NoOrigin tt (told_by NoOrigin told), refl)
     by_fault (CheckSum found computed) told = (met (CheckSum found computed) tt (told_by (CheckSum found computed) told), refl)
@@ -271,18 +271,18 @@ not_taken none one words left old block loader offset fault is more this takes =
     by_fault Memory told = (broken_off words left old block loader offset is more this told, refl)
 
 pub ended_at : NoFault → OneFault → (words : List ℕ) (left : ℕ) (old : Loading) (loader : load.Loading) (r : Result (Unit {0}) JobFault) → true ≡ nat_eq left 2 → IsLoading words old left
-    → HasTaken loader (frames (first_blocks (old.done + 1) words)) → EndsTape (frames (first_blocks (old.done + 1) words)) r → ReadsBlock words old left r (next old loader)
+    → HasTaken loader (frames (first_blocks (old.blocks_read + 1) words)) → EndsTape (frames (first_blocks (old.blocks_read + 1) words)) r → ReadsBlock words old left r (next old loader)
 ended_at none one words left old loader r last is taken ends = elim (eqb_tells left 2) [
   | inl same ↦ subst (λ n. ReadsBlock words old n r (next old loader)) (sym same.1) (ended none one words old loader r (subst (λ n. IsLoading words old n) same.1 is) taken ends)
   | inr other ↦ absurd (true≢false (last ∙ other.0))
 ]
 
 -- the frames that a job with one turn left has taken are those of the file
-pub at_last : (words : List ℕ) (job : Loading) → IsLoading words job 1 → frames_taken words job.done job.offset ≡ frames words
+pub at_last : (words : List ℕ) (job : Loading) → IsLoading words job 1 → frames_taken words job.blocks_read job.offset ≡ frames words
 at_last words job is =
-    ap (λ n. frames (first_blocks job.done words) ++ take n (frames (block_at job.done words))) (is.at_end refl).0
-    ∙ append-nil (frames (first_blocks job.done words))
-    ∙ ap frames (all_blocks job.done words (omega (arith, is.turns, is.whole)))
+    ap (λ n. frames (first_blocks job.blocks_read words) ++ take n (frames (block_at job.blocks_read words))) (is.at_end refl).0
+    ∙ append-nil (frames (first_blocks job.blocks_read words))
+    ∙ ap frames (all_blocks job.blocks_read words (omega (arith, is.turns, is.whole)))
 
 pub complete : (words : List ℕ) (job : Loading) → IsLoading words job 1 → IsComplete job.loader
 complete words job is = record {

@@ -86,9 +86,9 @@ turns_put (it ∷ jobs) (suc place) after inside = omega (arith, turns_more it (
 
 plain_disturbed_job : (it : Option Job) → plain_job (settled.disturbed_job it) ≡ plain.disturbed_job (plain_job it)
 plain_disturbed_job None = refl
-plain_disturbed_job (Some it) = by_work it.work it.left
+plain_disturbed_job (Some it) = by_work it.work it.turns
   where
-    by_work : (w : Work) (left : ℕ) → plain_job (settled.disturbed_job (Some (record { work = w; left = left }))) ≡ plain.disturbed_job (plain_job (Some (record { work = w; left = left })))
+    by_work : (w : Work) (left : ℕ) → plain_job (settled.disturbed_job (Some (record { work = w; turns = left }))) ≡ plain.disturbed_job (plain_job (Some (record { work = w; turns = left })))
     by_work (work.Loading l) left = refl
     by_work (work.Assembling a) left = refl
     by_work (work.Squeezing clean) left = refl
@@ -97,7 +97,7 @@ pub plain_disturbed : (jobs : List (Option Job)) → plain_jobs (settled.with_di
 plain_disturbed [] = refl
 plain_disturbed (it ∷ jobs) = ap (λ j. j ∷ plain_jobs (settled.with_disturbance jobs)) (plain_disturbed_job it) ∙ ap (λ l. plain.disturbed_job (plain_job it) ∷ l) (plain_disturbed jobs)
 
--- ## Behind a turn
+-- ## Beyond a turn
 
 pub plain_is_after : (b : Bool) (jobs : List (Option Job)) → plain_after b (plain_jobs jobs) ≡ plain_jobs (jobs_after b jobs)
 plain_is_after true jobs = sym (plain_disturbed jobs)
@@ -106,7 +106,7 @@ plain_is_after false jobs = refl
 turns_disturbed : (jobs : List (Option Job)) → turns_left (plain_jobs (settled.with_disturbance jobs)) ≡ turns_left (plain_jobs jobs)
 turns_disturbed [] = refl
 turns_disturbed (None ∷ jobs) = turns_disturbed jobs
-turns_disturbed (Some it ∷ jobs) = ap (λ n. it.left + n) (turns_disturbed jobs)
+turns_disturbed (Some it ∷ jobs) = ap (λ n. it.turns + n) (turns_disturbed jobs)
 
 pub turns_after : (b : Bool) (jobs : List (Option Job)) → turns_left (plain_jobs (jobs_after b jobs)) ≡ turns_left (plain_jobs jobs)
 turns_after true jobs = turns_disturbed jobs

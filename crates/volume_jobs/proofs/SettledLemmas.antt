@@ -48,7 +48,7 @@ pub all_stand_on : (old new : List (List ℕ)) (jobs : List (Option Job)) → Ar
 all_stand_on old new [] same fewer stand = tt
 all_stand_on old new (None ∷ jobs) same fewer stand = (tt, all_stand_on old new jobs same fewer stand.1)
 all_stand_on old new (Some it ∷ jobs) same fewer stand = (
-  stands_on old new it.work it.left (λ name some. same name (omega (arith, some, times-append name (held_by_work (work_of it.work)) (names_of_jobs (plain_jobs jobs))))) fewer stand.0,
+  stands_on old new it.work it.turns (λ name some. same name (omega (arith, some, times-append name (held_by_work (work_of it.work)) (names_of_jobs (plain_jobs jobs))))) fewer stand.0,
   all_stand_on old new jobs (λ name some. same name (omega (arith, some, times-append name (held_by_work (work_of it.work)) (names_of_jobs (plain_jobs jobs))))) fewer stand.1,
 )
 
@@ -90,13 +90,13 @@ pub held_enough : (volume : MountState) (jobs : List (Option Job)) (place : ℕ)
 held_enough volume jobs place it name settled inside is =
     omega (arith, settled.held name, times_put name jobs place None inside, ap (λ o. times name (names_in o)) is)
 
--- files that jobs hold are the same behind what keeps files that are held
+-- files that jobs hold are the same after what keeps files that are held
 same_files : HeldLaw → (old new : MountState) (jobs : List (Option Job)) → AreHeld old.holds jobs → KeepsHeld old new → new.stopped ≡ false → AreSame old.blocks new.blocks (names_of_jobs (plain_jobs jobs))
 same_files law old new jobs held kept running name some = kept name (law name old.holds ∙ more_than_none (times name old.holds) (omega (arith, some, held name))) running
 
 -- ## Calls
 
--- behind the beginning of a job that holds so many names more
+-- after the beginning of a job that holds so many names more
 pub settled_begun : (old new : MountState) (jobs : List (Option Job)) (place : ℕ) (it : Option Job) (holds : List ℕ) → IsSettled old jobs → place < length jobs → get_or jobs place None ≡ None
     → new ≡ record old { holds = holds } → ((name : ℕ) → times name holds ≡ times name (names_in it) + times name old.holds) → FitsIn it → (old.stopped ≡ false → StandsIn old.blocks it) → IsSettled new (slice_set jobs place it)
 settled_begun old new jobs place it holds settled inside free is more fits stands = record {
@@ -109,7 +109,7 @@ settled_begun old new jobs place it holds settled inside free is more fits stand
       subst (λ (m : MountState). AllStand m.blocks (slice_set jobs place it)) (sym is) (stand_set old.blocks jobs place it (settled.stand before) (stands before));
 }
 
--- behind calls of other entries that leave the directory as it is, or move files down
+-- after calls of other entries that leave the directory as it is, or move files down
 pub settled_on : HeldLaw → (old new : MountState) (jobs : List (Option Job)) → IsSettled old jobs → KeepsHolds old new → new.tentative ≡ None → (new.stopped ≡ false → above_of new.blocks ≤ above_of old.blocks) → IsSettled new jobs
 settled_on law old new jobs settled keeps none fewer = record {
   none = none;
@@ -133,7 +133,7 @@ all_disturbed : (old new : List (List ℕ)) (jobs : List (Option Job)) → AreSa
 all_disturbed old new [] same stand = tt
 all_disturbed old new (None ∷ jobs) same stand = (tt, all_disturbed old new jobs same stand.1)
 all_disturbed old new (Some it ∷ jobs) same stand = (
-  disturbed_stands old new it.work it.left (λ name some. same name (omega (arith, some, times-append name (held_by_work (work_of it.work)) (names_of_jobs (plain_jobs jobs))))) stand.0,
+  disturbed_stands old new it.work it.turns (λ name some. same name (omega (arith, some, times-append name (held_by_work (work_of it.work)) (names_of_jobs (plain_jobs jobs))))) stand.0,
   all_disturbed old new jobs (λ name some. same name (omega (arith, some, times-append name (held_by_work (work_of it.work)) (names_of_jobs (plain_jobs jobs))))) stand.1,
 )
 
@@ -153,9 +153,9 @@ disturbed_held name (it ∷ jobs) = omega (arith, held_more name (disturbed_job 
 disturbed_fit : (jobs : List (Option Job)) → AllFit jobs → AllFit (with_disturbance jobs)
 disturbed_fit [] fit = tt
 disturbed_fit (None ∷ jobs) fit = (tt, disturbed_fit jobs fit.1)
-disturbed_fit (Some it ∷ jobs) fit = (by_work it.work it.left fit.0, disturbed_fit jobs fit.1)
+disturbed_fit (Some it ∷ jobs) fit = (by_work it.work it.turns fit.0, disturbed_fit jobs fit.1)
   where
-    by_work : (w : Work) (left : ℕ) → FitsIn (Some (record { work = w; left = left })) → FitsIn (Some (record { work = disturbed_work w; left = left }))
+    by_work : (w : Work) (left : ℕ) → FitsIn (Some (record { work = w; turns = left })) → FitsIn (Some (record { work = disturbed_work w; turns = left }))
     by_work (work.Loading l) left fits = fits
     by_work (work.Assembling a) left fits = fits
     by_work (work.Squeezing clean) left fits = fits
@@ -164,7 +164,7 @@ disturbed_length : (jobs : List (Option Job)) → length (with_disturbance jobs)
 disturbed_length [] = refl
 disturbed_length (it ∷ jobs) = ap suc (disturbed_length jobs)
 
--- behind calls of other entries that change the directory
+-- after calls of other entries that change the directory
 pub settled_disturbed : HeldLaw → (old new : MountState) (jobs : List (Option Job)) → IsSettled old jobs → KeepsHolds old new → new.tentative ≡ None → IsSettled new (with_disturbance jobs)
 settled_disturbed law old new jobs settled keeps none = record {
   none = none;
@@ -187,9 +187,9 @@ disturbed_set (it ∷ jobs) (suc place) after = ap (λ l. disturbed_job it ∷ l
 
 disturbed_in : (blocks : List (List ℕ)) (after : Option Job) → StandsIn blocks after → StandsIn blocks (disturbed_job after)
 disturbed_in blocks None stands = tt
-disturbed_in blocks (Some it) stands = disturbed_stands blocks blocks it.work it.left (λ name some. refl) stands
+disturbed_in blocks (Some it) stands = disturbed_stands blocks blocks it.work it.turns (λ name some. refl) stands
 
--- behind a turn of a job
+-- after a turn of a job
 pub settled_turn : HeldLaw → (old new : MountState) (core core2 : List ℕ) (jobs : List (Option Job)) (place : ℕ) (it : Job) (answer : Answer) (after : Option Job) → IsSettled old jobs → place < length jobs → get_or jobs place None ≡ Some it
     → TurnsJob old core it answer after new core2 → IsSettled new (jobs_after (is_assembled answer) (slice_set jobs place after))
 settled_turn law old new core core2 jobs place it answer after settled inside is turns = by_answer (is_assembled answer) refl

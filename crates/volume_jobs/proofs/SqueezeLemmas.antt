@@ -26,7 +26,7 @@ use Rattle.volume_jobs.proofs.StepLemmas.{moved_over, quiet_over, missed_over, s
 
 -- a squeezing job of the code
 abbrev pub the_job : Bool → ℕ → Job
-the_job clean left = record { work = work.Squeezing clean; left = left }
+the_job clean left = record { work = work.Squeezing clean; turns = left }
 
 none_above : (n : ℕ) → n ≡ 0 → nat_eq n 0 ≡ true
 none_above n is = ap (λ k. nat_eq k 0) is
@@ -76,7 +76,7 @@ turn_by old new core clean left call answer after other keeps squeezes none abov
   room = of_each (WorkTellsRoom (plain.Squeezing clean) old) (λ why. tt) answer;
 }
 
--- the answer and the job behind it, by what they are
+-- the answer and the job after it, by what they are
 told : (old new : MountState) (core : List ℕ) (job : Job) (a answer : Answer) (o after : Option Job) → answer ≡ a → after ≡ o → TurnsJob old core job a o new core → TurnsJob old core job answer after new core
 told old new core job a answer o after is_a is_o turns = subst (λ x. TurnsJob old core job x after new core) (sym is_a) (subst (λ x. TurnsJob old core job a x new core) (sym is_o) turns)
 

@@ -36,7 +36,7 @@ use Rattle.volume_jobs.proofs.PlaceLemmas.{TakenLaw}
 
 abbrev plain_left : Option plain.Job → ℕ
 plain_left None = 0
-plain_left (Some it) = it.left
+plain_left (Some it) = it.turns
 
 abbrev work_squeezes : plain.Work → Bool
 work_squeezes (plain.Assembling to from) = false
@@ -48,7 +48,7 @@ squeezes None = false
 squeezes (Some it) = work_squeezes it.work
 
 -- a job that squeezes without what it keeps is one that squeezes
-squeezing_is : (w : Work) (left more : ℕ) (clean : Bool) (old new : MountState) (answer : Answer) → plain_job (Some (record { work = w; left = left })) ≡ Some (plain.squeezing clean more)
+squeezing_is : (w : Work) (left more : ℕ) (clean : Bool) (old new : MountState) (answer : Answer) → plain_job (Some (record { work = w; turns = left })) ≡ Some (plain.squeezing clean more)
     → ((kind : Bool) → w ≡ work.Squeezing kind → TellsSqueeze left old answer new) → TellsSqueeze more old answer new
 squeezing_is (work.Loading it) left more clean old new answer is tells = absurd (true≢false (sym (ap squeezes is)))
 squeezing_is (work.Assembling it) left more clean old new answer is tells = absurd (true≢false (sym (ap squeezes is)))
@@ -60,14 +60,14 @@ takes_turn law old new core core2 jobs number place it answer after settled next
   settled = settled_turn law old new core core2 jobs place it answer after settled inside is turns;
   step = λ quiet.
       subst (λ j. JobTurn (state_over old core (plain_jobs jobs)) number j answer (state_over new core2 (plain_jobs (jobs_after (is_assembled answer) (slice_set jobs place after))))) (sym here)
-      (subst (λ l. WorkTurn (state_over old core (plain_jobs jobs)) number (work_of it.work) it.left answer (state_over new core2 l)) (ap (plain_after (is_assembled answer)) put ∙ plain_is_after (is_assembled answer) (slice_set jobs place after))
+      (subst (λ l. WorkTurn (state_over old core (plain_jobs jobs)) number (work_of it.work) it.turns answer (state_over new core2 l)) (ap (plain_after (is_assembled answer)) put ∙ plain_is_after (is_assembled answer) (slice_set jobs place after))
       (turns.step number (plain_jobs jobs) here (λ name. held_same law old jobs name settled) quiet));
   volume = subst (λ o. NumberTurnsOver o old answer new) (sym here) turns.volume;
   same_core = turns.same_core;
   left = leaves answer (subst (λ l. LeavesJobs number answer (plain_jobs jobs) l) put (turns.jobs number (plain_jobs jobs) here));
   fewer = λ it not_memory there. omega (arith, turns_put jobs place after inside, turns.fewer not_memory, ap turns_of is, turns_after (is_assembled answer) (slice_set jobs place after));
   calls = subst (λ o. CallsOf o old new) (sym (number_at_place jobs number place next ∙ is)) turns.calls;
-  squeezed = λ clean left there. squeezing_is it.work it.left left clean old new answer (sym here ∙ there) turns.squeezed;
+  squeezed = λ clean left there. squeezing_is it.work it.turns left clean old new answer (sym here ∙ there) turns.squeezed;
   room = subst (λ o. IfFile (NumberTellsRoom o old) answer) (sym here) turns.room;
 }
   where
@@ -160,7 +160,7 @@ refused_load old new jobs name place why answer settled running free is begins =
 
 -- a job that loads is begun
 pub begun_load : TakenLaw → (old new : MountState) (jobs : List (Option Job)) (name place : ℕ) (it : Loading) (left : ℕ) → IsSettled old jobs → position is_none jobs ≡ Some place → place < 8 → HasBegunLoading old name it left new
-    → StartsLoading old jobs name (Ok (place + 1)) new (slice_set jobs place (Some (record { work = work.Loading it; left = left })))
+    → StartsLoading old jobs name (Ok (place + 1)) new (slice_set jobs place (Some (record { work = work.Loading it; turns = left })))
 begun_load law old new jobs name place it left settled free low begun = record {
   over = record {
     settled =
@@ -184,11 +184,11 @@ begun_load law old new jobs name place it left settled free low begun = record {
 }
   where
     job : Job
-    job = record { work = work.Loading it; left = left }
+    job = record { work = work.Loading it; turns = left }
 
 -- a job that squeezes is begun
 pub begun_squeeze : (old : MountState) (jobs : List (Option Job)) (place left : ℕ) → IsSettled old jobs → old.stopped ≡ false → position is_none jobs ≡ Some place → place < 8 → left ≡ count_of (files_of old.blocks) + 1 → above_of old.blocks ≤ count_of (files_of old.blocks)
-    → StartsSqueezing old jobs (Ok (place + 1)) old (slice_set jobs place (Some (record { work = work.Squeezing true; left = left })))
+    → StartsSqueezing old jobs (Ok (place + 1)) old (slice_set jobs place (Some (record { work = work.Squeezing true; turns = left })))
 begun_squeeze old jobs place left settled running free low count above = record {
   over = record {
     settled =
@@ -207,7 +207,7 @@ begun_squeeze old jobs place left settled running free low count above = record 
 }
   where
     job : Job
-    job = record { work = work.Squeezing true; left = left }
+    job = record { work = work.Squeezing true; turns = left }
 
 -- ## Assembling
 
@@ -273,7 +273,7 @@ refused_assembly law old new jobs target from place (fault.Tape why) settled run
 
 -- a job that assembles is begun
 pub started_assembly : HeldLaw → (old new : MountState) (jobs : List (Option Job)) (target : ℕ) (from : List ℕ) (place : ℕ) (it : Assembly) (left : ℕ) → IsSettled old jobs → old.stopped ≡ false → position is_none jobs ≡ Some place → place < 8 → HasBegunAssembly old target from it left new
-    → StartsAssembling old jobs target from (Ok (place + 1)) new (slice_set jobs place (Some (record { work = work.Assembling it; left = left })))
+    → StartsAssembling old jobs target from (Ok (place + 1)) new (slice_set jobs place (Some (record { work = work.Assembling it; turns = left })))
 started_assembly law old new jobs target from place it left settled running free low begun = record {
   over = record {
     settled =
@@ -297,4 +297,4 @@ started_assembly law old new jobs target from place it left settled running free
 }
   where
     job : Job
-    job = record { work = work.Assembling it; left = left }
+    job = record { work = work.Assembling it; turns = left }

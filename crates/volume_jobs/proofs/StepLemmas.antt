@@ -31,7 +31,7 @@ use Rattle.volume_jobs.specs.declared.faults.JobFault.TheVariants as fault
 pub state_same : (old new : MountState) (core : List ℕ) (jobs : List (Option plain.Job)) → new.blocks ≡ old.blocks → state_over new core jobs ≡ state_over old core jobs
 state_same old new core jobs same = ap (λ (m : MountState). state_over m core jobs) (ap (λ b. record old { blocks = b }) same)
 
-turn_is : (words : List ℕ) (job : Loading) (left : ℕ) → IsLoading words job left → turn_of (loading_turns (blocks_in words)) left ≡ job.done + 1
+turn_is : (words : List ℕ) (job : Loading) (left : ℕ) → IsLoading words job left → turn_of (loading_turns (blocks_in words)) left ≡ job.blocks_read + 1
 turn_is words job left is = omega (arith, is.turns, is.more)
 
 words_are : (m : MountState) (core : List ℕ) (jobs : List (Option plain.Job)) (name : ℕ) (words : List ℕ) → HasWords (files_of m.blocks) name words → words_of (state_over m core jobs) name ≡ words
@@ -120,7 +120,7 @@ laid_turn words old new core core2 job left name has stands low running same loa
 
 -- a block was read, and the job goes on with another one, or with as many turns as before
 abbrev pub with_turns : Loading → ℕ → Option Job
-with_turns job left = Some (record { work = work.Loading job; left = left })
+with_turns job left = Some (record { work = work.Loading job; turns = left })
 
 kept_on : (old new : MountState) (job : Loading) (after : Job) → HasReadOne old new → LeavesHold old job.hold (Some after) new
 kept_on old new job after one = record {
@@ -136,7 +136,7 @@ goes_on old new words job job2 left has one same is = (
 )
 
 pub working_turn : (words : List ℕ) (old new : MountState) (core : List ℕ) (job job2 : Loading) (left : ℕ) → HasWords (files_of old.blocks) job.hold words → IsLoading words job left → LoadingFits job left → 2 ≤ left
-    → job2.done ≤ job.done + 1 → LoadsOn words old job left (Ok tt) new job2 → TurnsLoading old core job left (Ok Working) (with_turns job2 (left - 1)) new core
+    → job2.blocks_read ≤ job.blocks_read + 1 → LoadsOn words old job left (Ok tt) new job2 → TurnsLoading old core job left (Ok Working) (with_turns job2 (left - 1)) new core
 working_turn words old new core job job2 left has is fits more done loads = record {
   kind = refl;
   step = λ number jobs there quiet. (
@@ -171,7 +171,7 @@ memory_is fault.Memory is = refl
 
 -- memory ran out
 pub memory_turn : (words : List ℕ) (old new : MountState) (core : List ℕ) (job job2 : Loading) (left : ℕ) (why : JobFault) → is_memory why ≡ true → HasWords (files_of old.blocks) job.hold words → LoadingFits job left
-    → (why ≡ fault.Memory → job2.done ≡ job.done) → LoadsOn words old job left (Err why) new job2 → TurnsLoading old core job left (Err why) (with_turns job2 left) new core
+    → (why ≡ fault.Memory → job2.blocks_read ≡ job.blocks_read) → LoadsOn words old job left (Err why) new job2 → TurnsLoading old core job left (Err why) (with_turns job2 left) new core
 memory_turn words old new core job job2 left why memory has fits done loads =
     subst (λ w. TurnsLoading old core job left (Err w) (with_turns job2 left) new core) (sym this) (told (subst (λ w. LoadsOn words old job left (Err w) new job2) this loads))
   where

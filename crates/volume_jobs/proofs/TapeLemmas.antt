@@ -11,8 +11,8 @@ use Rattle.volume_jobs.specs.Reading.{HasTaken}
 use Rattle.volume_jobs.specs.Steps.{TakesFrames}
 use Rattle.volume_jobs.proofs.FrameLemmas.{one_frame, split_frames}
 
-pub behind : (before fs : List ℕ) (i : ℕ) → i < length fs → (before ++ take i fs) ++ slice_index fs i ∷ [] ≡ before ++ take (i + 1) fs
-behind before fs i inside = append_assoc before (take i fs) (slice_index fs i ∷ []) ∙ ap (λ l. before ++ l) (sym (one_frame fs i inside))
+pub following : (before fs : List ℕ) (i : ℕ) → i < length fs → (before ++ take i fs) ++ slice_index fs i ∷ [] ≡ before ++ take (i + 1) fs
+following before fs i inside = append_assoc before (take i fs) (slice_index fs i ∷ []) ∙ ap (λ l. before ++ l) (sym (one_frame fs i inside))
 
 whole : (before fs : List ℕ) (i : ℕ) → i < length fs → (before ++ take i fs) ++ slice_index fs i ∷ drop (suc i) fs ≡ before ++ fs
 whole before fs i inside = append_assoc before (take i fs) (slice_index fs i ∷ drop (suc i) fs) ∙ ap (λ l. before ++ l) (sym (split_frames fs i inside))
@@ -27,7 +27,7 @@ joined before fs i frame inside is =
 pub taken_more : (before fs : List ℕ) (i frame : ℕ) (old new : Loading) → i < length fs → frame ≡ slice_index fs i → FeedsFrames (before ++ take i fs) (frame ∷ []) old new (Ok tt)
     → HasTaken new (before ++ take (i + 1) fs)
 taken_more before fs i frame old new inside is feeds =
-    let same : (before ++ take i fs) ++ frame ∷ [] ≡ before ++ take (i + 1) fs = ap (λ f. (before ++ take i fs) ++ f ∷ []) is ∙ behind before fs i inside in
+    let same : (before ++ take i fs) ++ frame ∷ [] ≡ before ++ take (i + 1) fs = ap (λ f. (before ++ take i fs) ++ f ∷ []) is ∙ following before fs i inside in
     record { fed = subst (λ l. IsFed new l) same feeds.0; fine = subst (λ l. IsFine l) same feeds.1 }
 
 -- one frame is refused, or memory ran out

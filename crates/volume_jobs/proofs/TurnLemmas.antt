@@ -19,8 +19,8 @@ read_is words old new name k block has read =
     read.block ∙ ap (λ (h : FileData). take 256 (drop (256 * k) h.1)) (same_held _ _ (sym read.there ∙ has.1))
 
 pub loads_on : (words : List ℕ) (old new : MountState) (job job2 : Loading) (left : ℕ) (block : List ℕ) (r : Result (Unit {0}) JobFault) → HasWords (files_of old.blocks) job.hold words → IsLoading words job left
-    → HasRead old job.hold job.done block new → (block ≡ block_at job.done words → ReadsBlock words job left r job2) → LoadsOn words old job left r new job2
-loads_on words old new job job2 left block r has is read reads = by_answer r (reads (read_is words old new job.hold job.done block has read))
+    → HasRead old job.hold job.blocks_read block new → (block ≡ block_at job.blocks_read words → ReadsBlock words job left r job2) → LoadsOn words old job left r new job2
+loads_on words old new job job2 left block r has is read reads = by_answer r (reads (read_is words old new job.hold job.blocks_read block has read))
   where
     one : HasReadOne old new
     one = (read.running, read.others)

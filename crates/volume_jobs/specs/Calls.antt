@@ -144,7 +144,7 @@ job_at (suc place) jobs = get_or jobs place None
 -- the calls that a turn of a job makes; none where there is no job
 abbrev pub CallsOf : Option Job → MountState → MountState → Type 0
 CallsOf None old new = new ≡ old
-CallsOf (Some it) old new = WorkCalls it.work it.left old new
+CallsOf (Some it) old new = WorkCalls it.work it.turns old new
 
 -- The result of a turn of the job of a number, over a volume with core and the jobs of a session.
 pub record TakesTurn (old : MountState) (core : List ℕ) (jobs : List (Option Job)) (number : ℕ) (answer : Answer) (new : MountState) (core' : List ℕ) (jobs' : List (Option Job)) : Type 0 where

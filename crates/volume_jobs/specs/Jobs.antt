@@ -13,17 +13,17 @@ pub data Work : Type 0 where
 -- a job, and how many turns it may still take
 pub record Job : Type 0 where
   pub work : Work
-  pub left : ℕ
+  pub turns : ℕ
 
 -- the jobs of each kind, with so many turns left
 abbrev pub assembling : ℕ → List ℕ → ℕ → Job
-assembling to from left = record { work = Assembling to from; left = left }
+assembling to from left = record { work = Assembling to from; turns = left }
 
 abbrev pub loading : ℕ → ℕ → Job
-loading from left = record { work = Loading from; left = left }
+loading from left = record { work = Loading from; turns = left }
 
 abbrev pub squeezing : Bool → ℕ → Job
-squeezing clean left = record { work = Squeezing clean; left = left }
+squeezing clean left = record { work = Squeezing clean; turns = left }
 
 -- no job
 abbrev pub no_jobs : List (Option Job)
@@ -58,7 +58,7 @@ with_job (suc place) job jobs = slice_set jobs place job
 abbrev pub turns_left : List (Option Job) → ℕ
 turns_left [] = 0
 turns_left (None ∷ jobs) = turns_left jobs
-turns_left (Some job ∷ jobs) = job.left + turns_left jobs
+turns_left (Some job ∷ jobs) = job.turns + turns_left jobs
 
 -- of the numbers from 1 to the last one, this is the lowest that has a property
 pub record IsLowest (has : ℕ → Type 0) (last number : ℕ) : Type 0 where
@@ -103,7 +103,7 @@ disturbed_work (Squeezing clean) = Squeezing false
 
 abbrev pub disturbed_job : Option Job → Option Job
 disturbed_job None = None
-disturbed_job (Some job) = Some (record { work = disturbed_work job.work; left = job.left })
+disturbed_job (Some job) = Some (record { work = disturbed_work job.work; turns = job.turns })
 
 -- the jobs where another entry has changed the directory
 abbrev pub with_disturbance : List (Option Job) → List (Option Job)

@@ -33,8 +33,8 @@ HasWords files name words = (info : List ℕ) × (get files name ≡ Some (info,
 -- found it to be a tape where one turn is left.
 pub record IsLoading (words : List ℕ) (job : Loading) (left : ℕ) : Type 0 where
   pub whole : BLOCK * blocks_in words ≡ length words
-  pub turns : job.done + left ≡ loading_turns (blocks_in words)
+  pub turns : job.blocks_read + left ≡ loading_turns (blocks_in words)
   pub more : 1 ≤ left
   pub offset : job.offset < BLOCK_FRAMES
-  pub taken : HasTaken job.loader (frames_taken words job.done job.offset)
+  pub taken : HasTaken job.loader (frames_taken words job.blocks_read job.offset)
   pub at_end : left ≡ 1 → (job.offset ≡ 0) × ((items : List Item) × IsTape (frames words) items)

@@ -24,7 +24,7 @@ work_of (work.Squeezing clean) = plain.Squeezing clean
 
 abbrev pub plain_job : Option Job → Option plain.Job
 plain_job None = None
-plain_job (Some it) = Some (record { work = work_of it.work; left = it.left })
+plain_job (Some it) = Some (record { work = work_of it.work; turns = it.turns })
 
 abbrev pub plain_jobs : List (Option Job) → List (Option plain.Job)
 plain_jobs jobs = map plain_job jobs
@@ -49,7 +49,7 @@ disturbed_work (work.Squeezing clean) = work.Squeezing false
 
 abbrev pub disturbed_job : Option Job → Option Job
 disturbed_job None = None
-disturbed_job (Some it) = Some (record { work = disturbed_work it.work; left = it.left })
+disturbed_job (Some it) = Some (record { work = disturbed_work it.work; turns = it.turns })
 
 abbrev pub with_disturbance : List (Option Job) → List (Option Job)
 with_disturbance jobs = map disturbed_job jobs
@@ -69,7 +69,7 @@ Stands blocks (work.Squeezing clean) left = IsSqueezing blocks clean left
 
 abbrev pub StandsIn : List (List ℕ) → Option Job → Type 0
 StandsIn blocks None = Unit {0}
-StandsIn blocks (Some it) = Stands blocks it.work it.left
+StandsIn blocks (Some it) = Stands blocks it.work it.turns
 
 abbrev pub AllStand : List (List ℕ) → List (Option Job) → Type 0
 AllStand blocks [] = Unit {0}
@@ -79,7 +79,7 @@ AllStand blocks (it ∷ jobs) = StandsIn blocks it × AllStand blocks jobs
 pub record LoadingFits (it : Loading) (left : ℕ) : Type 0 where
   pub more : 1 ≤ left
   pub offset : it.offset ≤ BLOCK_FRAMES
-  pub turns : it.done + left ≤ 18446744073709551615
+  pub turns : it.blocks_read + left ≤ 18446744073709551615
 
 -- the same of each job, also where a write has failed
 abbrev pub Fits : Work → ℕ → Type 0
@@ -89,7 +89,7 @@ Fits (work.Squeezing clean) left = 1 ≤ left
 
 abbrev pub FitsIn : Option Job → Type 0
 FitsIn None = Unit {0}
-FitsIn (Some it) = Fits it.work it.left
+FitsIn (Some it) = Fits it.work it.turns
 
 abbrev pub AllFit : List (Option Job) → Type 0
 AllFit [] = Unit {0}

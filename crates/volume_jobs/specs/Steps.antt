@@ -82,9 +82,9 @@ EndsTape given (Err why) = ⊥
 
 -- The result of a turn that reads a block.
 abbrev pub ReadsBlock : List ℕ → Loading → ℕ → Result (Unit {0}) JobFault → Loading → Type 0
-ReadsBlock words old left (Ok nothing) new = IsLoading words new (left - 1) × (new.hold ≡ old.hold) × IsMetNone words (old.done + 1)
+ReadsBlock words old left (Ok nothing) new = IsLoading words new (left - 1) × (new.hold ≡ old.hold) × IsMetNone words (old.blocks_read + 1)
 ReadsBlock words old left (Err fault.Memory) new = IsLoading words new left × (new.hold ≡ old.hold)
-ReadsBlock words old left (Err (fault.Tape why)) new = IsFirstMet words (old.done + 1) why × (new.hold ≡ old.hold)
+ReadsBlock words old left (Err (fault.Tape why)) new = IsFirstMet words (old.blocks_read + 1) why × (new.hold ≡ old.hold)
 ReadsBlock words old left (Err why) new = ⊥
 
 -- one block was read, and nothing else of the volume is changed
@@ -197,12 +197,12 @@ FitsOn hold (work.Squeezing clean) left = ⊥
 
 abbrev pub FitsAfter : ℕ → Option Job → Type 0
 FitsAfter hold None = Unit {0}
-FitsAfter hold (Some it) = FitsOn hold it.work it.left
+FitsAfter hold (Some it) = FitsOn hold it.work it.turns
 
 -- the turns that a job has left, where it isn't at its end
 abbrev pub turns_of : Option Job → ℕ
 turns_of None = 0
-turns_of (Some it) = it.left
+turns_of (Some it) = it.turns
 
 -- the names that a job holds, where it isn't at its end
 abbrev pub names_in : Option Job → List ℕ
@@ -254,7 +254,7 @@ pub record TurnsLoading (old : MountState) (core : List ℕ) (job : Loading) (le
 -- but where a target was put.
 pub record TurnsJob (old : MountState) (core : List ℕ) (job : Job) (answer : Answer) (after : Option Job) (new : MountState) (core' : List ℕ) : Type 0 where
   pub step : (number : ℕ) (jobs : List (Option plain.Job)) → plain.job_of number jobs ≡ plain_job (Some job) → AreNamed old.holds jobs → NoCallFailed old new
-      → WorkTurn (state_over old core jobs) number (work_of job.work) job.left answer (state_over new core' (plain_after (is_assembled answer) (plain.with_job number (plain_job after) jobs)))
+      → WorkTurn (state_over old core jobs) number (work_of job.work) job.turns answer (state_over new core' (plain_after (is_assembled answer) (plain.with_job number (plain_job after) jobs)))
   pub jobs : (number : ℕ) (jobs : List (Option plain.Job)) → plain.job_of number jobs ≡ plain_job (Some job) → LeavesJobs number answer jobs (plain.with_job number (plain_job after) jobs)
   pub volume : TurnsOver old answer new
   pub same_core : (why : JobFault) → answer ≡ Err why → core' ≡ core
@@ -265,9 +265,9 @@ pub record TurnsJob (old : MountState) (core : List ℕ) (job : Job) (answer : A
   pub none : new.tentative ≡ None
   pub kept : KeepsHeld old new
   pub above : is_assembled answer ≡ false → new.stopped ≡ false → above_of new.blocks ≤ above_of old.blocks
-  pub fewer : (answer ≡ Err fault.Memory → ⊥) → turns_of after < job.left
-  pub calls : WorkCalls job.work job.left old new
-  pub squeezed : (clean : Bool) → job.work ≡ work.Squeezing clean → TellsSqueeze job.left old answer new
+  pub fewer : (answer ≡ Err fault.Memory → ⊥) → turns_of after < job.turns
+  pub calls : WorkCalls job.work job.turns old new
+  pub squeezed : (clean : Bool) → job.work ≡ work.Squeezing clean → TellsSqueeze job.turns old answer new
   pub room : IfFile (WorkTellsRoom (work_of job.work) old) answer
 
 -- The result of beginning a job that loads.
@@ -291,10 +291,10 @@ BeginsLoading old name (Err why) new = ⊥
 -- what the one call of a squeezing turn makes of its job, with so many turns left
 abbrev pub SqueezeTurns : Bool → ℕ → Result tokens.Squeezed FileFault → Answer → Option Job → Type 0
 SqueezeTurns clean left (Ok (token.Moved name)) answer after =
-    ((2 ≤ left) × (answer ≡ Ok Working) × (after ≡ Some (record { work = work.Squeezing clean; left = left - 1 })))
+    ((2 ≤ left) × (answer ≡ Ok Working) × (after ≡ Some (record { work = work.Squeezing clean; turns = left - 1 })))
     ⊎ ((left ≡ 1) × (answer ≡ Ok Squeezed) × (after ≡ None))
 SqueezeTurns clean left (Ok token.Nothing) answer after = (answer ≡ Ok Squeezed) × (after ≡ None)
-SqueezeTurns clean left (Err file.Memory) answer after = (answer ≡ Err fault.Memory) × (after ≡ Some (record { work = work.Squeezing clean; left = left }))
+SqueezeTurns clean left (Err file.Memory) answer after = (answer ≡ Err fault.Memory) × (after ≡ Some (record { work = work.Squeezing clean; turns = left }))
 SqueezeTurns clean left (Err why) answer after = (answer ≡ Err (fault_of_file why)) × (after ≡ None)
 
 -- ## The end

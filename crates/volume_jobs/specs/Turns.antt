@@ -22,8 +22,8 @@ Answer = Result Turned JobFault
 
 -- a job stays with one turn less: at least two were left
 pub record HasWorked (old : State) (number : ℕ) (it : Job) (new : State) : Type 0 where
-  pub more : 2 ≤ it.left
-  pub others : new ≡ record old { jobs = with_job number (Some (record { work = it.work; left = it.left - 1 })) old.jobs }
+  pub more : 2 ≤ it.turns
+  pub others : new ≡ record old { jobs = with_job number (Some (record { work = it.work; turns = it.turns - 1 })) old.jobs }
 
 -- a job ends, and nothing else changes
 abbrev pub HasEnded : State → ℕ → State → Type 0
@@ -101,7 +101,7 @@ WorkTurn old number (Squeezing clean) left answer new = SqueezingTurn old number
 abbrev pub JobTurn : State → ℕ → Option Job → Answer → State → Type 0
 JobTurn old number None (Err NoJob) new = new ≡ old
 JobTurn old number None answer new = ⊥
-JobTurn old number (Some it) answer new = WorkTurn old number it.work it.left answer new
+JobTurn old number (Some it) answer new = WorkTurn old number it.work it.turns answer new
 
 -- a turn of the job of a number
 abbrev pub Turns : State → ℕ → Answer → State → Type 0

@@ -26,7 +26,7 @@ pub(crate) fn assembling_turn<S: BlockStore>(
     requires stands { files.old.stopped ≡ false → AssemblyStands files.old.blocks job left }
     requires held { (name : ℕ) → times name (names_of job.holds) ≤ times name files.old.holds }
     ensures { (core : List ℕ)
-        → TurnsJob files.old core (record { work = work.Assembling job; left = left }) result.0 result.1
+        → TurnsJob files.old core (record { work = work.Assembling job; turns = left }) result.0 result.1
         files.new core }
 {
     counted_holds();
@@ -65,7 +65,7 @@ fn target_turn<S: BlockStore>(
     requires stands { AssemblyStands files.old.blocks job left }
     requires held { (name : ℕ) → times name (names_of job.holds) ≤ times name files.old.holds }
     ensures { (core : List ℕ)
-        → TurnsJob files.old core (record { work = work.Assembling job; left = left }) result.0 result.1
+        → TurnsJob files.old core (record { work = work.Assembling job; turns = left }) result.0 result.1
         files.new core }
 {
     counted_holds();
@@ -94,10 +94,10 @@ fn target_turn<S: BlockStore>(
 
 /// The job goes on with so many turns left.
 fn assembles_on(job: Assembly, left: usize) -> Option<Job>
-    ensures { result ≡ Some (record { work = work.Assembling job; left = left }) }
+    ensures { result ≡ Some (record { work = work.Assembling job; turns = left }) }
 {
     Some(Job {
         work: Work::Assembling(job),
-        left,
+        turns: left,
     })
 }

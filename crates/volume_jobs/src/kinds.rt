@@ -15,5 +15,5 @@ pub enum Work {
 /// A job, and how many turns it may still take.
 pub struct Job {
     pub work: Work,
-    pub left: usize,
+    pub turns: usize,
 }

@@ -29,7 +29,7 @@ pub struct Loading {
     /// Its file, which is held.
     pub hold: Hold,
     /// How many blocks were read.
-    pub done: usize,
+    pub blocks_read: usize,
     /// How many frames of the next block were taken, before want of memory broke a turn off.
     pub offset: usize,
     pub loader: Loader,
@@ -50,7 +50,7 @@ impl Loading {
         Ok((
             Loading {
                 hold,
-                done: 0,
+                blocks_read: 0,
                 offset: 0,
                 loader: Loader::new(alloc),
             },
@@ -69,17 +69,17 @@ impl Loading {
         requires more { 2 ≤ left }
         requires there { (words : List ℕ) × HasWords (files_of files.old.blocks) self.old.hold words
             × IsLoading words self.old left }
-        requires range { (self.old.offset ≤ BLOCK_FRAMES) × (self.old.done + left ≤ 18446744073709551615) }
+        requires range { (self.old.offset ≤ BLOCK_FRAMES) × (self.old.blocks_read + left ≤ 18446744073709551615) }
         ensures turn { (words : List ℕ) → HasWords (files_of files.old.blocks) self.old.hold words
             → IsLoading words self.old left
             → LoadsOn words files.old self.old left result files.new self.new }
         ensures same { (self.new.hold ≡ self.old.hold) × (self.new.offset ≤ BLOCK_FRAMES) }
-        ensures done { self.new.done ≤ self.old.done + 1 }
-        ensures memory { IsErrOf result fault.Memory → self.new.done ≡ self.old.done }
+        ensures done { self.new.blocks_read ≤ self.old.blocks_read + 1 }
+        ensures memory { IsErrOf result fault.Memory → self.new.blocks_read ≡ self.old.blocks_read }
     {
         let name = self.hold.name();
         let mut block = [Word::ZERO; BLOCK];
-        files.read_block(&name, self.done, &mut block)?;
+        files.read_block(&name, self.blocks_read, &mut block)?;
         self.take_block(&block, left == 2)
     }
 
@@ -91,7 +91,7 @@ impl Loading {
     {
         let Loading {
             hold,
-            done: _,
+            blocks_read: _,
             offset: _,
             loader,
         } = self;
@@ -105,7 +105,7 @@ impl Loading {
     {
         let Loading {
             hold,
-            done: _,
+            blocks_read: _,
             offset: _,
             loader,
         } = self;
@@ -117,19 +117,19 @@ impl Loading {
     fn take_block(&mut self, block: &[Word], last: bool) -> Result<(), JobFault>
         requires block { length block.now ≡ BLOCK }
         requires offset { self.old.offset ≤ BLOCK_FRAMES }
-        requires done { self.old.done < 18446744073709551615 }
+        requires done { self.old.blocks_read < 18446744073709551615 }
         ensures block { (words : List ℕ) (left : ℕ) → IsLoading words self.old left
-            → block.now ≡ block_at self.old.done words → 2 ≤ left → last ≡ nat_eq left 2
+            → block.now ≡ block_at self.old.blocks_read words → 2 ≤ left → last ≡ nat_eq left 2
             → ReadsBlock words self.old left result self.new }
         ensures same { (self.new.hold ≡ self.old.hold) × (self.new.offset ≤ BLOCK_FRAMES) }
-        ensures done { self.new.done ≤ self.old.done + 1 }
-        ensures memory { IsErrOf result fault.Memory → self.new.done ≡ self.old.done }
+        ensures done { self.new.blocks_read ≤ self.old.blocks_read + 1 }
+        ensures memory { IsErrOf result fault.Memory → self.new.blocks_read ≡ self.old.blocks_read }
     {
         no_fault();
         one_fault();
         take_frames(&mut self.loader, block, &mut self.offset)?;
         self.offset = 0;
-        self.done += 1;
+        self.blocks_read += 1;
         if last {
             return self.end();
         }
@@ -179,7 +179,7 @@ pub(crate) fn loading_turn<S: BlockStore>(
             Ok(Turned::Working),
             Some(Job {
                 work: Work::Loading(job),
-                left: left - 1,
+                turns: left - 1,
             }),
         ),
         Err(fault) => {
@@ -188,7 +188,7 @@ pub(crate) fn loading_turn<S: BlockStore>(
                     Err(fault),
                     Some(Job {
                         work: Work::Loading(job),
-                        left,
+                        turns: left,
                     }),
                 );
             }

@@ -32,7 +32,7 @@ pub(crate) fn squeezing_turn<S: BlockStore>(
                 Ok(Turned::Working),
                 Some(Job {
                     work: Work::Squeezing { clean },
-                    left: left - 1,
+                    turns: left - 1,
                 }),
             )
         }
@@ -44,7 +44,7 @@ pub(crate) fn squeezing_turn<S: BlockStore>(
                     Err(fault),
                     Some(Job {
                         work: Work::Squeezing { clean },
-                        left,
+                        turns: left,
                     }),
                 );
             }

@@ -132,19 +132,19 @@ fn disturbed_job(job: Option<Job>) -> Option<Job>
     match job {
         None => None,
         Some(job) => {
-            let Job { work, left } = job;
+            let Job { work, turns: left } = job;
             match work {
                 Work::Squeezing { clean: _ } => Some(Job {
                     work: Work::Squeezing { clean: false },
-                    left,
+                    turns: left,
                 }),
                 Work::Assembling(assembly) => Some(Job {
                     work: Work::Assembling(assembly),
-                    left,
+                    turns: left,
                 }),
                 Work::Loading(loading) => Some(Job {
                     work: Work::Loading(loading),
-                    left,
+                    turns: left,
                 }),
             }
         }
@@ -206,7 +206,7 @@ fn let_go<S: BlockStore>(files: &mut FileService<S>, job: Option<Job>)
     match job {
         None => {}
         Some(job) => {
-            let Job { work, left: _ } = job;
+            let Job { work, turns: _ } = job;
             match work {
                 Work::Assembling(assembly) => assembly.let_go(files),
                 Work::Loading(loading) => loading.let_go(files),

@@ -55,7 +55,7 @@ impl Jobs {
             Some(place) => {
                 let (assembly, left) = Assembly::begin(alloc, files, to, from)?;
                 let work = Work::Assembling(assembly);
-                self.put(place, Some(Job { work, left }));
+                self.put(place, Some(Job { work, turns: left }));
                 Ok(place as u32 + 1)
             }
         }
@@ -82,7 +82,7 @@ impl Jobs {
             Some(place) => {
                 let (loading, left) = Loading::begin(alloc, files, name)?;
                 let work = Work::Loading(loading);
-                self.put(place, Some(Job { work, left }));
+                self.put(place, Some(Job { work, turns: left }));
                 Ok(place as u32 + 1)
             }
         }
@@ -102,7 +102,7 @@ impl Jobs {
             Some(place) => {
                 let left = files.count() + 1;
                 let work = Work::Squeezing { clean: true };
-                self.put(place, Some(Job { work, left }));
+                self.put(place, Some(Job { work, turns: left }));
                 Ok(place as u32 + 1)
             }
         }
@@ -154,15 +154,15 @@ fn job_turn<S: BlockStore>(
     job: Job,
 ) -> (Result<Turned, JobFault>, Option<Job>)
     requires none { files.old.tentative ≡ None }
-    requires fits { Fits job.work job.left }
-    requires stands { files.old.stopped ≡ false → Stands files.old.blocks job.work job.left }
+    requires fits { Fits job.work job.turns }
+    requires stands { files.old.stopped ≡ false → Stands files.old.blocks job.work job.turns }
     requires held { (name : ℕ) → times name (names_in (Some job)) ≤ times name files.old.holds }
     ensures { TurnsJob files.old core.old job result.0 result.1 files.new core.new }
 {
     counted_holds();
     kept_holds();
     failed_writes();
-    let Job { work, left } = job;
+    let Job { work, turns: left } = job;
     match work {
         Work::Assembling(assembly) => assembling_turn(alloc, files, assembly, left),
         Work::Loading(loading) => loading_turn(files, core, loading, left),

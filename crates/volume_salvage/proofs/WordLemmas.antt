@@ -22,7 +22,7 @@ run-more blocks place k words inside is =
     ∙ ap join_blocks (sym (take-suc (drop place blocks) k [] (omega (arith, length-drop place blocks, inside))))
     ∙ ap (λ n. run blocks place n) (sym (add-one k))
 
--- a list is its first and what a pattern binds behind it
+-- a list is its first and what a pattern binds after it
 pub first-and-others : {X : Type 0} (xs : List X) (x : X) → 1 ≤ length xs → x ≡ get_or xs 0 x → xs ≡ x ∷ take (length xs - 1) (drop 1 xs)
 first-and-others [] x some is = absurd (omega (arith, some))
 first-and-others (y ∷ xs) x some is = ap (λ z. z ∷ xs) (sym is) ∙ ap (λ l. x ∷ l) (sym (take_all (length (y ∷ xs) - 1) xs (omega arith)))

@@ -84,8 +84,8 @@ fn frames_from(frames: &[u8], place: usize) -> &[u8]
     if place > frames.len() / BLOCK_FRAMES {
         return &[];
     }
-    let (_, behind) = frames.split_at(BLOCK_FRAMES * place);
-    behind
+    let (_, following) = frames.split_at(BLOCK_FRAMES * place);
+    following
 }
 
 /// The frames from the first that is that of a graphic character.

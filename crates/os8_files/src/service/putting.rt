@@ -91,11 +91,11 @@ fn fill<S: BlockStore>(
     let mut rest = words;
     let mut written = 0;
     while written < blocks {
-        let (prefix, behind) = rest.split_at(BLOCK);
+        let (prefix, following) = rest.split_at(BLOCK);
         let mut block = [Word::ZERO; BLOCK];
         block.copy_from_slice(prefix);
         files.write(tentative, &block)?;
-        rest = behind;
+        rest = following;
         written += 1;
     }
     Ok(())

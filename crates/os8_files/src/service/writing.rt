@@ -64,7 +64,7 @@ impl<S: BlockStore> FileService<S> {
                     name,
                     place,
                     room,
-                    written: 0,
+                    blocks_written: 0,
                 });
                 Ok(Tentative::new(name))
             }
@@ -87,7 +87,7 @@ impl<S: BlockStore> FileService<S> {
                     name,
                     place,
                     room,
-                    written,
+                    blocks_written: written,
                 } = begun;
                 if written >= room {
                     return Err(FileFault::TooLong);
@@ -105,7 +105,7 @@ impl<S: BlockStore> FileService<S> {
                             name,
                             place,
                             room,
-                            written: written + 1,
+                            blocks_written: written + 1,
                         });
                         Ok(())
                     }
@@ -155,7 +155,7 @@ impl<S: BlockStore> FileService<S> {
         requires names { begun.name ≡ name }
         ensures { PlacesFile self.old name begun info.now result self.new }
     {
-        if begun.written == 0 {
+        if begun.blocks_written == 0 {
             return Err(FileFault::NothingWritten);
         }
         if self.is_held(name) {
@@ -170,7 +170,7 @@ impl<S: BlockStore> FileService<S> {
         rooms();
         let placed = self
             .directory
-            .with_new_file(alloc, &name, info, begun.place, begun.written);
+            .with_new_file(alloc, &name, info, begun.place, begun.blocks_written);
         let directory = changed_directory(placed)?;
         if directory.entries().len() > directory.limit() {
             return Err(FileFault::DirectoryFull);

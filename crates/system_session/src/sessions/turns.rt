@@ -108,12 +108,12 @@ fn job_reply(begun: Result<u32, JobFault>) -> Result<Reply, SessionFault>
 }
 
 /// The names that several are, where each is one. Another name stands after them.
-fn parse_names(from: &[Bytes], behind: Name) -> Option<[Name; SOURCES]>
+fn parse_names(from: &[Bytes], following: Name) -> Option<[Name; SOURCES]>
     requires { length from.now ≤ 8 }
     ensures names { IfSome result (λ names. parsed_names from.now ≡ Some (take (length from.now) names)) }
     ensures none { result ≡ None → parsed_names from.now ≡ None }
 {
-    let mut names = [behind; SOURCES];
+    let mut names = [following; SOURCES];
     for place in 0..from.len() {
         match Name::parse(from[place].as_slice()) {
             None => return None,

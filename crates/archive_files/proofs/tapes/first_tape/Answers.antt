@@ -26,7 +26,7 @@ returns-then-branch c =
     record {
       before = take place frames;
       frame = get_or frames place 0;
-      behind = drop (suc place) frames;
+      following = drop (suc place) frames;
       items = tape.0.0;
       file_is = split_at frames place c.loop-place-test.true;
       is_tape = tape.0.1;

@@ -6,5 +6,5 @@ abbrev pub invariant-loop-block : goal.invariant-loop-block
 invariant-loop-block l = record {
   inside : (k : ℕ) → l.from ≤ k → k < l.block → slice_index l.counts k ≡ count_after 1 (slice_index l.fn.counts k);
   before : (k : ℕ) → k < l.from → slice_index l.counts k ≡ slice_index l.fn.counts k;
-  behind : (k : ℕ) → l.block ≤ k → slice_index l.counts k ≡ slice_index l.fn.counts k;
+  following : (k : ℕ) → l.block ≤ k → slice_index l.counts k ≡ slice_index l.fn.counts k;
 }

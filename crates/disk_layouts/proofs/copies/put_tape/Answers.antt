@@ -8,5 +8,5 @@ loop-number-preserved c =
     let few : number < 1474 = omega arith in
     record {
       volume = tape_volume_more number c.loop-number.file c.copy_at.new.file c.args.image.now c.copy_at.ensures.part c.copy_at.ensures.before c.loop-number.invariant.volume;
-      others = tape_others_more number c.loop-number.file c.copy_at.new.file c.args.file.now few c.copy_at.ensures.before c.copy_at.ensures.behind c.loop-number.invariant.others;
+      others = tape_others_more number c.loop-number.file c.copy_at.new.file c.args.file.now few c.copy_at.ensures.before c.copy_at.ensures.following c.loop-number.invariant.others;
     }

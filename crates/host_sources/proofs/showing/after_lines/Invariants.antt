@@ -1,5 +1,5 @@
 use Rattle.std.proofs.Common.{◌≡◌, length}
-use Rattle.host_sources.specs.Telling.{after_lines}
+use Rattle.host_sources.specs.FaultLines.{after_lines}
 use Rattle.host_sources.proofs.showing.after_lines.Given as goal
 
 abbrev pub invariant-loop-rest : goal.invariant-loop-rest

@@ -1,5 +1,5 @@
 use Rattle.std.proofs.Common.{◌≡◌, ◌++◌, length}
-use Rattle.host_sources.specs.Telling.{blanks_below}
+use Rattle.host_sources.specs.FaultLines.{blanks_below}
 use Rattle.host_sources.proofs.showing.put_below.Given as goal
 
 abbrev pub invariant-loop-rest : goal.invariant-loop-rest

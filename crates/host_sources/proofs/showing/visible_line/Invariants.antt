@@ -1,5 +1,5 @@
 use Rattle.std.proofs.Common.{◌≡◌, ◌++◌, length}
-use Rattle.host_sources.specs.Telling as spec
+use Rattle.host_sources.specs.FaultLines as spec
 use Rattle.host_sources.proofs.showing.visible_line.Given as goal
 
 abbrev pub invariant-loop-rest : goal.invariant-loop-rest

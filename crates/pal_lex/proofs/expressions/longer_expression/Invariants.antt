@@ -1,6 +1,6 @@
 use Rattle.std.proofs.Common.{◌≡◌, length}
 use Rattle.pal_lex.specs.Grammar.{parts}
-use Rattle.pal_lex.specs.BehindSteps.{parts_after}
+use Rattle.pal_lex.specs.AfterSteps.{parts_after}
 use Rattle.pal_lex.proofs.expressions.longer_expression.Given as goal
 
 abbrev pub invariant-loop-rest : goal.invariant-loop-rest

@@ -1,6 +1,6 @@
 use Rattle.std.proofs.Common.{◌≡◌, length}
 use Rattle.pal_lex.specs.Grammar.{phrase_of_tokens}
-use Rattle.pal_lex.specs.BehindSteps.{with_tags_before}
+use Rattle.pal_lex.specs.AfterSteps.{with_tags_before}
 use Rattle.pal_lex.proofs.grammar.phrase_of_tokens.Given as goal
 
 abbrev pub invariant-loop-rest : goal.invariant-loop-rest

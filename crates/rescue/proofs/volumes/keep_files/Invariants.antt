@@ -5,7 +5,7 @@ use Rattle.rescue.specs.Rescued.{with_files}
 use Rattle.rescue.specs.declared.volumes.KeptFile.{KeptFile}
 use Rattle.rescue.proofs.volumes.keep_files.Given as goal
 
--- the files that are left are still to come, behind so many
+-- the files that are left are still to come, after so many
 abbrev pub invariant-loop-rest : goal.invariant-loop-rest
 invariant-loop-rest l = record {
   ready : IsReady l.service;

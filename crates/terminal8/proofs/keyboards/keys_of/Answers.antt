@@ -12,7 +12,7 @@ loop-byte-init c =
 pub loop-byte-preserved : goal.loop-byte-preserved
 loop-byte-preserved c =
     keys_next c.loop-byte.keyboard c.strike.new.self c.loop-byte.keys.items c.put_key.new.keys.items c.args.bytes.now _ c.loop-byte.byte-index c.strike.result
-    c.loop-byte-test.true c.strike.ensures.key c.strike.ensures.behind c.in_ok-put_key.ensures c.loop-byte.invariant
+    c.loop-byte-test.true c.strike.ensures.key c.strike.ensures.following c.in_ok-put_key.ensures c.loop-byte.invariant
 
 pub returns : goal.returns
 returns c =

@@ -27,7 +27,7 @@ pub returns-in-Some-strike-clause-key : goal.returns-in-Some-strike-clause-key
 returns-in-Some-strike-clause-key g c =
     let byte = subst (λ (o : Option ℕ). ReadsByte c.loop.ahead c.next_byte.new.ahead (g.R.Read.remaining c.loop.reader) (g.R.Read.remaining c.next_byte.new.reader) (Ok o)) c.in-Some.is c.in_ok-byte.ensures.byte in
     keys-byte c.args.keyboard.now c.loop.keyboard c.strike.new.self _ _ _ _ _ _ c.in-Some.byte (Some c.in-Some-strike.key) c.loop.invariant.keys byte
-    c.in-Some-strike.ensures.key c.in-Some-strike.ensures.behind
+    c.in-Some-strike.ensures.key c.in-Some-strike.ensures.following
 
 pub returns-in-Some-strike-clause-paper : goal.returns-in-Some-strike-clause-paper
 returns-in-Some-strike-clause-paper g c = passes-more _ _ _ _ _ _ [] [] c.loop.invariant.paper c.in_ok-byte.ensures.paper
@@ -37,6 +37,6 @@ loop-preserved g c =
     let byte = subst (λ (o : Option ℕ). ReadsByte c.loop.ahead c.next_byte.new.ahead (g.R.Read.remaining c.loop.reader) (g.R.Read.remaining c.next_byte.new.reader) (Ok o)) c.in-Some.is c.in_ok-byte.ensures.byte in
     record {
       keys = keys-byte c.args.keyboard.now c.loop.keyboard c.strike.new.self _ _ _ _ _ _ c.in-Some.byte None c.loop.invariant.keys byte
-          c.in_default-strike.ensures.key c.in_default-strike.ensures.behind;
+          c.in_default-strike.ensures.key c.in_default-strike.ensures.following;
       paper = passes-more _ _ _ _ _ _ [] [] c.loop.invariant.paper c.in_ok-byte.ensures.paper;
     }

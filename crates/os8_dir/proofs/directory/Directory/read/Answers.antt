@@ -6,7 +6,7 @@ use Rattle.os8_dir.specs.declared.faults.DirFault.TheVariants.{Device}
 use Rattle.os8_dir.specs.Reading.{head_of, with_segment, block, word}
 use Rattle.os8_dir.specs.Reads.{segments_to_fault}
 use Rattle.os8_dir.proofs.ReadingLemmas.{meets-whole, meets-found, directory_of-head, directory_of-first, directory_of-links}
-use Rattle.os8_dir.proofs.ReadsLemmas.{words_found, reads_last, reads_behind, segments_some, segments_head, segments_first, segments_links}
+use Rattle.os8_dir.proofs.ReadsLemmas.{words_found, reads_last, reads_after, segments_some, segments_head, segments_first, segments_links}
 use Rattle.os8_dir.proofs.LawLemmas.{IsDirectory-read}
 use Rattle.os8_dir.proofs.directory.Directory.read.Goals as goal
 
@@ -73,7 +73,7 @@ returns-in_err-add_links-clause-segments g c =
     let added : with_segment (length blocks) c.in_ok-draft.draft 1 (block blocks 1) ≡ Ok c.add_segment.new.self = rw (← c.blocks-volume.ensures.count, ← c.in_ok-read_block.ensures.ok) c.in_ok-add_segment.ensures.reading in
     let link : c.from-link.result ≡ word (block blocks 1) 2 = rw (← c.in_ok-read_block.ensures.ok) (c.from-link.ensures ∙ c.get.ensures.value ∙ get_or_default_zero c.read_block.new.words 2 c.index-words-2.result (omega arith)) in
     let refused : Result (Unit {0}) DirFault = Err c.in_err-add_links.field-0.0 in
-    rw (p.1, p.2) (reads_behind _ (segments_to_fault 5 c.add_segment.new.self blocks (1 ∷ []) (word (block blocks 1) 2)) refused _ _ _ _ c.in_ok-read_block.ensures.count (segments_links blocks c.in_ok-draft.draft c.add_segment.new.self begun added) (λ judged. judged)
+    rw (p.1, p.2) (reads_after _ (segments_to_fault 5 c.add_segment.new.self blocks (1 ∷ []) (word (block blocks 1) 2)) refused _ _ _ _ c.in_ok-read_block.ensures.count (segments_links blocks c.in_ok-draft.draft c.add_segment.new.self begun added) (λ judged. judged)
     (rw (← link, ← c.in_ok-read_block.ensures.same) c.in_err-add_links.ensures.segments))
 
 pub returns-clause-segments : goal.returns-clause-segments
@@ -83,5 +83,5 @@ returns-clause-segments g c =
     let added : with_segment (length blocks) c.in_ok-draft.draft 1 (block blocks 1) ≡ Ok c.add_segment.new.self = rw (← c.blocks-volume.ensures.count, ← c.in_ok-read_block.ensures.ok) c.in_ok-add_segment.ensures.reading in
     let link : c.from-link.result ≡ word (block blocks 1) 2 = rw (← c.in_ok-read_block.ensures.ok) (c.from-link.ensures ∙ c.get.ensures.value ∙ get_or_default_zero c.read_block.new.words 2 c.index-words-2.result (omega arith)) in
     let done : Result (Unit {0}) DirFault = Ok tt in
-    reads_behind _ (segments_to_fault 5 c.add_segment.new.self blocks (1 ∷ []) (word (block blocks 1) 2)) done _ _ _ _ c.in_ok-read_block.ensures.count (segments_links blocks c.in_ok-draft.draft c.add_segment.new.self begun added) (λ judged. tt)
+    reads_after _ (segments_to_fault 5 c.add_segment.new.self blocks (1 ∷ []) (word (block blocks 1) 2)) done _ _ _ _ c.in_ok-read_block.ensures.count (segments_links blocks c.in_ok-draft.draft c.add_segment.new.self begun added) (λ judged. tt)
     (rw (← link, ← c.in_ok-read_block.ensures.same) c.in_ok-add_links.ensures.segments)

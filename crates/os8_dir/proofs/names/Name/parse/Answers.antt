@@ -9,14 +9,14 @@ returns-in_err-prefix c = record {
   named = rw c.from_residual.ensures tt;
 }
 
-pub returns-in_err-behind : goal.returns-in_err-behind
-returns-in_err-behind c = record {
-  name = rw (c.from_residual-in_err-behind.ensures, parsed_name-joined c.args.text.now, ← c.dot_in.ensures.place, ← c.split_at.ensures.front, ← c.split_at.ensures.back, ← c.packed_within.ensures.number, ← c.packed_extension.ensures.number, c.in_ok-prefix.was, c.in_err-behind.was) refl;
-  named = rw c.from_residual-in_err-behind.ensures tt;
+pub returns-in_err-following : goal.returns-in_err-following
+returns-in_err-following c = record {
+  name = rw (c.from_residual-in_err-following.ensures, parsed_name-joined c.args.text.now, ← c.dot_in.ensures.place, ← c.split_at.ensures.front, ← c.split_at.ensures.back, ← c.packed_within.ensures.number, ← c.packed_extension.ensures.number, c.in_ok-prefix.was, c.in_err-following.was) refl;
+  named = rw c.from_residual-in_err-following.ensures tt;
 }
 
 pub returns : goal.returns
 returns c = record {
-  name = rw (parsed_name-joined c.args.text.now, ← c.dot_in.ensures.place, ← c.split_at.ensures.front, ← c.split_at.ensures.back, ← c.packed_within.ensures.number, ← c.packed_extension.ensures.number, c.in_ok-prefix.was, c.in_ok-behind.was) refl;
-  named = named c.args.text.now _ (rw (parsed_name-joined c.args.text.now, ← c.dot_in.ensures.place, ← c.split_at.ensures.front, ← c.split_at.ensures.back, ← c.packed_within.ensures.number, ← c.packed_extension.ensures.number, c.in_ok-prefix.was, c.in_ok-behind.was) refl);
+  name = rw (parsed_name-joined c.args.text.now, ← c.dot_in.ensures.place, ← c.split_at.ensures.front, ← c.split_at.ensures.back, ← c.packed_within.ensures.number, ← c.packed_extension.ensures.number, c.in_ok-prefix.was, c.in_ok-following.was) refl;
+  named = named c.args.text.now _ (rw (parsed_name-joined c.args.text.now, ← c.dot_in.ensures.place, ← c.split_at.ensures.front, ← c.split_at.ensures.back, ← c.packed_within.ensures.number, ← c.packed_extension.ensures.number, c.in_ok-prefix.was, c.in_ok-following.was) refl);
 }

@@ -17,7 +17,7 @@ overflow_add-place g c =
     let d = c.self.inside.directory in
     let kept = c.self.invariant.kept c.if-self.false in
     let is = c.sound_directory.ensures blocks d kept in
-    let b : NewFile = record { name = c.begun.inside.name; place = c.begun.inside.place; room = c.begun.inside.room; written = c.begun.inside.written } in
+    let b : NewFile = record { name = c.begun.inside.name; place = c.begun.inside.place; room = c.begun.inside.room; blocks_written = c.begun.inside.blocks_written } in
     let lies : IsBegun d b = subst (λ (x : NewFile). IsBegun d x) (sym c.begun.view_is) (c.self.invariant.begun c.if-self.false c.in-Some.begun c.in-Some.is) in
     let inside = write-inside blocks d b is lies c.if-written-room.false in
     omega (arith, inside.1, c.self.invariant.volume.most)
@@ -28,7 +28,7 @@ write-result-requires g c =
     let d = c.self.inside.directory in
     let kept = c.self.invariant.kept c.if-self.false in
     let is = c.sound_directory.ensures blocks d kept in
-    let b : NewFile = record { name = c.begun.inside.name; place = c.begun.inside.place; room = c.begun.inside.room; written = c.begun.inside.written } in
+    let b : NewFile = record { name = c.begun.inside.name; place = c.begun.inside.place; room = c.begun.inside.room; blocks_written = c.begun.inside.blocks_written } in
     let lies : IsBegun d b = subst (λ (x : NewFile). IsBegun d x) (sym c.begun.view_is) (c.self.invariant.begun c.if-self.false c.in-Some.begun c.in-Some.is) in
     let inside = write-inside blocks d b is lies c.if-written-room.false in
     inside.1
@@ -39,10 +39,10 @@ invariant_of-self g c =
     let d = c.self.inside.directory in
     let kept = c.self.invariant.kept c.if-self.false in
     let is = c.sound_directory.ensures blocks d kept in
-    let b : NewFile = record { name = c.begun.inside.name; place = c.begun.inside.place; room = c.begun.inside.room; written = c.begun.inside.written } in
+    let b : NewFile = record { name = c.begun.inside.name; place = c.begun.inside.place; room = c.begun.inside.room; blocks_written = c.begun.inside.blocks_written } in
     let lies : IsBegun d b = subst (λ (x : NewFile). IsBegun d x) (sym c.begun.view_is) (c.self.invariant.begun c.if-self.false c.in-Some.begun c.in-Some.is) in
     let inside = write-inside blocks d b is lies c.if-written-room.false in
-    let k = b.place + b.written in
+    let k = b.place + b.blocks_written in
     record {
       segments = λ running. subst (λ bs. AreSegments bs c.self.inside.segments.items) (sym c.in-Ok.ensures.ok) (segments-written blocks c.self.inside.segments.items k c.args.words.now (c.self.invariant.segments c.if-self.false) (omega (arith, inside.0)));
       volume = c.blocks-blocks.ensures.volume;
@@ -56,10 +56,10 @@ returns-in-Ok-clause-call g c =
     let d = c.self.inside.directory in
     let kept = c.self.invariant.kept c.if-self.false in
     let is = c.sound_directory.ensures blocks d kept in
-    let b : NewFile = record { name = c.begun.inside.name; place = c.begun.inside.place; room = c.begun.inside.room; written = c.begun.inside.written } in
+    let b : NewFile = record { name = c.begun.inside.name; place = c.begun.inside.place; room = c.begun.inside.room; blocks_written = c.begun.inside.blocks_written } in
     let lies : IsBegun d b = subst (λ (x : NewFile). IsBegun d x) (sym c.begun.view_is) (c.self.invariant.begun c.if-self.false c.in-Some.begun c.in-Some.is) in
     let inside = write-inside blocks d b is lies c.if-written-room.false in
-    let k = b.place + b.written in
+    let k = b.place + b.blocks_written in
     let new = g.S.BlockStore.contents c.write-result.new.self in
     let steady : directory_of new ≡ directory_of blocks = ap (λ bs. directory_of bs) c.in-Ok.ensures.ok ∙ written-directory c.directory_blocks.ensures blocks k c.args.words.now (omega (arith, inside.0)) in
     rw (← c.self.view_is) (record {
@@ -68,7 +68,7 @@ returns-in-Ok-clause-call g c =
       was = c.in-Some.is ∙ ap Some (sym c.begun.view_is);
       short = c.if-written-room.false;
       blocks = c.in-Ok.ensures.ok;
-      text = ap (λ bs. run bs b.place (b.written + 1)) c.in-Ok.ensures.ok ∙ text-more blocks b.place b.written c.args.words.now inside.1;
+      text = ap (λ bs. run bs b.place (b.blocks_written + 1)) c.in-Ok.ensures.ok ∙ text-more blocks b.place b.blocks_written c.args.words.now inside.1;
       kept = record {
         count = ap (λ (bs : List (List ℕ)). length bs) c.in-Ok.ensures.ok ∙ length-set blocks k c.args.words.now;
         segments = λ j low high. ap (λ bs. block bs j) c.in-Ok.ensures.ok ∙ get_or-set_other blocks k j c.args.words.now [] (omega (arith, inside.0, high));
@@ -91,14 +91,14 @@ returns-in-Err-clause-call g c =
     let same : old.blocks ≡ blocks = ap (λ (m : MountState). m.blocks) (sym c.self.view_is) in
     let kept : directory_of old.blocks ≡ Ok d = subst (λ bs. directory_of bs ≡ Ok d) (sym same) (c.self.invariant.kept c.if-self.false) in
     let is = c.sound_directory.ensures old.blocks d kept in
-    let b : NewFile = record { name = c.begun.inside.name; place = c.begun.inside.place; room = c.begun.inside.room; written = c.begun.inside.written } in
+    let b : NewFile = record { name = c.begun.inside.name; place = c.begun.inside.place; room = c.begun.inside.room; blocks_written = c.begun.inside.blocks_written } in
     let lies : IsBegun d b = subst (λ (x : NewFile). IsBegun d x) (sym c.begun.view_is) (c.self.invariant.begun c.if-self.false c.in-Some.begun c.in-Some.is) in
     let kept' = c.self.invariant.kept c.if-self.false in
     write-failed c.directory_blocks.ensures c.files_found.ensures c.rooms.ensures.lie c.rooms.ensures.outside old _ d b c.in-Err.ensures.err.words
     (ap (λ (m : MountState). m.stopped) (sym c.self.view_is) ∙ c.if-self.false)
     (ap (λ (m : MountState). m.tentative) (sym c.self.view_is) ∙ c.in-Some.is ∙ ap Some (sym c.begun.view_is))
     kept is lies c.if-written-room.false
-    (c.in-Err.ensures.err.rest ∙ ap (λ bs. slice_set bs (b.place + b.written) c.in-Err.ensures.err.words) (sym same))
+    (c.in-Err.ensures.err.rest ∙ ap (λ bs. slice_set bs (b.place + b.blocks_written) c.in-Err.ensures.err.words) (sym same))
     (c.write-result.ensures.writes ∙ ap (λ (m : MountState). next_count m.writes) c.self.view_is)
     (rw (← c.self.view_is, c.write-result.ensures.reads, c.write-result.ensures.failed_reads, c.in-Err.ensures.failed_writes) (ap (λ r. record {
       blocks = g.S.BlockStore.contents c.write-result.new.self;

@@ -11,10 +11,10 @@ pub loop-number-preserved : goal.loop-number-preserved
 loop-number-preserved g c = record {
   told = λ quiet.
       let before = quiet_first _ c.loop-number.self _ quiet c.loop-number.invariant.later c.run_turn.ensures.later in
-      let behind = quiet_second _ c.loop-number.self _ quiet c.loop-number.invariant.later c.run_turn.ensures.later (c.loop-number.invariant.running before) in
+      let following = quiet_second _ c.loop-number.self _ quiet c.loop-number.invariant.later c.run_turn.ensures.later (c.loop-number.invariant.running before) in
       let t = c.loop-number.invariant.told before in
       let low : lowest_job c.loop-number.self.jobs ≡ Some c.in-Some.number = ap (λ (s : SessionView). lowest_job s.jobs) (sym c.self.view_is) ∙ sym c.lowest.ensures ∙ c.in-Some.is in
-      let m = turns_more t.0 c.in-Some.number _ (state_of c.loop-number.self) _ _ (g.W.Write.contents c.loop-number.writer) _ t.1 low t.2 (c.in_ok-run_turn.ensures.told behind) in
+      let m = turns_more t.0 c.in-Some.number _ (state_of c.loop-number.self) _ _ (g.W.Write.contents c.loop-number.writer) _ t.1 low t.2 (c.in_ok-run_turn.ensures.told following) in
       (_, m.0, m.1);
   later = later_trans _ _ _ c.loop-number.invariant.later c.run_turn.ensures.later;
   running = λ quiet.
@@ -26,10 +26,10 @@ pub returns-in_err-run_turn-clause-told : goal.returns-in_err-run_turn-clause-to
 returns-in_err-run_turn-clause-told g c quiet =
     let p = err_from_is_err_and c.from_residual.result c.from_residual.ensures.1 in
     let before = quiet_first _ c.loop-number.self _ quiet c.loop-number.invariant.later c.run_turn.ensures.later in
-    let behind = quiet_second _ c.loop-number.self _ quiet c.loop-number.invariant.later c.run_turn.ensures.later (c.loop-number.invariant.running before) in
+    let following = quiet_second _ c.loop-number.self _ quiet c.loop-number.invariant.later c.run_turn.ensures.later (c.loop-number.invariant.running before) in
     let t = c.loop-number.invariant.told before in
     let low : lowest_job c.loop-number.self.jobs ≡ Some c.in-Some.number = ap (λ (s : SessionView). lowest_job s.jobs) (sym c.self.view_is) ∙ sym c.lowest.ensures ∙ c.in-Some.is in
-    rw (p.1, p.2) (finish_ended t.0 c.in-Some.number _ (state_of c.loop-number.self) _ _ (g.W.Write.contents c.loop-number.writer) _ c.in_err-run_turn.field-0.0 t.1 low t.2 (c.in_err-run_turn.ensures.told behind))
+    rw (p.1, p.2) (finish_ended t.0 c.in-Some.number _ (state_of c.loop-number.self) _ _ (g.W.Write.contents c.loop-number.writer) _ c.in_err-run_turn.field-0.0 t.1 low t.2 (c.in_err-run_turn.ensures.told following))
 
 pub returns-clause-told : goal.returns-clause-told
 returns-clause-told g c quiet =

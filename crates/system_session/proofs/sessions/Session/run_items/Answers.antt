@@ -11,10 +11,10 @@ pub returns-in_err-lines-clause-told : goal.returns-in_err-lines-clause-told
 returns-in_err-lines-clause-told g c quiet =
     let p = err_from_is_err_and c.from_residual.result c.from_residual.ensures.1 in
     let before = quiet_first _ c.loop-lines.self _ quiet c.loop-lines.invariant.later c.run_next.ensures.later in
-    let behind = quiet_second _ c.loop-lines.self _ quiet c.loop-lines.invariant.later c.run_next.ensures.later (c.loop-lines.invariant.running before) in
+    let following = quiet_second _ c.loop-lines.self _ quiet c.loop-lines.invariant.later c.run_next.ensures.later (c.loop-lines.invariant.running before) in
     rw (p.1, p.2) (up_to_stopped c.args.text.now c.split_at.result.1.now c.args.is_end c.loop-lines.done (state_of c.args.self.now) (state_of c.loop-lines.self) (state_of c.run_next.new.self)
     (g.W.Write.contents c.args.writer.now) (g.W.Write.contents c.loop-lines.writer) (g.W.Write.contents c.run_next.new.writer) c.in_err-lines.field-0.0
-    c.split_at.ensures.back (c.loop-lines.invariant.told before) (c.in_err-lines.ensures.told behind))
+    c.split_at.ensures.back (c.loop-lines.invariant.told before) (c.in_err-lines.ensures.told following))
 
 pub loop-lines-preserved : goal.loop-lines-preserved
 loop-lines-preserved g c =
@@ -22,11 +22,11 @@ loop-lines-preserved g c =
     record {
       told = λ quiet.
           let before = quiet_first _ c.loop-lines.self _ quiet c.loop-lines.invariant.later c.run_next.ensures.later in
-          let behind = quiet_second _ c.loop-lines.self _ quiet c.loop-lines.invariant.later c.run_next.ensures.later (c.loop-lines.invariant.running before) in
+          let following = quiet_second _ c.loop-lines.self _ quiet c.loop-lines.invariant.later c.run_next.ensures.later (c.loop-lines.invariant.running before) in
           up_to_next c.args.text.now c.split_at.result.1.now c.args.is_end c.loop-lines.done c.in-Ran.bytes (state_of c.args.self.now) (state_of c.loop-lines.self) (state_of c.run_next.new.self)
           (g.W.Write.contents c.args.writer.now) (g.W.Write.contents c.loop-lines.writer) (g.W.Write.contents c.run_next.new.writer)
           c.split_at.ensures.back (c.loop-lines.invariant.told before)
-          (subst (λ (o : Begun). RunsNext c.split_at.result.1.now c.args.is_end (state_of c.loop-lines.self) (state_of c.run_next.new.self) (g.W.Write.contents c.loop-lines.writer) (g.W.Write.contents c.run_next.new.writer) (Ok o)) c.in-Ran.is (c.in_ok-lines.ensures.told behind));
+          (subst (λ (o : Begun). RunsNext c.split_at.result.1.now c.args.is_end (state_of c.loop-lines.self) (state_of c.run_next.new.self) (g.W.Write.contents c.loop-lines.writer) (g.W.Write.contents c.run_next.new.writer) (Ok o)) c.in-Ran.is (c.in_ok-lines.ensures.told following));
       within = omega (arith, c.loop-lines.invariant.within, c.split_at.ensures.back_len, inside.1);
       later = later_trans _ _ _ c.loop-lines.invariant.later c.run_next.ensures.later;
       running = λ quiet.

@@ -45,9 +45,9 @@ loop-init g c = record {
 pub returns-then-ends-clause-told : goal.returns-then-ends-clause-told
 returns-then-ends-clause-told g c quiet =
     let before = quiet_first _ c.loop.self _ quiet c.loop.invariant.later c.run_end.ensures.later in
-    let behind = quiet_second _ c.loop.self _ quiet c.loop.invariant.later c.run_end.ensures.later (c.loop.invariant.running before) in
+    let following = quiet_second _ c.loop.self _ quiet c.loop.invariant.later c.run_end.ensures.later (c.loop.invariant.running before) in
     run_over 16777216 _ (state_of c.loop.self) _ _ (g.R.Read.remaining c.loop.reader) _ _ (g.W.Write.contents c.loop.writer) _ c.loop.pending.count c.loop.pending.bytes.items c.deref.result.now c.run_end.result
-    (c.loop.invariant.told before) c.loop.invariant.within c.if-ends.ensures c.deref.ensures.value (c.run_end.ensures.told behind)
+    (c.loop.invariant.told before) c.loop.invariant.within c.if-ends.ensures c.deref.ensures.value (c.run_end.ensures.told following)
 
 pub returns-then-pending-eq-MOST-clause-told : goal.returns-then-pending-eq-MOST-clause-told
 returns-then-pending-eq-MOST-clause-told g c quiet =
@@ -61,9 +61,9 @@ pub returns-then-at_end-clause-told : goal.returns-then-at_end-clause-told
 returns-then-at_end-clause-told g c quiet =
     let read = at_end (g.R.Read.remaining c.loop.reader) (g.R.Read.remaining c.read.new.reader) _ _ _ _ _ c.if-at_end.true c.in_ok-at_end.ensures in
     let before = quiet_first _ c.loop.self _ quiet c.loop.invariant.later c.run_end-then-at_end.ensures.later in
-    let behind = quiet_second _ c.loop.self _ quiet c.loop.invariant.later c.run_end-then-at_end.ensures.later (c.loop.invariant.running before) in
+    let following = quiet_second _ c.loop.self _ quiet c.loop.invariant.later c.run_end-then-at_end.ensures.later (c.loop.invariant.running before) in
     run_over 16777216 _ (state_of c.loop.self) _ _ (g.R.Read.remaining c.loop.reader) _ _ (g.W.Write.contents c.loop.writer) _ c.loop.pending.count c.loop.pending.bytes.items c.deref-then-at_end.result.now c.run_end-then-at_end.result
-    (c.loop.invariant.told before) c.loop.invariant.within read.0 (c.deref-then-at_end.ensures.value ∙ read.1) (c.run_end-then-at_end.ensures.told behind)
+    (c.loop.invariant.told before) c.loop.invariant.within read.0 (c.deref-then-at_end.ensures.value ∙ read.1) (c.run_end-then-at_end.ensures.told following)
 
 pub returns-then-at_end-clause-taken : goal.returns-then-at_end-clause-taken
 returns-then-at_end-clause-taken g c =
@@ -75,11 +75,11 @@ returns-in_err-run_given-clause-told g c quiet =
     let p = err_from_is_err_and c.from_residual-in_err-run_given.result c.from_residual-in_err-run_given.ensures.1 in
     let read = more_read (g.R.Read.remaining c.loop.reader) (g.R.Read.remaining c.read.new.reader) _ _ _ _ _ c.if-at_end.false c.in_ok-at_end.ensures in
     let before = quiet_first _ c.loop.self _ quiet c.loop.invariant.later c.run_given.ensures.later in
-    let behind = quiet_second _ c.loop.self _ quiet c.loop.invariant.later c.run_given.ensures.later (c.loop.invariant.running before) in
+    let following = quiet_second _ c.loop.self _ quiet c.loop.invariant.later c.run_given.ensures.later (c.loop.invariant.running before) in
     let fed = run_fed _ (state_of c.loop.self) _ (g.R.Read.remaining c.loop.reader) _ _ (g.W.Write.contents c.loop.writer) c.loop.pending.count c.loop.pending.bytes.items read.0 (c.loop.invariant.told before) read.1 in
     rw (p.1, p.2) (run_stopped 16777216 _ (state_of c.loop.self) _ _ (g.R.Read.remaining c.read.new.reader) _ (g.W.Write.contents c.loop.writer) _ (c.loop.pending.count + length read.0) (c.loop.pending.bytes.items ++ read.0) c.run_given.new.pending.bytes.items c.in_err-run_given.field-0.0
     fed (omega (arith, read.3, read.4))
-    (subst (λ (l : List ℕ). RunsGiven l c.run_given.new.pending.bytes.items (state_of c.loop.self) (state_of c.run_given.new.self) (g.W.Write.contents c.loop.writer) (g.W.Write.contents c.run_given.new.writer) (Err c.in_err-run_given.field-0.0)) read.2 (c.in_err-run_given.ensures.told behind)))
+    (subst (λ (l : List ℕ). RunsGiven l c.run_given.new.pending.bytes.items (state_of c.loop.self) (state_of c.run_given.new.self) (g.W.Write.contents c.loop.writer) (g.W.Write.contents c.run_given.new.writer) (Err c.in_err-run_given.field-0.0)) read.2 (c.in_err-run_given.ensures.told following)))
 
 pub returns-in_err-run_given-clause-taken : goal.returns-in_err-run_given-clause-taken
 returns-in_err-run_given-clause-taken g c =
@@ -107,12 +107,12 @@ loop-preserved g c =
     record {
       told = λ quiet.
           let before = quiet_first _ c.loop.self _ quiet c.loop.invariant.later c.run_given.ensures.later in
-          let behind = quiet_second _ c.loop.self _ quiet c.loop.invariant.later c.run_given.ensures.later (c.loop.invariant.running before) in
+          let following = quiet_second _ c.loop.self _ quiet c.loop.invariant.later c.run_given.ensures.later (c.loop.invariant.running before) in
           let fed = run_fed _ (state_of c.loop.self) _ (g.R.Read.remaining c.loop.reader) _ _ (g.W.Write.contents c.loop.writer) c.loop.pending.count c.loop.pending.bytes.items read.0 (c.loop.invariant.told before) read.1 in
           subst (λ n. IsRunTo (state_of c.args.self.now) (state_of c.run_given.new.self) (g.R.Read.remaining c.args.reader.now) (g.R.Read.remaining c.read.new.reader) (g.W.Write.contents c.args.writer.now) (g.W.Write.contents c.run_given.new.writer) n c.run_given.new.pending.bytes.items)
           (sym (c.run_given.ensures.count ∙ read.3))
           (run_on _ (state_of c.loop.self) _ _ (g.R.Read.remaining c.read.new.reader) _ (g.W.Write.contents c.loop.writer) _ (c.loop.pending.count + length read.0) (c.loop.pending.bytes.items ++ read.0) c.run_given.new.pending.bytes.items fed
-          (subst (λ (l : List ℕ). RunsGiven l c.run_given.new.pending.bytes.items (state_of c.loop.self) (state_of c.run_given.new.self) (g.W.Write.contents c.loop.writer) (g.W.Write.contents c.run_given.new.writer) (Ok tt)) read.2 (c.in_ok-run_given.ensures.told behind)));
+          (subst (λ (l : List ℕ). RunsGiven l c.run_given.new.pending.bytes.items (state_of c.loop.self) (state_of c.run_given.new.self) (g.W.Write.contents c.loop.writer) (g.W.Write.contents c.run_given.new.writer) (Ok tt)) read.2 (c.in_ok-run_given.ensures.told following)));
       waits = c.in_ok-run_given.ensures.waits;
       taken = subst (λ n. TakesBytes (g.R.Read.remaining c.args.reader.now) (g.R.Read.remaining c.read.new.reader) n) (sym (c.run_given.ensures.count ∙ read.3)) (takes_more _ (g.R.Read.remaining c.loop.reader) _ c.loop.pending.count read.0 c.loop.invariant.taken read.1);
       within = omega (arith, c.run_given.ensures.count, read.4);

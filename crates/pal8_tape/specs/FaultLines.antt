@@ -4,7 +4,7 @@ use Rattle.word12.specs.Octal.{octal5}
 use Rattle.pal8_asm.specs.declared.faults.Code.{Code}
 use Rattle.pal8_asm.specs.declared.faults.Code.TheVariants.{IC, SY, NU, UA, DT, RD, IR, II, FD, PG, PF, DZ, PE, ZE, PageClash, ZeroClash, RL, PH, NE, NW}
 use Rattle.host_sources.specs.Spelling.{spelling}
-use Rattle.host_sources.specs.Telling.{character_text, place_text, marked_line}
+use Rattle.host_sources.specs.FaultLines.{character_text, place_text, marked_line}
 use Rattle.pal8_tape.specs.declared.faults.Fault.{Fault}
 
 -- the two letters of a fault

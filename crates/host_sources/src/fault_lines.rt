@@ -1,7 +1,7 @@
 //! Faults, as a compiler prints them.
 ghost use Rattle.std.specs.Prelude.{◌≡◌, ◌++◌, decimal, IfOk, OnOk};
 ghost use Rattle.host_sources.specs.Places.{bytes_of};
-ghost use Rattle.host_sources.specs.Telling.{letters_of, words_of, character_text, about_text, fault_words, place_text, headline, with_caret, marked_line, script_text, fault_text};
+ghost use Rattle.host_sources.specs.FaultLines.{letters_of, words_of, character_text, about_text, fault_words, place_text, headline, with_caret, marked_line, script_text, fault_text};
 
 use crate::places::{bytes_of, first_bytes};
 use crate::showing::{put_below, shown_line};

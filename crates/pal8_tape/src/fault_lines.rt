@@ -1,7 +1,7 @@
 //! Faults, as a compiler reports them.
 ghost use Rattle.std.specs.Prelude.{◌≡◌, ◌++◌, IfOk, OnOk};
 ghost use Rattle.word12.specs.Octal.{octal5};
-ghost use Rattle.pal8_tape.specs.Telling.{about, fault_words, script_text, fault_text};
+ghost use Rattle.pal8_tape.specs.FaultLines.{about, fault_words, script_text, fault_text};
 ghost use Rattle.std.specs.Prelude.{codes};
 
 use crate::Fault;
