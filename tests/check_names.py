@@ -2,7 +2,7 @@
 """check_names.py: names and comments of the Rattle sources are in plain words.
 
 No function, constant or field of src/ and no definition of specs/ is named by a participle alone, as `held` or `told_of`: a name is a noun, begins
-with `is_` or `has_`, or is a verb with its object. The names that stay are listed here, each with its reason. No sentence of a comment has more than
+with `is_` or `has_`, or is a verb with its object. No name says `behind`: it says `after`. The names that stay are listed here, each with its reason. No sentence of a comment has more than
 30 words, without what stands in brackets, and no comment has a word that is listed here as unplain. The last line is 'N passed, M failed'.
 """
 import os
@@ -25,15 +25,12 @@ PARTICIPLES = set(
 # Words that end in -ed and are none.
 NOUNS = set("need speed feed seed red bed hundred kind word embed indeed".split())
 # What may stand after a participle without making it a noun.
-SMALL = set("of by at in with to from on for as off up out into after before over under and or not is all each one two whole behind".split())
+SMALL = set("of by at in with to from on for as off up out into after before over under and or not is all each one two whole".split())
 # Names that stay.
 STAY = {
     ("cpu8", "held_off"): "interrupts that ION holds off: the handbook's word",
     ("cpu8", "left"): "the direction of a rotation",
-    ("volume_jobs", "done"): "of a job: how many blocks it has read",
-    ("volume_jobs", "left"): "of a job: how many turns it has left",
     ("os8_files", "stopped"): "of a file service: the state of that name",
-    ("os8_files", "written"): "of a new file: its blocks that are written",
     ("pal8_pools", "punched"): "of a cell: it goes to the tape, as ENPUNCH says",
     ("system_session", "printed"): "of a console: the characters that it printed",
     ("system_session", "stopped"): "of a session: the state of that name",
@@ -78,9 +75,10 @@ def main() -> int:
     passed, faults, seen = 0, list[str](), set[tuple[str, str]]()
     for crate, path, name in all_names():
         is_fault = is_bare(name) and (crate, name) not in STAY
+        says_behind = "behind" in name.lower()
         seen.add((crate, name))
-        faults += [f"{path}: {name} is a participle alone"] * is_fault
-        passed += not is_fault
+        faults += [f"{path}: {name} is a participle alone"] * is_fault + [f"{path}: {name} says behind"] * says_behind
+        passed += not (is_fault or says_behind)
     faults += [f"{crate} has no {name}, which is listed here" for crate, name in sorted(set(STAY) - seen)]
     for path in [*files_of("*"), *(definitions(*it).path for it in definition_files())]:
         count, found = unplain(path)
