@@ -21,7 +21,7 @@ WANT = r"(?:(?:\w+::)?\w+\()?(?:\(_, )?\w+::(?:Out[oO]f)?Memory\)*"
 # The functions that write one, by file, with how many they write and why.
 PLACES: dict[str, dict[str, tuple[int, str]]] = {
     "archive_files/src/deleting.rt": {
-        "delete": (1, "the file service's own, on a line behind its pattern"),
+        "delete": (1, "the file service's own, on a line after its pattern"),
     },
     "volume_index/src/choosing.rt": {
         "is_chosen": (1, "`chosen`'s own, in the arm of its pattern"),
@@ -37,13 +37,13 @@ PLACES: dict[str, dict[str, tuple[int, str]]] = {
         "radix_at": (1, "`assemble`'s own, in the arm of its pattern"),
     },
     "archive_many/src/putting.rt": {
-        "put_all": (1, "a session's own, on a line behind its pattern"),
+        "put_all": (1, "a session's own, on a line after its pattern"),
     },
     "archive_files/src/opening.rt": {
         "image_of": (1, "`to_bytes` can fail for nothing else"),
     },
     "archive_files/src/renaming.rt": {
-        "give_name": (1, "the file service's own, on a line behind its pattern"),
+        "give_name": (1, "the file service's own, on a line after its pattern"),
     },
     "disk_layouts/src/copies.rt": {
         "tape_volume": (1, "the image of a DECtape's volume, which is asked for once"),
