@@ -1,5 +1,6 @@
 #!/usr/bin/env python3
-"""proved.py [--status]: proves the crates that the program pdp8 stands on, as many side by side as there are processors, and builds it.
+"""proved.py [--status | NAME]: proves the crates that the program pdp8 stands on, as many side by side as there are processors, and builds it. With
+NAME it is that program of the repository, which a benchmark measures.
 
 Each crate is proved once, over what the crates below it state, by the toolchain's prover. What it states is kept in its out/program/ with a sum of
 all that the proof rests on. So a run that was broken off goes on after the last crate that was whole. A changed source has its crate and those above
@@ -19,7 +20,7 @@ TOP = os.path.dirname(os.path.dirname(os.path.abspath(__file__)))
 sys.path.insert(0, TOP)
 from build.crates import Crates, kit, toolchain
 from build.unproved import Build
-from build.working import Group, Progress, heed_signals, lock
+from build.working import Group, Progress, heed_signals, lock, toolchain_with
 
 PROGRAM = "pdp8"
 MADE = f"{TOP}/crates/{PROGRAM}/out/{PROGRAM}"
@@ -33,16 +34,23 @@ SECONDS = {
     "program_tasks": 40, "command_table": 500, "program_reports": 170, "outcome": 100, "host_inputs": 150, "tape_commands": 200,
     "monitor8": 150, "pdp8": 140,
 }  # fmt: skip
+# What compiles the program: the toolchain's compiler, which lays jumps so that none crosses or ends at 32 bytes. There some processors are slow.
+COMPILER = """#!/bin/sh
+case " $* " in
+*" -O3 "*) exec "{clang}" "$@" -mllvm -x86-branches-within-32B-boundaries -mllvm -align-all-functions=6 ;;
+esac
+exec "{clang}" "$@"
+"""
 # The memory that a job of the prover may take, in kB.
 MEMORY_OF_A_JOB = 1_600_000
 
 
 class Wanted:
-    """The crates that the program stands on, and itself, lowest first, with what is kept of each."""
+    """The crates that a program stands on, and itself, lowest first, with what is kept of each."""
 
-    def __init__(self) -> None:
-        self.all = Crates()
-        self.names = [*self.all.below(PROGRAM), PROGRAM]
+    def __init__(self, program: str = PROGRAM) -> None:
+        self.all, self.program, self.made = Crates(), program, f"{TOP}/crates/{program}/out/{program}"
+        self.names = [*self.all.below(program), program]
         self.sums = {name: self.all.sum(name) for name in self.names}
 
     def kept(self, name: str) -> str:
@@ -53,14 +61,14 @@ class Wanted:
 
     def mark(self, name: str) -> str:
         """What is kept of a crate's proof: the sum of what it rests on, and of the program also the sum of its bytes."""
-        if name != PROGRAM:
+        if name != self.program:
             return self.sums[name]
-        return f"{self.sums[name]} {hashlib.sha256(open(MADE, 'rb').read()).hexdigest()}"
+        return f"{self.sums[name]} {hashlib.sha256(open(self.made, 'rb').read()).hexdigest()}"
 
     def is_proved(self, name: str) -> bool:
         """Whether the crate was proved as it stands here."""
         try:
-            is_there = name == PROGRAM or os.path.exists(self.library(name))
+            is_there = name == self.program or os.path.exists(self.library(name))
             return is_there and open(f"{self.kept(name)}/sum", encoding="utf-8").read() == self.mark(name)
         except OSError:
             return False
@@ -71,14 +79,13 @@ class Wanted:
         with open(f"{self.kept(name)}/sum", "w", encoding="utf-8") as kept:
             kept.write(self.mark(name))
 
-    def command(self, name: str, jobs: int) -> list[str]:
-        """What proves a crate, in its folder."""
+    def command(self, name: str, jobs: int, tools: str) -> list[str]:
+        """What proves a crate, in its folder, and compiles the program by the toolchain in the folder `tools`."""
         words = [f"{toolchain()}/bin/rattle", "build", *self.all.words(name, self.library), "--jobs", str(jobs)]
-        if name != PROGRAM:
+        if name != self.program:
             return [*words, "--statements", "-o", self.library(name)]
-        tools = ["--toolchain", f"{toolchain()}/toolchain"]
-        built = [*words, *tools, "-o", f"{self.kept(name)}/{name}.o"]
-        link = [f"{toolchain()}/bin/rattle-link", "--target", "x86_64-unknown-linux-gnu", *tools, "-o", MADE]
+        built = [*words, "--toolchain", tools, "-o", f"{self.kept(name)}/{name}.o"]
+        link = [f"{toolchain()}/bin/rattle-link", "--target", "x86_64-unknown-linux-gnu", "--toolchain", tools, "-o", self.made]
         link += [f"{self.kept(name)}/{name}.o", *(f"{toolchain()}/c/{it}" for it in ("libos_c.a", "liblibc_c.a"))]
         return ["sh", "-c", f"{shlex.join(built)} && {shlex.join(link)}"]
 
@@ -91,13 +98,13 @@ class Wanted:
 class Proof:
     """The proof of one crate, as it runs."""
 
-    def __init__(self, wanted: Wanted, name: str, jobs: int, group: Group) -> None:
+    def __init__(self, wanted: Wanted, name: str, jobs: int, tools: str, group: Group) -> None:
         self.wanted, self.name, self.jobs, self.begun = wanted, name, jobs, time.monotonic()
         self.log = f"{LOGS}/{name}.log"
         shutil.rmtree(wanted.kept(name), ignore_errors=True)
         os.makedirs(wanted.kept(name))
         with open(self.log, "wb") as log:
-            self.run = group.start(wanted.command(name, jobs), cwd=f"{TOP}/crates/{name}", stdout=log, stderr=subprocess.STDOUT)
+            self.run = group.start(wanted.command(name, jobs, tools), cwd=f"{TOP}/crates/{name}", stdout=log, stderr=subprocess.STDOUT)
 
     def has_ended(self) -> bool:
         return self.run.poll() is not None
@@ -123,7 +130,7 @@ def share(wanted: Wanted, ready: list[str], idle: int) -> tuple[str, int]:
     return max(ready, key=wanted.chain), max(1, idle // len(ready))
 
 
-def prove(wanted: Wanted, progress: Progress, group: Group) -> Proof | None:
+def prove(wanted: Wanted, progress: Progress, tools: str, group: Group) -> Proof | None:
     """Proves all crates, each once those below it are proved. Returns the proof that failed, if one did."""
     done, running = {it for it in wanted.names if wanted.is_proved(it)}, dict[str, Proof]()
     processors, most = len(os.sched_getaffinity(0)), jobs_that_fit()
@@ -132,7 +139,7 @@ def prove(wanted: Wanted, progress: Progress, group: Group) -> Proof | None:
         taken = sum(it.jobs for it in running.values())
         if ready and taken < min(most, processors):
             name, jobs = share(wanted, ready, processors - taken)
-            running[name] = Proof(wanted, name, min(jobs, most - taken), group)
+            running[name] = Proof(wanted, name, min(jobs, most - taken), tools, group)
             continue
         progress.show(f"proving {min(len(done) + 1, len(wanted.names))} of {len(wanted.names)}, {', '.join(running)}")
         time.sleep(0.1)
@@ -161,17 +168,18 @@ def status(wanted: Wanted) -> int:
 
 def prove_program(wanted: Wanted) -> int:
     """Proves what is not proved yet and builds the program. The exit status."""
-    progress = Progress()
+    progress, program = Progress(), wanted.program
     lock(f"{TOP}/build", progress, "another run proves the program: this one waits for it")
-    if wanted.is_proved(PROGRAM):
-        os.utime(MADE)  # a source may be newer, though it is what was proved
-        print(f"pdp8 is proved as its sources stand, with {kit()}")
+    if wanted.is_proved(program):
+        os.utime(wanted.made)  # a source may be newer, though it is what was proved
+        print(f"{program} is proved as its sources stand, with {kit()}")
         return 0
-    progress.say(f"proving and building the program pdp8, {len(wanted.names)} crates; this takes some 25 minutes on four processors, once")
+    progress.say(f"proving and building the program {program}, {len(wanted.names)} crates; this takes some 25 minutes on four processors, once")
     os.makedirs(LOGS, exist_ok=True)
     group = Group()
     try:
-        failed = prove(wanted, progress, group)
+        with toolchain_with(COMPILER.format(clang=f"{toolchain()}/toolchain/bin/clang")) as tools:
+            failed = prove(wanted, progress, tools, group)
     except KeyboardInterrupt:
         progress.say("broken off; the next ./prove goes on from here")
         return 130
@@ -183,17 +191,19 @@ def prove_program(wanted: Wanted) -> int:
         progress.say(f"{failed.name} is not proved; its log is {failed.log}")
         return 70
     shutil.rmtree(LOGS, ignore_errors=True)
-    print(f"pdp8 is proved, with {kit()}; ./pdp8 runs the proved program now")
+    print(f"{program} is proved, with {kit()}" + ("; ./pdp8 runs the proved program now" if program == PROGRAM else ""))
     return 0
 
 
 def main(words: list[str]) -> int:
-    if words not in ([], ["--status"]):
+    crates = Crates()
+    is_status, names = words == ["--status"], [it for it in words if it in crates.names and crates.is_program(it)]
+    if len(words) > 1 or (words and not is_status and not names):
         print("prove: usage: ./prove, or ./prove --status", file=sys.stderr)
         return 2
     heed_signals()
     try:
-        return status(Wanted()) if words else prove_program(Wanted())
+        return status(Wanted()) if is_status else prove_program(Wanted(*names))
     except OSError as error:
         print(f"prove: {error.filename or 'the build'}: {error.strerror}", file=sys.stderr)
         return 70
