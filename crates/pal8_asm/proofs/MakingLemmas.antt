@@ -14,39 +14,91 @@ use Rattle.pal8_values.specs.Answering.{IsAsked}
 use Rattle.pal8_values.specs.Laws.{GoesNear, WordsAskNear}
 use Rattle.pal8_values.specs.declared.sums.Spot.{Spot}
 use Rattle.pal8_asm.specs.Kept.{cut, entry_of, total}
-use Rattle.pal8_asm.specs.Sources.{Entry, entry_at, with_values}
-use Rattle.pal8_asm.specs.Tapes.{TapeWords, clash_fault, first_of, spot_of, with_entries, with_entry, with_made}
-use Rattle.pal8_asm.specs.Steps.{AddsPool, GivesAt, IsMaking, Makes, fault_at}
+use Rattle.pal8_asm.specs.Sources.{Entry, entry_with, with_values}
+use Rattle.pal8_asm.specs.Tapes.{TapeWords, clash_fault, first_of, late_after, late_fault, late_value, spot_of, unless_fault, with_entries, with_entry, with_entry_by, with_made, with_word_entry}
+use Rattle.pal8_asm.specs.Steps.{AddsPool, GivesAt, IsJudgedLate, IsMaking, Makes, fault_at}
 use Rattle.pal8_asm.specs.declared.faults.Fault.{Fault}
 use Rattle.pal8_asm.specs.declared.faults.Place.{Place}
 use Rattle.pal8_asm.specs.declared.entries.Head.{Head}
+use Rattle.pal8_asm.specs.declared.entries.Late.{Late}
 use Rattle.pal8_asm.specs.declared.faults.AsmFault.{AsmFault}
 use Rattle.pal8_asm.specs.declared.faults.AsmFault.TheVariants.{At, Memory}
 
 -- The rest of the entries comes to what all of them come to.
-pub record IsOnTheWay (last : Meanings) (whole : Result TapeWords Fault) (heads : List Head) (steps : List Step) (pools : PoolTable) (marks : List Bool) (clash : Option Fault)
+pub record IsOnTheWay (own late : Meanings) (whole : Result TapeWords Fault) (heads : List Head) (steps : List Step) (pools : PoolTable) (marks : List Bool) (clash : Option Fault)
     (pairs : List (ℕ × ℕ)) : Type 0 where
   pub so_far : Result TapeWords Fault
-  pub same : with_entries last (cut heads steps) so_far ≡ whole
+  pub same : with_entries own late (cut heads steps) so_far ≡ whole
   pub making : IsMaking so_far pools marks clash pairs
 
-entries_stay : (last : Meanings) (entries : List Entry) (fault : Fault) → with_entries last entries (Err fault) ≡ Err fault
-entries_stay last [] fault = refl
-entries_stay last (e ∷ others) fault = entries_stay last others fault
+entry_stays : (own late : Meanings) (e : Entry) (fault : Fault) → with_entry own late e (Err fault) ≡ Err fault
+entry_stays own late e fault = by_late e.late
+  where
+    by_late : (definition : Option Late) → with_entry_by own late e definition (Err fault) ≡ Err fault
+    by_late None = refl
+    by_late (Some d) = refl
+
+entries_stay : (own late : Meanings) (entries : List Entry) (fault : Fault) → with_entries own late entries (Err fault) ≡ Err fault
+entries_stay own late [] fault = refl
+entries_stay own late (e ∷ others) fault =
+    ap (with_entries own (late_after own e late) others) (entry_stays own late e fault) ∙ entries_stay own (late_after own e late) others fault
 
 abbrev entry : Head → List Step → Entry
 entry h steps = entry_of h (take h.count steps)
 
 -- an entry that fails makes all fail
-pub entry_fails : (last : Meanings) (whole : Result TapeWords Fault) (heads : List Head) (h : Head) (steps : List Step) (pools pools' : PoolTable) (marks marks' : List Bool)
+pub entry_fails : (own late : Meanings) (whole : Result TapeWords Fault) (heads : List Head) (h : Head) (steps : List Step) (pools pools' : PoolTable) (marks marks' : List Bool)
     (clash clash' : Option Fault) (pairs pairs' : List (ℕ × ℕ)) (fault : AsmFault) → 1 ≤ length heads → h ≡ get_or heads 0 h
-    → (way : IsOnTheWay last whole heads steps pools marks clash pairs) → Makes (with_entry last (entry h steps) way.so_far) (Err fault) pools' marks' clash' pairs'
+    → (way : IsOnTheWay own late whole heads steps pools marks clash pairs) → Makes (with_entry own late (entry h steps) way.so_far) (Err fault) pools' marks' clash' pairs'
     → Makes whole (Err fault) pools' marks' clash' pairs'
-entry_fails last whole [] h steps pools pools' marks marks' clash clash' pairs pairs' fault long first way fails = absurd (omega (arith, long))
-entry_fails last whole (x ∷ others) h steps pools pools' marks marks' clash clash' pairs pairs' (At code place) long first way fails =
-    sym way.same ∙ ap (λ e. with_entries last (cut others (drop x.count steps)) (with_entry last (entry e steps) way.so_far)) (sym first)
-    ∙ ap (with_entries last (cut others (drop x.count steps))) fails ∙ entries_stay last (cut others (drop x.count steps)) _
-entry_fails last whole (x ∷ others) h steps pools pools' marks marks' clash clash' pairs pairs' Memory long first way fails = tt
+entry_fails own late whole [] h steps pools pools' marks marks' clash clash' pairs pairs' fault long first way fails = absurd (omega (arith, long))
+entry_fails own late whole (x ∷ others) h steps pools pools' marks marks' clash clash' pairs pairs' (At code place) long first way fails =
+    sym way.same ∙ ap (λ e. with_entries own (late_after own (entry e steps) late) (cut others (drop x.count steps)) (with_entry own late (entry e steps) way.so_far)) (sym first)
+    ∙ ap (with_entries own (late_after own (entry h steps) late) (cut others (drop x.count steps))) fails
+    ∙ entries_stay own (late_after own (entry h steps) late) (cut others (drop x.count steps)) _
+entry_fails own late whole (x ∷ others) h steps pools pools' marks marks' clash clash' pairs pairs' Memory long first way fails = tt
+
+-- an entry was made, and the others stay to be made
+pub entry_made : (own late late' : Meanings) (whole : Result TapeWords Fault) (heads others : List Head) (h : Head) (steps later : List Step) (pools pools' : PoolTable)
+    (marks marks' : List Bool) (clash clash' : Option Fault) (pairs pairs' : List (ℕ × ℕ)) → heads ≡ h ∷ others → later ≡ drop h.count steps
+    → late' ≡ late_after own (entry h steps) late → (way : IsOnTheWay own late whole heads steps pools marks clash pairs)
+    → IsMaking (with_entry own late (entry h steps) way.so_far) pools' marks' clash' pairs' → IsOnTheWay own late' whole others later pools' marks' clash' pairs'
+entry_made own late late' whole heads others h steps later pools pools' marks marks' clash clash' pairs pairs' are left comes way making = record {
+  so_far = with_entry own late (entry h steps) way.so_far;
+  same =
+      ap (λ l. with_entries own l (cut others later) (with_entry own late (entry h steps) way.so_far)) comes
+      ∙ ap (λ l. with_entries own (late_after own (entry h steps) late) (cut others l) (with_entry own late (entry h steps) way.so_far)) left
+      ∙ ap (λ l. with_entries own late (cut l steps) way.so_far) (sym are) ∙ way.same;
+  making = making;
+}
+
+-- a late definition has no fault
+pub late_judged : (own late : Meanings) (e : Entry) (d : Late) (whole : Result TapeWords Fault) (pools : PoolTable) (marks : List Bool) (clash : Option Fault) (pairs : List (ℕ × ℕ))
+    → e.late ≡ Some d → late_fault e d (late_value own e d) ≡ None → IsMaking whole pools marks clash pairs → IsMaking (with_entry own late e whole) pools marks clash pairs
+late_judged own late e d whole pools marks clash pairs is none making = record {
+  made = making.made;
+  is_whole = ap (λ o. with_entry_by own late e o whole) is ∙ ap (λ o. unless_fault o whole) none ∙ ap (unless_fault None) making.is_whole;
+  words = making.words;
+  holds = making.holds;
+  marked = making.marked;
+  clashes = making.clashes;
+  free = making.free;
+}
+
+-- a late definition has a fault
+pub late_fails : (own late : Meanings) (e : Entry) (d : Late) (whole : Result TapeWords Fault) (pools pools' : PoolTable) (marks marks' : List Bool) (clash clash' : Option Fault)
+    (pairs pairs' : List (ℕ × ℕ)) (fault : AsmFault) → e.late ≡ Some d → IsJudgedLate (late_fault e d (late_value own e d)) (Err fault) → IsMaking whole pools marks clash pairs
+    → Makes (with_entry own late e whole) (Err fault) pools' marks' clash' pairs'
+late_fails own late e d whole pools pools' marks marks' clash clash' pairs pairs' (At code place) is fails making =
+    ap (λ o. with_entry_by own late e o whole) is ∙ ap (λ o. unless_fault o whole) fails ∙ ap (unless_fault _) making.is_whole
+late_fails own late e d whole pools pools' marks marks' clash clash' pairs pairs' Memory is fails making = tt
+
+-- an entry that is a word
+pub word_made : (own late : Meanings) (e : Entry) (whole : Result TapeWords Fault) (pools : PoolTable) (marks : List Bool) (clash : Option Fault) (pairs : List (ℕ × ℕ))
+    (result : Result (Unit {0}) AsmFault) → e.late ≡ None → Makes (with_word_entry own e (with_values late e.steps) whole) result pools marks clash pairs
+    → Makes (with_entry own late e whole) result pools marks clash pairs
+word_made own late e whole pools marks clash pairs result is makes =
+    subst (λ o. Makes (with_entry_by own late e o whole) result pools marks clash pairs) (sym is) makes
 
 -- ## One word more
 
@@ -59,12 +111,12 @@ coded_word e made (Err why) fault is = ap Err (ap (fault_or fault) is)
 coded_word e made (Ok asked) fault is = absurd cc
 
 -- a word that fails
-pub word_fails : (last : Meanings) (e : Entry) (whole : Result TapeWords Fault) (pools pools' : PoolTable) (marks marks' : List Bool) (clash clash' : Option Fault)
+pub word_fails : (last : Meanings) (e : Entry) (steps : List Step) (whole : Result TapeWords Fault) (pools pools' : PoolTable) (marks marks' : List Bool) (clash clash' : Option Fault)
     (pairs pairs' : List (ℕ × ℕ)) (fault : AsmFault) (making : IsMaking whole pools marks clash pairs)
-    → GivesAt e.place (word_value last (spot_of e) e.steps making.made.asks making.made.punched) (Err fault) pools' → Makes (with_entry last e whole) (Err fault) pools' marks' clash' pairs'
-word_fails last e whole pools pools' marks marks' clash clash' pairs pairs' (At code place) making gives =
-    ap (with_entry last e) making.is_whole ∙ coded_word e making.made _ _ gives
-word_fails last e whole pools pools' marks marks' clash clash' pairs pairs' Memory making gives = tt
+    → GivesAt e.place (word_value last (spot_of e) steps making.made.asks making.made.punched) (Err fault) pools' → Makes (with_word_entry last e steps whole) (Err fault) pools' marks' clash' pairs'
+word_fails last e steps whole pools pools' marks marks' clash clash' pairs pairs' (At code place) making gives =
+    ap (with_word_entry last e steps) making.is_whole ∙ coded_word e making.made _ _ gives
+word_fails last e steps whole pools pools' marks marks' clash clash' pairs pairs' Memory making gives = tt
 
 none_or : (clash : Option Fault) (place : Place) (found lowest : Option ℕ) → (clash ≡ None → found ≡ lowest) → first_of clash (clash_fault place found) ≡ first_of clash (clash_fault place lowest)
 none_or None place found lowest is = ap (clash_fault place) (is refl)
@@ -77,20 +129,20 @@ free_by None place (Some c) is = absurd cc
 free_by (Some fault) place lowest is = absurd cc
 
 -- a word that was made, and put at its cell
-pub word_goes_on : (last : Meanings) (e : Entry) (whole : Result TapeWords Fault) (pools pools' : PoolTable) (marks marks' : List Bool) (clash : Option Fault)
+pub word_goes_on : (last : Meanings) (e : Entry) (steps : List Step) (whole : Result TapeWords Fault) (pools pools' : PoolTable) (marks marks' : List Bool) (clash : Option Fault)
     (pairs pairs' : List (ℕ × ℕ)) (word : ℕ) (found : Option ℕ) (making : IsMaking whole pools marks clash pairs)
-    → (asked : IsAsked (word_value last (spot_of e) e.steps making.made.asks making.made.punched) word pools')
+    → (asked : IsAsked (word_value last (spot_of e) steps making.made.asks making.made.punched) word pools')
     → pairs' ≡ with_word e.is_punched e.cell word pairs → AreMarks marks' (with_word e.is_punched e.cell word making.made.words)
     → (lowest_clash making.made.asks making.made.words ≡ None → found ≡ lowest_clash asked.asks (with_word e.is_punched e.cell word making.made.words))
-    → IsMaking (with_entry last e whole) pools' marks' (first_of clash (clash_fault e.place found)) pairs'
-word_goes_on last e whole pools pools' marks marks' clash pairs pairs' word found making asked are marked lowest = record {
+    → IsMaking (with_word_entry last e steps whole) pools' marks' (first_of clash (clash_fault e.place found)) pairs'
+word_goes_on last e steps whole pools pools' marks marks' clash pairs pairs' word found making asked are marked lowest = record {
   made = record {
     words = with_word e.is_punched e.cell word making.made.words;
     asks = asked.asks;
     punched = asked.punched;
     clash = first_of making.made.clash (clash_fault e.place (lowest_clash asked.asks (with_word e.is_punched e.cell word making.made.words)));
   };
-  is_whole = ap (with_entry last e) making.is_whole ∙ ap (with_made e making.made) asked.is_whole;
+  is_whole = ap (with_word_entry last e steps) making.is_whole ∙ ap (with_made e making.made) asked.is_whole;
   words = are ∙ ap (with_word e.is_punched e.cell word) making.words;
   holds = asked.holds;
   marked = marked;
@@ -144,12 +196,12 @@ module _ (heads heads1 heads2 : List Head) (steps steps1 steps2 own : List Step)
       ∙ cut_more heads steps (with_values kept own) h fits (count ∙ sym (resolved_length kept own))
 
 -- the entry of a word's head is that of where it stands
-pub same_entry : (place : Place) (spot : Spot) (cell here count : ℕ) (steps : List Step) → cell ≡ 4096 * spot.field + spot.location % 0o10000
+pub same_entry : (late : Option Late) (place : Place) (spot : Spot) (cell here count : ℕ) (steps : List Step) → cell ≡ 4096 * spot.field + spot.location % 0o10000
     → here ≡ spot.here % 0o10000
-    → entry_of record { place = place; cell = cell; here = here; is_punched = spot.is_punched; count = count } steps ≡ entry_at place spot steps
-same_entry place spot cell here count steps cell_is here_is =
-    ap (λ n. entry_of record { place = place; cell = n; here = here; is_punched = spot.is_punched; count = count } steps) cell_is
-    ∙ ap (λ n. entry_of record { place = place; cell = 4096 * spot.field + spot.location % 0o10000; here = n; is_punched = spot.is_punched; count = count } steps) here_is
+    → entry_of record { late = late; place = place; cell = cell; here = here; is_punched = spot.is_punched; count = count } steps ≡ entry_with late place spot steps
+same_entry late place spot cell here count steps cell_is here_is =
+    ap (λ n. entry_of record { late = late; place = place; cell = n; here = here; is_punched = spot.is_punched; count = count } steps) cell_is
+    ∙ ap (λ n. entry_of record { late = late; place = place; cell = 4096 * spot.field + spot.location % 0o10000; here = n; is_punched = spot.is_punched; count = count } steps) here_is
 
 -- ## Pools
 

@@ -14,7 +14,7 @@ use Rattle.pal8_grammar.specs.declared.steps.Step.{Step}
 use Rattle.pal8_grammar.specs.declared.faults.GrammarFault.{GrammarFault}
 use Rattle.pal8_grammar.specs.declared.faults.GrammarFault.TheVariants.{IC, NU, SY}
 use Rattle.pal8_asm.specs.Places.{Standing, spot_at, truth_of, with_body, with_body_if, with_statement, with_tag_if, with_tags}
-use Rattle.pal8_asm.specs.Sources.{Entry, Remainder, PassResult, Source, Statement, brackets_with, end_of_pass, is_selected, pass_over, place_of, phrase_of, statements, with_brackets, with_end, with_entries, with_next, with_phrase, with_said, with_selected, with_skipped, words_in}
+use Rattle.pal8_asm.specs.Sources.{Entry, Remainder, PassResult, Source, Statement, brackets_with, end_of_pass, is_selected, open_value, pass_over, place_of, phrase_of, statements, with_brackets, with_end, with_entries, with_next, with_phrase, with_said, with_selected, with_skipped, words_in}
 use Rattle.pal8_values.specs.Sums.{Meanings}
 use Rattle.pal8_asm.specs.Laws.{SkippedIsNothing, plain, plain_by, plain_end, plain_statement}
 use Rattle.pal8_asm.specs.declared.faults.Place.{Place}
@@ -250,7 +250,7 @@ module _ (line at : ℕ) (string : List ℕ) (is_cut : Bool) where
         (sym (ap (λ l. with_brackets (ended_by tokens end.Open) standing
         (with_entries (place_of (ended_by tokens end.Open)) (spot_at before.standing.position) l before.entries)
         (brackets_with (place_of (ended_by tokens end.Open)) end.Open before.brackets (truth_of phrase.0 phrase.1 standing)))
-        (passive.no_words standing.names.own phrase.1 string (standing.position.location - before.standing.position.location)))
+        (passive.no_words (open_value standing) phrase.1 string (standing.position.location - before.standing.position.location)))
         ∙ sym (ap (with_phrase (ended_by tokens end.Open) phrase before) (passive.stays phrase.1 (length string) standing)) ∙ is)
       where
         by_truth : (truth : Result Bool Code)
