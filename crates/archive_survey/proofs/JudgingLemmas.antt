@@ -8,7 +8,7 @@ use Rattle.archive_survey.specs.declared.judging.Verdict.{Verdict}
 use Rattle.archive_survey.specs.declared.judging.Verdict.TheVariants as verdict
 use Rattle.archive_survey.specs.declared.parts.Part.{Part}
 use Rattle.archive_survey.specs.declared.parts.Part.TheVariants.{Segment, Fault, File, Empty}
-use Rattle.archive_survey.specs.Findings.{Finding, Sound, Unsound, why_unsound, with_verdict, finding_of, names_after, findings_of, file_of, files_found}
+use Rattle.archive_survey.specs.Findings.{Finding, Clean, Unsound, why_unsound, with_verdict, finding_of, names_after, findings_of, file_of, files_found}
 use Rattle.archive_survey.specs.Lines.{part_line, fault_line, finding_lines, loss_line, loss_lines, count_faults, has_block, claims}
 use Rattle.archive_survey.specs.Steps.{KnowsNames, has_key, verdict_by, verdict_of, findings_by, count_after}
 
@@ -36,26 +36,26 @@ told_is volume names (Empty place size) = told_if (is_zero size) (why_unsound vo
 
 pub lines-append : (xs ys : List Finding) → finding_lines (xs ++ ys) ≡ finding_lines xs ++ finding_lines ys
 lines-append [] ys = refl
-lines-append (Sound part ∷ xs) ys = ap (λ l. part_line part ++ l) (lines-append xs ys) ∙ sym (append_assoc (part_line part) (finding_lines xs) (finding_lines ys))
+lines-append (Clean part ∷ xs) ys = ap (λ l. part_line part ++ l) (lines-append xs ys) ∙ sym (append_assoc (part_line part) (finding_lines xs) (finding_lines ys))
 lines-append (Unsound fault part ∷ xs) ys =
     ap (λ l. fault_line fault ++ codes "UNSOUND " ++ part_line part ++ l) (lines-append xs ys)
     ∙ sym (append_assoc (fault_line fault ++ codes "UNSOUND " ++ part_line part) (finding_lines xs) (finding_lines ys))
 
 pub losses-append : (xs ys : List Finding) → loss_lines (xs ++ ys) ≡ loss_lines xs ++ loss_lines ys
 losses-append [] ys = refl
-losses-append (Sound part ∷ xs) ys = ap (λ l. loss_line part ++ l) (losses-append xs ys) ∙ sym (append_assoc (loss_line part) (loss_lines xs) (loss_lines ys))
+losses-append (Clean part ∷ xs) ys = ap (λ l. loss_line part ++ l) (losses-append xs ys) ∙ sym (append_assoc (loss_line part) (loss_lines xs) (loss_lines ys))
 losses-append (Unsound fault part ∷ xs) ys =
     ap (λ l. fault_line fault ++ codes "UNSOUND " ++ part_line part ++ l) (losses-append xs ys)
     ∙ sym (append_assoc (fault_line fault ++ codes "UNSOUND " ++ part_line part) (loss_lines xs) (loss_lines ys))
 
 pub files-append : (xs ys : List Finding) → files_found (xs ++ ys) ≡ files_found xs ++ files_found ys
 files-append [] ys = refl
-files-append (Sound part ∷ xs) ys = ap (λ l. file_of part ++ l) (files-append xs ys) ∙ sym (append_assoc (file_of part) (files_found xs) (files_found ys))
+files-append (Clean part ∷ xs) ys = ap (λ l. file_of part ++ l) (files-append xs ys) ∙ sym (append_assoc (file_of part) (files_found xs) (files_found ys))
 files-append (Unsound fault part ∷ xs) ys = files-append xs ys
 
 pub count-append : (xs ys : List Finding) → count_faults (xs ++ ys) ≡ count_faults xs + count_faults ys
 count-append [] ys = omega arith
-count-append (Sound part ∷ xs) ys = omega (arith, count-append xs ys)
+count-append (Clean part ∷ xs) ys = omega (arith, count-append xs ys)
 count-append (Unsound fault part ∷ xs) ys = omega (arith, count-append xs ys)
 
 claims-if : (has : Bool) (n m more : ℕ) → n ≡ m + more → (if has then suc n else n) ≡ (if has then suc m else m) + more
@@ -64,7 +64,7 @@ claims-if false n m more is = is
 
 pub claims-append : (xs ys : List Finding) (k : ℕ) → claims (xs ++ ys) k ≡ claims xs k + claims ys k
 claims-append [] ys k = omega arith
-claims-append (Sound part ∷ xs) ys k = claims-if (has_block part k) (claims (xs ++ ys) k) (claims xs k) (claims ys k) (claims-append xs ys k)
+claims-append (Clean part ∷ xs) ys k = claims-if (has_block part k) (claims (xs ++ ys) k) (claims xs k) (claims ys k) (claims-append xs ys k)
 claims-append (Unsound fault part ∷ xs) ys k = claims-append xs ys k
 
 if_one : (has : Bool) → (if has then 1 else 0) ≤ 1

@@ -13,7 +13,7 @@ use Rattle.os8_dir.specs.Found.{FilePlace, files_at}
 use Rattle.os8_dir.specs.Reading.{◌>>=◌, needs, word, block, empty_at, file_at, entry_at, is_new, with_entry, with_entries, with_segment, is_unread, with_links, is_first, head_of, directory_of, Sound}
 use Rattle.archive_survey.specs.declared.parts.Part.{Part}
 use Rattle.archive_survey.specs.declared.parts.Part.TheVariants.{Segment, Fault, File, Empty}
-use Rattle.archive_survey.specs.Findings.{Finding, Sound, Unsound, part_of, part_at, blocks_of, blocks_in, with_those, entries_at, info_of, count_of, first_of, segment_entries, segment_end, unless, later_faults, later_segment, later_segments, parts, finding_of, names_after, findings_of, findings, files_found}
+use Rattle.archive_survey.specs.Findings.{Finding, Clean, Unsound, part_of, part_at, blocks_of, blocks_in, with_those, entries_at, info_of, count_of, first_of, segment_entries, segment_end, unless, later_faults, later_segment, later_segments, parts, finding_of, names_after, findings_of, findings, files_found}
 use Rattle.archive_survey.specs.Lines.{claims, is_twice, count_faults, count_runs, survey_faults}
 use Rattle.archive_survey.specs.declared.answers.FoundFile.{FoundFile}
 use Rattle.archive_survey.specs.Laws.{first_fault, fault_of, placed_files}
@@ -219,7 +219,7 @@ file_follows volume d name info size true is inside =
 file_follows volume d name info size false is inside =
     let e = entry.File name info (suc size) in
     subst (λ (r : Result DirectoryState DirFault). Follows volume d (part_of (end_of d) e ∷ []) r) (sym (with_entry-more volume d e inside (rw is refl)))
-    (entry_on volume d e (Sound (File name info (end_of d) (suc size)) ∷ []) (rw (le-ltb volume (end_of d + suc size) inside, is) refl) (λ rest. refl) (λ rest. refl) (λ k. refl)
+    (entry_on volume d e (Clean (File name info (end_of d) (suc size)) ∷ []) (rw (le-ltb volume (end_of d + suc size) inside, is) refl) (λ rest. refl) (λ rest. refl) (λ k. refl)
     (rw (le-ltb volume (end_of d + suc size) inside, is) refl) inside)
 
 pub entry_follows : (volume : ℕ) (d : DirectoryState) (e : DirEntry) → end_of d ≤ volume → Follows volume d (part_of (end_of d) e ∷ []) (with_entry volume d e)
@@ -246,7 +246,7 @@ entry_follows volume d (entry.Empty (suc size)) low = elim (cases_lt volume (end
   | inr inside ↦
       let e = entry.Empty (suc size) in
       subst (λ (r : Result DirectoryState DirFault). Follows volume d (part_of (end_of d) e ∷ []) r) (sym (with_entry-more volume d e inside refl))
-      (entry_on volume d e (Sound (Empty (end_of d) (suc size)) ∷ []) (rw (le-ltb volume (end_of d + suc size) inside) refl) (λ rest. refl) (λ rest. refl) (λ k. refl) (sym (append-nil (names_of d.entries))) inside)
+      (entry_on volume d e (Clean (Empty (end_of d) (suc size)) ∷ []) (rw (le-ltb volume (end_of d + suc size) inside) refl) (λ rest. refl) (λ rest. refl) (λ k. refl) (sym (append-nil (names_of d.entries))) inside)
 ]
 
 -- ## So many entries
@@ -470,18 +470,18 @@ first_told blocks = fault_told (length blocks) (begun (block blocks 1)) (parts b
 
 counted_none : (found : List Finding) → first_fault found ≡ None → count_faults found ≡ 0
 counted_none [] is = refl
-counted_none (Sound (Segment number count) ∷ rest) is = omega (arith, counted_none rest is)
-counted_none (Sound (Fault fault) ∷ rest) is = absurd (cc)
-counted_none (Sound (File name info place size) ∷ rest) is = omega (arith, counted_none rest is)
-counted_none (Sound (Empty place size) ∷ rest) is = omega (arith, counted_none rest is)
+counted_none (Clean (Segment number count) ∷ rest) is = omega (arith, counted_none rest is)
+counted_none (Clean (Fault fault) ∷ rest) is = absurd (cc)
+counted_none (Clean (File name info place size) ∷ rest) is = omega (arith, counted_none rest is)
+counted_none (Clean (Empty place size) ∷ rest) is = omega (arith, counted_none rest is)
 counted_none (Unsound fault part ∷ rest) is = absurd (cc)
 
 none_counted : (found : List Finding) → count_faults found ≡ 0 → first_fault found ≡ None
 none_counted [] is = refl
-none_counted (Sound (Segment number count) ∷ rest) is = none_counted rest (omega (arith, is))
-none_counted (Sound (Fault fault) ∷ rest) is = absurd (omega (arith, is))
-none_counted (Sound (File name info place size) ∷ rest) is = none_counted rest (omega (arith, is))
-none_counted (Sound (Empty place size) ∷ rest) is = none_counted rest (omega (arith, is))
+none_counted (Clean (Segment number count) ∷ rest) is = none_counted rest (omega (arith, is))
+none_counted (Clean (Fault fault) ∷ rest) is = absurd (omega (arith, is))
+none_counted (Clean (File name info place size) ∷ rest) is = none_counted rest (omega (arith, is))
+none_counted (Clean (Empty place size) ∷ rest) is = none_counted rest (omega (arith, is))
 none_counted (Unsound fault part ∷ rest) is = absurd (omega (arith, is))
 
 sound_of : (r : Result DirectoryState DirFault) → fault_of r ≡ None → is_ok r ≡ true

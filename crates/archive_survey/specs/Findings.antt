@@ -104,7 +104,7 @@ parts blocks = first_segment (length blocks) (block blocks 1)
 
 -- what is reported of a directory: a part as it stands, or an unsound entry with its fault
 pub data Finding : Type 0 where
-  Sound : Part → Finding
+  Clean : Part → Finding
   Unsound : DirFault → Part → Finding
 
 -- why an entry of a volume of so many blocks is unsound, where a file of its name is known or not
@@ -114,12 +114,12 @@ why_unsound volume place size known = if nat_lt volume (place + size) then Some 
 -- the report of an entry, by why it is unsound
 abbrev pub with_verdict : Option DirFault → Part → List Finding
 with_verdict (Some fault) part = Unsound fault part ∷ []
-with_verdict None part = Sound part ∷ []
+with_verdict None part = Clean part ∷ []
 
 -- the report of a part, where earlier sound entries have these names; an entry of length 0 is nothing
 abbrev pub finding_of : ℕ → List ℕ → Part → List Finding
-finding_of volume names (Segment number count) = Sound (Segment number count) ∷ []
-finding_of volume names (Fault fault) = Sound (Fault fault) ∷ []
+finding_of volume names (Segment number count) = Clean (Segment number count) ∷ []
+finding_of volume names (Fault fault) = Clean (Fault fault) ∷ []
 finding_of volume names (File name info place size) = if is_zero size then [] else with_verdict (why_unsound volume place size (contains names name)) (File name info place size)
 finding_of volume names (Empty place size) = if is_zero size then [] else with_verdict (why_unsound volume place size false) (Empty place size)
 
@@ -155,5 +155,5 @@ file_of (Empty place size) = []
 -- the files that are reported as sound, in order
 abbrev pub files_found : List Finding → List FoundFile
 files_found [] = []
-files_found (Sound part ∷ rest) = file_of part ++ files_found rest
+files_found (Clean part ∷ rest) = file_of part ++ files_found rest
 files_found (Unsound fault part ∷ rest) = files_found rest

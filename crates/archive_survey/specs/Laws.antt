@@ -7,16 +7,16 @@ use Rattle.os8_dir.specs.Reading.{directory_of, Sound}
 use Rattle.archive_survey.specs.declared.parts.Part.TheVariants.{Segment, Fault, File, Empty}
 use Rattle.archive_survey.specs.declared.answers.FoundFile.{FoundFile}
 use Rattle.archive_survey.specs.declared.answers.Survey.{Survey}
-use Rattle.archive_survey.specs.Findings.{Finding, Sound, Unsound, findings, files_found}
+use Rattle.archive_survey.specs.Findings.{Finding, Clean, Unsound, findings, files_found}
 use Rattle.archive_survey.specs.Surveying.{IsSurveyed}
 
 -- the first fault that is reported
 abbrev pub first_fault : List Finding → Option DirFault
 first_fault [] = None
-first_fault (Sound (Segment number count) ∷ rest) = first_fault rest
-first_fault (Sound (Fault fault) ∷ rest) = Some fault
-first_fault (Sound (File name info place size) ∷ rest) = first_fault rest
-first_fault (Sound (Empty place size) ∷ rest) = first_fault rest
+first_fault (Clean (Segment number count) ∷ rest) = first_fault rest
+first_fault (Clean (Fault fault) ∷ rest) = Some fault
+first_fault (Clean (File name info place size) ∷ rest) = first_fault rest
+first_fault (Clean (Empty place size) ∷ rest) = first_fault rest
 first_fault (Unsound fault part ∷ rest) = Some fault
 
 -- the fault with which a directory is refused; a sound one has none

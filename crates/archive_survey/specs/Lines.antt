@@ -5,7 +5,7 @@ use Rattle.script8.specs.Faults.{directory_fault_text}
 use Rattle.script8.specs.Shown.{name_text}
 use Rattle.archive_survey.specs.declared.parts.Part.{Part}
 use Rattle.archive_survey.specs.declared.parts.Part.TheVariants.{Segment, Fault, File, Empty}
-use Rattle.archive_survey.specs.Findings.{Finding, Sound, Unsound, findings}
+use Rattle.archive_survey.specs.Findings.{Finding, Clean, Unsound, findings}
 
 abbrev pub fault_line : DirFault → List ℕ
 fault_line fault = directory_fault_text fault ++ 0o12 ∷ []
@@ -24,7 +24,7 @@ part_line (Empty place size) = codes "EMPTY " ++ extent_text place size
 -- the lines of what is found; an unsound entry's fault has a line of its own
 abbrev pub finding_lines : List Finding → List ℕ
 finding_lines [] = []
-finding_lines (Sound part ∷ rest) = part_line part ++ finding_lines rest
+finding_lines (Clean part ∷ rest) = part_line part ++ finding_lines rest
 finding_lines (Unsound fault part ∷ rest) = fault_line fault ++ codes "UNSOUND " ++ part_line part ++ finding_lines rest
 
 -- the line of a part that is a fault
@@ -37,7 +37,7 @@ loss_line (Empty place size) = []
 -- those of what is found that report a fault
 abbrev pub loss_lines : List Finding → List ℕ
 loss_lines [] = []
-loss_lines (Sound part ∷ rest) = loss_line part ++ loss_lines rest
+loss_lines (Clean part ∷ rest) = loss_line part ++ loss_lines rest
 loss_lines (Unsound fault part ∷ rest) = fault_line fault ++ codes "UNSOUND " ++ part_line part ++ loss_lines rest
 
 -- how many faults are reported
@@ -49,7 +49,7 @@ fault_count (Empty place size) = 0
 
 abbrev pub count_faults : List Finding → ℕ
 count_faults [] = 0
-count_faults (Sound part ∷ rest) = fault_count part + count_faults rest
+count_faults (Clean part ∷ rest) = fault_count part + count_faults rest
 count_faults (Unsound fault part ∷ rest) = suc (count_faults rest)
 
 -- ## Blocks that two entries claim
@@ -64,7 +64,7 @@ has_block (Empty place size) block = nat_le place block && nat_lt block (place +
 -- how many sound entries have a block
 abbrev pub claims : List Finding → ℕ → ℕ
 claims [] block = 0
-claims (Sound part ∷ rest) block = if has_block part block then suc (claims rest block) else claims rest block
+claims (Clean part ∷ rest) block = if has_block part block then suc (claims rest block) else claims rest block
 claims (Unsound fault part ∷ rest) block = claims rest block
 
 -- two sound entries or more have a block

@@ -10,7 +10,7 @@ use Rattle.archive_survey.specs.declared.judging.Verdict.{Verdict}
 use Rattle.archive_survey.specs.declared.judging.Verdict.TheVariants as verdict
 use Rattle.archive_survey.specs.declared.parts.Part.{Part}
 use Rattle.archive_survey.specs.declared.parts.Part.TheVariants.{Segment, Fault, File, Empty}
-use Rattle.archive_survey.specs.Findings.{Finding, Sound, Unsound, why_unsound}
+use Rattle.archive_survey.specs.Findings.{Finding, Clean, Unsound, why_unsound}
 
 -- an entry with the words after it
 abbrev pub shown_entry : Option (Part × Bor (List ℕ)) → Option (Part × List ℕ)
@@ -40,7 +40,7 @@ verdict_of volume names (Empty place size) = if is_zero size then verdict.Nothin
 -- what a verdict reports
 abbrev pub findings_by : Verdict → Part → List Finding
 findings_by verdict.Nothing part = []
-findings_by verdict.Sound part = Sound part ∷ []
+findings_by verdict.Sound part = Clean part ∷ []
 findings_by (verdict.Unsound fault) part = Unsound fault part ∷ []
 
 -- a count after so many claims more of one part: up to two

@@ -129,7 +129,7 @@ same_dead holds true end b place live s is stands = stands
 same_dead holds false end b place live s is stands = absurd cc
 
 pub with_end : (holds : List ℕ → Bool) (dead end : Bool) (b place : ℕ) (live : List (ℕ × ℕ)) (s : Search) → dead ≡ false → end ≡ true
-    → s.run.items ≡ [] → s.start ≡ 0 → s.found ≡ None → IsSearch holds s (pieces (with_live dead end b place live))
+    → s.run.items ≡ [] → s.start ≡ 0 → s.first ≡ None → IsSearch holds s (pieces (with_live dead end b place live))
 with_end holds true end b place live s going is run start found = absurd cc
 with_end holds false true b place live s going is run start found = record { run = run; start = start; found = found }
 with_end holds false false b place live s going is run start found = absurd cc
@@ -179,7 +179,7 @@ closed_search holds b place p old new none other legal stands run start found =
 pub same_search : (holds : List ℕ → Bool) (b place : ℕ) (p : List Piece) (s : Search) → is_legal b ≡ false → IsSearch holds s p → IsSearch holds s (with_byte b place p)
 same_search holds b place p s legal = subst (IsSearch holds s) (sym (illegal_byte b place p legal))
 
-pub no_piece : (holds : List ℕ → Bool) (s : Search) → s.run.items ≡ [] → s.start ≡ 0 → s.found ≡ None → IsSearch holds s []
+pub no_piece : (holds : List ℕ → Bool) (s : Search) → s.run.items ≡ [] → s.start ≡ 0 → s.first ≡ None → IsSearch holds s []
 no_piece holds s run start found = record { run = run; start = start; found = found }
 
 -- ## Numbers

@@ -1,6 +1,6 @@
 -- Statements, one at a time.
 use Rattle.std.proofs.Common.{◌≡◌, ℕ, Bool, true, false, if◌then◌else◌, is_some, Option, None, Result, Ok, Err, length, List, [], sym, ap, ◌∙◌}
-use Rattle.pal8_asm.specs.declared.names.Names.{NameState}
+use Rattle.pal8_asm.specs.declared.names.KnownNames.{KnownNames}
 use Rattle.pal8_sym.specs.SourceNames.{first_names, names_of}
 use mathlib.Core.Path.{fun_ext}
 use Rattle.pal8_grammar.specs.Bodies.{Phrase}
@@ -14,10 +14,10 @@ use Rattle.pal8_asm.specs.declared.faults.Fault.{Fault}
 use Rattle.pal8_asm.specs.declared.faults.Place.{Place}
 use Rattle.pal8_asm.specs.declared.places.Position.{Position}
 
-abbrev pub left_at : NameState → Position → List Entry → List Bool → Option Place → Remainder
+abbrev pub left_at : KnownNames → Position → List Entry → List Bool → Option Place → Remainder
 left_at table position entries brackets end = record { standing = standing table position; entries = entries; brackets = brackets; end = end }
 
-module _ (s : Statement) (table table' : NameState) (position next : Position) (entries entries' : List Entry) (brackets brackets' : List Bool) (phrase : Phrase)
+module _ (s : Statement) (table table' : KnownNames) (position next : Position) (entries entries' : List Entry) (brackets brackets' : List Bool) (phrase : Phrase)
     (said : phrase_of (standing table position) s.tokens s.is_cut s.end ≡ Ok phrase)
     (taken : IsTaken (with_statement s.tokens phrase.0 phrase.1 (length s.string) (standing table position)) (place_of s) phrase.0 phrase.1 s.string position next entries table' entries') where
   abbrev left : Remainder
@@ -40,7 +40,7 @@ module _ (s : Statement) (table table' : NameState) (position next : Position) (
   end_fails Memory is = tt
 
 -- a selected statement that has a fault
-pub take_fails : (s : Statement) (before : Remainder) (table : NameState) (entries : List Entry) (brackets : List Bool) (end : Option Place) (new : Progress) (fault : AsmFault)
+pub take_fails : (s : Statement) (before : Remainder) (table : KnownNames) (entries : List Entry) (brackets : List Bool) (end : Option Place) (new : Progress) (fault : AsmFault)
     → is_some before.end ≡ false → is_selected before.brackets ≡ true
     → TakesStatement (with_selected s record { standing = before.standing; entries = before.entries; brackets = before.brackets; end = None }) (Err fault) table entries brackets end
     → Takes (with_next s (Ok before)) (Err fault) new
@@ -50,7 +50,7 @@ take_fails s before table entries brackets end new (At code place) none selected
 take_fails s before table entries brackets end new Memory none selected takes = tt
 
 -- the permanent names alone
-pub begins : (table : NameState) (entries : List Entry) (brackets : List Bool) → names_of table.table ≡ first_names → ((n : ℕ) → is_late table n ≡ false) → entries ≡ [] → brackets ≡ []
+pub begins : (table : KnownNames) (entries : List Entry) (brackets : List Bool) → names_of table.table ≡ first_names → ((n : ℕ) → is_late table n ≡ false) → entries ≡ [] → brackets ≡ []
     → left_at table first_left.standing.position entries brackets None ≡ first_left
 begins table entries brackets names late none closed =
     ap (λ n. record { standing = record { names = n; late = is_late table; position = first_left.standing.position }; entries = entries; brackets = brackets; end = None }) names

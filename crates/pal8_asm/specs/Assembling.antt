@@ -4,7 +4,7 @@ use Rattle.std.specs.Global.{Vec}
 use Rattle.std.specs.Ordering.{nat_cmp}
 use Rattle.std.specs.BTreeSet.{contains}
 use Rattle.pal8_sym.specs.SourceNames.{names_of}
-use Rattle.pal8_asm.specs.declared.names.Names.{NameState}
+use Rattle.pal8_asm.specs.declared.names.KnownNames.{KnownNames}
 use Rattle.pal8_pools.specs.Cells.{ArePairs}
 use Rattle.pal8_pools.specs.Pooled.{Holds, PoolTable}
 use Rattle.pal8_asm.specs.Places.{Standing}
@@ -21,22 +21,22 @@ use Rattle.pal8_asm.specs.declared.faults.Stop.TheVariants.{At, Memory}
 use Rattle.pal8_asm.specs.declared.places.Position.{Position}
 
 -- the last definition of a name is late
-abbrev pub is_late : NameState → ℕ → Bool
+abbrev pub is_late : KnownNames → ℕ → Bool
 is_late names n = contains nat_cmp names.late n
 
 -- what names and a position are
-abbrev pub standing : NameState → Position → Standing
+abbrev pub standing : KnownNames → Position → Standing
 standing names position = record { names = names_of names.table; late = is_late names; position = position }
 
 -- a statement is taken, or its fault is answered; or memory ran out
-abbrev pub Passes : Result Standing Code → Result Position Stop → NameState → Type 0
+abbrev pub Passes : Result Standing Code → Result Position Stop → KnownNames → Type 0
 Passes whole (Ok next) new = whole ≡ Ok (standing new next)
 Passes whole (Err (At code)) new = whole ≡ Err code
 Passes whole (Err Memory) new = Unit {0}
 
 -- How far an assembler is.
 pub record Progress : Type 0 where
-  pub names : NameState
+  pub names : KnownNames
   pub position : Position
   pub entries : List Entry
   pub brackets : List Bool

@@ -1,7 +1,7 @@
 -- What the small steps of a pass give, for private clauses.
 use Rattle.pal8_asm.specs.Assembling.{Progress, is_late, remainder_of, standing}
 use Rattle.std.specs.Prelude.{◌≡◌, ℕ, ◌-◌, Bool, true, false, length, if◌then◌else◌, Option, Some, None, Result, Ok, Err, List, ◌∷◌, ◌++◌}
-use Rattle.pal8_asm.specs.declared.names.Names.{NameState}
+use Rattle.pal8_asm.specs.declared.names.KnownNames.{KnownNames}
 use Rattle.pal_lex.specs.Text.{limit, text_from}
 use Rattle.pal8_lex.specs.Reading.{HasRead, last_statement}
 use Rattle.pal8_lex.specs.Text.{as_read, live}
@@ -35,11 +35,11 @@ use Rattle.pal8_asm.specs.declared.places.Position.{Position}
 -- ## Names
 
 -- what a name stands for in a word by now
-abbrev pub open_of : NameState → Meanings
+abbrev pub open_of : KnownNames → Meanings
 open_of names n = if is_late names n then None else own_value names.table n
 
 -- what names in the steps of a word stand for by now, or in those of a late definition
-abbrev pub entry_meaning : NameState → Bool → Meanings
+abbrev pub entry_meaning : KnownNames → Bool → Meanings
 entry_meaning names false = open_of names
 entry_meaning names true = own_value names.table
 
@@ -52,7 +52,7 @@ Moves whole (Err (At code)) = whole ≡ Err code
 Moves whole (Err Memory) = Unit {0}
 
 -- names are defined, or the fault is answered that refuses them; or memory ran out
-abbrev pub Defines : Result Standing Code → Position → Result (Unit {0}) Stop → NameState → Type 0
+abbrev pub Defines : Result Standing Code → Position → Result (Unit {0}) Stop → KnownNames → Type 0
 Defines whole position (Ok nothing) new = whole ≡ Ok (standing new position)
 Defines whole position (Err (At code)) new = whole ≡ Err code
 Defines whole position (Err Memory) new = Unit {0}
@@ -76,19 +76,19 @@ PassesEnd whole (Err (asm.At code place)) brackets = whole ≡ Err (at_place pla
 PassesEnd whole (Err asm.Memory) brackets = Unit {0}
 
 -- a statement is taken at a position, or its fault is answered; or memory ran out
-abbrev pub TakesStatement : PassResult → Result Position AsmFault → NameState → List Entry → List Bool → Option Place → Type 0
+abbrev pub TakesStatement : PassResult → Result Position AsmFault → KnownNames → List Entry → List Bool → Option Place → Type 0
 TakesStatement whole (Ok next) table entries brackets end = whole ≡ Ok record { standing = standing table next; entries = entries; brackets = brackets; end = end }
 TakesStatement whole (Err (asm.At code place)) table entries brackets end = whole ≡ Err (at_place place code)
 TakesStatement whole (Err asm.Memory) table entries brackets end = Unit {0}
 
 -- What a statement does to names and places was done, and its words are kept.
 pub record IsTaken (whole : Result Standing Code) (place : Place) (body : Body) (steps : List Step) (string : List ℕ) (before next : Position) (old : List Entry)
-    (table : NameState) (new : List Entry) : Type 0 where
+    (table : KnownNames) (new : List Entry) : Type 0 where
   pub passed : whole ≡ Ok (standing table next)
   pub words : new ≡ with_late_entry place (spot_at before) body steps (names_of table.table)
       (with_entries place (spot_at before) (words_in body (open_of table) steps string (next.location - before.location)) old)
 
-abbrev pub TakesBody : Result Standing Code → Place → Body → List Step → List ℕ → Position → List Entry → Result Position AsmFault → NameState → List Entry → Type 0
+abbrev pub TakesBody : Result Standing Code → Place → Body → List Step → List ℕ → Position → List Entry → Result Position AsmFault → KnownNames → List Entry → Type 0
 TakesBody whole place body steps string before old (Ok next) table new = IsTaken whole place body steps string before next old table new
 TakesBody whole place body steps string before old (Err (asm.At code place')) table new = (whole ≡ Err code) × (place' ≡ place)
 TakesBody whole place body steps string before old (Err asm.Memory) table new = Unit {0}

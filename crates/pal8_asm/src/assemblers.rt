@@ -8,7 +8,7 @@ use crate::brackets::Brackets;
 use crate::entries::Entries;
 use crate::places::{Position, first_position, spot_at};
 use crate::tags::{pass_statement, truth_of};
-use crate::{AsmFault, Code, NameState, Place, Stop};
+use crate::{AsmFault, Code, KnownNames, Place, Stop};
 use pal8_grammar::{Body, GrammarFault, Reader, Step};
 use pal8_lex::{End, Token};
 use std::alloc::Global;
@@ -18,7 +18,7 @@ use std::marker::Model;
 /// made.
 #[derive(Drop)]
 pub struct Assembler {
-    pub(crate) names: NameState,
+    pub(crate) names: KnownNames,
     position: Position,
     pub(crate) entries: Entries,
     pub(crate) brackets: Brackets,
@@ -29,7 +29,7 @@ pub struct Assembler {
 impl Model for Assembler {
     ghost use Rattle.std.specs.Prelude.{◌<◌};
     ghost use Rattle.std.specs.Coded.{codes};
-    ghost use Rattle.pal8_asm.specs.contracts.names.NameState as names;
+    ghost use Rattle.pal8_asm.specs.contracts.names.KnownNames as names;
     ghost use Rattle.pal8_sym.specs.contracts.source_names.SourceNames as source_names;
     ghost use Rattle.pal8_asm.specs.Assembling.{Progress};
 
@@ -70,7 +70,7 @@ fn start_of(at: u64, tokens: &[Token]) -> u64
 
 /// Takes a statement that says this, with the steps of its value.
 fn take_body(
-    names: &mut NameState,
+    names: &mut KnownNames,
     entries: &mut Entries,
     position: Position,
     place: Place,
@@ -102,7 +102,7 @@ fn take_body(
 
 /// Passes the end of a statement that says this, where the next one has this position: a condition opens a bracket.
 fn pass_end(
-    names: &NameState,
+    names: &KnownNames,
     brackets: &mut Brackets,
     position: Position,
     place: Place,
@@ -129,7 +129,7 @@ fn pass_end(
 
 /// Takes a statement that is selected, and answers the position of the next one.
 fn take_statement(
-    names: &mut NameState,
+    names: &mut KnownNames,
     entries: &mut Entries,
     brackets: &mut Brackets,
     reader: &mut Reader,
@@ -179,7 +179,7 @@ impl Assembler {
         ensures { remainder_of result ≡ first_left }
     {
         Assembler {
-            names: NameState::new(alloc),
+            names: KnownNames::new(alloc),
             position: first_position(),
             entries: Entries::new(alloc),
             brackets: Brackets::new(alloc),

@@ -12,7 +12,7 @@ ghost use Rattle.pal8_asm.specs.Sources.{Entry, entry_at, entry_with, fixed_valu
 use crate::late::LateValues;
 use crate::tags::has_later;
 use crate::words::make_all;
-use crate::{AsmFault, Fault, NameState, Place};
+use crate::{AsmFault, Fault, KnownNames, Place};
 use pal8_clash::WordCells;
 use pal8_grammar::{Body, Step};
 use pal8_lex::Name;
@@ -78,7 +78,7 @@ pub(crate) fn number_or(step: Step, value: Option<Word>) -> Step
 }
 
 /// What a name stands for by now, in a word or in a late definition.
-fn meaning(names: &NameState, is_late: bool, name: Name) -> Option<Word>
+fn meaning(names: &KnownNames, is_late: bool, name: Name) -> Option<Word>
     ensures value { result ≡ entry_meaning names.now is_late name }
     ensures range { IfSome result (λ word. word < 0o10000) }
 {
@@ -89,7 +89,7 @@ fn meaning(names: &NameState, is_late: bool, name: Name) -> Option<Word>
 }
 
 /// A step, whose name stands for its value by now, if the source has defined it.
-fn resolved_step(names: &NameState, is_late: bool, step: Step) -> Step
+fn resolved_step(names: &KnownNames, is_late: bool, step: Step) -> Step
     ensures { result ≡ resolved_step (entry_meaning names.now is_late) step }
 {
     let again = step;
@@ -128,7 +128,7 @@ fn cell_of(spot: Spot) -> Cell
 }
 
 /// Puts steps after others, where there is room.
-fn put_steps(to: &mut Vec<Step>, names: &NameState, is_late: bool, steps: &[Step])
+fn put_steps(to: &mut Vec<Step>, names: &KnownNames, is_late: bool, steps: &[Step])
     requires { vec_len to.old + length steps.now ≤ vec_capacity to.old }
     ensures { to.new.items ≡ to.old.items ++ with_values (entry_meaning names.now is_late) steps.now }
 {
@@ -174,7 +174,7 @@ impl Entries {
     /// Puts a word or a late definition after the others, which stays to be made.
     fn push(
         &mut self,
-        names: &NameState,
+        names: &KnownNames,
         late: Option<Late>,
         is_late: bool,
         place: Place,
@@ -201,7 +201,7 @@ impl Entries {
     /// Puts a number after the others.
     fn push_number(
         &mut self,
-        names: &NameState,
+        names: &KnownNames,
         place: Place,
         spot: Spot,
         word: Word,
@@ -215,7 +215,7 @@ impl Entries {
     /// Puts so many zeros after the others.
     fn push_zeros(
         &mut self,
-        names: &NameState,
+        names: &KnownNames,
         place: Place,
         spot: Spot,
         count: u16,
@@ -236,7 +236,7 @@ impl Entries {
     /// Puts the words of a text after the others.
     fn push_text(
         &mut self,
-        names: &NameState,
+        names: &KnownNames,
         place: Place,
         spot: Spot,
         string: &[u8],
@@ -262,7 +262,7 @@ impl Entries {
     /// Puts a word of each step after the others.
     fn push_each(
         &mut self,
-        names: &NameState,
+        names: &KnownNames,
         place: Place,
         spot: Spot,
         steps: &[Step],
@@ -283,7 +283,7 @@ impl Entries {
     /// Puts the words of a statement's body after the others, from where it stands on: of a value, of so many zeros, of a string, or of a name.
     pub(crate) fn push_body(
         &mut self,
-        names: &NameState,
+        names: &KnownNames,
         place: Place,
         spot: Spot,
         body: Body,
@@ -311,7 +311,7 @@ impl Entries {
     /// Puts a definition after the others, if it is late.
     fn push_definition(
         &mut self,
-        names: &NameState,
+        names: &KnownNames,
         place: Place,
         spot: Spot,
         name: Name,
@@ -330,7 +330,7 @@ impl Entries {
     /// Puts a body after the others, if it is a late definition.
     pub(crate) fn push_late(
         &mut self,
-        names: &NameState,
+        names: &KnownNames,
         place: Place,
         spot: Spot,
         body: Body,
@@ -356,7 +356,7 @@ impl Entries {
         frames: &mut Frames,
         pools: &mut Pools,
         alloc: Global,
-        names: &NameState,
+        names: &KnownNames,
         cells: &mut WordCells,
         clash: &mut Option<Fault>,
         pairs: &mut Vec<(Cell, Word)>,

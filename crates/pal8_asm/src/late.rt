@@ -8,7 +8,7 @@ ghost use Rattle.pal8_asm.specs.Sources.{number_or, resolved_step, with_values};
 ghost use Rattle.pal8_asm.specs.Tapes.{is_last_late, late_after, late_spot, late_value, late_values, with_known};
 
 use crate::entries::{Head, Late, number_or};
-use crate::{AsmFault, NameState};
+use crate::{AsmFault, KnownNames};
 use pal8_grammar::Step;
 use pal8_lex::Name;
 use pal8_values::{Spot, ValueFault, early_value};
@@ -41,7 +41,7 @@ fn late_spot(head: Head, late: Late) -> Spot
 
 /// The value of a late definition by the other definitions.
 pub fn late_value(
-    names: &NameState,
+    names: &KnownNames,
     head: Head,
     late: Late,
     steps: &[Step],
@@ -52,7 +52,7 @@ pub fn late_value(
 }
 
 /// Whether the last definition of an entry's name is late.
-fn is_last_late(names: &NameState, late: Option<Late>) -> bool
+fn is_last_late(names: &KnownNames, late: Option<Late>) -> bool
     ensures { result ≡ is_last_late (is_late names.now) late }
 {
     match late {
@@ -129,7 +129,7 @@ impl LateValues {
     /// Puts the value of a late definition, if it has one.
     fn put(
         &mut self,
-        names: &NameState,
+        names: &KnownNames,
         head: Head,
         late: Late,
         steps: &[Step],
@@ -151,7 +151,7 @@ impl LateValues {
     /// Puts the value of an entry, if it is a late definition and has one.
     pub fn put_entry(
         &mut self,
-        names: &NameState,
+        names: &KnownNames,
         head: Head,
         steps: &[Step],
     ) -> Result<(), AsmFault>
@@ -165,7 +165,7 @@ impl LateValues {
     }
 
     /// Puts the value of an entry, if it is a late definition of a name whose last definition is late.
-    fn put_last(&mut self, names: &NameState, head: Head, steps: &[Step]) -> Result<(), AsmFault>
+    fn put_last(&mut self, names: &KnownNames, head: Head, steps: &[Step]) -> Result<(), AsmFault>
         ensures { OnOk result (late_of self.new ≡ (if is_last_late (is_late names.now) head.late
             then late_after (own_value names.now.table) (entry_of head steps.now) (late_of self.old) else late_of self.old)) }
     {
@@ -178,7 +178,7 @@ impl LateValues {
     /// Puts the values that names have at last by late definitions, which are some of these entries.
     pub fn find(
         &mut self,
-        names: &NameState,
+        names: &KnownNames,
         heads: &[Head],
         steps: &[Step],
     ) -> Result<(), AsmFault>

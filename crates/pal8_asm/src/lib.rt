@@ -21,6 +21,6 @@ pub use assembling::assemble;
 pub use brackets::Brackets;
 pub use entries::{Entries, Head, Late};
 pub use faults::{AsmFault, Code, Fault, Place, Stop};
-pub use names::NameState;
+pub use names::KnownNames;
 pub use places::{FIRST_PLACE, Position, first_position};
 pub use tags::pass_statement;

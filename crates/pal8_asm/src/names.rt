@@ -11,20 +11,20 @@ use word12::Word;
 
 /// The names of a source by its statements so far.
 #[derive(Drop)]
-pub struct NameState {
+pub struct KnownNames {
     /// What they stand for, by all definitions but the late ones.
     pub table: SourceNames,
     /// The names whose last definition is late: a name of its value had none by then.
     pub late: BTreeSet<u64>,
 }
 
-impl NameState {
+impl KnownNames {
     /// The permanent names alone. It takes no memory.
-    pub fn new(alloc: Global) -> NameState
+    pub fn new(alloc: Global) -> KnownNames
         ensures names { names_of result.table ≡ first_names }
         ensures late { (n : ℕ) → is_late result n ≡ false }
     {
-        NameState {
+        KnownNames {
             table: SourceNames::new(alloc),
             late: BTreeSet::new(alloc),
         }

@@ -11,7 +11,7 @@ ghost use Rattle.pal8_asm.specs.Assembling.{Passes, standing};
 use crate::places::{
     Position, next_page, spot_at, to_place, with_field, with_page, with_relocation, with_size,
 };
-use crate::{Code, NameState, Stop};
+use crate::{Code, KnownNames, Stop};
 use pal_sym::SymFault;
 use pal8_grammar::{Body, Step, free_name};
 use pal8_lex::{Kind, Name, Radix, Token};
@@ -20,7 +20,7 @@ use pal8_values::{ValueFault, early_value, here_of};
 use word12::Word;
 
 /// Defines a tag at a place.
-fn define_tag(names: &mut NameState, name: Name, position: Position) -> Result<(), Stop>
+fn define_tag(names: &mut KnownNames, name: Name, position: Position) -> Result<(), Stop>
     requires location { position.location < 0o20000 }
     requires shift { position.shift < 0o10000 }
     ensures { Defines (with_tag (Some name) (standing names.old position)) position result names.new }
@@ -40,7 +40,7 @@ fn define_tag(names: &mut NameState, name: Name, position: Position) -> Result<(
 
 /// Gives a name a value.
 fn define(
-    names: &mut NameState,
+    names: &mut KnownNames,
     name: Name,
     value: Word,
     position: Position,
@@ -60,7 +60,7 @@ fn define(
 
 /// Gives a name a value, and makes it an operation.
 fn define_operation(
-    names: &mut NameState,
+    names: &mut KnownNames,
     name: Name,
     value: Word,
     position: Position,
@@ -74,7 +74,7 @@ fn define_operation(
 }
 
 /// Defines the tag that a token is.
-fn define_token(names: &mut NameState, kind: Kind, position: Position) -> Result<(), Stop>
+fn define_token(names: &mut KnownNames, kind: Kind, position: Position) -> Result<(), Stop>
     requires location { position.location < 0o20000 }
     requires shift { position.shift < 0o10000 }
     ensures { Defines (with_tag (free_name kind) (standing names.old position)) position result names.new }
@@ -92,7 +92,7 @@ fn is_comma(kind: Kind) -> bool
 }
 
 /// Defines the tags in front of a statement, from the left.
-fn define_tags(names: &mut NameState, tokens: &[Token], position: Position) -> Result<(), Stop>
+fn define_tags(names: &mut KnownNames, tokens: &[Token], position: Position) -> Result<(), Stop>
     requires location { position.location < 0o20000 }
     requires shift { position.shift < 0o10000 }
     ensures { Defines (with_tags tokens.now (Ok (standing names.old position))) position result names.new }
@@ -112,7 +112,7 @@ fn define_tags(names: &mut NameState, tokens: &[Token], position: Position) -> R
 }
 
 /// The value of steps at a position, by the names so far.
-fn early_at(names: &NameState, position: Position, steps: &[Step]) -> Result<Word, ValueFault>
+fn early_at(names: &KnownNames, position: Position, steps: &[Step]) -> Result<Word, ValueFault>
     requires location { position.location < 0o20000 }
     requires shift { position.shift < 0o10000 }
     ensures { Answers (early_value (own_value names.now.table) (spot_at position) steps.now) result }
@@ -121,7 +121,7 @@ fn early_at(names: &NameState, position: Position, steps: &[Step]) -> Result<Wor
 }
 
 /// The value of steps by the names so far.
-fn value_at(names: &NameState, position: Position, steps: &[Step]) -> Result<Word, Stop>
+fn value_at(names: &KnownNames, position: Position, steps: &[Step]) -> Result<Word, Stop>
     requires location { position.location < 0o20000 }
     requires shift { position.shift < 0o10000 }
     ensures { Values (as_code (early_value (own_value names.now.table) (spot_at position) steps.now)) result }
@@ -143,7 +143,7 @@ fn value_at(names: &NameState, position: Position, steps: &[Step]) -> Result<Wor
 /// Whether a condition is true, at a position, by the names so far, or the first fault of its value: UA, PF, DZ. Another body isn't true (PAL8, in
 /// this project's profile).
 pub(crate) fn truth_of(
-    names: &NameState,
+    names: &KnownNames,
     body: Body,
     steps: &[Step],
     position: Position,
@@ -173,7 +173,7 @@ pub(crate) fn truth_of(
 
 /// Passes a body with its value.
 fn pass_valued(
-    names: &mut NameState,
+    names: &mut KnownNames,
     body: Body,
     value: Word,
     position: Position,
@@ -202,7 +202,7 @@ fn pass_valued(
 
 /// Passes a body whose value is to be found.
 fn pass_value(
-    names: &mut NameState,
+    names: &mut KnownNames,
     body: Body,
     steps: &[Step],
     position: Position,
@@ -255,7 +255,7 @@ pub(crate) fn has_later(names: &SourceNames, steps: &[Step]) -> bool
 
 /// Passes a definition. A late one has no value yet.
 fn pass_definition(
-    names: &mut NameState,
+    names: &mut KnownNames,
     name: Name,
     steps: &[Step],
     position: Position,
@@ -275,7 +275,7 @@ fn pass_definition(
 
 /// Passes a body.
 fn pass_body(
-    names: &mut NameState,
+    names: &mut KnownNames,
     body: Body,
     steps: &[Step],
     length: usize,
@@ -341,7 +341,7 @@ fn pass_body(
 /// FD, PG or RD. The last is PF, where a word is past 7777. A name that memory ran out for isn't defined, and those before it are (PAL8, in this
 /// project's profile).
 pub fn pass_statement(
-    names: &mut NameState,
+    names: &mut KnownNames,
     tokens: &[Token],
     body: Body,
     steps: &[Step],

@@ -14,7 +14,7 @@ ghost use Rattle.pal8_asm.specs.declared.faults.Fault.{Fault};
 
 use crate::entries::{Head, Late};
 use crate::late::{LateValues, late_value, put_known};
-use crate::{AsmFault, Code, Fault, NameState, Place};
+use crate::{AsmFault, Code, Fault, KnownNames, Place};
 use pal8_clash::WordCells;
 use pal8_grammar::Step;
 use pal8_pools::Pools;
@@ -105,7 +105,7 @@ fn word_at(
     frames: &mut Frames,
     pools: &mut Pools,
     alloc: Global,
-    names: &NameState,
+    names: &KnownNames,
     place: Place,
     spot: Spot,
     steps: &[Step],
@@ -137,7 +137,7 @@ fn make_word(
     frames: &mut Frames,
     pools: &mut Pools,
     alloc: Global,
-    names: &NameState,
+    names: &KnownNames,
     cells: &mut WordCells,
     clash: &mut Option<Fault>,
     pairs: &mut Vec<(Cell, Word)>,
@@ -170,7 +170,7 @@ fn make_known(
     frames: &mut Frames,
     pools: &mut Pools,
     alloc: Global,
-    names: &NameState,
+    names: &KnownNames,
     cells: &mut WordCells,
     clash: &mut Option<Fault>,
     pairs: &mut Vec<(Cell, Word)>,
@@ -190,7 +190,7 @@ fn make_known(
 }
 
 /// Judges a late definition.
-fn judge_late(names: &NameState, head: Head, late: Late, steps: &[Step]) -> Result<(), AsmFault>
+fn judge_late(names: &KnownNames, head: Head, late: Late, steps: &[Step]) -> Result<(), AsmFault>
     ensures { IsJudgedLate (late_fault (entry_of head steps.now) late (late_value (own_value names.now.table) (entry_of head steps.now) late)) result }
 {
     let again = late;
@@ -213,7 +213,7 @@ fn make_one(
     frames: &mut Frames,
     pools: &mut Pools,
     alloc: Global,
-    names: &NameState,
+    names: &KnownNames,
     cells: &mut WordCells,
     clash: &mut Option<Fault>,
     pairs: &mut Vec<(Cell, Word)>,
@@ -247,7 +247,7 @@ pub fn make_all(
     frames: &mut Frames,
     pools: &mut Pools,
     alloc: Global,
-    names: &NameState,
+    names: &KnownNames,
     cells: &mut WordCells,
     clash: &mut Option<Fault>,
     pairs: &mut Vec<(Cell, Word)>,

@@ -44,7 +44,7 @@ core_text core.Memory = codes "? 10 MEMORY"
 abbrev pub halted_text : ℕ → ℕ → ℕ → List ℕ
 halted_text cell ac l = codes "HALT " ++ octal5 cell ++ codes " AC " ++ octal4 ac ++ codes " L " ++ octal_digit l ∷ []
 
-abbrev pub why_text : LineRefusal → List ℕ
+abbrev pub why_text : TerminalEnd → List ℕ
 why_text why.Halt = codes "HALT"
 why_text why.Unassigned = codes "UNASSIGNED"
 why_text why.Keys = codes "KEYS"

@@ -32,7 +32,7 @@ loop-taken-preserved c =
     stands.follows in
     record {
       told = λ place.
-          judged_more place (meaning_in c.args.last.now) text taken c.in_ok-fault.fault c.loop-taken.found.items c.keep.new.first.items inside
+          judged_more place (meaning_in c.args.last.now) text taken c.in_ok-fault.fault c.loop-taken.found.items c.keep.new.found.items inside
           (c.in_ok-keep.ensures place text) judged.told (stands.told place);
       follows = subst (λ t. Follows c.judge_byte.new.names.symbols c.judge_byte.new.names.place (statements t)) next judged.follows;
       read = subst (HasRead c.judge_byte.new.lexer 0) next judged.read;

@@ -14,7 +14,7 @@ use Rattle.script8.specs.declared.entries.Entry.TheVariants as entry
 use Rattle.script8.specs.declared.entries.FileEntry.TheVariants as filing
 use Rattle.system_session.proofs.LeavesLemmas.{leaves_same, store_leaves}
 use Rattle.system_session.proofs.RoomLemmas.{store_room, unstored_room}
-use Rattle.system_session.proofs.sessions.Session.store_named.Goals.{then-is_stopped-via-then-is_stopped, then-is_stopped-via-else-stopped+then-is_held}
+use Rattle.system_session.proofs.sessions.Session.store_named.Goals.{then-is_stopped-via-then-is_stopped, then-is_stopped-via-else-is_stopped+then-is_held}
 use Rattle.system_session.proofs.sessions.Session.store_named.Goals as goal
 
 pub returns-in_err-put-in-Ok-clause-does : goal.returns-in_err-put-in-Ok-clause-does
@@ -45,7 +45,7 @@ returns-then-is_stopped-clause-does g c bytes is =
     held : c.self.inside.files.stopped ≡ false → contains c.self.inside.files.holds c.args.name ≡ true
     held running = elim c.then-is_stopped.branch [
       | then-is_stopped-via-then-is_stopped w ↦ absurd (true≢false (sym w.if-is_stopped.true ∙ c.is_stopped.ensures.value ∙ running))
-      | then-is_stopped-via-else-stopped+then-is_held w ↦ sym w.is_held.ensures ∙ w.if-is_held.true
+      | then-is_stopped-via-else-is_stopped+then-is_held w ↦ sym w.is_held.ensures ∙ w.if-is_held.true
     ]
 
 pub returns-in_ok-put-in-Ok-clause-leaves : goal.returns-in_ok-put-in-Ok-clause-leaves
