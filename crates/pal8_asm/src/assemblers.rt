@@ -29,13 +29,13 @@ pub struct Assembler {
 impl Model for Assembler {
     ghost use Rattle.std.specs.Prelude.{◌<◌};
     ghost use Rattle.std.specs.Coded.{codes};
-    ghost use Rattle.pal8_asm.specs.contracts.names.KnownNames as names;
+    ghost use Rattle.pal8_asm.specs.contracts.names.KnownNames as known_names;
     ghost use Rattle.pal8_sym.specs.contracts.source_names.SourceNames as source_names;
     ghost use Rattle.pal8_asm.specs.Assembling.{Progress};
 
     ghost Value = { Progress };
 
-    ghost coded = { Prim.hlevel (codes, names.the_row.coded, source_names.the_row.coded) };
+    ghost coded = { Prim.hlevel (codes, known_names.the_row.coded, source_names.the_row.coded) };
 
     ghost view = { λ a. record {
       names = a.names;

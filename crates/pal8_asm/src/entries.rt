@@ -366,10 +366,7 @@ impl Entries {
             result pools.new cells.new clash.new pairs.new.items }
     {
         let mut late = LateValues::new(alloc);
-        match late.find(names, &self.heads, &self.steps) {
-            Ok(()) => {}
-            Err(fault) => return Err(fault),
-        }
+        late.find(names, &self.heads, &self.steps)?;
         make_all(
             &mut late,
             frames,

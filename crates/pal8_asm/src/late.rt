@@ -1,4 +1,4 @@
-ghost use Rattle.std.specs.Prelude.{◌≡◌, ◌<◌, ◌+◌, ◌++◌, ◌≤◌, OnOk, IfSome, IsTrue, ℕ, List, None, length, vec_len, vec_capacity};
+ghost use Rattle.std.specs.Prelude.{◌≡◌, ◌<◌, ◌+◌, ◌++◌, ◌≤◌, OnOk, IfSome, IsTrue, if◌then◌else◌, ℕ, List, None, length, vec_len, vec_capacity};
 ghost use Rattle.pal8_sym.specs.SourceNames.{own_value, with_own};
 ghost use Rattle.pal8_values.specs.Answering.{Answers};
 ghost use Rattle.pal8_asm.specs.Assembling.{is_late};
@@ -8,7 +8,7 @@ ghost use Rattle.pal8_asm.specs.Sources.{number_or, resolved_step, with_values};
 ghost use Rattle.pal8_asm.specs.Tapes.{is_last_late, late_after, late_spot, late_value, late_values, with_known};
 
 use crate::entries::{Head, Late, number_or};
-use crate::{AsmFault, KnownNames};
+use crate::KnownNames;
 use pal8_grammar::Step;
 use pal8_lex::Name;
 use pal8_values::{Spot, ValueFault, early_value};
@@ -133,7 +133,7 @@ impl LateValues {
         head: Head,
         late: Late,
         steps: &[Step],
-    ) -> Result<(), AsmFault>
+    ) -> Result<(), AllocError>
         ensures { OnOk result (late_of self.new ≡ with_known late.name (late_value (own_value names.now.table) (entry_of head steps.now) late) (late_of self.old)) }
     {
         let again = late;
@@ -144,7 +144,7 @@ impl LateValues {
             }
             Err(ValueFault::UA(_) | ValueFault::PF | ValueFault::DZ | ValueFault::IR) => Ok(()),
             Err(ValueFault::II | ValueFault::PE | ValueFault::ZE | ValueFault::RL) => Ok(()),
-            Err(ValueFault::Memory) => Err(AsmFault::Memory),
+            Err(ValueFault::Memory) => Err(AllocError),
         }
     }
 
@@ -154,7 +154,7 @@ impl LateValues {
         names: &KnownNames,
         head: Head,
         steps: &[Step],
-    ) -> Result<(), AsmFault>
+    ) -> Result<(), AllocError>
         ensures { OnOk result (late_of self.new ≡ late_after (own_value names.now.table) (entry_of head steps.now) (late_of self.old)) }
     {
         let again = head;
@@ -165,7 +165,7 @@ impl LateValues {
     }
 
     /// Puts the value of an entry, if it is a late definition of a name whose last definition is late.
-    fn put_last(&mut self, names: &KnownNames, head: Head, steps: &[Step]) -> Result<(), AsmFault>
+    fn put_last(&mut self, names: &KnownNames, head: Head, steps: &[Step]) -> Result<(), AllocError>
         ensures { OnOk result (late_of self.new ≡ (if is_last_late (is_late names.now) head.late
             then late_after (own_value names.now.table) (entry_of head steps.now) (late_of self.old) else late_of self.old)) }
     {
@@ -181,7 +181,7 @@ impl LateValues {
         names: &KnownNames,
         heads: &[Head],
         steps: &[Step],
-    ) -> Result<(), AsmFault>
+    ) -> Result<(), AllocError>
         requires { total heads.now ≤ length steps.now }
         ensures { OnOk result (late_of self.new ≡ late_values (own_value names.now.table) (is_late names.now) (cut heads.now steps.now) (late_of self.old)) }
     {
@@ -189,10 +189,7 @@ impl LateValues {
         let mut steps = steps;
         while let [head, others @ ..] = heads {
             let (own, later) = steps.split_at(head.count);
-            match self.put_last(names, *head, own) {
-                Ok(()) => {}
-                Err(fault) => return Err(fault),
-            }
+            self.put_last(names, *head, own)?;
             heads = others;
             steps = later;
         }

@@ -233,7 +233,8 @@ fn make_one(
                 Ok(()) => {}
                 Err(fault) => return Err(fault),
             }
-            late.put_entry(names, entry, steps)
+            late.put_entry(names, entry, steps)?;
+            Ok(())
         }
         None => make_known(
             scratch, late, frames, pools, alloc, names, cells, clash, pairs, again, steps,

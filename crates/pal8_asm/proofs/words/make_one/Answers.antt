@@ -1,22 +1,26 @@
-use Rattle.std.proofs.Common.{rules, ◌≡◌, ◌+◌, ◌/◌, ◌%◌, ◌<◌, ◌≤◌, List, OnOk, Result, Ok, length, vec_len, vec_capacity, ℕ, ◌-◌, ◌*◌, Bool, true, false, nat_eq, nat_lt, [], ◌∷◌, ◌++◌, slice_index_or, slice_set, bit_and, bit_or, Fits, w8, w32, w64, Bor, MutBor}
-use Rattle.word12.specs.declared.sizes.TheConstants.{FIELD, PAGE}
-use Rattle.pal8_sym.specs.SourceNames.{is_other, own_value}
-use Rattle.pal8_pools.specs.Asks.{Ask}
-use Rattle.pal8_pools.specs.Pooled.{Holds}
-use Rattle.pal8_clash.specs.Clashes.{with_word}
-use Rattle.pal8_values.specs.Words.{AskResult, word_value}
-use Rattle.pal8_values.specs.Answering.{IsFault}
-use Rattle.pal8_asm.specs.Sources.{with_values}
-use Rattle.pal8_asm.specs.Kept.{cut, entry_of, total}
-use Rattle.pal8_asm.specs.Tapes.{TapeWords, clash_code, clash_fault, first_of, late_after, late_fault, late_value, with_entries, with_entry, with_word_entry}
-use Rattle.pal8_asm.specs.Steps.{GivesAt, IsFaultAt, IsJudgedLate, IsMaking, Makes, late_of}
-use Rattle.pal8_asm.specs.declared.faults.Fault.{Fault}
+use Rattle.std.proofs.Common.{◌≡◌, Err, None, subst}
+use Rattle.pal8_sym.specs.SourceNames.{own_value}
+use Rattle.pal8_asm.specs.Kept.{entry_of}
+use Rattle.pal8_asm.specs.Steps.{IsJudgedLate, late_of}
+use Rattle.pal8_asm.specs.Tapes.{late_fault, late_value}
+use Rattle.pal8_asm.proofs.MakingLemmas.{late_fails, late_judged, word_made}
 use Rattle.pal8_asm.proofs.words.make_one.Goals as goal
 
--- src/words.rt:210:1
-pub returns-in-Ok-clause-made : goal.returns-in-Ok-clause-made
-returns-in-Ok-clause-made c = ?
+pub returns-in_ok-put_entry-in-Some-clause-made : goal.returns-in_ok-put_entry-in-Some-clause-made
+returns-in_ok-put_entry-in-Some-clause-made c = λ whole making.
+    late_judged (own_value c.args.names.now.table) (late_of c.args.late.now) (entry_of c.args.head c.args.steps.now) c.in-Some.definition whole c.args.pools.now
+    c.args.cells.now c.args.clash.now c.args.pairs.now.items c.in-Some.is
+    (subst (λ d. late_fault (entry_of c.args.head c.args.steps.now) d (late_value (own_value c.args.names.now.table) (entry_of c.args.head c.args.steps.now) d) ≡ None)
+    c.in-Some.definition-is (c.in-Ok.ensures {u = tt})) making
 
--- src/words.rt:210:1
+pub returns-in-Err-clause-made : goal.returns-in-Err-clause-made
+returns-in-Err-clause-made c = λ whole making.
+    late_fails (own_value c.args.names.now.table) (late_of c.args.late.now) (entry_of c.args.head c.args.steps.now) c.in-Some.definition whole c.args.pools.now c.args.pools.now
+    c.args.cells.now c.args.cells.now c.args.clash.now c.args.clash.now c.args.pairs.now.items c.args.pairs.now.items c.in-Err.fault c.in-Some.is
+    (subst (λ d. IsJudgedLate (late_fault (entry_of c.args.head c.args.steps.now) d (late_value (own_value c.args.names.now.table) (entry_of c.args.head c.args.steps.now) d))
+    (Err c.in-Err.fault)) c.in-Some.definition-is (c.in-Err.ensures {u = tt})) making
+
 pub returns-in-None-clause-made : goal.returns-in-None-clause-made
-returns-in-None-clause-made c = ?
+returns-in-None-clause-made c = λ whole making.
+    word_made (own_value c.args.names.now.table) (late_of c.args.late.now) (entry_of c.args.head c.args.steps.now) whole c.make_known.new.pools c.make_known.new.cells
+    c.make_known.new.clash c.make_known.new.pairs.items c.make_known.result c.in-None.is (c.make_known.ensures whole making)
