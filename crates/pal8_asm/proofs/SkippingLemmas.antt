@@ -1,5 +1,5 @@
 -- Why statements that aren't selected are nothing.
-use Rattle.std.proofs.Common.{◌≡◌, ℕ, ◌+◌, ◌-◌, ◌*◌, suc, Bool, true, false, ◌&&◌, ◌||◌, not, if◌then◌else◌, is_some, Option, Some, None, Result, Ok, Err, length, take, drop, List, [], ◌∷◌, refl, sym, ap, ◌∙◌, arith}
+use Rattle.std.proofs.Common.{◌≡◌, ℕ, ◌-◌, ◌*◌, suc, Bool, true, false, ◌&&◌, ◌||◌, not, if◌then◌else◌, is_some, Option, Some, None, Result, Ok, Err, length, take, drop, List, [], ◌∷◌, refl, sym, ap, ◌∙◌, arith}
 use Rattle.pal8_lex.specs.Kinds.{is_comma}
 use Rattle.pal8_lex.specs.Judging.{has_bad, has_bad_number, is_bad, is_bad_number, tag_count}
 use Rattle.pal8_lex.specs.declared.tokens.Token.{Token}

@@ -1,4 +1,4 @@
-ghost use Rattle.std.specs.Prelude.{◌≡◌, ◌<◌, ◌+◌, ◌++◌, ◌≤◌, OnOk, IfSome, IsTrue, if◌then◌else◌, ℕ, List, None, length, vec_len, vec_capacity};
+ghost use Rattle.std.specs.Prelude.{◌≡◌, ◌<◌, ◌+◌, ◌++◌, ◌≤◌, OnOk, IfSome, if◌then◌else◌, ℕ, List, None, length, vec_len, vec_capacity};
 ghost use Rattle.pal8_sym.specs.SourceNames.{own_value, with_own};
 ghost use Rattle.pal8_values.specs.Answering.{Answers};
 ghost use Rattle.pal8_asm.specs.Assembling.{is_late};
@@ -94,13 +94,6 @@ impl LateValues {
         LateValues {
             values: BTreeMap::new(alloc),
         }
-    }
-
-    /// Whether no name has a value.
-    pub fn is_empty(&self) -> bool
-        ensures { IsTrue result → (n : ℕ) → late_of self.now n ≡ None }
-    {
-        self.values.is_empty()
     }
 
     /// The value of a name.

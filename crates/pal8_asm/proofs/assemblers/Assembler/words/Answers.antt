@@ -1,4 +1,4 @@
-use Rattle.std.proofs.Common.{◌≡◌, None, Ok, Err, [], refl, subst}
+use Rattle.std.proofs.Common.{◌≡◌, None, Ok, Err, refl, subst}
 use Rattle.pal8_sym.specs.SourceNames.{own_value}
 use Rattle.pal8_asm.specs.Sources.{at_place}
 use Rattle.pal8_asm.specs.Assembling.{IsMade, MakesWords, is_late}
