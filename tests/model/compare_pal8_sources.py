@@ -107,7 +107,7 @@ class Maker:
         if kind == 1:
             return "*" + self.random.choice(("20", "200", "370", "400", "7600", ".+2", "TAD&370"))
         if kind < 4:
-            if self.random.random() < 0.2:
+            if self.random.random() < 0.5:
                 return self.late()
             return self.random.choice(self.values) + self.random.choice(("=", " = ")) + self.value(-9)
         if kind == 4:

@@ -7,8 +7,8 @@ ghost use Rattle.pal8_asm.specs.Steps.{late_of};
 ghost use Rattle.pal8_asm.specs.Sources.{number_or, resolved_step, with_values};
 ghost use Rattle.pal8_asm.specs.Tapes.{is_last_late, late_after, late_spot, late_value, late_values, with_known};
 
-use crate::entries::{Head, Late, number_or};
 use crate::KnownNames;
+use crate::entries::{Head, Late, number_or};
 use pal8_grammar::Step;
 use pal8_lex::Name;
 use pal8_values::{Spot, ValueFault, early_value};
