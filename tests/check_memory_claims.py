@@ -33,6 +33,9 @@ PLACES: dict[str, dict[str, tuple[int, str]]] = {
     "many_commands/src/wishes.rt": {
         "add_word": (1, "`chosen`'s own, in the arm of its pattern"),
     },
+    "pal8_asm/src/late.rt": {
+        "put": (1, "`late_value`'s own, in the arm of its pattern"),
+    },
     "pal8_tape/src/marks.rt": {
         "radix_at": (1, "`assemble`'s own, in the arm of its pattern"),
     },

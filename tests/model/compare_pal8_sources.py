@@ -107,6 +107,8 @@ class Maker:
         if kind == 1:
             return "*" + self.random.choice(("20", "200", "370", "400", "7600", ".+2", "TAD&370"))
         if kind < 4:
+            if self.random.random() < 0.5:
+                return self.late()
             return self.random.choice(self.values) + self.random.choice(("=", " = ")) + self.value(-9)
         if kind == 4:
             return self.random.choice(("DECIMAL", "OCTAL", "OCTAL", "OCTAL")) if self.has_faults else "OCTAL"
@@ -129,6 +131,12 @@ class Maker:
         if self.rarely():
             return self.random.choice(("FILENAME", "DEVICE A.B", "FILENAME A .B", "FILENAME A. B", "DEVICE (5", "FILENAME .A", "FILENAMEA.B"))
         return self.random.choice(("FILENAME ", "filename ")) + self.random.choice((runs[0], ".".join(runs))) if self.random.random() < 0.6 else "DEVICE " + runs[0]
+
+    def late(self) -> str:
+        """A definition by names that have no value before, mostly."""
+        name = self.random.choice((*self.values, "D", "E", "D", "E") if self.has_faults else ("D", "E"))
+        value = self.random.choice(self.left or self.tags) + self.random.choice(("", "+1", "-.", "&177", "%" + self.random.choice(self.values)))
+        return f"{name}=" + (f"JMS {value}" if self.rarely() else "D+1" if self.rarely() else value) + self.random.choice(("", ";D", ";E", ";TAD D", ";D;D=7;D"))
 
     def table(self) -> str:
         """A statement that changes the tables of names."""

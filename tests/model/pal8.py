@@ -1,5 +1,5 @@
 """PAL8, the assembler of OS/8, by its definitions: what a source means, or its first fault. So far it knows the language with literals,
-links, conditions, punching, relocation, the names of files and devices, and EXPUNGE, FIXTAB and FIXMRI; it doesn't take PAUSE.
+links, conditions, punching, relocation, the names of files and devices, EXPUNGE, FIXTAB and FIXMRI, and late definitions; it doesn't take PAUSE.
 
 A place, a name and a condition rest on the statements before alone. So each statement is judged after those before it. Literals and links rest on all
 names, and so come last. It is slow, and keeps no table. A name is looked for among the statements before, the newest first. A pool is the list of all
@@ -407,11 +407,19 @@ class Judged:
     start: int = 0
     is_expunged: bool = False
     definitions: list[tuple[str, int]] = field(default_factory=list)
+    is_late: bool = False
+    fixed: Optional[int] = None
 
 
 def permanent(name: str, now: Judged) -> Optional[int]:
     """The permanent value of a name, which EXPUNGE takes away."""
     return None if now.is_expunged else PERMANENT.get(name, SOFT.get(name))
+
+
+def names_in(value: Value) -> list[str]:
+    """The names of a value without literals."""
+    expression = value.address if isinstance(value, Reference) else value
+    return [term for _, term in (expression.parts if expression else ()) if isinstance(term, str) and term != "."]
 
 
 def firm(name: str, now: Judged) -> Optional[int]:
@@ -485,7 +493,9 @@ class Source:
                 raise Fault("DT")
             now.definitions.append((tag, now.place))
         value = None
-        if body.form != "word" and body.value is not None:
+        if body.form == "definition" and body.value is not None:
+            now.is_late = any(self.value_before(name, now) is None for name in names_in(body.value))
+        if body.form != "word" and body.value is not None and not now.is_late:
             value = self.early_value(body.value, now)
         holds = self.take_effect(now, value)
         if now.size and now.location + now.size > CORE_END:
@@ -513,6 +523,8 @@ class Source:
             self.is_punched = form == "ENPUNC"
         elif form == "RELOC":
             self.shift = 0 if value is None else (value - self.location) % 0o10000
+        elif now.is_late:
+            now.fixed = self.value_before(now.body.name, now) if self.is_fixed(now.body.name, now) else None
         elif form == "definition":
             assert value is not None
             self.define(now, value)
@@ -534,11 +546,13 @@ class Source:
             now.definitions.append((now.body.name, value))
             self.before.operations[now.body.name] = value
 
+    def is_fixed(self, name: str, now: Judged) -> bool:
+        is_tag = name in now.tags or any(name in older.tags for older in self.judged)
+        return firm(name, now) is not None or is_tag or name in self.last_fixed
+
     def define(self, now: Judged, value: int) -> None:
         name = now.body.name
-        is_tag = name in now.tags or any(name in older.tags for older in self.judged)
-        is_fixed = firm(name, now) is not None or is_tag or name in self.last_fixed
-        if is_fixed and self.value_before(name, now) != value:
+        if self.is_fixed(name, now) and self.value_before(name, now) != value:
             raise Fault("RD")
         now.definitions.append((name, value))
         if name in self.before.operations:
@@ -546,6 +560,38 @@ class Source:
 
     def early_value(self, value: Value, now: Judged) -> int:
         """A value by the names before."""
+        return self.value_by(value, now, lambda name: self.value_before(name, now))
+
+    def late_value(self, k: int) -> int:
+        """The value of a late definition: by the other definitions before, or else in the whole source, or else permanent."""
+        now = self.judged[k]
+
+        def meaning(name: str) -> Optional[int]:
+            if name in now.tags:
+                return now.place
+            values = (self.definition_before(name, self.judged[:k]), self.definition_before(name, self.judged), permanent(name, now))
+            return next((value for value in values if value is not None), None)
+
+        assert now.body.value
+        return self.value_by(now.body.value, now, meaning)
+
+    def known_late(self, k: int) -> Optional[int]:
+        """The value of a late definition, if it has one."""
+        try:
+            return self.late_value(k)
+        except Fault:
+            return None
+
+    def last_definition(self, name: str, before: int) -> Optional[int]:
+        """The statement of the last definition of a name, late or not, of so many statements."""
+        for k in reversed(range(before)):
+            older = self.judged[k]
+            if older.is_late and older.body.name == name or any(defined == name for defined, _ in older.definitions):
+                return k
+        return None
+
+    def value_by(self, value: Value, now: Judged, meaning: Callable[[str], Optional[int]]) -> int:
+        """A value without literals, by what names stand for."""
 
         def of_term(term: Term) -> int:
             if isinstance(term, int):
@@ -555,7 +601,7 @@ class Source:
                     raise Fault("PF")
                 return now.place
             assert isinstance(term, str), "no literal stands in such a value"
-            found = self.value_before(term, now)
+            found = meaning(term)
             if found is None:
                 raise Fault("UA", about=name_number(term))
             return found
@@ -638,6 +684,10 @@ class Words:
         return Fault("ZE" if min(both) % 0o10000 < 0o200 else "PE", now.line, now.start, min(both))
 
     def words_of(self, now: Judged, k: int) -> list[int]:
+        if now.is_late:
+            value = self.source.late_value(k)
+            if now.fixed is not None and now.fixed != value:
+                raise Fault("RD")
         if now.body.form == "word":
             assert now.body.value
             return [self.value(now.body.value, now, k)]
@@ -650,10 +700,22 @@ class Words:
 
     def last_value(self, name: str, now: Judged, k: int) -> int:
         """A name's value at last: before this statement, or else in the whole source, or else permanent."""
-        before, judged = self.source.definition_before, self.source.judged
+        source, judged = self.source, self.source.judged
         if name in now.tags:
             return now.place
-        for value in (before(name, judged[:k]), before(name, judged), permanent(name, now)):
+        before = source.last_definition(name, k)
+        if before is not None:
+            is_late = judged[before].is_late and judged[before].body.name == name
+            value = source.known_late(before) if is_late else source.definition_before(name, judged[: before + 1])
+            if value is not None:
+                return value
+        last = source.last_definition(name, len(judged))
+        if before is None and last is not None and judged[last].is_late and judged[last].body.name == name:
+            late = [source.known_late(n) for n in reversed(range(len(judged))) if judged[n].is_late and judged[n].body.name == name]
+            known = next((value for value in late if value is not None), None)
+            if known is not None:
+                return known
+        for value in (source.definition_before(name, judged), permanent(name, now)):
             if value is not None:
                 return value
         raise Fault("UA", about=name_number(name))

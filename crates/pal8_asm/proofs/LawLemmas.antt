@@ -15,8 +15,9 @@ use Rattle.pal8_grammar.specs.declared.bodies.Body.TheVariants as body
 use Rattle.pal8_grammar.specs.declared.faults.GrammarFault.{GrammarFault}
 use Rattle.pal8_grammar.specs.declared.steps.Step.{Step}
 use Rattle.pal8_asm.specs.Places.{Standing, spot_at, truth_of, with_body_if, with_statement, with_tags}
-use Rattle.pal8_asm.specs.Sources.{Entry, Remainder, PassResult, Statement, brackets_with, is_selected, remainder_of_text, number, pass_over, place_of, phrase_of, with_brackets, with_entries as with_entries_of, with_next, with_phrase, with_said, with_selected, with_skipped, words_in}
-use Rattle.pal8_asm.specs.Tapes.{TapeWords, without_clash, unless_clash, words_of_entries, spot_of, with_entries, with_entry, with_made}
+use Rattle.pal8_asm.specs.Sources.{Entry, Remainder, PassResult, Statement, brackets_with, is_selected, remainder_of_text, number, pass_over, place_of, phrase_of, with_brackets, open_value, with_entries as with_entries_of, with_late_entry, with_next, with_values, with_phrase, with_said, with_selected, with_skipped, words_in}
+use Rattle.pal8_asm.specs.Tapes.{TapeWords, late_after, late_fault, late_value, late_values, unless_fault, without_clash, unless_clash, words_of_entries, spot_of, with_entries, with_entry, with_entry_by, with_made, with_word_entry}
+use Rattle.pal8_asm.specs.declared.entries.Late.{Late}
 use Rattle.pal8_asm.specs.Assembled.{dollar_in, has_words, result_if_any_word, result_with_words, result_of_source}
 use Rattle.pal8_asm.specs.Laws.{Apart, NoPoolNoChange, PlacesStay, ValueIsFound, meaning, passed_zero, read_zero, without_words, zero_phrase, zero_said}
 use Rattle.pal8_asm.specs.declared.faults.Fault.{Fault}
@@ -35,16 +36,28 @@ word_is_free : (e : Entry) (made : TapeWords) (r : AskResult) → Free (with_mad
 word_is_free e made (Err fault) = tt
 word_is_free e made (Ok (word, asks, punched)) = free_by made.clash e.place _
 
-entry_is_free : (last : Meanings) (e : Entry) (r : Result TapeWords Fault) → Free (with_entry last e r)
-entry_is_free last e (Err fault) = tt
-entry_is_free last e (Ok made) = word_is_free e made (word_value last (spot_of e) e.steps made.asks made.punched)
+word_entry_is_free : (own : Meanings) (e : Entry) (steps : List Step) (r : Result TapeWords Fault) → Free (with_word_entry own e steps r)
+word_entry_is_free own e steps (Err fault) = tt
+word_entry_is_free own e steps (Ok made) = word_is_free e made (word_value own (spot_of e) steps made.asks made.punched)
 
-entries_are_free : (last : Meanings) (entries : List Entry) (r : Result TapeWords Fault) → Free r → Free (with_entries last entries r)
-entries_are_free last [] r free = free
-entries_are_free last (e ∷ others) r free = entries_are_free last others (with_entry last e r) (entry_is_free last e r)
+late_is_free : (fault : Option Fault) (r : Result TapeWords Fault) → Free r → Free (unless_fault fault r)
+late_is_free fault (Err before) free = tt
+late_is_free None (Ok made) free = free
+late_is_free (Some fault) (Ok made) free = tt
 
-made_is_free : (last : Meanings) (entries : List Entry) → Free (words_of_entries last entries)
-made_is_free last entries = entries_are_free last entries _ (λ none. refl)
+entry_is_free : (own late : Meanings) (e : Entry) (r : Result TapeWords Fault) → Free r → Free (with_entry own late e r)
+entry_is_free own late e r free = by_late e.late
+  where
+    by_late : (definition : Option Late) → Free (with_entry_by own late e definition r)
+    by_late None = word_entry_is_free own e (with_values late e.steps) r
+    by_late (Some d) = late_is_free (late_fault e d (late_value own e d)) r free
+
+entries_are_free : (own late : Meanings) (entries : List Entry) (r : Result TapeWords Fault) → Free r → Free (with_entries own late entries r)
+entries_are_free own late [] r free = free
+entries_are_free own late (e ∷ others) r free = entries_are_free own (late_after own e late) others (with_entry own late e r) (entry_is_free own late e r free)
+
+made_is_free : (own : Meanings) (is_late : ℕ → Bool) (entries : List Entry) → Free (words_of_entries own is_late entries)
+made_is_free own is_late entries = entries_are_free own (late_values own is_late entries (λ n. None)) entries _ (λ none. refl)
 
 abbrev made_in : TapeWords → Result TapeWords Fault → TapeWords
 made_in other (Err fault) = other
@@ -66,7 +79,8 @@ module _ (dollar : Place) (made : TapeWords) where
 by_left : (made : TapeWords) (l : PassResult) → result_of_source l ≡ Ok made → lowest_clash made.asks made.words ≡ None
 by_left made (Err fault) is = absurd cc
 by_left made (Ok left) is =
-    by_made (dollar_in left.end) made (words_of_entries left.standing.names.own left.entries) (made_is_free left.standing.names.own left.entries) is
+    by_made (dollar_in left.end) made (words_of_entries left.standing.names.own left.standing.late left.entries)
+    (made_is_free left.standing.names.own left.standing.late left.entries) is
 
 pub apart : NoClashIsApart → Apart
 apart law text made is c has = law made.words made.asks (by_left made (remainder_of_text text) is) c has
@@ -194,8 +208,9 @@ module _ (s : Statement) where
 
   abbrev words_after : Phrase → Remainder → List Entry → Standing → List Entry
   words_after phrase left entries standing =
-      with_entries_of (place_of s) (spot_at left.standing.position)
-      (words_in phrase.0 standing.names.own phrase.1 s.string (standing.position.location - left.standing.position.location)) entries
+      with_late_entry (place_of s) (spot_at left.standing.position) phrase.0 phrase.1 standing.names
+      (with_entries_of (place_of s) (spot_at left.standing.position)
+      (words_in phrase.0 (open_value standing) phrase.1 s.string (standing.position.location - left.standing.position.location)) entries)
 
   by_result : (phrase : Phrase) (left : Remainder) (entries : List Entry) (r : Result Standing Code)
       → without_words (with_phrase s (zero_phrase phrase) (with_words entries left) r) ≡ without_words (with_phrase s phrase left r)

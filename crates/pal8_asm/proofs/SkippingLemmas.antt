@@ -1,5 +1,5 @@
 -- Why statements that aren't selected are nothing.
-use Rattle.std.proofs.Common.{◌≡◌, ℕ, ◌+◌, ◌-◌, ◌*◌, suc, Bool, true, false, ◌&&◌, ◌||◌, not, if◌then◌else◌, is_some, Option, Some, None, Result, Ok, Err, length, take, drop, List, [], ◌∷◌, refl, sym, ap, ◌∙◌, arith}
+use Rattle.std.proofs.Common.{◌≡◌, ℕ, ◌-◌, ◌*◌, suc, Bool, true, false, ◌&&◌, ◌||◌, not, if◌then◌else◌, is_some, Option, Some, None, Result, Ok, Err, length, take, drop, List, [], ◌∷◌, refl, sym, ap, ◌∙◌, arith}
 use Rattle.pal8_lex.specs.Kinds.{is_comma}
 use Rattle.pal8_lex.specs.Judging.{has_bad, has_bad_number, is_bad, is_bad_number, tag_count}
 use Rattle.pal8_lex.specs.declared.tokens.Token.{Token}
@@ -14,7 +14,7 @@ use Rattle.pal8_grammar.specs.declared.steps.Step.{Step}
 use Rattle.pal8_grammar.specs.declared.faults.GrammarFault.{GrammarFault}
 use Rattle.pal8_grammar.specs.declared.faults.GrammarFault.TheVariants.{IC, NU, SY}
 use Rattle.pal8_asm.specs.Places.{Standing, spot_at, truth_of, with_body, with_body_if, with_statement, with_tag_if, with_tags}
-use Rattle.pal8_asm.specs.Sources.{Entry, Remainder, PassResult, Source, Statement, brackets_with, end_of_pass, is_selected, pass_over, place_of, phrase_of, statements, with_brackets, with_end, with_entries, with_next, with_phrase, with_said, with_selected, with_skipped, words_in}
+use Rattle.pal8_asm.specs.Sources.{Entry, Remainder, PassResult, Source, Statement, brackets_with, defined_name, end_of_pass, is_selected, open_value, pass_over, place_of, phrase_of, statements, with_brackets, with_end, with_entries, with_late_by, with_late_entry, with_next, with_phrase, with_said, with_selected, with_skipped, words_in}
 use Rattle.pal8_values.specs.Sums.{Meanings}
 use Rattle.pal8_asm.specs.Laws.{SkippedIsNothing, plain, plain_by, plain_end, plain_statement}
 use Rattle.pal8_asm.specs.declared.faults.Place.{Place}
@@ -176,6 +176,7 @@ tags_say_nothing names radix tokens is_cut phrase is =
 -- a condition makes no word, and moves nothing
 record IsPassive (b : Body) : Type 0 where
   pub no_words : (kept : Meanings) (steps : List Step) (string : List ℕ) (size : ℕ) → words_in b kept steps string size ≡ []
+  pub no_name : defined_name b ≡ None
   pub stays : (steps : List Step) (n : ℕ) (standing : Standing) → with_body b steps n standing ≡ Ok standing
 
 is_passive : (b : Body) → is_condition b ≡ true → IsPassive b
@@ -190,10 +191,10 @@ is_passive body.Page is = absurd cc
 is_passive body.Zeros is = absurd cc
 is_passive body.Text is = absurd cc
 is_passive body.Listing is = absurd cc
-is_passive body.IfZero is = record { no_words = λ kept steps string size. refl; stays = λ steps n standing. refl }
-is_passive body.IfNotZero is = record { no_words = λ kept steps string size. refl; stays = λ steps n standing. refl }
-is_passive (body.IfDefined name) is = record { no_words = λ kept steps string size. refl; stays = λ steps n standing. refl }
-is_passive (body.IfUndefined name) is = record { no_words = λ kept steps string size. refl; stays = λ steps n standing. refl }
+is_passive body.IfZero is = record { no_words = λ kept steps string size. refl; no_name = refl; stays = λ steps n standing. refl }
+is_passive body.IfNotZero is = record { no_words = λ kept steps string size. refl; no_name = refl; stays = λ steps n standing. refl }
+is_passive (body.IfDefined name) is = record { no_words = λ kept steps string size. refl; no_name = refl; stays = λ steps n standing. refl }
+is_passive (body.IfUndefined name) is = record { no_words = λ kept steps string size. refl; no_name = refl; stays = λ steps n standing. refl }
 is_passive body.NoPunch is = absurd cc
 is_passive body.Punch is = absurd cc
 is_passive body.Relocate is = absurd cc
@@ -248,9 +249,14 @@ module _ (line at : ℕ) (string : List ℕ) (is_cut : Bool) where
     tags_go tokens others phrase passive (Ok standing) is =
         by_truth (truth_of phrase.0 phrase.1 standing)
         (sym (ap (λ l. with_brackets (ended_by tokens end.Open) standing
-        (with_entries (place_of (ended_by tokens end.Open)) (spot_at before.standing.position) l before.entries)
+        (with_late_entry (place_of (ended_by tokens end.Open)) (spot_at before.standing.position) phrase.0 phrase.1 standing.names
+        (with_entries (place_of (ended_by tokens end.Open)) (spot_at before.standing.position) l before.entries))
         (brackets_with (place_of (ended_by tokens end.Open)) end.Open before.brackets (truth_of phrase.0 phrase.1 standing)))
-        (passive.no_words standing.names.own phrase.1 string (standing.position.location - before.standing.position.location)))
+        (passive.no_words (open_value standing) phrase.1 string (standing.position.location - before.standing.position.location))
+        ∙ ap (λ name. with_brackets (ended_by tokens end.Open) standing
+        (with_late_by (place_of (ended_by tokens end.Open)) (spot_at before.standing.position) phrase.1 standing.names name before.entries)
+        (brackets_with (place_of (ended_by tokens end.Open)) end.Open before.brackets (truth_of phrase.0 phrase.1 standing)))
+        passive.no_name)
         ∙ sym (ap (with_phrase (ended_by tokens end.Open) phrase before) (passive.stays phrase.1 (length string) standing)) ∙ is)
       where
         by_truth : (truth : Result Bool Code)

@@ -1,7 +1,7 @@
 -- Tags, one at a time.
 use Rattle.std.proofs.Common.{◌≡◌, ℕ, ◌-◌, ◌≤◌, suc, Bool, true, false, if◌then◌else◌, Ok, Err, length, get_or, take, drop, List, [], ◌∷◌, refl, ap, sym, ◌∙◌, arith}
 use Rattle.std.proofs.lemmas.List.{take_all}
-use Rattle.pal8_sym.specs.declared.source_names.SourceNames.{SourceNames}
+use Rattle.pal8_asm.specs.declared.names.KnownNames.{KnownNames}
 use Rattle.pal8_lex.specs.Kinds.{is_comma}
 use Rattle.pal8_lex.specs.declared.tokens.Token.{Token}
 use Rattle.pal8_grammar.specs.Bodies.{free_name}
@@ -44,12 +44,12 @@ module _ (rest : List Token) (tag next : Token) (s : Standing) (long : 2 ≤ len
       ∙ ap (λ test. if test then with_tags (following_two rest) (with_tag (free_name tag.kind) s) else Ok s) comma
 
   -- a tag that is refused refuses all
-  pub tag_fails : (position : Position) (stop : Stop) (new : SourceNames) → Defines (with_tag (free_name tag.kind) s) position (Err stop) new
+  pub tag_fails : (position : Position) (stop : Stop) (new : KnownNames) → Defines (with_tag (free_name tag.kind) s) position (Err stop) new
       → Defines (with_tags rest (Ok s)) position (Err stop) new
   tag_fails position (At code) new is = one_more ∙ ap (with_tags (following_two rest)) is ∙ tags_stay (following_two rest) code
   tag_fails position Memory new is = tt
 
   -- the others go on from a tag that was defined
-  pub tag_goes_on : (position : Position) (new : SourceNames) → with_tag (free_name tag.kind) s ≡ Ok (standing new position)
+  pub tag_goes_on : (position : Position) (new : KnownNames) → with_tag (free_name tag.kind) s ≡ Ok (standing new position)
       → with_tags (following_two rest) (Ok (standing new position)) ≡ with_tags rest (Ok s)
   tag_goes_on position new is = sym (one_more ∙ ap (with_tags (following_two rest)) is)

@@ -1,22 +1,23 @@
 -- Statements, one at a time.
 use Rattle.std.proofs.Common.{◌≡◌, ℕ, Bool, true, false, if◌then◌else◌, is_some, Option, None, Result, Ok, Err, length, List, [], sym, ap, ◌∙◌}
-use Rattle.pal8_sym.specs.declared.source_names.SourceNames.{SourceNames}
+use Rattle.pal8_asm.specs.declared.names.KnownNames.{KnownNames}
 use Rattle.pal8_sym.specs.SourceNames.{first_names, names_of}
+use mathlib.Core.Path.{fun_ext}
 use Rattle.pal8_grammar.specs.Bodies.{Phrase}
 use Rattle.pal8_asm.specs.Places.{truth_of, with_statement}
 use Rattle.pal8_asm.specs.Sources.{Entry, Remainder, Statement, brackets_with, end_of, first_left, is_selected, place_of, phrase_of, with_brackets, with_phrase, with_next, with_said, with_selected, with_skipped}
 use Rattle.pal8_asm.specs.Steps.{IsTaken, PassesEnd, TakesStatement}
-use Rattle.pal8_asm.specs.Assembling.{Progress, Takes, standing}
+use Rattle.pal8_asm.specs.Assembling.{Progress, Takes, is_late, standing}
 use Rattle.pal8_asm.specs.declared.faults.AsmFault.{AsmFault}
 use Rattle.pal8_asm.specs.declared.faults.AsmFault.TheVariants.{At, Memory}
 use Rattle.pal8_asm.specs.declared.faults.Fault.{Fault}
 use Rattle.pal8_asm.specs.declared.faults.Place.{Place}
 use Rattle.pal8_asm.specs.declared.places.Position.{Position}
 
-abbrev pub left_at : SourceNames → Position → List Entry → List Bool → Option Place → Remainder
+abbrev pub left_at : KnownNames → Position → List Entry → List Bool → Option Place → Remainder
 left_at table position entries brackets end = record { standing = standing table position; entries = entries; brackets = brackets; end = end }
 
-module _ (s : Statement) (table table' : SourceNames) (position next : Position) (entries entries' : List Entry) (brackets brackets' : List Bool) (phrase : Phrase)
+module _ (s : Statement) (table table' : KnownNames) (position next : Position) (entries entries' : List Entry) (brackets brackets' : List Bool) (phrase : Phrase)
     (said : phrase_of (standing table position) s.tokens s.is_cut s.end ≡ Ok phrase)
     (taken : IsTaken (with_statement s.tokens phrase.0 phrase.1 (length s.string) (standing table position)) (place_of s) phrase.0 phrase.1 s.string position next entries table' entries') where
   abbrev left : Remainder
@@ -39,7 +40,7 @@ module _ (s : Statement) (table table' : SourceNames) (position next : Position)
   end_fails Memory is = tt
 
 -- a selected statement that has a fault
-pub take_fails : (s : Statement) (before : Remainder) (table : SourceNames) (entries : List Entry) (brackets : List Bool) (end : Option Place) (new : Progress) (fault : AsmFault)
+pub take_fails : (s : Statement) (before : Remainder) (table : KnownNames) (entries : List Entry) (brackets : List Bool) (end : Option Place) (new : Progress) (fault : AsmFault)
     → is_some before.end ≡ false → is_selected before.brackets ≡ true
     → TakesStatement (with_selected s record { standing = before.standing; entries = before.entries; brackets = before.brackets; end = None }) (Err fault) table entries brackets end
     → Takes (with_next s (Ok before)) (Err fault) new
@@ -49,9 +50,10 @@ take_fails s before table entries brackets end new (At code place) none selected
 take_fails s before table entries brackets end new Memory none selected takes = tt
 
 -- the permanent names alone
-pub begins : (table : SourceNames) (entries : List Entry) (brackets : List Bool) → names_of table ≡ first_names → entries ≡ [] → brackets ≡ []
+pub begins : (table : KnownNames) (entries : List Entry) (brackets : List Bool) → names_of table.table ≡ first_names → ((n : ℕ) → is_late table n ≡ false) → entries ≡ [] → brackets ≡ []
     → left_at table first_left.standing.position entries brackets None ≡ first_left
-begins table entries brackets names none closed =
-    ap (λ n. record { standing = record { names = n; position = first_left.standing.position }; entries = entries; brackets = brackets; end = None }) names
+begins table entries brackets names late none closed =
+    ap (λ n. record { standing = record { names = n; late = is_late table; position = first_left.standing.position }; entries = entries; brackets = brackets; end = None }) names
+    ∙ ap (λ l. record { standing = record { names = first_names; late = l; position = first_left.standing.position }; entries = entries; brackets = brackets; end = None }) (fun_ext late)
     ∙ ap (λ e. record { standing = first_left.standing; entries = e; brackets = brackets; end = None }) none
     ∙ ap (λ b. record { standing = first_left.standing; entries = []; brackets = b; end = None }) closed

@@ -6,7 +6,7 @@ use Rattle.pal8_pools.specs.Pooled.{PoolTable}
 use Rattle.pal8_asm.specs.Sources.{at_place}
 use Rattle.pal8_asm.specs.Tapes.{TapeWords, without_clash, words_of_entries}
 use Rattle.pal8_asm.specs.Assembled.{result_of_text, dollar_in, has_words, result_if_any_word, result_with_words, result_of_source}
-use Rattle.pal8_asm.specs.Assembling.{IsAssembled, IsMade, MakesWords, Progress, ReadsText}
+use Rattle.pal8_asm.specs.Assembling.{IsAssembled, IsMade, MakesWords, Progress, ReadsText, is_late}
 use Rattle.pal8_asm.specs.Steps.{AddsPool}
 use Rattle.pal8_asm.specs.declared.faults.AsmFault.TheVariants.{At}
 use Rattle.pal8_asm.specs.declared.faults.Code.TheVariants as code
@@ -25,7 +25,7 @@ module _ (text : List ℕ) (a : Progress) where
   read_fails code place is = ap result_of_source is
 
   abbrev whole : Result TapeWords Fault
-  whole = without_clash (words_of_entries (own_value a.table) a.entries)
+  whole = without_clash (words_of_entries (own_value a.names.table) (is_late a.names) a.entries)
 
   -- a word has one
   pub word_fails : (code : Code) (place end : Place) (pools : PoolTable) → ReadsText text (Ok end) a → MakesWords whole (Err (At code place)) pools

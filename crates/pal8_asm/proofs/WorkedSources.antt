@@ -321,6 +321,38 @@ rd_fixmri : read (codes "FIXMRI TAD=2000" ++ 10 ∷ codes "TAD 5" ++ 10 ∷ code
 unfolding permanent pal8_permanent
 rd_fixmri = refl
 
+-- ## Late definitions
+
+-- a name that is defined later counts in words
+late : read (codes "A=B+1;A;B=5" ++ 10 ∷ codes "$" ++ 10 ∷ []) ≡ Ok ((0o200, 6) ∷ [], [], [])
+unfolding permanent pal8_permanent
+late = refl
+
+-- a late definition rests on none that is late
+late_late : read (codes "A=B;B=C;C=5" ++ 10 ∷ codes "$" ++ 10 ∷ []) ≡ Err (UA (name_number (codes "B")), 1)
+unfolding permanent pal8_permanent
+late_late = refl
+
+-- and no place rests on it
+late_place : read (codes "A=B;*A;B=5" ++ 10 ∷ codes "$" ++ 10 ∷ []) ≡ Err (UA (name_number (codes "A")), 1)
+unfolding permanent pal8_permanent
+late_place = refl
+
+-- each word has the last definition before it
+late_again : read (codes "A=B;A;A=1;A;A=C;A;B=7;C=10" ++ 10 ∷ codes "$" ++ 10 ∷ []) ≡ Ok ((0o200, 7) ∷ (0o201, 1) ∷ (0o202, 0o10) ∷ [], [], [])
+unfolding permanent pal8_permanent
+late_again = refl
+
+-- a fixed name keeps its value
+late_rd : read (codes "A, 1;A=B;B=5" ++ 10 ∷ codes "$" ++ 10 ∷ []) ≡ Err (RD, 1)
+unfolding permanent pal8_permanent
+late_rd = refl
+
+-- before all definitions it has the last one of the source
+late_last : read (codes "A;A=B;B=5" ++ 10 ∷ codes "$" ++ 10 ∷ []) ≡ Ok ((0o200, 5) ∷ [], [], [])
+unfolding permanent pal8_permanent
+late_last = refl
+
 -- ## Places: the line, and the byte in the text as it stands
 
 abbrev place : Result TapeWords Fault → Result (List (ℕ × ℕ)) (Code × ℕ × ℕ)

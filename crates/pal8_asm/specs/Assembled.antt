@@ -26,7 +26,7 @@ result_if_any_word dollar (Ok made) = result_with_words dollar made (has_words m
 
 abbrev pub result_of_source : PassResult → Result TapeWords Fault
 result_of_source (Err fault) = Err fault
-result_of_source (Ok left) = result_if_any_word (dollar_in left.end) (without_clash (words_of_entries left.standing.names.own left.entries))
+result_of_source (Ok left) = result_if_any_word (dollar_in left.end) (without_clash (words_of_entries left.standing.names.own left.standing.late left.entries))
 
 -- what a text makes, or its first fault: of places and names; of its end; of words; of words on pools' cells; that there is no word
 abbrev pub result_of_text : List ℕ → Result TapeWords Fault

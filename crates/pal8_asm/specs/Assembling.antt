@@ -1,8 +1,10 @@
 -- The answers of an assembler.
 use Rattle.std.specs.Prelude.{◌≡◌, ℕ, Bool, Option, Some, Result, Ok, Err, List, ◌++◌}
 use Rattle.std.specs.Global.{Vec}
+use Rattle.std.specs.Ordering.{nat_cmp}
+use Rattle.std.specs.BTreeSet.{contains}
 use Rattle.pal8_sym.specs.SourceNames.{names_of}
-use Rattle.pal8_sym.specs.declared.source_names.SourceNames.{SourceNames}
+use Rattle.pal8_asm.specs.declared.names.KnownNames.{KnownNames}
 use Rattle.pal8_pools.specs.Cells.{ArePairs}
 use Rattle.pal8_pools.specs.Pooled.{Holds, PoolTable}
 use Rattle.pal8_asm.specs.Places.{Standing}
@@ -18,19 +20,23 @@ use Rattle.pal8_asm.specs.declared.faults.Stop.{Stop}
 use Rattle.pal8_asm.specs.declared.faults.Stop.TheVariants.{At, Memory}
 use Rattle.pal8_asm.specs.declared.places.Position.{Position}
 
--- what a table of names and a position are
-abbrev pub standing : SourceNames → Position → Standing
-standing table position = record { names = names_of table; position = position }
+-- the last definition of a name is late
+abbrev pub is_late : KnownNames → ℕ → Bool
+is_late names n = contains nat_cmp names.late n
+
+-- what names and a position are
+abbrev pub standing : KnownNames → Position → Standing
+standing names position = record { names = names_of names.table; late = is_late names; position = position }
 
 -- a statement is taken, or its fault is answered; or memory ran out
-abbrev pub Passes : Result Standing Code → Result Position Stop → SourceNames → Type 0
+abbrev pub Passes : Result Standing Code → Result Position Stop → KnownNames → Type 0
 Passes whole (Ok next) new = whole ≡ Ok (standing new next)
 Passes whole (Err (At code)) new = whole ≡ Err code
 Passes whole (Err Memory) new = Unit {0}
 
 -- How far an assembler is.
 pub record Progress : Type 0 where
-  pub table : SourceNames
+  pub names : KnownNames
   pub position : Position
   pub entries : List Entry
   pub brackets : List Bool
@@ -38,7 +44,7 @@ pub record Progress : Type 0 where
 
 -- what the statements before leave
 abbrev pub remainder_of : Progress → Remainder
-remainder_of a = record { standing = standing a.table a.position; entries = a.entries; brackets = a.brackets; end = a.end }
+remainder_of a = record { standing = standing a.names a.position; entries = a.entries; brackets = a.brackets; end = a.end }
 
 -- a statement is taken, or its fault is answered; or memory ran out
 abbrev pub Takes : PassResult → Result (Unit {0}) AsmFault → Progress → Type 0

@@ -1,16 +1,17 @@
 -- What a statement does to places and names, by those before it (PAL8, in this project's profile). No place and no name rests on a literal
 -- or a link.
-use Rattle.std.specs.Prelude.{ℕ, ◌+◌, ◌-◌, ◌*◌, ◌/◌, ◌%◌, nat_eq, nat_lt, Bool, true, false, ◌&&◌, not, if◌then◌else◌, is_some, Option, Some, None, Result, Ok, Err, List, [], ◌∷◌}
+use Rattle.std.specs.Prelude.{ℕ, ◌+◌, ◌-◌, ◌*◌, ◌/◌, ◌%◌, nat_eq, nat_lt, Bool, true, false, ◌&&◌, ◌||◌, not, if◌then◌else◌, is_some, Option, Some, None, Result, Ok, Err, List, [], ◌∷◌}
 use Rattle.pal8_lex.specs.Kinds.{is_comma}
 use Rattle.pal8_lex.specs.declared.tokens.Token.{Token}
 use Rattle.pal8_lex.specs.declared.judging.Radix.{Radix}
 use Rattle.pal8_lex.specs.declared.judging.Radix.TheVariants as radix
-use Rattle.pal8_sym.specs.SourceNames.{NameState, is_fixed, is_other, kept_value, names_after_expunge, names_after_fixtab, names_with_operation, names_with_tag, names_with_value, value_of}
+use Rattle.pal8_sym.specs.SourceNames.{NameState, is_fixed, is_other, kept_value, names_after_expunge, names_after_fixtab, names_with_operation, names_with_tag, names_with_value, value_of, with_one}
 use Rattle.pal8_grammar.specs.Bodies.{free_name}
 use Rattle.pal8_grammar.specs.declared.bodies.Body.{Body}
 use Rattle.pal8_grammar.specs.declared.bodies.Body.TheVariants as body
 use Rattle.pal8_grammar.specs.declared.steps.Step.{Step}
-use Rattle.pal8_values.specs.Sums.{early_value, here_of}
+use Rattle.pal8_grammar.specs.declared.steps.Step.TheVariants as step
+use Rattle.pal8_values.specs.Sums.{Meanings, early_value, here_of}
 use Rattle.pal8_values.specs.declared.sums.Spot.{Spot}
 use Rattle.pal8_values.specs.declared.faults.ValueFault.{ValueFault}
 use Rattle.pal8_values.specs.declared.faults.ValueFault.TheVariants as value
@@ -19,9 +20,11 @@ use Rattle.pal8_asm.specs.declared.faults.Code.TheVariants as code
 use Rattle.pal8_asm.specs.declared.places.Position.{Position}
 use Rattle.pal8_asm.specs.declared.places.TheConstants.{FIRST_PLACE}
 
--- What statements leave: names, and where the next statement stands.
+-- What statements leave: names, and where the next statement stands. A definition by `=` is late where a name of its value has none by then. It counts
+-- in words alone, so names are those of the other definitions; the late names are those whose last definition is late.
 pub record Standing : Type 0 where
   pub names : NameState
+  pub late : ℕ → Bool
   pub position : Position
 
 -- ## Places
@@ -41,10 +44,13 @@ spot_at p = record { field = p.field; location = p.location; here = place_of_loc
 
 -- ## Names
 
+abbrev pub without_one : ℕ → (ℕ → Bool) → ℕ → Bool
+without_one name has n = if nat_eq name n then false else has n
+
 -- a tag stands for the place, which must not be past 7777, and its name keeps no other value
 abbrev pub with_tag_by : ℕ → ℕ → Standing → Bool → Result Standing Code
 with_tag_by tag place s true = Err code.DT
-with_tag_by tag place s false = Ok record { names = names_with_tag tag place s.names; position = s.position }
+with_tag_by tag place s false = Ok record { names = names_with_tag tag place s.names; late = without_one tag s.late; position = s.position }
 
 abbrev pub with_tag_at : ℕ → Option ℕ → Standing → Result Standing Code
 with_tag_at tag None s = Err code.PF
@@ -67,14 +73,35 @@ with_tags (t ∷ next ∷ others) s = if is_comma next.kind then with_tags other
 -- `=` gives a name a value. One that is fixed must have that value already.
 abbrev pub with_definition_by : ℕ → ℕ → Standing → Bool → Result Standing Code
 with_definition_by name v s true = Err code.RD
-with_definition_by name v s false = Ok record { names = names_with_value name v s.names; position = s.position }
+with_definition_by name v s false = Ok record { names = names_with_value name v s.names; late = without_one name s.late; position = s.position }
 
 abbrev pub with_definition : ℕ → ℕ → Standing → Result Standing Code
 with_definition name v s = with_definition_by name v s (is_fixed s.names name && is_other (value_of s.names name) v)
 
 -- FIXMRI gives any name any value, and makes it an operation
 abbrev pub with_operation : ℕ → ℕ → Standing → Standing
-with_operation name v s = record { names = names_with_operation name v s.names; position = s.position }
+with_operation name v s = record { names = names_with_operation name v s.names; late = without_one name s.late; position = s.position }
+
+-- the last definition of a name is late
+abbrev pub with_late : ℕ → Standing → Standing
+with_late name s = record { names = s.names; late = with_one name s.late; position = s.position }
+
+-- a name of these steps has no value (a permanent name has one with its step)
+abbrev pub is_later : Meanings → Step → Bool
+is_later own (step.Operation word) = false
+is_later own step.Alone = false
+is_later own step.Indirect = false
+is_later own (step.Name name) = not (is_some (own name))
+is_later own (step.Permanent name value) = false
+is_later own (step.Number word) = false
+is_later own step.Here = false
+is_later own (step.Sign op) = false
+is_later own (step.Open pool) = false
+is_later own step.Close = false
+
+abbrev pub has_later : Meanings → List Step → Bool
+has_later own [] = false
+has_later own (s ∷ others) = is_later own s || has_later own others
 
 -- ## Positions
 
@@ -149,7 +176,7 @@ as_code (Ok v) = Ok v
 
 abbrev pub standing_at : Standing → Result Position Code → Result Standing Code
 standing_at s (Err fault) = Err fault
-standing_at s (Ok position) = Ok record { names = s.names; position = position }
+standing_at s (Ok position) = Ok record { names = s.names; late = s.late; position = position }
 
 -- a body with a value
 abbrev pub with_valued : Body → Standing → ℕ → Result Standing Code
@@ -188,13 +215,18 @@ abbrev pub value_at : Standing → List Step → Result ℕ Code
 value_at s steps = as_code (early_value s.names.own (spot_at s.position) steps)
 
 abbrev pub with_names : NameState → Standing → Standing
-with_names names s = record { names = names; position = s.position }
+with_names names s = record { names = names; late = s.late; position = s.position }
+
+-- a late definition isn't judged here
+abbrev pub with_define : ℕ → List Step → Standing → Bool → Result Standing Code
+with_define name steps s true = Ok (with_late name s)
+with_define name steps s false = with_value_of (body.Define name) s (value_at s steps)
 
 -- what a body does, with the steps of its value and the length of its string
 abbrev pub with_body : Body → List Step → ℕ → Standing → Result Standing Code
 with_body body.Nothing steps length s = Ok s
 with_body body.Origin steps length s = with_value_of body.Origin s (value_at s steps)
-with_body (body.Define name) steps length s = with_value_of (body.Define name) s (value_at s steps)
+with_body (body.Define name) steps length s = with_define name steps s (has_later s.names.own steps)
 with_body body.Decimal steps length s = standing_at s (Ok (with_radix radix.Decimal s.position))
 with_body body.Octal steps length s = standing_at s (Ok (with_radix radix.Octal s.position))
 with_body body.Field steps length s = with_value_of body.Field s (value_at s steps)

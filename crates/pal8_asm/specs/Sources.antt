@@ -1,6 +1,6 @@
 -- The statements of a source, and the words that it leaves to be made (PAL8, in this project's profile). A source is the list of its statements,
 -- the newest first. What each one leaves rests on those before it alone.
-use Rattle.std.specs.Prelude.{ℕ, ◌+◌, ◌-◌, ◌*◌, ◌%◌, Bool, true, false, if◌then◌else◌, is_some, Option, Some, None, Result, Ok, Err, length, replicate, List, [], ◌∷◌, ◌++◌}
+use Rattle.std.specs.Prelude.{ℕ, ◌+◌, ◌-◌, ◌*◌, ◌%◌, Bool, true, false, not, if◌then◌else◌, is_some, Option, Some, None, Result, Ok, Err, length, replicate, List, [], ◌∷◌, ◌++◌}
 use Rattle.word12.specs.declared.sizes.TheConstants.{FIELD}
 use Rattle.pal_lex.specs.Text.{limit}
 use Rattle.pal8_lex.specs.Text.{line_after, live}
@@ -11,7 +11,7 @@ use Rattle.pal8_lex.specs.declared.tokens.Token.{Token}
 use Rattle.pal8_lex.specs.declared.rules.End.{End}
 use Rattle.pal8_lex.specs.declared.rules.End.TheVariants as end
 use Rattle.pal8_lex.specs.declared.judging.Radix.TheVariants as radix
-use Rattle.pal8_sym.specs.SourceNames.{first_names, vocabulary_of}
+use Rattle.pal8_sym.specs.SourceNames.{NameState, first_names, is_fixed, value_of, vocabulary_of}
 use Rattle.pal8_grammar.specs.Bodies.{Phrase, phrase_by_names}
 use Rattle.pal8_grammar.specs.declared.bodies.Body.{Body}
 use Rattle.pal8_grammar.specs.declared.bodies.Body.TheVariants as body
@@ -19,9 +19,10 @@ use Rattle.pal8_grammar.specs.declared.steps.Step.{Step}
 use Rattle.pal8_grammar.specs.declared.steps.Step.TheVariants as step
 use Rattle.pal8_grammar.specs.declared.faults.GrammarFault.{GrammarFault}
 use Rattle.pal8_grammar.specs.declared.faults.GrammarFault.TheVariants as grammar
-use Rattle.pal8_values.specs.Sums.{Meanings}
+use Rattle.pal8_values.specs.Sums.{Meanings, here_of}
 use Rattle.pal8_values.specs.declared.sums.Spot.{Spot}
-use Rattle.pal8_asm.specs.Places.{Standing, spot_at, truth_of, with_statement}
+use Rattle.pal8_asm.specs.Places.{Standing, has_later, spot_at, truth_of, with_statement}
+use Rattle.pal8_asm.specs.declared.entries.Late.{Late}
 use Rattle.pal8_asm.specs.declared.faults.Place.{Place}
 use Rattle.pal8_asm.specs.declared.faults.Fault.{Fault}
 use Rattle.pal8_asm.specs.declared.faults.Code.{Code}
@@ -60,9 +61,10 @@ start_of at (t ∷ others) = t.start
 abbrev pub place_of : Statement → Place
 place_of s = record { line = s.line; start = start_of s.at s.tokens }
 
--- A word that is to be made. It has the place of its statement in the text, its cell, what `.` is there, whether it is punched, and the steps of its
--- value.
+-- A word that is to be made, or a late definition. It has the place of its statement in the text, its cell, what `.` is there, whether it is punched,
+-- and the steps of its value.
 pub record Entry : Type 0 where
+  pub late : Option Late
   pub place : Place
   pub cell : ℕ
   pub here : ℕ
@@ -85,6 +87,7 @@ abbrev pub first_left : Remainder
 first_left = record {
   standing = record {
     names = first_names;
+    late = λ n. false;
     position = record { radix = radix.Octal; location = FIRST_PLACE; field = 0; shift = 0; is_punched = true };
   };
   entries = [];
@@ -157,14 +160,18 @@ words_in body.FixTable own steps string size = []
 words_in (body.FixOperation name) own steps string size = []
 words_in body.Word own steps string size = with_values own steps ∷ []
 
-abbrev pub entry_at : Place → Spot → List Step → Entry
-entry_at place spot steps = record {
+abbrev pub entry_with : Option Late → Place → Spot → List Step → Entry
+entry_with late place spot steps = record {
+  late = late;
   place = place;
   cell = FIELD * spot.field + spot.location % 0o10000;
   here = spot.here % 0o10000;
   is_punched = spot.is_punched;
   steps = steps;
 }
+
+abbrev pub entry_at : Place → Spot → List Step → Entry
+entry_at place spot steps = entry_with None place spot steps
 
 abbrev pub next_spot : Spot → Spot
 next_spot spot = record spot { location = (spot.location + 1) % 0o10000; here = (spot.here + 1) % 0o10000 }
@@ -174,6 +181,57 @@ abbrev pub with_entries : Place → Spot → List (List Step) → List Entry →
 with_entries place spot [] entries = entries
 with_entries place spot (steps ∷ others) entries =
     with_entries place (next_spot spot) others (entries ++ entry_at place spot steps ∷ [])
+
+-- ## Late definitions
+
+-- in words a name stands for the last definition before, and one whose last definition is late for nothing yet
+abbrev pub open_value : Standing → Meanings
+open_value s n = if s.late n then None else s.names.own n
+
+abbrev pub fixed_value : NameState → ℕ → Option ℕ
+fixed_value names name = if is_fixed names name then value_of names name else None
+
+abbrev pub late_at : Spot → ℕ → NameState → Late
+late_at spot name names = record { name = name; kept_value = fixed_value names name; is_past = not (is_some (here_of spot)) }
+
+abbrev pub late_entry : Place → Spot → ℕ → List Step → NameState → Entry
+late_entry place spot name steps names = entry_with (Some (late_at spot name names)) place spot (with_values names.own steps)
+
+abbrev pub defined_name : Body → Option ℕ
+defined_name body.Nothing = None
+defined_name body.Origin = None
+defined_name (body.Define name) = Some name
+defined_name body.Decimal = None
+defined_name body.Octal = None
+defined_name body.Field = None
+defined_name body.NextPage = None
+defined_name body.Page = None
+defined_name body.Zeros = None
+defined_name body.Text = None
+defined_name body.Listing = None
+defined_name body.IfZero = None
+defined_name body.IfNotZero = None
+defined_name (body.IfDefined name) = None
+defined_name (body.IfUndefined name) = None
+defined_name body.NoPunch = None
+defined_name body.Punch = None
+defined_name body.Relocate = None
+defined_name body.Unrelocate = None
+defined_name body.FileName = None
+defined_name body.Device = None
+defined_name body.Expunge = None
+defined_name body.FixTable = None
+defined_name (body.FixOperation name) = None
+defined_name body.Word = None
+
+abbrev pub with_late_by : Place → Spot → List Step → NameState → Option ℕ → List Entry → List Entry
+with_late_by place spot steps names None entries = entries
+with_late_by place spot steps names (Some name) entries =
+    if has_later names.own steps then entries ++ late_entry place spot name steps names ∷ [] else entries
+
+-- a definition that is late stays to be judged with the words
+abbrev pub with_late_entry : Place → Spot → Body → List Step → NameState → List Entry → List Entry
+with_late_entry place spot body steps names entries = with_late_by place spot steps names (defined_name body) entries
 
 -- ## Statements
 
@@ -242,8 +300,9 @@ with_brackets s standing entries (Ok brackets) = Ok record { standing = standing
 abbrev pub with_phrase : Statement → Phrase → Remainder → Result Standing Code → PassResult
 with_phrase s phrase left (Err fault) = Err (at_place (place_of s) fault)
 with_phrase s phrase left (Ok standing) = with_brackets s standing
+    (with_late_entry (place_of s) (spot_at left.standing.position) phrase.0 phrase.1 standing.names
     (with_entries (place_of s) (spot_at left.standing.position)
-    (words_in phrase.0 standing.names.own phrase.1 s.string (standing.position.location - left.standing.position.location)) left.entries)
+    (words_in phrase.0 (open_value standing) phrase.1 s.string (standing.position.location - left.standing.position.location)) left.entries))
     (brackets_with (place_of s) s.end left.brackets (truth_of phrase.0 phrase.1 standing))
 
 abbrev pub with_said : Statement → Remainder → Result Phrase GrammarFault → PassResult

@@ -1,8 +1,7 @@
 -- What the small steps of a pass give, for private clauses.
-use Rattle.pal8_asm.specs.Assembling.{Progress, remainder_of, standing}
-use Rattle.std.specs.Prelude.{◌≡◌, ℕ, ◌-◌, Bool, true, false, length, Option, Some, None, Result, Ok, Err, List, ◌∷◌, ◌++◌}
-use Rattle.pal8_sym.specs.SourceNames.{own_value}
-use Rattle.pal8_sym.specs.declared.source_names.SourceNames.{SourceNames}
+use Rattle.pal8_asm.specs.Assembling.{Progress, is_late, remainder_of, standing}
+use Rattle.std.specs.Prelude.{◌≡◌, ℕ, ◌-◌, Bool, true, false, length, if◌then◌else◌, Option, Some, None, Result, Ok, Err, List, ◌∷◌, ◌++◌}
+use Rattle.pal8_asm.specs.declared.names.KnownNames.{KnownNames}
 use Rattle.pal_lex.specs.Text.{limit, text_from}
 use Rattle.pal8_lex.specs.Reading.{HasRead, last_statement}
 use Rattle.pal8_lex.specs.Text.{as_read, live}
@@ -10,6 +9,11 @@ use Rattle.pal8_lex.specs.Statements.{statement_of}
 use Rattle.pal8_lex.specs.Reading as lex
 use Rattle.pal8_grammar.specs.declared.bodies.Body.{Body}
 use Rattle.pal8_grammar.specs.declared.steps.Step.{Step}
+use Rattle.pal8_sym.specs.SourceNames.{names_of, own_value}
+use Rattle.std.specs.Ordering.{nat_cmp}
+use Rattle.std.specs.BTreeMap.{get}
+use Rattle.pal8_values.specs.Sums.{Meanings}
+use Rattle.pal8_asm.specs.declared.late.LateValues.{LateValues}
 use Rattle.pal8_pools.specs.Asks.{Ask}
 use Rattle.pal8_pools.specs.Cells.{ArePairs}
 use Rattle.pal8_pools.specs.Pooled.{Holds, PoolTable}
@@ -18,7 +22,7 @@ use Rattle.pal8_values.specs.Words.{AskResult}
 use Rattle.pal8_asm.specs.Places.{Standing, code_of, spot_at}
 use Rattle.pal8_asm.specs.Tapes.{TapeWords}
 use Rattle.pal8_clash.specs.Clashes.{AreMarks, lowest_clash}
-use Rattle.pal8_asm.specs.Sources.{Entry, PassResult, at_place, statement_at, pass_over, statements, with_entries, words_in}
+use Rattle.pal8_asm.specs.Sources.{Entry, PassResult, at_place, statement_at, pass_over, statements, with_entries, with_late_entry, words_in}
 use Rattle.pal8_asm.specs.declared.faults.Fault.{Fault}
 use Rattle.pal8_asm.specs.declared.faults.Place.{Place}
 use Rattle.pal8_asm.specs.declared.faults.AsmFault.{AsmFault}
@@ -28,6 +32,19 @@ use Rattle.pal8_asm.specs.declared.faults.Stop.{Stop}
 use Rattle.pal8_asm.specs.declared.faults.Stop.TheVariants.{At, Memory}
 use Rattle.pal8_asm.specs.declared.places.Position.{Position}
 
+-- ## Names
+
+-- what a name stands for in a word by now
+abbrev pub open_of : KnownNames → Meanings
+open_of names n = if is_late names n then None else own_value names.table n
+
+-- what names in the steps of a word stand for by now, or in those of a late definition
+abbrev pub entry_meaning : KnownNames → Bool → Meanings
+entry_meaning names false = open_of names
+entry_meaning names true = own_value names.table
+
+-- ## Statements
+
 -- a position is answered, or the fault that refuses it
 abbrev pub Moves : Result Position Code → Result Position Stop → Type 0
 Moves whole (Ok next) = whole ≡ Ok next
@@ -35,7 +52,7 @@ Moves whole (Err (At code)) = whole ≡ Err code
 Moves whole (Err Memory) = Unit {0}
 
 -- names are defined, or the fault is answered that refuses them; or memory ran out
-abbrev pub Defines : Result Standing Code → Position → Result (Unit {0}) Stop → SourceNames → Type 0
+abbrev pub Defines : Result Standing Code → Position → Result (Unit {0}) Stop → KnownNames → Type 0
 Defines whole position (Ok nothing) new = whole ≡ Ok (standing new position)
 Defines whole position (Err (At code)) new = whole ≡ Err code
 Defines whole position (Err Memory) new = Unit {0}
@@ -59,18 +76,19 @@ PassesEnd whole (Err (asm.At code place)) brackets = whole ≡ Err (at_place pla
 PassesEnd whole (Err asm.Memory) brackets = Unit {0}
 
 -- a statement is taken at a position, or its fault is answered; or memory ran out
-abbrev pub TakesStatement : PassResult → Result Position AsmFault → SourceNames → List Entry → List Bool → Option Place → Type 0
+abbrev pub TakesStatement : PassResult → Result Position AsmFault → KnownNames → List Entry → List Bool → Option Place → Type 0
 TakesStatement whole (Ok next) table entries brackets end = whole ≡ Ok record { standing = standing table next; entries = entries; brackets = brackets; end = end }
 TakesStatement whole (Err (asm.At code place)) table entries brackets end = whole ≡ Err (at_place place code)
 TakesStatement whole (Err asm.Memory) table entries brackets end = Unit {0}
 
 -- What a statement does to names and places was done, and its words are kept.
 pub record IsTaken (whole : Result Standing Code) (place : Place) (body : Body) (steps : List Step) (string : List ℕ) (before next : Position) (old : List Entry)
-    (table : SourceNames) (new : List Entry) : Type 0 where
+    (table : KnownNames) (new : List Entry) : Type 0 where
   pub passed : whole ≡ Ok (standing table next)
-  pub words : new ≡ with_entries place (spot_at before) (words_in body (own_value table) steps string (next.location - before.location)) old
+  pub words : new ≡ with_late_entry place (spot_at before) body steps (names_of table.table)
+      (with_entries place (spot_at before) (words_in body (open_of table) steps string (next.location - before.location)) old)
 
-abbrev pub TakesBody : Result Standing Code → Place → Body → List Step → List ℕ → Position → List Entry → Result Position AsmFault → SourceNames → List Entry → Type 0
+abbrev pub TakesBody : Result Standing Code → Place → Body → List Step → List ℕ → Position → List Entry → Result Position AsmFault → KnownNames → List Entry → Type 0
 TakesBody whole place body steps string before old (Ok next) table new = IsTaken whole place body steps string before next old table new
 TakesBody whole place body steps string before old (Err (asm.At code place')) table new = (whole ≡ Err code) × (place' ≡ place)
 TakesBody whole place body steps string before old (Err asm.Memory) table new = Unit {0}
@@ -123,6 +141,10 @@ Closes whole (Err asm.Memory) a = Unit {0}
 
 -- ## Words
 
+-- the values of late definitions
+abbrev pub late_of : LateValues → Meanings
+late_of late n = get nat_cmp late.values n
+
 -- the fault of a word at this place
 abbrev pub fault_at : Place → AskResult → Result (ℕ × List Ask × List Ask) Fault
 fault_at place (Err fault) = Err (at_place place (code_of fault))
@@ -137,6 +159,12 @@ IsFaultAt place whole asm.Memory = Unit {0}
 abbrev pub GivesAt : Place → AskResult → Result ℕ AsmFault → PoolTable → Type 0
 GivesAt place whole (Ok word) new = IsAsked whole word new
 GivesAt place whole (Err fault) new = IsFaultAt place whole fault
+
+-- a late definition has no fault, or this one; or memory ran out
+abbrev pub IsJudgedLate : Option Fault → Result (Unit {0}) AsmFault → Type 0
+IsJudgedLate fault (Ok nothing) = fault ≡ None
+IsJudgedLate fault (Err (asm.At code place)) = fault ≡ Some (at_place place code)
+IsJudgedLate fault (Err asm.Memory) = Unit {0}
 
 -- Entries were made, after others: these are the words so far, with their cells, the first clash, and the pools hold what was asked.
 pub record IsMaking (whole : Result TapeWords Fault) (pools : PoolTable) (marks : List Bool) (clash : Option Fault) (pairs : List (ℕ × ℕ)) : Type 0 where

@@ -8,10 +8,9 @@ use crate::brackets::Brackets;
 use crate::entries::Entries;
 use crate::places::{Position, first_position, spot_at};
 use crate::tags::{pass_statement, truth_of};
-use crate::{AsmFault, Code, Place, Stop};
+use crate::{AsmFault, Code, KnownNames, Place, Stop};
 use pal8_grammar::{Body, GrammarFault, Reader, Step};
 use pal8_lex::{End, Token};
-use pal8_sym::SourceNames;
 use std::alloc::Global;
 use std::marker::Model;
 
@@ -19,7 +18,7 @@ use std::marker::Model;
 /// made.
 #[derive(Drop)]
 pub struct Assembler {
-    pub(crate) names: SourceNames,
+    pub(crate) names: KnownNames,
     position: Position,
     pub(crate) entries: Entries,
     pub(crate) brackets: Brackets,
@@ -30,15 +29,16 @@ pub struct Assembler {
 impl Model for Assembler {
     ghost use Rattle.std.specs.Prelude.{◌<◌};
     ghost use Rattle.std.specs.Coded.{codes};
+    ghost use Rattle.pal8_asm.specs.contracts.names.KnownNames as known_names;
     ghost use Rattle.pal8_sym.specs.contracts.source_names.SourceNames as source_names;
     ghost use Rattle.pal8_asm.specs.Assembling.{Progress};
 
     ghost Value = { Progress };
 
-    ghost coded = { Prim.hlevel (codes, source_names.the_row.coded) };
+    ghost coded = { Prim.hlevel (codes, known_names.the_row.coded, source_names.the_row.coded) };
 
     ghost view = { λ a. record {
-      table = a.names;
+      names = a.names;
       position = a.position;
       entries = a.entries;
       brackets = a.brackets;
@@ -70,7 +70,7 @@ fn start_of(at: u64, tokens: &[Token]) -> u64
 
 /// Takes a statement that says this, with the steps of its value.
 fn take_body(
-    names: &mut SourceNames,
+    names: &mut KnownNames,
     entries: &mut Entries,
     position: Position,
     place: Place,
@@ -88,6 +88,7 @@ fn take_body(
 {
     let before = position;
     let again = body;
+    let said = body;
     let next = match pass_statement(names, tokens, body, steps, string.len(), position) {
         Ok(next) => next,
         Err(Stop::At(code)) => return Err(AsmFault::At(code, place)),
@@ -95,12 +96,13 @@ fn take_body(
     };
     let size = next.location.saturating_sub(before.location);
     entries.push_body(names, place, spot_at(before), again, steps, string, size)?;
+    entries.push_late(names, place, spot_at(before), said, steps)?;
     Ok(next)
 }
 
 /// Passes the end of a statement that says this, where the next one has this position: a condition opens a bracket.
 fn pass_end(
-    names: &SourceNames,
+    names: &KnownNames,
     brackets: &mut Brackets,
     position: Position,
     place: Place,
@@ -127,7 +129,7 @@ fn pass_end(
 
 /// Takes a statement that is selected, and answers the position of the next one.
 fn take_statement(
-    names: &mut SourceNames,
+    names: &mut KnownNames,
     entries: &mut Entries,
     brackets: &mut Brackets,
     reader: &mut Reader,
@@ -152,7 +154,7 @@ fn take_statement(
         start: start_of(at, tokens),
     };
     let again = end;
-    let body = match reader.read_statement(names, tokens, is_cut, end, position.radix) {
+    let body = match reader.read_statement(&names.table, tokens, is_cut, end, position.radix) {
         Ok(body) => body,
         Err(GrammarFault::IC) => return Err(AsmFault::At(Code::IC, place)),
         Err(GrammarFault::NU) => return Err(AsmFault::At(Code::NU, place)),
@@ -177,7 +179,7 @@ impl Assembler {
         ensures { remainder_of result ≡ first_left }
     {
         Assembler {
-            names: SourceNames::new(alloc),
+            names: KnownNames::new(alloc),
             position: first_position(),
             entries: Entries::new(alloc),
             brackets: Brackets::new(alloc),

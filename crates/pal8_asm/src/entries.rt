@@ -1,25 +1,29 @@
-ghost use Rattle.std.specs.Prelude.{◌≡◌, ◌+◌, ◌*◌, ◌%◌, ◌<◌, ◌≤◌, ◌++◌, [], ◌∷◌, OnOk, Ok, Result, length, replicate, vec_len, vec_capacity};
+ghost use Rattle.std.specs.Prelude.{◌≡◌, ◌+◌, ◌*◌, ◌%◌, ◌<◌, ◌≤◌, ◌++◌, [], ◌∷◌, OnOk, IfSome, Ok, Some, None, ℕ, Result, length, replicate, vec_len, vec_capacity};
 ghost use Rattle.word12.specs.declared.sizes.TheConstants.{FIELD, CORE};
-ghost use Rattle.pal8_sym.specs.SourceNames.{own_value};
-ghost use Rattle.pal8_asm.specs.Tapes.{TapeWords, with_entries as with_entries_made};
-ghost use Rattle.pal8_asm.specs.Steps.{IsMaking, Makes};
+ghost use Rattle.pal8_sym.specs.SourceNames.{names_of, own_value};
+ghost use Rattle.pal8_asm.specs.Tapes.{TapeWords, late_values, with_entries as with_entries_made};
+ghost use Rattle.pal8_asm.specs.Assembling.{is_late};
+ghost use Rattle.pal8_asm.specs.Steps.{IsMaking, Makes, entry_meaning, open_of};
 ghost use Rattle.pal8_asm.specs.declared.faults.Fault.{Fault};
 ghost use Rattle.pal8_grammar.specs.declared.steps.Step.{Step};
 ghost use Rattle.pal8_asm.specs.Places.{text_size};
-ghost use Rattle.pal8_asm.specs.Sources.{Entry, entry_at, next_spot, number, number_or, with_values, resolved_step, text_words, with_entries, word_each, words_in};
+ghost use Rattle.pal8_asm.specs.Sources.{Entry, entry_at, entry_with, fixed_value, late_at, next_spot, number, number_or, with_values, resolved_step, text_words, with_entries, with_late_by, with_late_entry, word_each, words_in};
 
+use crate::late::LateValues;
+use crate::tags::has_later;
 use crate::words::make_all;
-use crate::{AsmFault, Fault, Place};
+use crate::{AsmFault, Fault, KnownNames, Place};
 use pal8_clash::WordCells;
 use pal8_grammar::{Body, Step};
+use pal8_lex::Name;
 use pal8_pools::Pools;
 use pal8_sym::SourceNames;
-use pal8_values::{Frames, Spot};
+use pal8_values::{Frames, Spot, here_of};
 use std::alloc::{AllocError, Global};
 use std::marker::Model;
 use word12::{Cell, Word};
 
-/// A word that is to be made.
+/// A word that is to be made, or a late definition.
 #[derive(Clone, Copy)]
 pub struct Head {
     /// The place of its statement in the text.
@@ -30,6 +34,18 @@ pub struct Head {
     pub is_punched: bool,
     /// How many steps its value has.
     pub count: usize,
+    /// Of a late definition what it defines; a word has none.
+    pub late: Option<Late>,
+}
+
+/// A late definition.
+#[derive(Clone, Copy)]
+pub struct Late {
+    pub name: Name,
+    /// The value that its name keeps, if it is fixed.
+    pub kept_value: Option<Word>,
+    /// Whether `.` is past 7777 there.
+    pub is_past: bool,
 }
 
 /// The words that are to be made, in the order of the source.
@@ -52,7 +68,7 @@ impl Model for Entries {
 }
 
 /// A step, or the number in its place.
-fn number_or(step: Step, value: Option<Word>) -> Step
+pub(crate) fn number_or(step: Step, value: Option<Word>) -> Step
     ensures { result ≡ number_or step value }
 {
     match value {
@@ -61,14 +77,25 @@ fn number_or(step: Step, value: Option<Word>) -> Step
     }
 }
 
+/// What a name stands for by now, in a word or in a late definition.
+fn meaning(names: &KnownNames, is_late: bool, name: Name) -> Option<Word>
+    ensures value { result ≡ entry_meaning names.now is_late name }
+    ensures range { IfSome result (λ word. word < 0o10000) }
+{
+    if is_late {
+        return names.table.own_value(name);
+    }
+    names.open_value(name)
+}
+
 /// A step, whose name stands for its value by now, if the source has defined it.
-fn resolved_step(names: &SourceNames, step: Step) -> Step
-    ensures { result ≡ resolved_step (own_value names.now) step }
+fn resolved_step(names: &KnownNames, is_late: bool, step: Step) -> Step
+    ensures { result ≡ resolved_step (entry_meaning names.now is_late) step }
 {
     let again = step;
     match step {
-        Step::Name(name) => number_or(again, names.own_value(name)),
-        Step::Permanent(name, _) => number_or(again, names.own_value(name)),
+        Step::Name(name) => number_or(again, meaning(names, is_late, name)),
+        Step::Permanent(name, _) => number_or(again, meaning(names, is_late, name)),
         Step::Operation(_) | Step::Alone | Step::Indirect | Step::Number(_) => again,
         Step::Here | Step::Sign(_) | Step::Open(_) | Step::Close => again,
     }
@@ -101,14 +128,35 @@ fn cell_of(spot: Spot) -> Cell
 }
 
 /// Puts steps after others, where there is room.
-fn put_steps(to: &mut Vec<Step>, names: &SourceNames, steps: &[Step])
+fn put_steps(to: &mut Vec<Step>, names: &KnownNames, is_late: bool, steps: &[Step])
     requires { vec_len to.old + length steps.now ≤ vec_capacity to.old }
-    ensures { to.new.items ≡ to.old.items ++ with_values (own_value names.now) steps.now }
+    ensures { to.new.items ≡ to.old.items ++ with_values (entry_meaning names.now is_late) steps.now }
 {
     let mut rest = steps;
     while let [step, others @ ..] = rest {
-        to.push_reserved(resolved_step(names, *step));
+        to.push_reserved(resolved_step(names, is_late, *step));
         rest = others;
+    }
+}
+
+/// The value that a name keeps, if it is fixed.
+fn fixed_value(names: &SourceNames, name: Name) -> Option<Word>
+    ensures { result ≡ fixed_value (names_of names.now) name }
+{
+    if names.is_fixed(name) {
+        return names.value(name);
+    }
+    None
+}
+
+/// A late definition of a name.
+fn late_at(names: &SourceNames, spot: Spot, name: Name) -> Late
+    ensures { result ≡ late_at spot name (names_of names.now) }
+{
+    Late {
+        name,
+        kept_value: fixed_value(names, name),
+        is_past: here_of(spot).is_none(),
     }
 }
 
@@ -123,26 +171,29 @@ impl Entries {
         }
     }
 
-    /// Puts a word after the others, which stays to be made.
+    /// Puts a word or a late definition after the others, which stays to be made.
     fn push(
         &mut self,
-        names: &SourceNames,
+        names: &KnownNames,
+        late: Option<Late>,
+        is_late: bool,
         place: Place,
         spot: Spot,
         steps: &[Step],
     ) -> Result<(), AllocError>
         requires { spot.field < 8 }
-        ensures { OnOk result (self.new ≡ self.old ++ entry_at place spot (with_values (own_value names.now) steps.now) ∷ []) }
+        ensures { OnOk result (self.new ≡ self.old ++ entry_with late place spot (with_values (entry_meaning names.now is_late) steps.now) ∷ []) }
     {
         self.heads.reserve(1)?;
         self.steps.reserve(steps.len())?;
-        put_steps(&mut self.steps, names, steps);
+        put_steps(&mut self.steps, names, is_late, steps);
         self.heads.push_reserved(Head {
             place,
             cell: cell_of(spot),
             here: Word::low(spot.here),
             is_punched: spot.is_punched,
             count: steps.len(),
+            late,
         });
         Ok(())
     }
@@ -150,7 +201,7 @@ impl Entries {
     /// Puts a number after the others.
     fn push_number(
         &mut self,
-        names: &SourceNames,
+        names: &KnownNames,
         place: Place,
         spot: Spot,
         word: Word,
@@ -158,13 +209,13 @@ impl Entries {
         requires { spot.field < 8 }
         ensures { OnOk result (self.new ≡ self.old ++ entry_at place spot (number word) ∷ []) }
     {
-        self.push(names, place, spot, &[Step::Number(word)])
+        self.push(names, None, false, place, spot, &[Step::Number(word)])
     }
 
     /// Puts so many zeros after the others.
     fn push_zeros(
         &mut self,
-        names: &SourceNames,
+        names: &KnownNames,
         place: Place,
         spot: Spot,
         count: u16,
@@ -185,7 +236,7 @@ impl Entries {
     /// Puts the words of a text after the others.
     fn push_text(
         &mut self,
-        names: &SourceNames,
+        names: &KnownNames,
         place: Place,
         spot: Spot,
         string: &[u8],
@@ -211,18 +262,18 @@ impl Entries {
     /// Puts a word of each step after the others.
     fn push_each(
         &mut self,
-        names: &SourceNames,
+        names: &KnownNames,
         place: Place,
         spot: Spot,
         steps: &[Step],
     ) -> Result<(), AllocError>
         requires { spot.field < 8 }
-        ensures { OnOk result (self.new ≡ with_entries place spot (word_each (with_values (own_value names.now) steps.now)) self.old) }
+        ensures { OnOk result (self.new ≡ with_entries place spot (word_each (with_values (open_of names.now) steps.now)) self.old) }
     {
         let mut at = spot;
         let mut rest = steps;
         while let [step, others @ ..] = rest {
-            self.push(names, place, at, &[*step])?;
+            self.push(names, None, false, place, at, &[*step])?;
             at = next_spot(at);
             rest = others;
         }
@@ -232,7 +283,7 @@ impl Entries {
     /// Puts the words of a statement's body after the others, from where it stands on: of a value, of so many zeros, of a string, or of a name.
     pub(crate) fn push_body(
         &mut self,
-        names: &SourceNames,
+        names: &KnownNames,
         place: Place,
         spot: Spot,
         body: Body,
@@ -242,10 +293,10 @@ impl Entries {
     ) -> Result<(), AllocError>
         requires { spot.field < 8 }
         ensures { OnOk result (self.new ≡ with_entries place spot
-            (words_in body (own_value names.now) steps.now string.now size) self.old) }
+            (words_in body (open_of names.now) steps.now string.now size) self.old) }
     {
         match body {
-            Body::Word => self.push(names, place, spot, steps),
+            Body::Word => self.push(names, None, false, place, spot, steps),
             Body::Zeros => self.push_zeros(names, place, spot, size),
             Body::Text => self.push_text(names, place, spot, string),
             Body::FileName | Body::Device => self.push_each(names, place, spot, steps),
@@ -257,21 +308,67 @@ impl Entries {
         }
     }
 
+    /// Puts a definition after the others, if it is late.
+    fn push_definition(
+        &mut self,
+        names: &KnownNames,
+        place: Place,
+        spot: Spot,
+        name: Name,
+        steps: &[Step],
+    ) -> Result<(), AllocError>
+        requires { spot.field < 8 }
+        ensures { OnOk result (self.new ≡ with_late_by place spot steps.now (names_of names.now.table) (Some name) self.old) }
+    {
+        if !has_later(&names.table, steps) {
+            return Ok(());
+        }
+        let late = late_at(&names.table, spot, name);
+        self.push(names, Some(late), true, place, spot, steps)
+    }
+
+    /// Puts a body after the others, if it is a late definition.
+    pub(crate) fn push_late(
+        &mut self,
+        names: &KnownNames,
+        place: Place,
+        spot: Spot,
+        body: Body,
+        steps: &[Step],
+    ) -> Result<(), AllocError>
+        requires { spot.field < 8 }
+        ensures { OnOk result (self.new ≡ with_late_entry place spot body steps.now (names_of names.now.table) self.old) }
+    {
+        match body {
+            Body::Define(name) => self.push_definition(names, place, spot, name, steps),
+            Body::Nothing | Body::Origin | Body::Decimal | Body::Octal | Body::Field => Ok(()),
+            Body::NextPage | Body::Page | Body::Zeros | Body::Text | Body::Listing => Ok(()),
+            Body::IfZero | Body::IfNotZero | Body::IfDefined(_) | Body::IfUndefined(_) => Ok(()),
+            Body::NoPunch | Body::Punch | Body::Relocate | Body::Unrelocate => Ok(()),
+            Body::FileName | Body::Device | Body::Word | Body::Expunge => Ok(()),
+            Body::FixTable | Body::FixOperation(_) => Ok(()),
+        }
+    }
+
     /// Makes the words, by what names stand for at last.
     pub(crate) fn make(
         &self,
         frames: &mut Frames,
         pools: &mut Pools,
         alloc: Global,
-        names: &SourceNames,
+        names: &KnownNames,
         cells: &mut WordCells,
         clash: &mut Option<Fault>,
         pairs: &mut Vec<(Cell, Word)>,
     ) -> Result<(), AsmFault>
         ensures { (whole : Result TapeWords Fault) → IsMaking whole pools.old cells.old clash.old pairs.old.items
-            → Makes (with_entries_made (own_value names.now) self.now whole) result pools.new cells.new clash.new pairs.new.items }
+            → Makes (with_entries_made (own_value names.now.table) (late_values (own_value names.now.table) (is_late names.now) self.now (λ (n : ℕ). None)) self.now whole)
+            result pools.new cells.new clash.new pairs.new.items }
     {
+        let mut late = LateValues::new(alloc);
+        late.find(names, &self.heads, &self.steps)?;
         make_all(
+            &mut late,
             frames,
             pools,
             alloc,

@@ -1,17 +1,17 @@
-ghost use Rattle.std.specs.Prelude.{◌≡◌, ◌<◌, IfOk, Ok, Some};
+ghost use Rattle.std.specs.Prelude.{◌≡◌, ◌<◌, IfOk, Ok, Some, is_some, not};
 ghost use Rattle.pal8_sym.specs.SourceNames.{own_value};
 ghost use Rattle.pal8_values.specs.Sums.{early_value};
 ghost use Rattle.pal8_values.specs.Answering.{Answers};
 ghost use Rattle.pal8_lex.specs.Kinds.{is_comma};
 ghost use Rattle.pal8_grammar.specs.Bodies.{free_name};
-ghost use Rattle.pal8_asm.specs.Places.{as_code, spot_at, truth_of, with_body, with_definition, with_operation, with_statement, with_tag, with_tags, with_value_of, with_valued};
+ghost use Rattle.pal8_asm.specs.Places.{as_code, spot_at, truth_of, has_later, is_later, with_body, with_define, with_definition, with_operation, with_statement, with_tag, with_tags, with_value_of, with_valued};
 ghost use Rattle.pal8_asm.specs.Steps.{Defines, IsJudged, Values};
 ghost use Rattle.pal8_asm.specs.Assembling.{Passes, standing};
 
 use crate::places::{
     Position, next_page, spot_at, to_place, with_field, with_page, with_relocation, with_size,
 };
-use crate::{Code, Stop};
+use crate::{Code, KnownNames, Stop};
 use pal_sym::SymFault;
 use pal8_grammar::{Body, Step, free_name};
 use pal8_lex::{Kind, Name, Radix, Token};
@@ -20,7 +20,7 @@ use pal8_values::{ValueFault, early_value, here_of};
 use word12::Word;
 
 /// Defines a tag at a place.
-fn define_tag(names: &mut SourceNames, name: Name, position: Position) -> Result<(), Stop>
+fn define_tag(names: &mut KnownNames, name: Name, position: Position) -> Result<(), Stop>
     requires location { position.location < 0o20000 }
     requires shift { position.shift < 0o10000 }
     ensures { Defines (with_tag (Some name) (standing names.old position)) position result names.new }
@@ -28,8 +28,11 @@ fn define_tag(names: &mut SourceNames, name: Name, position: Position) -> Result
     let Some(place) = here_of(spot_at(position)) else {
         return Err(Stop::At(Code::PF));
     };
-    match names.define_tag(name, place) {
-        Ok(()) => Ok(()),
+    match names.table.define_tag(name, place) {
+        Ok(()) => {
+            names.late.remove(&name.number());
+            Ok(())
+        }
         Err(SymFault::Memory) => Err(Stop::Memory),
         Err(SymFault::DT | SymFault::RD) => Err(Stop::At(Code::DT)),
     }
@@ -37,7 +40,7 @@ fn define_tag(names: &mut SourceNames, name: Name, position: Position) -> Result
 
 /// Gives a name a value.
 fn define(
-    names: &mut SourceNames,
+    names: &mut KnownNames,
     name: Name,
     value: Word,
     position: Position,
@@ -45,8 +48,11 @@ fn define(
     ensures passes { Passes (with_definition name value (standing names.old position)) result names.new }
     ensures same { IfOk result (λ p. p ≡ position) }
 {
-    match names.define_value(name, value) {
-        Ok(()) => Ok(position),
+    match names.table.define_value(name, value) {
+        Ok(()) => {
+            names.late.remove(&name.number());
+            Ok(position)
+        }
         Err(SymFault::Memory) => Err(Stop::Memory),
         Err(SymFault::DT | SymFault::RD) => Err(Stop::At(Code::RD)),
     }
@@ -54,7 +60,7 @@ fn define(
 
 /// Gives a name a value, and makes it an operation.
 fn define_operation(
-    names: &mut SourceNames,
+    names: &mut KnownNames,
     name: Name,
     value: Word,
     position: Position,
@@ -62,12 +68,13 @@ fn define_operation(
     ensures passes { Passes (Ok (with_operation name value (standing names.old position))) result names.new }
     ensures same { IfOk result (λ p. p ≡ position) }
 {
-    names.define_operation(name, value)?;
+    names.table.define_operation(name, value)?;
+    names.late.remove(&name.number());
     Ok(position)
 }
 
 /// Defines the tag that a token is.
-fn define_token(names: &mut SourceNames, kind: Kind, position: Position) -> Result<(), Stop>
+fn define_token(names: &mut KnownNames, kind: Kind, position: Position) -> Result<(), Stop>
     requires location { position.location < 0o20000 }
     requires shift { position.shift < 0o10000 }
     ensures { Defines (with_tag (free_name kind) (standing names.old position)) position result names.new }
@@ -85,7 +92,7 @@ fn is_comma(kind: Kind) -> bool
 }
 
 /// Defines the tags in front of a statement, from the left.
-fn define_tags(names: &mut SourceNames, tokens: &[Token], position: Position) -> Result<(), Stop>
+fn define_tags(names: &mut KnownNames, tokens: &[Token], position: Position) -> Result<(), Stop>
     requires location { position.location < 0o20000 }
     requires shift { position.shift < 0o10000 }
     ensures { Defines (with_tags tokens.now (Ok (standing names.old position))) position result names.new }
@@ -105,19 +112,19 @@ fn define_tags(names: &mut SourceNames, tokens: &[Token], position: Position) ->
 }
 
 /// The value of steps at a position, by the names so far.
-fn early_at(names: &SourceNames, position: Position, steps: &[Step]) -> Result<Word, ValueFault>
+fn early_at(names: &KnownNames, position: Position, steps: &[Step]) -> Result<Word, ValueFault>
     requires location { position.location < 0o20000 }
     requires shift { position.shift < 0o10000 }
-    ensures { Answers (early_value (own_value names.now) (spot_at position) steps.now) result }
+    ensures { Answers (early_value (own_value names.now.table) (spot_at position) steps.now) result }
 {
-    early_value(names, spot_at(position), steps)
+    early_value(&names.table, spot_at(position), steps)
 }
 
 /// The value of steps by the names so far.
-fn value_at(names: &SourceNames, position: Position, steps: &[Step]) -> Result<Word, Stop>
+fn value_at(names: &KnownNames, position: Position, steps: &[Step]) -> Result<Word, Stop>
     requires location { position.location < 0o20000 }
     requires shift { position.shift < 0o10000 }
-    ensures { Values (as_code (early_value (own_value names.now) (spot_at position) steps.now)) result }
+    ensures { Values (as_code (early_value (own_value names.now.table) (spot_at position) steps.now)) result }
 {
     match early_at(names, position, steps) {
         Ok(value) => Ok(value),
@@ -136,7 +143,7 @@ fn value_at(names: &SourceNames, position: Position, steps: &[Step]) -> Result<W
 /// Whether a condition is true, at a position, by the names so far, or the first fault of its value: UA, PF, DZ. Another body isn't true (PAL8, in
 /// this project's profile).
 pub(crate) fn truth_of(
-    names: &SourceNames,
+    names: &KnownNames,
     body: Body,
     steps: &[Step],
     position: Position,
@@ -154,8 +161,8 @@ pub(crate) fn truth_of(
             Ok(value) => Ok(value.get() != 0),
             Err(stop) => Err(stop),
         },
-        Body::IfDefined(name) => Ok(names.value(name).is_some()),
-        Body::IfUndefined(name) => Ok(names.value(name).is_none()),
+        Body::IfDefined(name) => Ok(names.table.value(name).is_some()),
+        Body::IfUndefined(name) => Ok(names.table.value(name).is_none()),
         Body::Nothing | Body::Origin | Body::Define(_) | Body::Decimal | Body::Octal => Ok(false),
         Body::Field | Body::NextPage | Body::Page | Body::Zeros | Body::Text => Ok(false),
         Body::Listing | Body::Word | Body::NoPunch | Body::Punch | Body::Relocate => Ok(false),
@@ -166,7 +173,7 @@ pub(crate) fn truth_of(
 
 /// Passes a body with its value.
 fn pass_valued(
-    names: &mut SourceNames,
+    names: &mut KnownNames,
     body: Body,
     value: Word,
     position: Position,
@@ -195,7 +202,7 @@ fn pass_valued(
 
 /// Passes a body whose value is to be found.
 fn pass_value(
-    names: &mut SourceNames,
+    names: &mut KnownNames,
     body: Body,
     steps: &[Step],
     position: Position,
@@ -204,7 +211,7 @@ fn pass_value(
     requires field { position.field < 8 }
     requires shift { position.shift < 0o10000 }
     ensures passes { Passes (with_value_of body (standing names.old position)
-        (as_code (early_value (own_value names.old) (spot_at position) steps.now))) result names.new }
+        (as_code (early_value (own_value names.old.table) (spot_at position) steps.now))) result names.new }
     ensures range { IfOk result (λ p. (p.location < 0o20000) × (p.field < 8) × (p.shift < 0o10000)) }
 {
     let again = position;
@@ -214,9 +221,61 @@ fn pass_value(
     }
 }
 
+/// Whether a name has no value.
+fn is_undefined(names: &SourceNames, name: Name) -> bool
+    ensures { result ≡ not (is_some (own_value names.now name)) }
+{
+    names.own_value(name).is_none()
+}
+
+/// Whether a name of a step has no value by now.
+fn is_later(names: &SourceNames, step: Step) -> bool
+    ensures { result ≡ is_later (own_value names.now) step }
+{
+    match step {
+        Step::Name(name) => is_undefined(names, name),
+        Step::Operation(_) | Step::Alone | Step::Indirect | Step::Permanent(_, _) => false,
+        Step::Number(_) | Step::Here | Step::Sign(_) | Step::Open(_) | Step::Close => false,
+    }
+}
+
+/// Whether a name of a value has none by now.
+pub(crate) fn has_later(names: &SourceNames, steps: &[Step]) -> bool
+    ensures { result ≡ has_later (own_value names.now) steps.now }
+{
+    let mut rest = steps;
+    while let [step, others @ ..] = rest {
+        if is_later(names, *step) {
+            return true;
+        }
+        rest = others;
+    }
+    false
+}
+
+/// Passes a definition. A late one has no value yet.
+fn pass_definition(
+    names: &mut KnownNames,
+    name: Name,
+    steps: &[Step],
+    position: Position,
+) -> Result<Position, Stop>
+    requires location { position.location < 0o20000 }
+    requires field { position.field < 8 }
+    requires shift { position.shift < 0o10000 }
+    ensures passes { Passes (with_define name steps.now (standing names.old position) (has_later (own_value names.old.table) steps.now)) result names.new }
+    ensures range { IfOk result (λ p. (p.location < 0o20000) × (p.field < 8) × (p.shift < 0o10000)) }
+{
+    if has_later(&names.table, steps) {
+        names.put_late(name)?;
+        return Ok(position);
+    }
+    pass_value(names, Body::Define(name), steps, position)
+}
+
 /// Passes a body.
 fn pass_body(
-    names: &mut SourceNames,
+    names: &mut KnownNames,
     body: Body,
     steps: &[Step],
     length: usize,
@@ -231,7 +290,7 @@ fn pass_body(
     let again = body;
     match body {
         Body::Origin => pass_value(names, Body::Origin, steps, position),
-        Body::Define(_) => pass_value(names, again, steps, position),
+        Body::Define(name) => pass_definition(names, name, steps, position),
         Body::Field => pass_value(names, Body::Field, steps, position),
         Body::Page => pass_value(names, Body::Page, steps, position),
         Body::Zeros => pass_value(names, Body::Zeros, steps, position),
@@ -264,11 +323,11 @@ fn pass_body(
         Body::FileName => with_size(4, position),
         Body::Device => with_size(2, position),
         Body::Expunge => {
-            names.expunge();
+            names.table.expunge();
             Ok(position)
         }
         Body::FixTable => {
-            names.fix_all();
+            names.table.fix_all();
             Ok(position)
         }
         Body::FixOperation(_) => pass_value(names, again, steps, position),
@@ -282,7 +341,7 @@ fn pass_body(
 /// FD, PG or RD. The last is PF, where a word is past 7777. A name that memory ran out for isn't defined, and those before it are (PAL8, in this
 /// project's profile).
 pub fn pass_statement(
-    names: &mut SourceNames,
+    names: &mut KnownNames,
     tokens: &[Token],
     body: Body,
     steps: &[Step],

@@ -7,7 +7,7 @@ ghost use Rattle.pal8_sym.specs.SourceNames.{own_value};
 ghost use Rattle.pal8_pools.specs.Pooled.{Holds};
 ghost use Rattle.pal8_asm.specs.Tapes.{without_clash, words_of_entries};
 ghost use Rattle.pal8_asm.specs.Steps.{Closes, HasTaken, IsOnTheWay, Pushes, ReadsOn, TakesByte};
-ghost use Rattle.pal8_asm.specs.Assembling.{MakesWords, ReadsText, remainder_of};
+ghost use Rattle.pal8_asm.specs.Assembling.{MakesWords, ReadsText, is_late, remainder_of};
 
 use crate::{AsmFault, Assembler, Code, Fault, Place};
 use pal8_clash::WordCells;
@@ -145,7 +145,7 @@ impl Assembler {
     /// punched word with a pool's cell, by the later of the two statements (PAL8, in this project's profile).
     pub fn words(&self, alloc: Global, pools: &mut Pools) -> Result<Vec<(Cell, Word)>, AsmFault>
         requires { Holds pools.old [] [] }
-        ensures { MakesWords (without_clash (words_of_entries (own_value self.now.table) self.now.entries)) result pools.new }
+        ensures { MakesWords (without_clash (words_of_entries (own_value self.now.names.table) (is_late self.now.names) self.now.entries)) result pools.new }
     {
         let mut frames = Frames::new(alloc);
         let mut cells = WordCells::new(alloc)?;

@@ -1,22 +1,23 @@
-ghost use Rattle.std.specs.Prelude.{◌≡◌, ◌+◌, ◌/◌, ◌%◌, ◌<◌, ◌≤◌, List, Result, Ok, length, vec_len, vec_capacity};
+ghost use Rattle.std.specs.Prelude.{◌≡◌, ◌+◌, ◌/◌, ◌%◌, ◌<◌, ◌≤◌, List, OnOk, Result, Ok, length, vec_len, vec_capacity};
 ghost use Rattle.word12.specs.declared.sizes.TheConstants.{FIELD, PAGE};
-ghost use Rattle.pal8_sym.specs.SourceNames.{own_value};
+ghost use Rattle.pal8_sym.specs.SourceNames.{is_other, own_value};
 ghost use Rattle.pal8_pools.specs.Asks.{Ask};
 ghost use Rattle.pal8_pools.specs.Pooled.{Holds};
 ghost use Rattle.pal8_clash.specs.Clashes.{with_word};
 ghost use Rattle.pal8_values.specs.Words.{AskResult, word_value};
 ghost use Rattle.pal8_values.specs.Answering.{IsFault};
+ghost use Rattle.pal8_asm.specs.Sources.{with_values};
 ghost use Rattle.pal8_asm.specs.Kept.{cut, entry_of, total};
-ghost use Rattle.pal8_asm.specs.Tapes.{TapeWords, clash_code, clash_fault, first_of, with_entries, with_entry};
-ghost use Rattle.pal8_asm.specs.Steps.{GivesAt, IsFaultAt, IsMaking, Makes};
+ghost use Rattle.pal8_asm.specs.Tapes.{TapeWords, clash_code, clash_fault, first_of, late_after, late_fault, late_value, with_entries, with_entry, with_word_entry};
+ghost use Rattle.pal8_asm.specs.Steps.{GivesAt, IsFaultAt, IsJudgedLate, IsMaking, Makes, late_of};
 ghost use Rattle.pal8_asm.specs.declared.faults.Fault.{Fault};
 
-use crate::entries::Head;
-use crate::{AsmFault, Code, Fault, Place};
+use crate::entries::{Head, Late};
+use crate::late::{LateValues, late_value, put_known};
+use crate::{AsmFault, Code, Fault, KnownNames, Place};
 use pal8_clash::WordCells;
 use pal8_grammar::Step;
 use pal8_pools::Pools;
-use pal8_sym::SourceNames;
 use pal8_values::laws::words_ask_near;
 use pal8_values::{Frames, Spot, ValueFault, word_value};
 use std::alloc::Global;
@@ -89,12 +90,22 @@ fn fault_at(fault: ValueFault, place: Place) -> AsmFault
     }
 }
 
+/// Whether a name keeps another value than this one.
+fn is_other(fixed: Option<Word>, value: Word) -> bool
+    ensures { result ≡ is_other fixed value }
+{
+    match fixed {
+        Some(known) => known != value,
+        None => false,
+    }
+}
+
 /// The word of a value, or the fault of its statement.
 fn word_at(
     frames: &mut Frames,
     pools: &mut Pools,
     alloc: Global,
-    names: &SourceNames,
+    names: &KnownNames,
     place: Place,
     spot: Spot,
     steps: &[Step],
@@ -103,9 +114,9 @@ fn word_at(
     requires location { spot.location < 0o10000 }
     requires here { spot.here < 0o10000 }
     ensures { (asks punched : List Ask) → Holds pools.old asks punched
-        → GivesAt place (word_value (own_value names.now) spot steps.now asks punched) result pools.new }
+        → GivesAt place (word_value (own_value names.now.table) spot steps.now asks punched) result pools.new }
 {
-    match word_value(frames, pools, alloc, names, spot, steps) {
+    match word_value(frames, pools, alloc, &names.table, spot, steps) {
         Ok(word) => Ok(word),
         Err(fault) => Err(fault_at(fault, place)),
     }
@@ -122,11 +133,11 @@ fn put_word(pairs: &mut Vec<(Cell, Word)>, is_punched: bool, cell: Cell, word: W
 }
 
 /// Makes a word after others, and looks for the first one on a pool's cell.
-fn make_one(
+fn make_word(
     frames: &mut Frames,
     pools: &mut Pools,
     alloc: Global,
-    names: &SourceNames,
+    names: &KnownNames,
     cells: &mut WordCells,
     clash: &mut Option<Fault>,
     pairs: &mut Vec<(Cell, Word)>,
@@ -134,7 +145,7 @@ fn make_one(
     steps: &[Step],
 ) -> Result<(), AsmFault>
     ensures { (whole : Result TapeWords Fault) → IsMaking whole pools.old cells.old clash.old pairs.old.items
-        → Makes (with_entry (own_value names.now) (entry_of head steps.now) whole) result
+        → Makes (with_word_entry (own_value names.now.table) (entry_of head steps.now) steps.now whole) result
         pools.new cells.new clash.new pairs.new.items }
 {
     words_ask_near();
@@ -152,12 +163,92 @@ fn make_one(
     Ok(())
 }
 
-/// Makes the words of these heads, whose steps lie one after the other, after others.
-pub fn make_all(
+/// Makes a word after others, in whose steps names have their values by late definitions.
+fn make_known(
+    scratch: &mut Vec<Step>,
+    late: &LateValues,
     frames: &mut Frames,
     pools: &mut Pools,
     alloc: Global,
-    names: &SourceNames,
+    names: &KnownNames,
+    cells: &mut WordCells,
+    clash: &mut Option<Fault>,
+    pairs: &mut Vec<(Cell, Word)>,
+    head: Head,
+    steps: &[Step],
+) -> Result<(), AsmFault>
+    ensures { (whole : Result TapeWords Fault) → IsMaking whole pools.old cells.old clash.old pairs.old.items
+        → Makes (with_word_entry (own_value names.now.table) (entry_of head steps.now) (with_values (late_of late.now) steps.now) whole) result
+        pools.new cells.new clash.new pairs.new.items }
+{
+    scratch.clear();
+    scratch.reserve(steps.len())?;
+    put_known(scratch, late, steps);
+    make_word(
+        frames, pools, alloc, names, cells, clash, pairs, head, scratch,
+    )
+}
+
+/// Judges a late definition.
+fn judge_late(names: &KnownNames, head: Head, late: Late, steps: &[Step]) -> Result<(), AsmFault>
+    ensures { IsJudgedLate (late_fault (entry_of head steps.now) late (late_value (own_value names.now.table) (entry_of head steps.now) late)) result }
+{
+    let again = late;
+    let place = head.place;
+    match late_value(names, head, late, steps) {
+        Ok(value) => {
+            if is_other(again.kept_value, value) {
+                return Err(AsmFault::At(Code::RD, place));
+            }
+            Ok(())
+        }
+        Err(fault) => Err(fault_at(fault, place)),
+    }
+}
+
+/// Makes a word after others, or judges a late definition, which has its value from there on.
+fn make_one(
+    late: &mut LateValues,
+    scratch: &mut Vec<Step>,
+    frames: &mut Frames,
+    pools: &mut Pools,
+    alloc: Global,
+    names: &KnownNames,
+    cells: &mut WordCells,
+    clash: &mut Option<Fault>,
+    pairs: &mut Vec<(Cell, Word)>,
+    head: Head,
+    steps: &[Step],
+) -> Result<(), AsmFault>
+    ensures made { (whole : Result TapeWords Fault) → IsMaking whole pools.old cells.old clash.old pairs.old.items
+        → Makes (with_entry (own_value names.now.table) (late_of late.old) (entry_of head steps.now) whole) result
+        pools.new cells.new clash.new pairs.new.items }
+    ensures late { OnOk result (late_of late.new ≡ late_after (own_value names.now.table) (entry_of head steps.now) (late_of late.old)) }
+{
+    let again = head;
+    let entry = head;
+    match head.late {
+        Some(definition) => {
+            match judge_late(names, again, definition, steps) {
+                Ok(()) => {}
+                Err(fault) => return Err(fault),
+            }
+            late.put_entry(names, entry, steps)?;
+            Ok(())
+        }
+        None => make_known(
+            scratch, late, frames, pools, alloc, names, cells, clash, pairs, again, steps,
+        ),
+    }
+}
+
+/// Makes the words of these heads, whose steps lie one after the other, after others.
+pub fn make_all(
+    late: &mut LateValues,
+    frames: &mut Frames,
+    pools: &mut Pools,
+    alloc: Global,
+    names: &KnownNames,
     cells: &mut WordCells,
     clash: &mut Option<Fault>,
     pairs: &mut Vec<(Cell, Word)>,
@@ -166,14 +257,27 @@ pub fn make_all(
 ) -> Result<(), AsmFault>
     requires { total heads.now ≤ length steps.now }
     ensures { (whole : Result TapeWords Fault) → IsMaking whole pools.old cells.old clash.old pairs.old.items
-        → Makes (with_entries (own_value names.now) (cut heads.now steps.now) whole) result
+        → Makes (with_entries (own_value names.now.table) (late_of late.old) (cut heads.now steps.now) whole) result
         pools.new cells.new clash.new pairs.new.items }
 {
+    let mut scratch = Vec::new(alloc);
     let mut heads = heads;
     let mut steps = steps;
     while let [head, others @ ..] = heads {
         let (own, following) = steps.split_at(head.count);
-        match make_one(frames, pools, alloc, names, cells, clash, pairs, *head, own) {
+        match make_one(
+            late,
+            &mut scratch,
+            frames,
+            pools,
+            alloc,
+            names,
+            cells,
+            clash,
+            pairs,
+            *head,
+            own,
+        ) {
             Ok(()) => {}
             Err(fault) => return Err(fault),
         }

@@ -29,7 +29,7 @@ made_words dollar (Ok met) made is = judged_words dollar met made (has_words met
 
 passed_words : (left : PassResult) (made : TapeWords) → result_of_source left ≡ Ok made → has_words made.words ≡ true
 passed_words (Err fault) made is = absurd (err_ok fault made is)
-passed_words (Ok left) made is = made_words (dollar_in left.end) (without_clash (words_of_entries left.standing.names.own left.entries)) made is
+passed_words (Ok left) made is = made_words (dollar_in left.end) (without_clash (words_of_entries left.standing.names.own left.standing.late left.entries)) made is
 
 false_true : false ≡ true → ⊥
 false_true is = cc

@@ -6,4 +6,4 @@ use Rattle.pal8_asm.proofs.tags.early_at.Goals as goal
 
 pub returns : goal.returns
 returns c =
-    subst (λ s. Answers (early_value (own_value c.args.names.now) s c.args.steps.now) c.early_value.result) c.spot_at.ensures c.early_value.ensures
+    subst (λ s. Answers (early_value (own_value c.args.names.now.table) s c.args.steps.now) c.early_value.result) c.spot_at.ensures c.early_value.ensures

@@ -1,42 +1,26 @@
-use Rattle.std.proofs.Common.{◌∙◌, ◌/◌, Err, sym, ap, subst}
+use Rattle.std.proofs.Common.{◌≡◌, Err, None, subst}
 use Rattle.pal8_sym.specs.SourceNames.{own_value}
-use Rattle.pal8_pools.specs.Asks.{count}
-use Rattle.pal8_clash.specs.Clashes.{with_word}
-use Rattle.pal8_values.specs.Answering.{IsAsked}
-use Rattle.pal8_values.specs.Words.{word_value}
 use Rattle.pal8_asm.specs.Kept.{entry_of}
-use Rattle.pal8_asm.specs.Steps.{GivesAt, IsMaking}
-use Rattle.pal8_asm.specs.Tapes.{spot_of, with_entry}
-use Rattle.pal8_asm.proofs.MakingLemmas.{others_stay, word_fails, word_goes_on}
+use Rattle.pal8_asm.specs.Steps.{IsJudgedLate, late_of}
+use Rattle.pal8_asm.specs.Tapes.{late_fault, late_value}
+use Rattle.pal8_asm.proofs.MakingLemmas.{late_fails, late_judged, word_made}
 use Rattle.pal8_asm.proofs.words.make_one.Goals as goal
 
-pub returns-in-Err : goal.returns-in-Err
-returns-in-Err c = λ whole making.
-    word_fails (own_value c.args.names.now) (entry_of c.args.head c.args.steps.now) whole c.args.pools.now c.word_at.new.pools c.args.cells.now c.args.cells.now
-    c.args.clash.now c.args.clash.now c.args.pairs.now.items c.reserve.new.self.items c.in-Err.fault making (subst (λ s.
-    GivesAt c.args.head.place (word_value (own_value c.args.names.now) s c.args.steps.now making.made.asks making.made.punched) (Err c.in-Err.fault)
-    c.word_at.new.pools)
-    c.spot_of-spot.ensures.value (c.in-Err.ensures {u = tt} making.made.asks making.made.punched making.holds))
+pub returns-in_ok-put_entry-in-Some-clause-made : goal.returns-in_ok-put_entry-in-Some-clause-made
+returns-in_ok-put_entry-in-Some-clause-made c = λ whole making.
+    late_judged (own_value c.args.names.now.table) (late_of c.args.late.now) (entry_of c.args.head c.args.steps.now) c.in-Some.definition whole c.args.pools.now
+    c.args.cells.now c.args.clash.now c.args.pairs.now.items c.in-Some.is
+    (subst (λ d. late_fault (entry_of c.args.head c.args.steps.now) d (late_value (own_value c.args.names.now.table) (entry_of c.args.head c.args.steps.now) d) ≡ None)
+    c.in-Some.definition-is (c.in-Ok.ensures {u = tt})) making
 
-pub returns : goal.returns
-returns c = λ whole making.
-    let asked = subst (λ s.
-    IsAsked (word_value (own_value c.args.names.now) s c.args.steps.now making.made.asks making.made.punched) c.in-Ok.word c.word_at.new.pools)
-    c.spot_of-spot.ensures.value (c.in-Ok.ensures {u = tt} making.made.asks making.made.punched making.holds) in
-    subst (λ o.
-    IsMaking (with_entry (own_value c.args.names.now) (entry_of c.args.head c.args.steps.now) whole) c.word_at.new.pools c.put-found.new.self o
-    c.put_word.new.pairs.items)
-    (sym c.first_clash.ensures)
-    (word_goes_on (own_value c.args.names.now) (entry_of c.args.head c.args.steps.now) whole c.args.pools.now c.word_at.new.pools c.args.cells.now
-    c.put-found.new.self c.args.clash.now c.args.pairs.now.items c.put_word.new.pairs.items c.in-Ok.word c.put-found.result making asked
-    (c.put_word.ensures ∙ ap (with_word c.args.head.is_punched c.args.head.cell c.in-Ok.word) c.reserve.ensures.items)
-    (c.put-found.ensures.marks making.made.words c.in-Ok.word making.marked)
-    (λ none. c.put-found.ensures.clash making.made.words c.in-Ok.word making.made.asks asked.asks asked.punched making.marked asked.holds
-    (others_stay c.words_ask_near.ensures (own_value c.args.names.now) (spot_of (entry_of c.args.head c.args.steps.now)) c.args.steps.now making.made.asks
-    making.made.punched c.in-Ok.word c.word_at.new.pools asked)
-    none
-    (c.count-own.ensures making.made.asks making.made.punched making.holds
-    ∙ ap (λ p. count making.made.asks c.spot_of-spot.result.field p) c.page_of.ensures.value
-    ∙ ap (λ s. count making.made.asks s.field (s.location / 128)) c.spot_of-spot.ensures.value)
-    (c.count-zero.ensures making.made.asks making.made.punched making.holds
-    ∙ ap (λ s. count making.made.asks s.field 0) c.spot_of-spot.ensures.value)))
+pub returns-in-Err-clause-made : goal.returns-in-Err-clause-made
+returns-in-Err-clause-made c = λ whole making.
+    late_fails (own_value c.args.names.now.table) (late_of c.args.late.now) (entry_of c.args.head c.args.steps.now) c.in-Some.definition whole c.args.pools.now c.args.pools.now
+    c.args.cells.now c.args.cells.now c.args.clash.now c.args.clash.now c.args.pairs.now.items c.args.pairs.now.items c.in-Err.fault c.in-Some.is
+    (subst (λ d. IsJudgedLate (late_fault (entry_of c.args.head c.args.steps.now) d (late_value (own_value c.args.names.now.table) (entry_of c.args.head c.args.steps.now) d))
+    (Err c.in-Err.fault)) c.in-Some.definition-is (c.in-Err.ensures {u = tt})) making
+
+pub returns-in-None-clause-made : goal.returns-in-None-clause-made
+returns-in-None-clause-made c = λ whole making.
+    word_made (own_value c.args.names.now.table) (late_of c.args.late.now) (entry_of c.args.head c.args.steps.now) whole c.make_known.new.pools c.make_known.new.cells
+    c.make_known.new.clash c.make_known.new.pairs.items c.make_known.result c.in-None.is (c.make_known.ensures whole making)

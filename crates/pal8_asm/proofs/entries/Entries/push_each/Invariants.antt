@@ -1,5 +1,5 @@
 use Rattle.std.proofs.Common.{◌≡◌, ◌<◌, length}
-use Rattle.pal8_sym.specs.SourceNames.{own_value}
+use Rattle.pal8_asm.specs.Steps.{open_of}
 use Rattle.pal8_asm.specs.Sources.{with_values, with_entries, word_each}
 use Rattle.pal8_asm.proofs.entries.Entries.push_each.Given as goal
 
@@ -7,8 +7,8 @@ use Rattle.pal8_asm.proofs.entries.Entries.push_each.Given as goal
 abbrev pub invariant-loop-rest : goal.invariant-loop-rest
 invariant-loop-rest l = record {
   same :
-      with_entries l.place l.at (word_each (with_values (own_value l.names) l.rest)) l.self
-      ≡ with_entries l.fn.place l.fn.spot (word_each (with_values (own_value l.fn.names) l.fn.steps)) l.fn.self;
+      with_entries l.place l.at (word_each (with_values (open_of l.names) l.rest)) l.self
+      ≡ with_entries l.fn.place l.fn.spot (word_each (with_values (open_of l.fn.names) l.fn.steps)) l.fn.self;
   field : l.at.field < 8;
 }
 

@@ -1,0 +1,9 @@
+use Rattle.std.proofs.Common.{subst}
+use Rattle.pal8_sym.specs.SourceNames.{own_value}
+use Rattle.pal8_values.specs.Sums.{early_value}
+use Rattle.pal8_values.specs.Answering.{Answers}
+use Rattle.pal8_asm.proofs.late.late_value.Goals as goal
+
+pub returns : goal.returns
+returns c =
+    subst (λ s. Answers (early_value (own_value c.args.names.now.table) s c.args.steps.now) c.early_value.result) (c.late_spot.ensures c.args.steps.now) c.early_value.ensures

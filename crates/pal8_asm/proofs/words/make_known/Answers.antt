@@ -1,0 +1,14 @@
+use Rattle.std.proofs.Common.{◌∙◌, ◌++◌, ap}
+use Rattle.pal8_sym.specs.SourceNames.{own_value}
+use Rattle.pal8_asm.specs.Sources.{with_values}
+use Rattle.pal8_asm.specs.Steps.{late_of}
+use Rattle.pal8_asm.proofs.MakingLemmas.{known_made}
+use Rattle.pal8_asm.proofs.words.make_known.Goals as goal
+
+pub returns : goal.returns
+returns c = λ whole making.
+    known_made (own_value c.args.names.now.table) (late_of c.args.late.now) c.args.head c.args.steps.now c.deref.result.now whole c.make_word.new.pools c.make_word.new.cells
+    c.make_word.new.clash c.make_word.new.pairs.items c.make_word.result
+    (c.deref.ensures.value ∙ c.put_known.ensures
+    ∙ ap (λ l. l ++ with_values (late_of c.args.late.now) c.args.steps.now) (c.reserve.ensures.items ∙ c.clear.ensures.items))
+    (c.make_word.ensures whole making)
