@@ -20,7 +20,7 @@ sys.dont_write_bytecode = True
 TOP = os.path.dirname(os.path.dirname(os.path.abspath(__file__)))
 sys.path.insert(0, TOP)
 from build.crates import kit, toolchain
-from build.proved import MADE, PROGRAM, Wanted
+from build.proved import PROGRAM, Wanted
 from build.unproved import Build, ready
 from build.working import Progress, lock, toolchain_with
 
@@ -128,20 +128,8 @@ class Page:
 
 
 def library_of(wanted: Wanted) -> Callable[[str], str] | None:
-    """Where the libraries lie of which the proved program was made: where build/proved.py keeps them, or where the toolchain's gate left them.
-    Nothing where the program is not proved as its sources stand."""
-    below = [it for it in wanted.names if it != PROGRAM]
-    if not wanted.is_proved(PROGRAM):
-        return None
-    if all(map(wanted.is_proved, below)):
-        return wanted.library
-
-    def left(name: str) -> str:
-        return f"{TOP}/crates/{name}/out/rlib/{name}.rlib"
-
-    marks = [f"{left(it)}/format" for it in below]
-    is_left = all(os.path.exists(it) and os.path.getmtime(it) <= os.path.getmtime(MADE) for it in marks)
-    return left if is_left else None
+    """Where the libraries lie of which the proved program was made. Nothing where the program is not proved as its sources stand."""
+    return wanted.library if all(map(wanted.is_proved, wanted.names)) else None
 
 
 def main(words: list[str]) -> int:

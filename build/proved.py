@@ -1,6 +1,7 @@
 #!/usr/bin/env python3
-"""proved.py [--status | NAME]: proves the crates that the program pdp8 stands on, as many side by side as there are processors, and builds it. With
-NAME it is that program of the repository, which a benchmark measures.
+"""proved.py [--status | --as-is | NAME]: proves the crates that the program pdp8 stands on, as many side by side as there are processors, and builds
+it. With NAME it is that program of the repository, which a benchmark measures. What the gate has proved is only compiled anew, and with --as-is it stays
+as it is.
 
 Each crate is proved once, over what the crates below it state, by the toolchain's prover. What it states is kept in its out/program/ with a sum of
 all that the proof rests on. So a run that was broken off goes on after the last crate that was whole. A changed source has its crate and those above
@@ -56,36 +57,53 @@ class Wanted:
     def kept(self, name: str) -> str:
         return f"{TOP}/crates/{name}/out/program"
 
-    def library(self, name: str) -> str:
+    def own_library(self, name: str) -> str:
         return f"{self.kept(name)}/{name}.rlib"
 
-    def mark(self, name: str) -> str:
-        """What is kept of a crate's proof: the sum of what it rests on, and of the program also the sum of its bytes."""
-        if name != self.program:
-            return self.sums[name]
-        return f"{self.sums[name]} {hashlib.sha256(open(self.made, 'rb').read()).hexdigest()}"
+    def library(self, name: str) -> str:
+        """A crate's library: the one that is built here, or else the one that the toolchain's gate left."""
+        own = self.own_library(name)
+        return own if os.path.exists(own) else f"{TOP}/crates/{name}/out/rlib/{name}.rlib"
 
-    def is_proved(self, name: str) -> bool:
+    def mark(self, name: str) -> str:
+        """What is kept of a crate's proof: the sum of what it rests on, and of the program also the sum of its bytes. Of a library that the
+        toolchain's gate left it is also the time of that library."""
+        if name == self.program:
+            return f"{self.sums[name]} {hashlib.sha256(open(self.made, 'rb').read()).hexdigest()}"
+        left = "" if os.path.exists(self.own_library(name)) else f" {os.stat(f'{self.library(name)}/format').st_mtime_ns}"
+        return f"{self.sums[name]}{left}"
+
+    def is_proved(self, name: str, note: str = "sum") -> bool:
         """Whether the crate was proved as it stands here."""
         try:
-            is_there = name == self.program or os.path.exists(self.library(name))
-            return is_there and open(f"{self.kept(name)}/sum", encoding="utf-8").read() == self.mark(name)
+            return open(f"{self.kept(name)}/{note}", encoding="utf-8").read() == self.mark(name)
         except OSError:
             return False
 
-    def keep(self, name: str) -> None:
+    def is_laid(self) -> bool:
+        """Whether the program was proved as it stands here, and compiled by COMPILER."""
+        return self.is_proved(self.program) and self.is_proved(self.program, "laid")
+
+    def keep(self, name: str, note: str = "sum") -> None:
         """Notes that the crate is proved as it stands here."""
         os.makedirs(self.kept(name), exist_ok=True)
-        with open(f"{self.kept(name)}/sum", "w", encoding="utf-8") as kept:
+        with open(f"{self.kept(name)}/{note}", "w", encoding="utf-8") as kept:
             kept.write(self.mark(name))
+
+    def keep_all(self) -> None:
+        """Notes that all was proved by the toolchain's gate, which has just left the program and libraries."""
+        for name in self.names:
+            shutil.rmtree(self.own_library(name), ignore_errors=True)
+            if name == self.program or os.path.exists(self.library(name)):
+                self.keep(name)
 
     def command(self, name: str, jobs: int, tools: str) -> list[str]:
         """What proves a crate, in its folder, and compiles the program by the toolchain in the folder `tools`."""
         words = [f"{toolchain()}/bin/rattle", "build", *self.all.words(name, self.library), "--jobs", str(jobs)]
         if name != self.program:
-            return [*words, "--statements", "-o", self.library(name)]
+            return [*words, "--statements", "-o", self.own_library(name)]
         built = [*words, "--toolchain", tools, "-o", f"{self.kept(name)}/{name}.o"]
-        link = [f"{toolchain()}/bin/rattle-link", "--target", "x86_64-unknown-linux-gnu", "--toolchain", tools, "-o", self.made]
+        link = [f"{toolchain()}/bin/rattle-link", "--target", "x86_64-unknown-linux-gnu", "--toolchain", tools, "-o", f"{self.kept(name)}/{name}"]
         link += [f"{self.kept(name)}/{name}.o", *(f"{toolchain()}/c/{it}" for it in ("libos_c.a", "liblibc_c.a"))]
         return ["sh", "-c", f"{shlex.join(built)} && {shlex.join(link)}"]
 
@@ -101,8 +119,9 @@ class Proof:
     def __init__(self, wanted: Wanted, name: str, jobs: int, tools: str, group: Group) -> None:
         self.wanted, self.name, self.jobs, self.begun = wanted, name, jobs, time.monotonic()
         self.log = f"{LOGS}/{name}.log"
-        shutil.rmtree(wanted.kept(name), ignore_errors=True)
-        os.makedirs(wanted.kept(name))
+        if name != wanted.program:  # which may be proved, and only compiled anew
+            shutil.rmtree(wanted.kept(name), ignore_errors=True)
+        os.makedirs(wanted.kept(name), exist_ok=True)
         with open(self.log, "wb") as log:
             self.run = group.start(wanted.command(name, jobs, tools), cwd=f"{TOP}/crates/{name}", stdout=log, stderr=subprocess.STDOUT)
 
@@ -113,6 +132,9 @@ class Proof:
         """Whether the crate is proved, which is then noted."""
         if self.run.returncode:
             return False
+        if self.name == self.wanted.program:
+            os.replace(f"{self.wanted.kept(self.name)}/{self.name}", self.wanted.made)
+            self.wanted.keep(self.name, "laid")
         self.wanted.keep(self.name)
         return True
 
@@ -132,7 +154,8 @@ def share(wanted: Wanted, ready: list[str], idle: int) -> tuple[str, int]:
 
 def prove(wanted: Wanted, progress: Progress, tools: str, group: Group) -> Proof | None:
     """Proves all crates, each once those below it are proved. Returns the proof that failed, if one did."""
-    done, running = {it for it in wanted.names if wanted.is_proved(it)}, dict[str, Proof]()
+    below = [it for it in wanted.names if it != wanted.program]
+    done, running = {it for it in below if wanted.is_proved(it)}, dict[str, Proof]()
     processors, most = len(os.sched_getaffinity(0)), jobs_that_fit()
     while len(done) < len(wanted.names):
         ready = [it for it in wanted.names if it not in done and it not in running and done.issuperset(wanted.all.own[it])]
@@ -166,15 +189,18 @@ def status(wanted: Wanted) -> int:
     return 1
 
 
-def prove_program(wanted: Wanted) -> int:
+def prove_program(wanted: Wanted, is_as_is: bool) -> int:
     """Proves what is not proved yet and builds the program. The exit status."""
     progress, program = Progress(), wanted.program
     lock(f"{TOP}/build", progress, "another run proves the program: this one waits for it")
-    if wanted.is_proved(program):
+    if wanted.is_laid() or (is_as_is and wanted.is_proved(program)):
         os.utime(wanted.made)  # a source may be newer, though it is what was proved
         print(f"{program} is proved as its sources stand, with {kit()}")
         return 0
-    progress.say(f"proving and building the program {program}, {len(wanted.names)} crates; this takes some 25 minutes on four processors, once")
+    if wanted.is_proved(program):
+        progress.say(f"{program} is proved; it is compiled anew, so that it is faster; this takes some minutes, once")
+    else:
+        progress.say(f"proving and building the program {program}, {len(wanted.names)} crates; this takes some 25 minutes on four processors, once")
     os.makedirs(LOGS, exist_ok=True)
     group = Group()
     try:
@@ -196,14 +222,14 @@ def prove_program(wanted: Wanted) -> int:
 
 
 def main(words: list[str]) -> int:
-    crates = Crates()
-    is_status, names = words == ["--status"], [it for it in words if it in crates.names and crates.is_program(it)]
-    if len(words) > 1 or (words and not is_status and not names):
+    crates, options = Crates(), ("--status", "--as-is")
+    names = [it for it in words if it in crates.names and crates.is_program(it)]
+    if len(words) > 1 or any(it not in (*options, *names) for it in words):
         print("prove: usage: ./prove, or ./prove --status", file=sys.stderr)
         return 2
     heed_signals()
     try:
-        return status(Wanted()) if is_status else prove_program(Wanted(*names))
+        return status(Wanted()) if "--status" in words else prove_program(Wanted(*names), "--as-is" in words)
     except OSError as error:
         print(f"prove: {error.filename or 'the build'}: {error.strerror}", file=sys.stderr)
         return 70

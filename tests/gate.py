@@ -22,7 +22,7 @@ sys.dont_write_bytecode = True
 TOP = os.path.dirname(os.path.dirname(os.path.abspath(__file__)))
 sys.path.insert(0, TOP)
 from build.crates import Crates
-from build.proved import PROGRAM, Wanted
+from build.proved import Wanted
 from tests.processor_seconds import Spent
 
 # The words of a part: its program, and what that is given.
@@ -137,7 +137,7 @@ class Part:
         if not counts:
             self.tell(f"{' '.join(self.words)} broke off")
         elif self.words == RT_CI and not counts[1] and Wanted().sums == sources:
-            Wanted().keep(PROGRAM)  # from here on ./pdp8 runs this one
+            Wanted().keep_all()  # from here on ./pdp8 runs this one
         if self.held is not None:
             with self.printing:
                 print(f"gate: {' '.join(self.words)}, {clock(time.monotonic() - self.begun)}\n{''.join(self.held)}", end="", flush=True)
