@@ -1,5 +1,5 @@
 //! The reports of the volumes in an image file: of the one that is asked for, or else of each that the file has by its kind.
-ghost use Rattle.std.specs.Prelude.{◌≡◌};
+ghost use Rattle.std.specs.Prelude.{◌≡◌, ◌&&◌};
 ghost use Rattle.volume_commands.specs.Answers.{AreLines};
 ghost use Rattle.image_volumes.specs.Margins as margins;
 ghost use Rattle.image_volumes.specs.Volumes as meant;
@@ -115,7 +115,14 @@ fn report_both<H: Host>(
 {
     let one = report_numbered(host, alloc, kind, file, 1, Layout::First, body)?;
     let other = report_numbered(host, alloc, kind, file, 2, Layout::Second, body)?;
-    Ok(one && other)
+    Ok(are_both(one, other))
+}
+
+/// Whether two volumes are sound.
+fn are_both(one: bool, other: bool) -> bool
+    ensures { result ≡ (one && other) }
+{
+    one && other
 }
 
 /// Reports on the volume of this number of a disk, and answers whether it is sound.

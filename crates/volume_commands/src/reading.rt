@@ -101,8 +101,7 @@ fn within<H: Host>(
     }
 }
 
-/// The image in a file that is only looked at: that of the volume that is asked for, or else of the one that the file has by its kind. A
-/// disk of two is refused, with a note that says how to name one of them. No file changes, and standard output gets nothing.
+/// The image in a file that is only looked at, of the one volume that is meant. No file changes, and standard output gets nothing.
 pub fn look_at<H: Host>(host: &mut H, alloc: Global, form: &ImageForm) -> Result<Vec<u8>, Ending>
     ensures looks { LooksAt form.now (H.history host.old) result (H.history host.new) }
     ensures files { (path : List ℕ) → about path (H.history host.new) ≡ about path (H.history host.old) }
@@ -112,8 +111,9 @@ pub fn look_at<H: Host>(host: &mut H, alloc: Global, form: &ImageForm) -> Result
     one_volume_in(host, alloc, file, form.layout)
 }
 
-/// The image of the one volume in a file of these bytes.
-fn one_volume_in<H: Host>(
+/// The image of the one volume in a file of these bytes: that of the layout that is given, or else the one that the file has by its kind. A
+/// disk of two is refused, with a note that says how to name one of them. No file changes, and standard output gets nothing.
+pub fn one_volume_in<H: Host>(
     host: &mut H,
     alloc: Global,
     file: Vec<u8>,

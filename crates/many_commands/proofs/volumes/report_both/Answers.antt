@@ -11,4 +11,4 @@ pub returns-in_err-other : goal.returns-in_err-other
 returns-in_err-other g c = inr (record { given = c.in_ok-one.one; between = g.H.Host.history c.report_numbered.new.host; done = c.in_ok-one.ensures; after = inl (ends_with (ReportsNumbered c.args.kind c.args.file.now 2 Second c.args.body.now) _ _ _ _ c.in_err-other.ensures c.from_residual-in_err-other.ensures) })
 
 pub returns : goal.returns
-returns g c = inr (record { given = c.in_ok-one.one; between = g.H.Host.history c.report_numbered.new.host; done = c.in_ok-one.ensures; after = inr (record { given = c.in_ok-other.other; between = g.H.Host.history c.report_numbered-2.new.host; done = c.in_ok-other.ensures; after = (refl, refl) }) })
+returns g c = inr (record { given = c.in_ok-one.one; between = g.H.Host.history c.report_numbered.new.host; done = c.in_ok-one.ensures; after = inr (record { given = c.in_ok-other.other; between = g.H.Host.history c.report_numbered-2.new.host; done = c.in_ok-other.ensures; after = (rw c.are_both.ensures refl, refl) }) })
