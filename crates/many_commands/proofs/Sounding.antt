@@ -1,6 +1,5 @@
 -- A check that ends well has read each image file, and each volume in it is sound.
 use Rattle.std.proofs.Common.{◌≡◌, ◌∙◌, ◌∷◌, ◌+◌, ◌&&◌, ℕ, Bool, true, false, nat_eq, Option, None, Some, Result, Ok, Err, List, [], ap, arith, codes, inl, inr, length, refl, subst, sym}
-use Rattle.std.specs.Global.{Vec}
 use Rattle.std.proofs.lemmas.Bool.Decides.{nat_tests}
 use Rattle.hosts.specs.Event.{Event, look_call, print_call, seconds_call, tell_call, terminal_call}
 use Rattle.hosts.specs.Streams.{read}
