@@ -155,7 +155,7 @@ class Damaged:
         os.remove(new)
         listed = pdp8_of(image, self.name + ".look", "check", "--all")
         files = files_of(listed[1], b"FILE ")
-        if listed[0] or len(image) != len(self.image) or (status and not done):
+        if listed[0] or len(image) != len(self.image) // BLOCK * BLOCK or (status and not done):
             raise AssertionError("the new volume is not sound, or has another size, or nothing is said of a loss")
         if not lines.endswith(f"RESCUED {len(kept)}\n".encode()) or [words_of(self.image, it) for it in kept] != [words_of(image, it) for it in files]:
             raise AssertionError("the new volume has other files")

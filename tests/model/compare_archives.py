@@ -3,12 +3,14 @@
 times twenty, 100 from 1 on where nothing is said: put, get, delete, rename, copy, squeeze and list, of one file and of many. Files are named by
 names, patterns and first blocks. The volumes have gaps, 0 to 10 information words, and directories that are nearly full or past it. They lie alone in
 their files, on disks and on DECtapes. It compares every byte that comes with a plain keeper of volumes that is written from the definitions alone.
+Files of any kind are listed with no option that says what they are.
 After each command it also holds to the keeper the files of the images, where they lie, all blocks that are no file's, and all bytes beside the
 volume. Damaged directories are looked at too. The same number is the same case each time. The last line is 'N passed, M failed'.
 """
 import argparse
 import concurrent.futures
 import os
+import re
 import subprocess
 import sys
 import tempfile
@@ -19,7 +21,9 @@ TOP = os.path.dirname(os.path.dirname(os.path.dirname(os.path.abspath(__file__))
 sys.path.insert(0, TOP)
 from tests.model.cases import full_image, lots
 from tests.model.compare import outside
+from tests.model.compare_indexes import random_file
 from tests.model.disks import Held, held_image, wrong_size
+from tests.model.index import parts_of, volume_of
 from tests.model.keeper import TEXTS, Asked, Keeper, can_be_typed, extension, given_of
 from tests.model.survey import damaged, surveyed
 from tests.model.volume import Unsound, Volume, made_image, read_volume, words_of_image
@@ -77,7 +81,8 @@ class Case:
 
     def command(self) -> str:
         """Does a random command. Says how the program differs from the keeper, and nothing where it doesn't."""
-        return self.random.choice([self.put, self.get, self.delete, self.rename, self.copy, self.told, self.get_many, self.put_many, self.others])()
+        kinds = [self.put, self.get, self.delete, self.rename, self.copy, self.told, self.get_many, self.put_many, self.others, self.reports]
+        return self.random.choice(kinds)()
 
     def put(self) -> str:
         random, image = self.random, self.random.choice(IMAGES)
@@ -191,6 +196,30 @@ class Case:
             return self.differs(words, b"", ([f"? BLOCKS 1 ONLY {count}"], 1))
         part = words_of_image(whole[512 * first : 512 * (first + some)])
         return self.differs_in_bytes(words, b"", given_of(part, False), 0)
+
+    def reports(self) -> str:
+        """Lists a file of any kind, or shows all that its directories say, where no option says what it is."""
+        data, is_all = random_file(self.random), self.random.random() < 0.5
+        write(f"{self.folder}/X", data)
+        words = ["check", "--all", "X"] if is_all else ["list", "X"]
+        wanted, refused = list[str](), False
+        for part in parts_of(data):
+            volume = volume_of(part.image)
+            is_image = len(part.image) % 512 == 0 and 8 <= len(part.image) // 512 <= 4095 and max(words_of_image(part.image)) < 0o10000
+            lines, status = ["?"], 1
+            if is_image and is_all:
+                lines, status = surveyed(part.image)
+            elif volume and not is_all:
+                lines, status = Keeper({"X": volume}).list_short("X")
+            wanted += [f"X:{part.number}: {line}" if part.number else line for line in lines]
+            refused = refused or status != 0
+        done = self.done(words, b"")
+        printed = [line for line in done.stdout.decode("latin-1").splitlines() if not line.startswith("note: ")]
+        fault = re.compile(r"^((?:X:[12]: )?\?) IMAGE .*" if is_all else r"^((?:X:[12]: )?\?) .*")
+        printed = [fault.sub(r"\1", line) for line in printed]
+        if (printed, done.returncode) != (wanted, 1 if refused else 0):
+            return f"{' '.join(words)}\n    wanted {wanted} {refused}\n    got    {printed} {done.returncode}"
+        return ""
 
     def done(self, words: list[str], given: bytes) -> subprocess.CompletedProcess[bytes]:
         return subprocess.run([self.program, *words], cwd=self.folder, input=given, stdout=subprocess.PIPE, stderr=subprocess.STDOUT, timeout=60)

@@ -1,4 +1,4 @@
-//! The command that lists the files of a volume with where they lie, their information words and their dates.
+//! The list of the files of a volume with where they lie, their information words and their dates.
 ghost use Rattle.std.specs.Prelude.{◌≡◌, ◌+◌, ◌≤◌, ◌<◌, ◌∷◌, [], ◌++◌, decimal, length, OnOk};
 ghost use Rattle.word12.specs.declared.sizes.TheConstants.{MOST_BLOCKS};
 ghost use Rattle.os8_dates.specs.declared.years.TheConstants.{LAST_YEAR, LEAST_LAST};
@@ -6,57 +6,23 @@ ghost use Rattle.os8_dir.specs.Entries.{total};
 ghost use Rattle.script8.specs.Replies.{free_line};
 ghost use Rattle.script8.specs.Shown.{name_text};
 ghost use Rattle.archive_files.specs.LongListing.{information_text};
-ghost use Rattle.volume_commands.specs.Answers.{Answers};
-ghost use Rattle.volume_commands.specs.Showing.{Shows};
 ghost use Rattle.archive_commands.specs.Dates.{ListsDates, date_of_word, date_text, dated_lines};
 ghost use Rattle.archive_commands.specs.DateSteps.{line_of_entry, lines_of_entries};
 
 use crate::lines::{put_number, put_shown};
 use archive_files::ArchiveFault;
 use archive_files::parts::volume_of;
-use hosts::Host;
 use os8_dates::{date_of, put_date};
 use os8_dir::{DirEntry, DirFault, Directory, Name};
-use outcome::Ending;
-use program_tasks::ImageForm;
 use script8::SessionFault;
 use std::alloc::{AllocError, Global};
-use volume_commands::{look_at, print, refuse_image};
 use volume_index::last_in;
 use word12::Word;
 
-/// Lists the files of the volume in an image file, in order of their blocks, with where they lie, their information words and their dates. A
-/// date is what the first information word means among the eight years up to the one that is given, or else up to the one that the volume
-/// gives.
-pub fn list_dates<H: Host>(
-    host: &mut H,
-    alloc: Global,
-    form: &ImageForm,
-    year: Option<usize>,
-) -> Result<(), Ending>
-    ensures { Shows (ListsDates year) form.now (H.history host.old) result (H.history host.new) }
-{
-    let image = look_at(host, alloc, form)?;
-    let text = listing(host, alloc, &image, year)?;
-    print(host, &text)
-}
-
-fn listing<H: Host>(
-    host: &mut H,
-    alloc: Global,
-    image: &[u8],
-    year: Option<usize>,
-) -> Result<Vec<u8>, Ending>
-    ensures { Answers (ListsDates year image.now) (length image.now) (H.history host.old) result (H.history host.new) }
-{
-    match list_dated(alloc, image, year) {
-        Ok(text) => Ok(text),
-        Err(fault) => Err(refuse_image(host, image.len(), fault)),
-    }
-}
-
-/// The list of an image, which is refused as `archive_files::list` does it.
-fn list_dated(alloc: Global, image: &[u8], year: Option<usize>) -> Result<Vec<u8>, ArchiveFault>
+/// The files of an image in order of their blocks, with where they lie, their information words and their dates. A date is what the first
+/// information word means among the eight years up to the one that is given, or else up to the one that the volume gives. An image is refused
+/// as `archive_files::list` does it.
+pub fn list_dated(alloc: Global, image: &[u8], year: Option<usize>) -> Result<Vec<u8>, ArchiveFault>
     ensures { ListsDates year image.now result }
 {
     let mut volume = volume_of(alloc, image)?;

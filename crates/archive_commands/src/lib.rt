@@ -1,5 +1,4 @@
-//! The commands on archives, over any host. They show blocks, patch a word, put files with their dates, write the index of many volumes, and
-//! rescue what a damaged volume still holds.
+//! The commands on archives, over any host. They show blocks, patch a word, and list files with their dates.
 //!
 //! In each contract an image is the list of its bytes.
 #![tactic(auto)]
@@ -11,6 +10,6 @@ mod owners;
 mod patches;
 mod refusals;
 
-pub use dated_lists::list_dates;
+pub use dated_lists::list_dated;
 pub use dumps::dump_blocks;
 pub use patches::{WordPatch, patch_word};

@@ -3,17 +3,15 @@ use Rattle.std.specs.Prelude.{◌≡◌, ◌⊎◌, ℕ, Bool, true, false, ◌|
 use Rattle.std.specs.Global.{Vec}
 use Rattle.hosts.specs.Event.{Event, tell_call}
 use Rattle.disk_layouts.specs.declared.layouts.Layout.{Layout}
-use Rattle.script8.specs.declared.faults.SessionFault.TheVariants.{Memory}
-use Rattle.program_tasks.specs.declared.forms.ImageForm.{ImageForm}
 use Rattle.archive_files.specs.declared.faults.ArchiveFault.{ArchiveFault}
 use Rattle.archive_many.specs.Patterns.{is_choice}
 use Rattle.volume_index.specs.Indexing.{Indexes as GivesLines}
 use Rattle.volume_index.specs.declared.styles.IndexStyle.{IndexStyle}
 use Rattle.outcome.specs.Endings.{ending_of_archive}
 use Rattle.outcome.specs.declared.endings.Ending.{Ending}
-use Rattle.outcome.specs.declared.endings.Ending.TheVariants.{Failure, Fault, Misuse}
-use Rattle.volume_commands.specs.Work.{Then, Purely}
-use Rattle.volume_commands.specs.Reading.{LooksAt}
+use Rattle.outcome.specs.declared.endings.Ending.TheVariants.{Failure, Misuse}
+use Rattle.volume_commands.specs.Work.{Then}
+use Rattle.volume_commands.specs.Reading.{Looks}
 use Rattle.volume_commands.specs.Saving.{Prints}
 use Rattle.index_commands.specs.Refusing.{PassesOver}
 use Rattle.index_commands.specs.Volumes.{IsImageAt, IsNoImage, body_of, layouts_in, number_of}
@@ -54,17 +52,10 @@ abbrev pub IndexesRead : IndexStyle → Option Layout → List ℕ → Result (V
 IndexesRead style layout name (Ok file) = IndexesVolumes style name (body_of layout file.items) (layouts_in layout file.items) false
 IndexesRead style layout name (Err ending) = PassesOver name None ending
 
--- the whole file of a name, unless memory is wanted for that
-abbrev pub IsWholeFile : List ℕ → Result ImageForm Ending → Type 0
-IsWholeFile name (Ok form) = (form.file.bytes.items ≡ name) × (form.layout ≡ None)
-IsWholeFile name (Err ending) = ending ≡ Fault Memory
-
 -- an image file is read whole, and then its volumes
-abbrev pub ReadsImage : IndexStyle → Option Layout → List ℕ → ImageForm → List Event → Result Bool Ending → List Event → Type 0
-ReadsImage style layout name form old result new = (file : Result (Vec ℕ) Ending) × (between : List Event) × LooksAt form old file between × IndexesRead style layout name file between result new
-
 abbrev pub IndexesImage : IndexStyle → Option Layout → List ℕ → List Event → Result Bool Ending → List Event → Type 0
-IndexesImage style layout name = Then (Purely (IsWholeFile name)) (λ form. ReadsImage style layout name form)
+IndexesImage style layout name old result new =
+    (file : Result (Vec ℕ) Ending) × (between : List Event) × Looks name name old file between × IndexesRead style layout name file between result new
 
 -- ## The command
 

@@ -1,6 +1,6 @@
 ghost use Rattle.std.specs.Prelude.{◌≡◌, Some, false, ◌||◌, ◌∷◌, [], map};
 ghost use Rattle.image_kind.specs.declared.kinds.Form.TheVariants.{Disk};
-ghost use Rattle.index_commands.specs.Indexing.{ChecksWord, GivesIndex, Indexes, IndexesImage, IndexesImages, IndexesVolume, IndexesVolumes, IsWholeFile, PrintsLines, ReadsImage};
+ghost use Rattle.index_commands.specs.Indexing.{ChecksWord, GivesIndex, Indexes, IndexesImage, IndexesImages, IndexesVolume, IndexesVolumes, PrintsLines};
 ghost use Rattle.index_commands.specs.Volumes.{body_of, layouts_in, layouts_of};
 
 use crate::refusals::pass_over;
@@ -10,9 +10,8 @@ use disk_layouts::Layout;
 use hosts::Host;
 use image_kind::{Form, kind_of};
 use outcome::Ending;
-use program_tasks::ImageForm;
 use std::alloc::Global;
-use volume_commands::{look_at, print};
+use volume_commands::{look_file, print};
 use volume_index::{IndexStyle, index_volume};
 
 /// Prints the index of the volumes in image files: a line for each file of each that is wanted, images as they are given and files as they
@@ -77,7 +76,7 @@ fn is_either(one: bool, other: bool) -> bool
     one || other
 }
 
-/// Prints the index of the volumes in an image file, and answers whether one is refused.
+/// Reads an image file, prints the index of its volumes, and answers whether one is refused.
 fn index_image<H: Host>(
     host: &mut H,
     alloc: Global,
@@ -87,34 +86,7 @@ fn index_image<H: Host>(
 ) -> Result<bool, Ending>
     ensures { IndexesImage style.now layout name.now (H.history host.old) result (H.history host.new) }
 {
-    let form = whole_file(alloc, name)?;
-    read_image(host, alloc, style, name, &form, layout)
-}
-
-/// The whole file of a name.
-fn whole_file(alloc: Global, name: &str) -> Result<ImageForm, Ending>
-    ensures { IsWholeFile name.now result }
-{
-    let file = String::from_str(alloc, name)?;
-    Ok(ImageForm {
-        file,
-        layout: None,
-        wait: 0,
-    })
-}
-
-/// Reads an image file, and prints the index of its volumes.
-fn read_image<H: Host>(
-    host: &mut H,
-    alloc: Global,
-    style: &IndexStyle,
-    name: &str,
-    form: &ImageForm,
-    layout: Option<Layout>,
-) -> Result<bool, Ending>
-    ensures { ReadsImage style.now layout name.now form.now (H.history host.old) result (H.history host.new) }
-{
-    match look_at(host, alloc, form) {
+    match look_file(host, alloc, name) {
         Ok(file) => index_file(host, alloc, style, name.as_bytes(), &file, layout),
         Err(ending) => pass_over(host, alloc, name.as_bytes(), None, ending),
     }

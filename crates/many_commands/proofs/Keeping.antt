@@ -3,6 +3,10 @@ use Rattle.std.proofs.Common.{◌≡◌, ◌∙◌, ◌∷◌, ℕ, Bool, true, 
 use Rattle.std.specs.Str.{bytes_eq}
 use Rattle.hosts.specs.Event.{Event, tell_call}
 use Rattle.hosts.specs.Place.{about}
+use Rattle.image_volumes.specs.Margins.{body_of}
+use Rattle.image_volumes.specs.Volumes.{volumes_in}
+use Rattle.image_volumes.specs.declared.volumes.Volumes.{Volumes}
+use Rattle.image_volumes.specs.declared.volumes.Volumes.TheVariants.{One, Both}
 use Rattle.outcome.specs.Hints.{image_note}
 use Rattle.outcome.specs.declared.contents.Content.TheVariants as content
 use Rattle.outcome.specs.declared.endings.Ending.{Ending}
@@ -14,7 +18,7 @@ use Rattle.script8.specs.declared.faults.SessionFault.TheVariants as fault
 use Rattle.program_tasks.specs.declared.forms.ImageForm.{ImageForm}
 use Rattle.volume_commands.specs.Answers.{Answers, Refuses}
 use Rattle.volume_commands.specs.Notes.{Tells}
-use Rattle.volume_commands.specs.Reading.{FindsVolume, Holds, HoldsAt, Looks, LooksAt, MakesImage, Opens, hold_calls, looked_name, with_lock_note}
+use Rattle.volume_commands.specs.Reading.{FindsIn, FindsOne, Holds, HoldsAt, Looks, LooksAt, MakesImage, Opens, hold_calls, looked_name, with_lock_note}
 use Rattle.volume_commands.specs.Saving.{Prints, SavesIf, Stores, Writes}
 use Rattle.volume_commands.specs.Work.{Then, Purely}
 use Rattle.volume_commands.specs.declared.images.Image.{Image}
@@ -120,9 +124,14 @@ looks-never name shown old (Err FullOutput) new p = absurd p
 looks-never name shown old (Err NoReader) new p = absurd p
 looks-never name shown old (Err Misuse) new p = absurd p
 
+finds-never : (volumes : Volumes) (body : List ℕ) → NeverChanges (FindsIn volumes body)
+finds-never (One layout) body old result new p = same old new p.1
+finds-never Both body old (Ok image) new p = absurd p
+finds-never Both body old (Err ending) new (is, ok, p) = told ok _ old new p
+
 pub looks-at-never : (form : ImageForm) → NeverChanges (LooksAt form)
-looks-at-never form = then-never (Looks form.file.bytes.items form.file.bytes.items) (λ file. Purely (FindsVolume form.layout file.items))
-    (looks-never form.file.bytes.items form.file.bytes.items) (λ file. purely-never (FindsVolume form.layout file.items))
+looks-at-never form = then-never (Looks form.file.bytes.items form.file.bytes.items) (λ file. FindsOne form.layout file.items)
+    (looks-never form.file.bytes.items form.file.bytes.items) (λ file. finds-never (volumes_in form.layout file.items) (body_of form.layout file.items))
 
 noted-lock : (has ok : Bool) (path : List ℕ) (old : List Event) → about path (with_lock_note has ok old) ≡ about path old
 noted-lock true ok path old = refl

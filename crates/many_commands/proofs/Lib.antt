@@ -1,5 +1,6 @@
 pub mod CountLemmas
 pub mod WorkLemmas
+pub mod VolumeLemmas
 pub mod NameLemmas
 pub mod WishLemmas
 pub mod Keeping

@@ -1,9 +1,14 @@
 -- Commands that change no file at all.
-use Rattle.std.proofs.Common.{◌≡◌, ◌∙◌, ◌+◌, ℕ, Bool, true, false, Option, Result, Ok, Err, List, [], ◌∷◌, inl, inr, length, map, nat_eq}
+use Rattle.std.proofs.Common.{◌≡◌, ◌∙◌, ◌+◌, ◌&&◌, ℕ, Bool, true, false, Option, Some, Result, Ok, Err, List, [], ◌∷◌, inl, inr, length, map, nat_eq}
 use Rattle.std.specs.Global.{Vec}
 use Rattle.hosts.specs.Event.{Event}
 use Rattle.char_pack.specs.declared.forms.GetForm.TheVariants.{Frames}
 use Rattle.disk_layouts.specs.declared.layouts.Layout.{Layout}
+use Rattle.disk_layouts.specs.declared.layouts.Layout.TheVariants.{First, Second}
+use Rattle.image_volumes.specs.Margins.{body_of}
+use Rattle.image_volumes.specs.Volumes.{volumes_in}
+use Rattle.image_volumes.specs.declared.volumes.Volumes.{Volumes}
+use Rattle.image_volumes.specs.declared.volumes.Volumes.TheVariants.{One, Both}
 use Rattle.outcome.specs.declared.endings.Ending.{Ending}
 use Rattle.archive_files.specs.declared.faults.ArchiveFault.{ArchiveFault}
 use Rattle.archive_files.specs.Getting.{Gets}
@@ -17,16 +22,19 @@ use Rattle.program_tasks.specs.declared.forms.FileForm.{FileForm}
 use Rattle.program_tasks.specs.declared.forms.ImageForm.{ImageForm}
 use Rattle.volume_commands.specs.Answers.{Answers, AreLines}
 use Rattle.volume_commands.specs.Ending.{TellsLine}
-use Rattle.volume_commands.specs.Reading.{LooksAt}
+use Rattle.volume_commands.specs.Reading.{FindsVolume, Looks, LooksAt}
 use Rattle.volume_commands.specs.Saving.{Prints}
 use Rattle.volume_commands.specs.Showing.{Shows, wanted_file}
 use Rattle.volume_commands.specs.ShowingParts.{EndsTelling, GivesBlocks, GivesTape, PrintsTape, RefusesBlocks, ShowsBlocks, ShowsTape}
 use Rattle.volume_commands.specs.Work.{Then, Purely}
 use Rattle.many_commands.specs.declared.reports.Report.{Report}
-use Rattle.many_commands.specs.Checking.{ChecksEach, ChecksFiles, ChecksImages, ChecksNext, ChecksOne, ChecksSeveral, EndsSound, IsImageOf, LooksAmong, PrintsCount, PrintsNamed, PrintsReport, Reports, named_lines, with_refusal}
+use Rattle.many_commands.specs.declared.reports.ReportKind.{ReportKind}
+use Rattle.many_commands.specs.Checking.{ChecksEach, ChecksFiles, ChecksImages, ChecksNext, ChecksSeveral, PrintsCount, kind_of_check, with_refusal}
+use Rattle.many_commands.specs.Reporting.{EndsSound, PrintsNamed, PrintsReport, Reports, TellsRefusal, named_lines}
+use Rattle.many_commands.specs.Volumes.{IsVolumeName, ReportsAlone, ReportsAt, ReportsBoth, ReportsFile, ReportsNext, ReportsNumbered, ReportsOne, ReportsRead, ReportsVolume, ReportsVolumes}
 use Rattle.many_commands.specs.Laws.{ChangesNothing, NeverChanges}
 use Rattle.many_commands.specs.Progressing.{BeginsProgress, EndsProgress, TellsDone, TellsProgress, WithProgress}
-use Rattle.many_commands.proofs.Keeping.{answers-never, looks-at-never, prints-never, purely-never, refuses-never, same, then-never}
+use Rattle.many_commands.proofs.Keeping.{answers-never, looks-at-never, looks-never, prints-never, purely-never, refuses-never, same, then-never}
 
 -- ## What the commands on volumes show
 
@@ -69,21 +77,52 @@ tape-never file form =
 prints-report-never : (report : Report) → NeverChanges (PrintsReport report)
 prints-report-never report = then-never (Prints report.text.items) (λ it. Purely (EndsSound report.is_sound)) (prints-never report.text.items) (λ it. purely-never (EndsSound report.is_sound))
 
-one-never : (is_all : Bool) (layout : Option Layout) (file : List ℕ) → NeverChanges (ChecksOne is_all layout file)
-one-never is_all layout file =
-    then-never (Purely (IsImageOf file layout)) (λ form. Then (LooksAt form) (λ bytes. Then (Answers (Reports is_all bytes.items) (length bytes.items)) PrintsReport)) (purely-never (IsImageOf file layout))
-    (λ form. then-never (LooksAt form) (λ bytes. Then (Answers (Reports is_all bytes.items) (length bytes.items)) PrintsReport) (looks-at-never form)
-    (λ bytes. then-never (Answers (Reports is_all bytes.items) (length bytes.items)) PrintsReport (answers-never (Reports is_all bytes.items) (length bytes.items)) prints-report-never))
-
-looks-among-never : (is_all : Bool) (form : ImageForm) → NeverChanges (LooksAmong is_all form)
-looks-among-never is_all form old result new (inl (bytes, looks, p)) = looks-at-never form old (Ok bytes) new looks
-looks-among-never is_all form old result new (inr (ending, looks, p)) = looks-at-never form old (Err ending) new looks
-
 prints-named-never : (file : List ℕ) (report : Report) → NeverChanges (PrintsNamed file report)
 prints-named-never file report =
     then-never (Purely (AreLines (named_lines file report.text.items))) (λ lines. Then (Prints lines.items) (λ it. Purely (λ (result : Result Bool Ending). result ≡ Ok report.is_sound)))
     (purely-never (AreLines (named_lines file report.text.items)))
     (λ lines. then-never (Prints lines.items) (λ it. Purely (λ (result : Result Bool Ending). result ≡ Ok report.is_sound)) (prints-never lines.items) (λ it. purely-never (λ (result : Result Bool Ending). result ≡ Ok report.is_sound)))
+
+reports-volume-never : (kind : ReportKind) (name : List ℕ) (layout : Option Layout) (body : List ℕ) → NeverChanges (ReportsVolume kind name layout body)
+reports-volume-never kind name layout body = then-never (Purely (ReportsAt kind layout body)) (PrintsNamed name) (purely-never (ReportsAt kind layout body)) (prints-named-never name)
+
+numbered-never : (kind : ReportKind) (file : List ℕ) (number : ℕ) (layout : Layout) (body : List ℕ) → NeverChanges (ReportsNumbered kind file number layout body)
+numbered-never kind file number layout body =
+    then-never (Purely (IsVolumeName file number)) (λ name. Then (Purely (AreLines body)) (λ copy. ReportsVolume kind name.bytes.items (Some layout) copy.items)) (purely-never (IsVolumeName file number))
+    (λ name. then-never (Purely (AreLines body)) (λ copy. ReportsVolume kind name.bytes.items (Some layout) copy.items) (purely-never (AreLines body))
+    (λ copy. reports-volume-never kind name.bytes.items (Some layout) copy.items))
+
+both-never : (kind : ReportKind) (file body : List ℕ) → NeverChanges (ReportsBoth kind file body)
+both-never kind file body =
+    then-never (ReportsNumbered kind file 1 First body) (λ one. Then (ReportsNumbered kind file 2 Second body) (λ other. Purely (λ (result : Result Bool Ending). result ≡ Ok (one && other))))
+    (numbered-never kind file 1 First body)
+    (λ one. then-never (ReportsNumbered kind file 2 Second body) (λ other. Purely (λ (result : Result Bool Ending). result ≡ Ok (one && other))) (numbered-never kind file 2 Second body)
+    (λ other. purely-never (λ (result : Result Bool Ending). result ≡ Ok (one && other))))
+
+alone-never : (kind : ReportKind) (layout : Option Layout) (body : List ℕ) → NeverChanges (ReportsAlone kind layout body)
+alone-never kind layout body =
+    then-never (Purely (FindsVolume layout body)) (λ image. Then (Answers (Reports kind image.items) (length image.items)) PrintsReport) (purely-never (FindsVolume layout body))
+    (λ image. then-never (Answers (Reports kind image.items) (length image.items)) PrintsReport (answers-never (Reports kind image.items) (length image.items)) prints-report-never)
+
+file-never : (kind : ReportKind) (file : List ℕ) (volumes : Volumes) (body : List ℕ) → NeverChanges (ReportsFile kind file volumes body)
+file-never kind file (One layout) body = alone-never kind layout body
+file-never kind file Both body = then-never (ReportsBoth kind file body) (λ is_sound. Purely (EndsSound is_sound)) (both-never kind file body) (λ is_sound. purely-never (EndsSound is_sound))
+
+pub one-never : (kind : ReportKind) (given : Option Layout) (file : List ℕ) → NeverChanges (ReportsOne kind given file)
+one-never kind given file =
+    then-never (Looks file file) (λ bytes. ReportsFile kind file (volumes_in given bytes.items) (body_of given bytes.items)) (looks-never file file)
+    (λ bytes. file-never kind file (volumes_in given bytes.items) (body_of given bytes.items))
+
+volumes-never : (kind : ReportKind) (file : List ℕ) (volumes : Volumes) (body : List ℕ) → NeverChanges (ReportsVolumes kind file volumes body)
+volumes-never kind file (One layout) body = reports-volume-never kind file layout body
+volumes-never kind file Both body = both-never kind file body
+
+read-never : (kind : ReportKind) (given : Option Layout) (file : List ℕ) (bytes : Result (Vec ℕ) Ending) → NeverChanges (ReportsRead kind given file bytes)
+read-never kind given file (Ok bytes) = volumes-never kind file (volumes_in given bytes.items) (body_of given bytes.items)
+read-never kind given file (Err ending) = then-never (Purely (TellsRefusal ending)) (PrintsNamed file) (purely-never (TellsRefusal ending)) (prints-named-never file)
+
+reports-next-never : (kind : ReportKind) (given : Option Layout) (file : List ℕ) → NeverChanges (ReportsNext kind given file)
+reports-next-never kind given file old result new (bytes, between, looks, p) = λ path. read-never kind given file bytes between result new p path ∙ looks-never file file old bytes between looks path
 
 tells-done-never : (is_told : Bool) (done all : ℕ) (old new : List Event) → TellsDone is_told done all old new → ChangesNothing old new
 tells-done-never false done all old new p = same old new p
@@ -95,9 +134,7 @@ progress-never is_told done all old result new p = tells-done-never is_told done
 
 next-never : (form : CheckForm) (is_told : Bool) (done all : ℕ) (file : List ℕ) → NeverChanges (ChecksNext form is_told done all file)
 next-never form is_told done all file =
-    then-never (TellsProgress is_told done all) (λ it. Then (Purely (IsImageOf file form.layout)) (λ one. Then (LooksAmong form.is_all one) (PrintsNamed file))) (progress-never is_told done all)
-    (λ it. then-never (Purely (IsImageOf file form.layout)) (λ one. Then (LooksAmong form.is_all one) (PrintsNamed file)) (purely-never (IsImageOf file form.layout))
-    (λ one. then-never (LooksAmong form.is_all one) (PrintsNamed file) (looks-among-never form.is_all one) (prints-named-never file)))
+    then-never (TellsProgress is_told done all) (λ it. ReportsNext (kind_of_check form.is_all) form.layout file) (progress-never is_told done all) (λ it. reports-next-never (kind_of_check form.is_all) form.layout file)
 
 each-never : (form : CheckForm) (is_told : Bool) (done all refused : ℕ) (files : List (List ℕ)) → NeverChanges (ChecksEach form is_told done all refused files)
 each-never form is_told done all refused [] = purely-never (λ (result : Result ℕ Ending). result ≡ Ok refused)
@@ -130,7 +167,7 @@ several-never form files =
 
 files-never : (form : CheckForm) (files : List (List ℕ)) → NeverChanges (ChecksFiles form files)
 files-never form [] = several-never form []
-files-never form (file ∷ []) = one-never form.is_all form.layout file
+files-never form (file ∷ []) = one-never (kind_of_check form.is_all) form.layout file
 files-never form (file ∷ other ∷ files) = several-never form (file ∷ other ∷ files)
 
 pub checks-never : (form : CheckForm) → NeverChanges (ChecksImages form)

@@ -7,10 +7,8 @@ use Rattle.outcome.specs.declared.endings.Ending.{Ending}
 use Rattle.outcome.specs.declared.endings.Ending.TheVariants.{Fault}
 use Rattle.archive_many.specs.HostNames.{NamesVolume}
 use Rattle.archive_many.specs.declared.putting.NewFile.{NewFile}
-use Rattle.program_tasks.specs.declared.forms.ImageForm.{ImageForm}
 use Rattle.program_tasks.specs.declared.forms.TextsForm.{TextsForm}
 use Rattle.volume_commands.specs.Work.{Then, Purely}
-use Rattle.many_commands.specs.Checking.{IsImageOf}
 use Rattle.many_commands.specs.NameSteps.{KnowsNames, has_key}
 use Rattle.many_commands.specs.PuttingMany.{IsNewFile, IsNoName, LooksWhole, ReadsNext, RefusesName, RefusesPath, has_name}
 
@@ -31,20 +29,14 @@ pub knows-more : (old new : BTreeSet ℕ) (files : List NewFile) (file : NewFile
 knows-more old new files file more knows = λ q. more q ∙ ap (λ b. b || nat_eq file.name q) (knows q) ∙ sym (name-more files file q)
 
 -- what is wanted to keep a file that was read is wanted for its step
-unkept-bytes : (texts : TextsForm) (path : List ℕ) (name : ℕ) (form : ImageForm) (old : List Event) (file : NewFile) (new : List Event)
-    → Then (LooksWhole path form) (λ bytes. Purely (IsNewFile texts name bytes.items)) old (Ok file) new → Then (LooksWhole path form) (λ bytes. Purely (IsNewFile texts name bytes.items)) old (Err (Fault Memory)) new
-unkept-bytes texts path name form old file new (inl ends) = absurd ends
-unkept-bytes texts path name form old file new (inr it) = inr (record { given = it.given; between = it.between; done = it.done; after = (refl, it.after.1) })
-
-unkept-form : (texts : TextsForm) (path : List ℕ) (name : ℕ) (old : List Event) (file : NewFile) (new : List Event)
-    → Then (Purely (IsImageOf path None)) (λ form. Then (LooksWhole path form) (λ bytes. Purely (IsNewFile texts name bytes.items))) old (Ok file) new
-    → Then (Purely (IsImageOf path None)) (λ form. Then (LooksWhole path form) (λ bytes. Purely (IsNewFile texts name bytes.items))) old (Err (Fault Memory)) new
-unkept-form texts path name old file new (inl ends) = absurd ends
-unkept-form texts path name old file new (inr it) = inr (record { given = it.given; between = it.between; done = it.done; after = unkept-bytes texts path name it.given it.between file new it.after })
+unkept-bytes : (texts : TextsForm) (path : List ℕ) (name : ℕ) (old : List Event) (file : NewFile) (new : List Event)
+    → Then (LooksWhole path) (λ bytes. Purely (IsNewFile texts name bytes.items)) old (Ok file) new → Then (LooksWhole path) (λ bytes. Purely (IsNewFile texts name bytes.items)) old (Err (Fault Memory)) new
+unkept-bytes texts path name old file new (inl ends) = absurd ends
+unkept-bytes texts path name old file new (inr it) = inr (record { given = it.given; between = it.between; done = it.done; after = (refl, it.after.1) })
 
 pub unkept : (texts : TextsForm) (files : List NewFile) (path : List ℕ) (old : List Event) (file : NewFile) (new : List Event) → ReadsNext texts files path old (Ok file) new → ReadsNext texts files path old (Err (Fault Memory)) new
 unkept texts files path old file new (inl ends) = absurd ends
-unkept texts files path old file new (inr it) = inr (record { given = it.given; between = it.between; done = it.done; after = unkept-form texts path it.given it.between file new it.after })
+unkept texts files path old file new (inr it) = inr (record { given = it.given; between = it.between; done = it.done; after = unkept-bytes texts path it.given it.between file new it.after })
 
 -- a path that spells no name
 pub bad-path : (files : List NewFile) (path : List ℕ) (old : List Event) (ending : Ending) (new : List Event) → NamesVolume path None

@@ -6,7 +6,6 @@ use Rattle.archive_many.specs.declared.faults.ManyFault.{ManyFault}
 use Rattle.archive_many.specs.declared.faults.ManyFault.TheVariants as many
 use Rattle.archive_many.specs.declared.putting.NewFile.{NewFile}
 use Rattle.outcome.specs.declared.endings.Ending.{Ending}
-use Rattle.program_tasks.specs.declared.forms.ImageForm.{ImageForm}
 use Rattle.program_tasks.specs.declared.forms.PutManyForm.{PutManyForm}
 use Rattle.program_tasks.specs.declared.forms.TextsForm.{TextsForm}
 use Rattle.volume_commands.specs.Answers.{AreLines}
@@ -15,11 +14,10 @@ use Rattle.volume_commands.specs.Reading.{Opens}
 use Rattle.volume_commands.specs.Saving.{Stores}
 use Rattle.volume_commands.specs.Work.{Then, Purely}
 use Rattle.volume_commands.specs.declared.images.Image.{Image}
-use Rattle.many_commands.specs.Checking.{IsImageOf}
 use Rattle.many_commands.specs.Laws.{ChangesNothing, LeavesFiles, NeverChanges}
 use Rattle.many_commands.specs.PuttingMany.{AreFiles, FindsFiles, IsNewFile, IsNoName, KeepsIf, KeepsWords, LooksWhole, MakesMany, PutsFiles, PutsMany, ReadsEach, ReadsNext, RefusesLoss, RefusesMany, TakesName, TellsEmpty, TellsPath, TellsText, TellsUnread, WantsMemory, has_empty, loss_from, paths_of, stored_lines}
 use Rattle.many_commands.specs.Texts.{TakesLists, TellsBadList, lists_of}
-use Rattle.many_commands.proofs.Keeping.{looks-at-never, opens-never, purely-never, refuses-never, same, stores-leaves, then-leaves, then-never, told}
+use Rattle.many_commands.proofs.Keeping.{looks-never, opens-never, purely-never, refuses-never, same, stores-leaves, then-leaves, then-never, told}
 
 tells-list : (list : Option (List ℕ)) (old new : List Event) → TellsBadList list old new → ChangesNothing old new
 tells-list None old new p = same old new p
@@ -43,15 +41,14 @@ tells-unread : (path : List ℕ) (why : Ending) (old : List Event) (ending : End
 tells-unread path why old ending new (inl (is, ok, p)) = same _ new p
 tells-unread path why old ending new (inr p) = same old new p.1
 
-whole-never : (path : List ℕ) (form : ImageForm) → NeverChanges (LooksWhole path form)
-whole-never path form old (Ok bytes) new p = looks-at-never form old (Ok bytes) new p
-whole-never path form old (Err ending) new (why, between, looks, p) = λ at. tells-unread path why between ending new p at ∙ looks-at-never form old (Err why) between looks at
+whole-never : (path : List ℕ) → NeverChanges (LooksWhole path)
+whole-never path old (Ok bytes) new p = looks-never path path old (Ok bytes) new p
+whole-never path old (Err ending) new (why, between, looks, p) = λ at. tells-unread path why between ending new p at ∙ looks-never path path old (Err why) between looks at
 
 next-never : (texts : TextsForm) (files : List NewFile) (path : List ℕ) → NeverChanges (ReadsNext texts files path)
 next-never texts files path =
-    then-never (TakesName files path) (λ name. Then (Purely (IsImageOf path None)) (λ form. Then (LooksWhole path form) (λ bytes. Purely (IsNewFile texts name bytes.items)))) (name-never files path)
-    (λ name. then-never (Purely (IsImageOf path None)) (λ form. Then (LooksWhole path form) (λ bytes. Purely (IsNewFile texts name bytes.items))) (purely-never (IsImageOf path None))
-    (λ form. then-never (LooksWhole path form) (λ bytes. Purely (IsNewFile texts name bytes.items)) (whole-never path form) (λ bytes. purely-never (IsNewFile texts name bytes.items))))
+    then-never (TakesName files path) (λ name. Then (LooksWhole path) (λ bytes. Purely (IsNewFile texts name bytes.items))) (name-never files path)
+    (λ name. then-never (LooksWhole path) (λ bytes. Purely (IsNewFile texts name bytes.items)) (whole-never path) (λ bytes. purely-never (IsNewFile texts name bytes.items)))
 
 each-never : (texts : TextsForm) (files : List NewFile) (paths : List (List ℕ)) → NeverChanges (ReadsEach texts files paths)
 each-never texts files [] = purely-never (AreFiles files)

@@ -1,76 +1,35 @@
--- A check that ends well has read each image, and each is sound.
-use Rattle.std.proofs.Common.{◌≡◌, ◌∙◌, ◌∷◌, ◌+◌, ℕ, Bool, true, false, nat_eq, Option, None, Some, Result, Ok, Err, List, [], ap, arith, codes, inl, inr, length, refl, subst, sym}
-use Rattle.std.specs.Global.{Vec}
+-- A check that ends well has read each image file, and each volume in it is sound.
+use Rattle.std.proofs.Common.{◌≡◌, ◌∙◌, ◌∷◌, ◌+◌, ◌&&◌, ℕ, Bool, true, false, nat_eq, Option, None, Some, Result, Ok, Err, List, [], ap, arith, codes, inl, inr, length, refl, subst, sym}
 use Rattle.std.proofs.lemmas.Bool.Decides.{nat_tests}
 use Rattle.hosts.specs.Event.{Event, look_call, print_call, seconds_call, tell_call, terminal_call}
 use Rattle.hosts.specs.Streams.{read}
 use Rattle.disk_layouts.specs.declared.layouts.Layout.{Layout}
+use Rattle.disk_layouts.specs.declared.layouts.Layout.TheVariants.{First, Second}
+use Rattle.image_volumes.specs.Margins.{body_of}
+use Rattle.image_volumes.specs.Volumes.{volumes_in}
+use Rattle.image_volumes.specs.declared.volumes.Volumes.{Volumes}
+use Rattle.image_volumes.specs.declared.volumes.Volumes.TheVariants.{One, Both}
 use Rattle.outcome.specs.Endings.{ending_of_archive}
 use Rattle.outcome.specs.declared.endings.Ending.{Ending}
 use Rattle.program_reports.specs.declared.programs.ProgramLine.{ProgramLine}
 use Rattle.program_tasks.specs.declared.forms.CheckForm.{CheckForm}
-use Rattle.program_tasks.specs.declared.forms.ImageForm.{ImageForm}
-use Rattle.volume_commands.specs.Answers.{Answers}
-use Rattle.volume_commands.specs.Reading.{FindsVolume, LooksAt}
+use Rattle.volume_commands.specs.Answers.{Answers, AreLines}
 use Rattle.volume_commands.specs.Saving.{Prints}
 use Rattle.volume_commands.specs.Work.{Then, Purely}
 use Rattle.many_commands.specs.declared.reports.Report.{Report}
-use Rattle.many_commands.specs.Checking.{ChecksEach, ChecksFiles, ChecksNext, ChecksOne, ChecksSeveral, EndsSound, IsImageOf, LooksAmong, PrintsCount, PrintsNamed, PrintsReport, Reports, TellsLine, line_in, with_refusal}
-use Rattle.many_commands.specs.Laws.{AreSound}
+use Rattle.many_commands.specs.Checking.{ChecksEach, ChecksFiles, ChecksNext, ChecksSeveral, PrintsCount, kind_of_check, with_refusal}
+use Rattle.many_commands.specs.Laws.{AreSound, AreSoundIn, IsSoundFile, IsSoundVolume}
 use Rattle.many_commands.specs.Progressing.{BeginsProgress, EndsProgress, TellsDone, progress_text}
+use Rattle.many_commands.specs.Reporting.{EndsSound, PrintsNamed, PrintsReport, Reports, TellsLine, TellsRefusal, line_in}
+use Rattle.many_commands.specs.Volumes.{ReportsAlone, ReportsAt, ReportsBoth, ReportsFile, ReportsNext, ReportsNumbered, ReportsOne, ReportsVolume, ReportsVolumes}
 
 -- reads after some calls
 reads : (old new : List Event) → new ≡ old → read new ≡ read old
 reads old new is = ap (λ (events : List Event). read events) is
 
--- ## One image
-
--- what was read of a file whose image was found
-record Found (layout : Option Layout) (name : List ℕ) (image : Vec ℕ) (old new : List Event) : Type 0 where
-  file : List ℕ
-  found : FindsVolume layout file (Ok image)
-  read_is : read new ≡ look_call name true file ∷ read old
-
-found-by : (name : List ℕ) (layout : Option Layout) (form : ImageForm) (image : Vec ℕ) (old new : List Event) → form.file.bytes.items ≡ name → form.layout ≡ layout → LooksAt form old (Ok image) new → Found layout name image old new
-found-by name layout form image old new is_name is_layout (inl ends) = absurd ends
-found-by name layout form image old new is_name is_layout (inr it) = record {
-  file = it.given.items;
-  found = subst (λ l. FindsVolume l it.given.items (Ok image)) is_layout it.after.0;
-  read_is = reads it.between new it.after.1 ∙ reads (look_call form.file.bytes.items true it.given.items ∷ old) it.between it.done.1 ∙ ap (λ n. look_call n true it.given.items ∷ read old) is_name;
-}
-
 ends-sound : (is_sound : Bool) → EndsSound is_sound (Ok tt) → is_sound ≡ true
 ends-sound true ends = refl
 ends-sound false ends = absurd ends
-
--- a file that was read, and is sound
-sound-file : (is_all : Bool) (layout : Option Layout) (name : List ℕ) (image : Vec ℕ) (report : Report) (old between new : List Event) → Found layout name image old between → Reports is_all image.items (Ok report) → report.is_sound ≡ true
-    → read new ≡ read between → (names : List (List ℕ)) (last : List Event) → AreSound is_all layout names (read new) last → AreSound is_all layout (name ∷ names) (read old) last
-sound-file is_all layout name image report old between new found reports sound same names last others =
-    (found.file, record { image = image; found = found.found; report = report; reports = reports; sound = sound }, subst (λ r. AreSound is_all layout names r last) (same ∙ found.read_is) others)
-
-printed : (report : Report) (old new : List Event) → PrintsReport report old (Ok tt) new → (report.is_sound ≡ true) × (read new ≡ read old)
-printed report old new (inl ends) = absurd ends
-printed report old new (inr it) = (ends-sound report.is_sound it.after.0, reads it.between new it.after.1 ∙ reads (print_call true 0 report.text.items ∷ old) it.between it.done)
-
-answered : (is_all : Bool) (layout : Option Layout) (name : List ℕ) (image : Vec ℕ) (old between new : List Event) → Found layout name image old between
-    → Then (Answers (Reports is_all image.items) (length image.items)) PrintsReport between (Ok tt) new → AreSound is_all layout (name ∷ []) (read old) (read new)
-answered is_all layout name image old between new found (inl ends) = absurd ends
-answered is_all layout name image old between new found (inr it) =
-    let end = printed it.given it.between new it.after in
-    sound-file is_all layout name image it.given old between new found it.done.0 end.0 (end.1 ∙ reads between it.between it.done.1) [] (read new) refl
-
-looked : (is_all : Bool) (layout : Option Layout) (name : List ℕ) (form : ImageForm) (old new : List Event) → form.file.bytes.items ≡ name → form.layout ≡ layout
-    → Then (LooksAt form) (λ bytes. Then (Answers (Reports is_all bytes.items) (length bytes.items)) PrintsReport) old (Ok tt) new → AreSound is_all layout (name ∷ []) (read old) (read new)
-looked is_all layout name form old new is_name is_layout (inl ends) = absurd ends
-looked is_all layout name form old new is_name is_layout (inr it) = answered is_all layout name it.given old it.between new (found-by name layout form it.given old it.between is_name is_layout it.done) it.after
-
-one-sound : (is_all : Bool) (layout : Option Layout) (name : List ℕ) (old new : List Event) → ChecksOne is_all layout name old (Ok tt) new → AreSound is_all layout (name ∷ []) (read old) (read new)
-one-sound is_all layout name old new (inl ends) = absurd ends
-one-sound is_all layout name old new (inr one) =
-    subst (λ r. AreSound is_all layout (name ∷ []) r (read new)) (reads old one.between one.done.1) (looked is_all layout name one.given one.between new one.done.0.0 one.done.0.1 one.after)
-
--- ## Several images
 
 abbrev given_or : Result Bool Ending → Bool
 given_or (Ok it) = it
@@ -83,6 +42,12 @@ count_or (Err ending) = 0
 never : true ≡ false → ⊥
 never is = cc
 
+both-true : (one other : Bool) → (one && other) ≡ true → (one ≡ true) × (other ≡ true)
+both-true true other is = (refl, is)
+both-true false other is = absurd (never (sym is))
+
+-- ## A volume
+
 unsound-line : (text : Option ProgramLine) (ending : Ending) (report : Report) → TellsLine text ending (Ok report) → report.is_sound ≡ true → ⊥
 unsound-line None ending report told sound = told
 unsound-line (Some text) ending report told sound = never (sym sound ∙ told.1)
@@ -91,12 +56,11 @@ abbrev report_or : Report → Result Report Ending → Report
 report_or other (Ok it) = it
 report_or other (Err ending) = other
 
-found-among : (is_all : Bool) (layout : Option Layout) (name : List ℕ) (form : ImageForm) (report : Report) (old new : List Event) → form.file.bytes.items ≡ name → form.layout ≡ layout
-    → LooksAmong is_all form old (Ok report) new → report.is_sound ≡ true → (image : Vec ℕ) × Found layout name image old new × Reports is_all image.items (Ok report)
-found-among is_all layout name form report old new is_name is_layout (inl (image, looks, inl (other, reports, is))) sound =
-    (image, found-by name layout form image old new is_name is_layout looks, subst (λ r. Reports is_all image.items (Ok r)) (sym (ap (λ r. report_or report r) is)) reports)
-found-among is_all layout name form report old new is_name is_layout (inl (image, looks, inr (fault, reports, told))) sound = absurd (unsound-line (line_in (ending_of_archive fault)) (ending_of_archive fault) report told sound)
-found-among is_all layout name form report old new is_name is_layout (inr (ending, looks, told)) sound = absurd (unsound-line (line_in ending) ending report told sound)
+at-sound : (is_all : Bool) (layout : Option Layout) (body : List ℕ) (report : Report) → ReportsAt (kind_of_check is_all) layout body (Ok report) → report.is_sound ≡ true → IsSoundVolume is_all layout body
+at-sound is_all layout body report (inl (image, found, inl (other, reports, is))) sound =
+    record { image = image; found = found; report = report; reports = subst (λ r. Reports (kind_of_check is_all) image.items (Ok r)) (sym (ap (λ r. report_or report r) is)) reports; sound = sound }
+at-sound is_all layout body report (inl (image, found, inr (fault, reports, told))) sound = absurd (unsound-line (line_in (ending_of_archive fault)) (ending_of_archive fault) report told sound)
+at-sound is_all layout body report (inr (ending, found, told)) sound = absurd (unsound-line (line_in ending) ending report told sound)
 
 named : (name : List ℕ) (report : Report) (old new : List Event) (is_sound : Bool) → PrintsNamed name report old (Ok is_sound) new → (is_sound ≡ report.is_sound) × (read new ≡ read old)
 named name report old new is_sound (inl ends) = absurd ends
@@ -106,32 +70,112 @@ named name report old new is_sound (inr it) = lines it.after
     lines (inl ends) = absurd ends
     lines (inr e) = (ap given_or e.after.0, reads e.between new e.after.1 ∙ reads (print_call true 0 it.given.items ∷ it.between) e.between e.done ∙ reads old it.between it.done.1)
 
+volume-sound : (is_all : Bool) (name : List ℕ) (layout : Option Layout) (body : List ℕ) (old new : List Event) (is_sound : Bool) → ReportsVolume (kind_of_check is_all) name layout body old (Ok is_sound) new → is_sound ≡ true
+    → IsSoundVolume is_all layout body × (read new ≡ read old)
+volume-sound is_all name layout body old new is_sound (inl ends) sound = absurd ends
+volume-sound is_all name layout body old new is_sound (inr it) sound =
+    let end = named name it.given it.between new is_sound it.after in
+    (at-sound is_all layout body it.given it.done.0 (sym end.0 ∙ sound), end.1 ∙ reads old it.between it.done.1)
+
+-- ## Both volumes of a disk
+
+copied-sound : (is_all : Bool) (name : List ℕ) (layout : Layout) (body : List ℕ) (old new : List Event) (is_sound : Bool)
+    → Then (Purely (AreLines body)) (λ copy. ReportsVolume (kind_of_check is_all) name (Some layout) copy.items) old (Ok is_sound) new → is_sound ≡ true → IsSoundVolume is_all (Some layout) body × (read new ≡ read old)
+copied-sound is_all name layout body old new is_sound (inl ends) sound = absurd ends
+copied-sound is_all name layout body old new is_sound (inr it) sound =
+    let one = volume-sound is_all name (Some layout) it.given.items it.between new is_sound it.after sound in
+    (subst (λ b. IsSoundVolume is_all (Some layout) b) it.done.0 one.0, one.1 ∙ reads old it.between it.done.1)
+
+numbered-sound : (is_all : Bool) (file : List ℕ) (number : ℕ) (layout : Layout) (body : List ℕ) (old new : List Event) (is_sound : Bool) → ReportsNumbered (kind_of_check is_all) file number layout body old (Ok is_sound) new → is_sound ≡ true
+    → IsSoundVolume is_all (Some layout) body × (read new ≡ read old)
+numbered-sound is_all file number layout body old new is_sound (inl ends) sound = absurd ends
+numbered-sound is_all file number layout body old new is_sound (inr it) sound =
+    let one = copied-sound is_all it.given.bytes.items layout body it.between new is_sound it.after sound in
+    (one.0, one.1 ∙ reads old it.between it.done.1)
+
+second-sound : (is_all : Bool) (file body : List ℕ) (one : Bool) (old new : List Event) (is_sound : Bool)
+    → Then (ReportsNumbered (kind_of_check is_all) file 2 Second body) (λ other. Purely (λ (result : Result Bool Ending). result ≡ Ok (one && other))) old (Ok is_sound) new → is_sound ≡ true
+    → (one ≡ true) × IsSoundVolume is_all (Some Second) body × (read new ≡ read old)
+second-sound is_all file body one old new is_sound (inl ends) sound = absurd ends
+second-sound is_all file body one old new is_sound (inr it) sound =
+    let are = both-true one it.given (sym (ap given_or it.after.0) ∙ sound) in
+    let other = numbered-sound is_all file 2 Second body old it.between it.given it.done are.1 in
+    (are.0, other.0, reads it.between new it.after.1 ∙ other.1)
+
+both-sound : (is_all : Bool) (file body : List ℕ) (old new : List Event) (is_sound : Bool) → ReportsBoth (kind_of_check is_all) file body old (Ok is_sound) new → is_sound ≡ true → AreSoundIn is_all Both body × (read new ≡ read old)
+both-sound is_all file body old new is_sound (inl ends) sound = absurd ends
+both-sound is_all file body old new is_sound (inr it) sound =
+    let second = second-sound is_all file body it.given it.between new is_sound it.after sound in
+    let first = numbered-sound is_all file 1 First body old it.between it.given it.done second.0 in
+    ((first.0, second.1), second.2 ∙ first.1)
+
+-- ## The one file that is asked for
+
+abbrev HasReadSound : Bool → Option Layout → List ℕ → List Event → List Event → Type 0
+HasReadSound is_all given name old new = (bytes : List ℕ) × IsSoundFile is_all given bytes × (read new ≡ look_call name true bytes ∷ read old)
+
+printed : (report : Report) (old new : List Event) → PrintsReport report old (Ok tt) new → (report.is_sound ≡ true) × (read new ≡ read old)
+printed report old new (inl ends) = absurd ends
+printed report old new (inr it) = (ends-sound report.is_sound it.after.0, reads it.between new it.after.1 ∙ reads (print_call true 0 report.text.items ∷ old) it.between it.done)
+
+answered : (is_all : Bool) (image : List ℕ) (old new : List Event) → Then (Answers (Reports (kind_of_check is_all) image) (length image)) PrintsReport old (Ok tt) new
+    → (report : Report) × Reports (kind_of_check is_all) image (Ok report) × (report.is_sound ≡ true) × (read new ≡ read old)
+answered is_all image old new (inl ends) = absurd ends
+answered is_all image old new (inr it) =
+    let end = printed it.given it.between new it.after in
+    (it.given, it.done.0, end.0, end.1 ∙ reads old it.between it.done.1)
+
+alone-sound : (is_all : Bool) (layout : Option Layout) (body : List ℕ) (old new : List Event) → ReportsAlone (kind_of_check is_all) layout body old (Ok tt) new → IsSoundVolume is_all layout body × (read new ≡ read old)
+alone-sound is_all layout body old new (inl ends) = absurd ends
+alone-sound is_all layout body old new (inr it) =
+    let end = answered is_all it.given.items it.between new it.after in
+    (record { image = it.given; found = it.done.0; report = end.0; reports = end.1; sound = end.2 }, end.3 ∙ reads old it.between it.done.1)
+
+file-sound : (is_all : Bool) (file : List ℕ) (volumes : Volumes) (body : List ℕ) (old new : List Event) → ReportsFile (kind_of_check is_all) file volumes body old (Ok tt) new → AreSoundIn is_all volumes body × (read new ≡ read old)
+file-sound is_all file (One layout) body old new reports = alone-sound is_all layout body old new reports
+file-sound is_all file Both body old new (inl ends) = absurd ends
+file-sound is_all file Both body old new (inr it) =
+    let both = both-sound is_all file body old it.between it.given it.done (ends-sound it.given it.after.0) in
+    (both.0, reads it.between new it.after.1 ∙ both.1)
+
+one-sound : (is_all : Bool) (given : Option Layout) (name : List ℕ) (old new : List Event) → ReportsOne (kind_of_check is_all) given name old (Ok tt) new → HasReadSound is_all given name old new
+one-sound is_all given name old new (inl ends) = absurd ends
+one-sound is_all given name old new (inr it) =
+    let sound = file-sound is_all name (volumes_in given it.given.items) (body_of given it.given.items) it.between new it.after in
+    (it.given.items, sound.0, sound.1 ∙ reads (look_call name true it.given.items ∷ old) it.between it.done.1)
+
+-- ## Several files
+
+volumes-sound : (is_all : Bool) (file : List ℕ) (volumes : Volumes) (body : List ℕ) (old new : List Event) (is_sound : Bool) → ReportsVolumes (kind_of_check is_all) file volumes body old (Ok is_sound) new → is_sound ≡ true
+    → AreSoundIn is_all volumes body × (read new ≡ read old)
+volumes-sound is_all file (One layout) body old new is_sound reports sound = volume-sound is_all file layout body old new is_sound reports sound
+volumes-sound is_all file Both body old new is_sound reports sound = both-sound is_all file body old new is_sound reports sound
+
+unread : (file : List ℕ) (ending : Ending) (old new : List Event) (is_sound : Bool) → Then (Purely (TellsRefusal ending)) (PrintsNamed file) old (Ok is_sound) new → is_sound ≡ true → ⊥
+unread file ending old new is_sound (inl ends) sound = ends
+unread file ending old new is_sound (inr it) sound = unsound-line (line_in ending) ending it.given it.done.0 (sym (named file it.given it.between new is_sound it.after).0 ∙ sound)
+
+next-read : (is_all : Bool) (given : Option Layout) (name : List ℕ) (old new : List Event) (is_sound : Bool) → ReportsNext (kind_of_check is_all) given name old (Ok is_sound) new → is_sound ≡ true → HasReadSound is_all given name old new
+next-read is_all given name old new is_sound (Ok bytes, between, looks, reports) sound =
+    let are = volumes-sound is_all name (volumes_in given bytes.items) (body_of given bytes.items) between new is_sound reports sound in
+    (bytes.items, are.0, are.1 ∙ reads (look_call name true bytes.items ∷ old) between looks.1)
+next-read is_all given name old new is_sound (Err ending, between, looks, reports) sound = absurd (unread name ending between new is_sound reports sound)
+
+with-others : (is_all : Bool) (given : Option Layout) (name : List ℕ) (old new : List Event) → HasReadSound is_all given name old new
+    → (names : List (List ℕ)) (last : List Event) → AreSound is_all given names (read new) last → AreSound is_all given (name ∷ names) (read old) last
+with-others is_all given name old new (bytes, sound, is) names last others = (bytes, sound, subst (λ r. AreSound is_all given names r last) is others)
+
 done-reads : (is_told : Bool) (done all : ℕ) (old new : List Event) → TellsDone is_told done all old new → read new ≡ read old
 done-reads false done all old new p = reads old new p
 done-reads true done all old new (inl p) = reads (seconds_call ∷ old) new p
 done-reads true done all old new (inr p) = reads (tell_call p.0 (progress_text done all) ∷ seconds_call ∷ old) new p.1
 
-among-sound : (form : CheckForm) (name : List ℕ) (one : ImageForm) (old new : List Event) (is_sound : Bool) → one.file.bytes.items ≡ name → one.layout ≡ form.layout
-    → Then (LooksAmong form.is_all one) (PrintsNamed name) old (Ok is_sound) new → is_sound ≡ true
-    → (names : List (List ℕ)) (last : List Event) → AreSound form.is_all form.layout names (read new) last → AreSound form.is_all form.layout (name ∷ names) (read old) last
-among-sound form name one old new is_sound is_name is_layout (inl ends) sound names last others = absurd ends
-among-sound form name one old new is_sound is_name is_layout (inr it) sound names last others =
-    let end = named name it.given it.between new is_sound it.after in
-    let is = sym end.0 ∙ sound in
-    let found = found-among form.is_all form.layout name one it.given old it.between is_name is_layout it.done is in
-    sound-file form.is_all form.layout name found.0 it.given old it.between new found.1 found.2 is end.1 names last others
-
-image-sound : (form : CheckForm) (name : List ℕ) (old new : List Event) (is_sound : Bool) → Then (Purely (IsImageOf name form.layout)) (λ one. Then (LooksAmong form.is_all one) (PrintsNamed name)) old (Ok is_sound) new → is_sound ≡ true
-    → (names : List (List ℕ)) (last : List Event) → AreSound form.is_all form.layout names (read new) last → AreSound form.is_all form.layout (name ∷ names) (read old) last
-image-sound form name old new is_sound (inl ends) sound names last others = absurd ends
-image-sound form name old new is_sound (inr it) sound names last others =
-    subst (λ r. AreSound form.is_all form.layout (name ∷ names) r last) (reads old it.between it.done.1) (among-sound form name it.given it.between new is_sound it.done.0.0 it.done.0.1 it.after sound names last others)
-
 next-sound : (form : CheckForm) (is_told : Bool) (done all : ℕ) (name : List ℕ) (old new : List Event) (is_sound : Bool) → ChecksNext form is_told done all name old (Ok is_sound) new → is_sound ≡ true
     → (names : List (List ℕ)) (last : List Event) → AreSound form.is_all form.layout names (read new) last → AreSound form.is_all form.layout (name ∷ names) (read old) last
 next-sound form is_told done all name old new is_sound (inl ends) sound names last others = absurd ends
 next-sound form is_told done all name old new is_sound (inr it) sound names last others =
-    subst (λ r. AreSound form.is_all form.layout (name ∷ names) r last) (done-reads is_told done all old it.between it.done.1) (image-sound form name it.between new is_sound it.after sound names last others)
+    subst (λ r. AreSound form.is_all form.layout (name ∷ names) r last) (done-reads is_told done all old it.between it.done.1)
+    (with-others form.is_all form.layout name it.between new (next-read form.is_all form.layout name it.between new is_sound it.after sound) names last others)
 
 none-refused : (is_sound : Bool) (refused : ℕ) → with_refusal is_sound refused ≡ 0 → (is_sound ≡ true) × (refused ≡ 0)
 none-refused true refused is = (refl, is)
@@ -178,5 +222,5 @@ several-sound form names old new (inr it) =
 
 pub files-sound : (form : CheckForm) (names : List (List ℕ)) (old new : List Event) → ChecksFiles form names old (Ok tt) new → AreSound form.is_all form.layout names (read old) (read new)
 files-sound form [] old new checks = several-sound form [] old new checks
-files-sound form (name ∷ []) old new checks = one-sound form.is_all form.layout name old new checks
+files-sound form (name ∷ []) old new checks = with-others form.is_all form.layout name old new (one-sound form.is_all form.layout name old new checks) [] (read new) refl
 files-sound form (name ∷ other ∷ names) old new checks = several-sound form (name ∷ other ∷ names) old new checks

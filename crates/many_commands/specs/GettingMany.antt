@@ -25,7 +25,7 @@ use Rattle.volume_commands.specs.Work.{Then, Purely}
 use Rattle.volume_commands.specs.Reading.{LooksAt}
 use Rattle.volume_commands.specs.Answers.{Answers, AreLines}
 use Rattle.volume_commands.specs.Saving.{Prints, TouchesOnly}
-use Rattle.many_commands.specs.Checking.{EndsSound, named_lines}
+use Rattle.many_commands.specs.Reporting.{EndsSound, named_lines}
 use Rattle.many_commands.specs.Progressing.{TellsProgress, WithProgress}
 use Rattle.many_commands.specs.Texts.{TakesLists, get_form}
 use Rattle.many_commands.specs.Wishing.{AreWishes, words_of}

@@ -1,5 +1,5 @@
 -- What the commands on volumes leave as it was, and what a check that ends well says.
-use Rattle.std.specs.Prelude.{◌≡◌, ℕ, Bool, true, false, Option, Result, Ok, Err, List, [], ◌∷◌}
+use Rattle.std.specs.Prelude.{◌≡◌, ℕ, Bool, true, false, Option, Some, Result, Ok, Err, List, [], ◌∷◌}
 use Rattle.std.specs.Global.{Vec}
 use Rattle.hosts.specs.Event.{Event, look_call}
 use Rattle.hosts.specs.Place.{about}
@@ -7,8 +7,14 @@ use Rattle.hosts.specs.Saving.{replacements}
 use Rattle.outcome.specs.declared.endings.Ending.{Ending}
 use Rattle.outcome.specs.declared.endings.Ending.TheVariants.{Line, Fault, Failure, Busy, NotWritten, FullOutput, NoReader, Misuse}
 use Rattle.disk_layouts.specs.declared.layouts.Layout.{Layout}
+use Rattle.disk_layouts.specs.declared.layouts.Layout.TheVariants.{First, Second}
+use Rattle.image_volumes.specs.Margins.{body_of}
+use Rattle.image_volumes.specs.Volumes.{volumes_in}
+use Rattle.image_volumes.specs.declared.volumes.Volumes.{Volumes}
+use Rattle.image_volumes.specs.declared.volumes.Volumes.TheVariants.{One, Both}
 use Rattle.volume_commands.specs.Reading.{FindsVolume}
-use Rattle.many_commands.specs.Checking.{Reports}
+use Rattle.many_commands.specs.Checking.{kind_of_check}
+use Rattle.many_commands.specs.Reporting.{Reports}
 use Rattle.many_commands.specs.GettingMany.{path_in}
 use Rattle.many_commands.specs.declared.reports.Report.{Report}
 
@@ -53,15 +59,24 @@ NeverReplaces {A} command = (old : List Event) (result : Result A Ending) (new :
 
 -- ## Images that are sound
 
--- the image in a file of these bytes is sound
-pub record IsSoundFile (is_all : Bool) (layout : Option Layout) (file : List ℕ) : Type 0 where
+-- the image of the volume that lies so in bytes without margins is sound
+pub record IsSoundVolume (is_all : Bool) (layout : Option Layout) (body : List ℕ) : Type 0 where
   pub image : Vec ℕ
-  pub found : FindsVolume layout file (Ok image)
+  pub found : FindsVolume layout body (Ok image)
   pub report : Report
-  pub reports : Reports is_all image.items (Ok report)
+  pub reports : Reports (kind_of_check is_all) image.items (Ok report)
   pub sound : report.is_sound ≡ true
 
--- each of these files was read, in their order and nothing else, and the image in each is sound; by what was read before and after
+-- each volume that is meant is
+abbrev pub AreSoundIn : Bool → Volumes → List ℕ → Type 0
+AreSoundIn is_all (One layout) body = IsSoundVolume is_all layout body
+AreSoundIn is_all Both body = IsSoundVolume is_all (Some First) body × IsSoundVolume is_all (Some Second) body
+
+-- each volume in a file of these bytes is
+abbrev pub IsSoundFile : Bool → Option Layout → List ℕ → Type 0
+IsSoundFile is_all given file = AreSoundIn is_all (volumes_in given file) (body_of given file)
+
+-- each of these files was read, in their order and nothing else, and each volume in it is sound; by what was read before and after
 abbrev pub AreSound : Bool → Option Layout → List (List ℕ) → List Event → List Event → Type 0
 AreSound is_all layout [] old new = new ≡ old
 AreSound is_all layout (name ∷ names) old new = (file : List ℕ) × IsSoundFile is_all layout file × AreSound is_all layout names (look_call name true file ∷ old) new

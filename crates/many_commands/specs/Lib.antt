@@ -1,4 +1,6 @@
 pub mod Progressing
+pub mod Reporting
+pub mod Volumes
 pub mod Checking
 pub mod Texts
 pub mod PuttingMany

@@ -22,16 +22,14 @@ use Rattle.outcome.specs.declared.notes.NameNote.TheVariants.{NotPut, Empty}
 use Rattle.outcome.specs.declared.notes.PlainNote.TheVariants.{FileNames}
 use Rattle.outcome.specs.declared.endings.Ending.{Ending}
 use Rattle.outcome.specs.declared.endings.Ending.TheVariants.{Line, Fault}
-use Rattle.program_tasks.specs.declared.forms.ImageForm.{ImageForm}
 use Rattle.program_tasks.specs.declared.forms.PutManyForm.{PutManyForm}
 use Rattle.program_tasks.specs.declared.forms.TextsForm.{TextsForm}
 use Rattle.volume_commands.specs.Work.{Then, Purely}
-use Rattle.volume_commands.specs.Reading.{LooksAt, Opens}
+use Rattle.volume_commands.specs.Reading.{Looks, Opens}
 use Rattle.volume_commands.specs.Answers.{AreLines, Refuses}
 use Rattle.volume_commands.specs.Putting.{TellsBad, is_bad, words_of}
 use Rattle.volume_commands.specs.Saving.{IsDone, Stores}
 use Rattle.volume_commands.specs.declared.images.Image.{Image}
-use Rattle.many_commands.specs.Checking.{IsImageOf}
 use Rattle.many_commands.specs.Texts.{TakesLists, put_form}
 
 -- ## The files of the host
@@ -64,9 +62,9 @@ abbrev pub TellsUnread : List ℕ → Ending → List Event → Ending → List 
 TellsUnread path why old ending new = ((ending ≡ why) × (ok : Bool) × (new ≡ tell_call ok (name_text NotPut path) ∷ old)) ⊎ ((ending ≡ Fault Memory) × (new ≡ old))
 
 -- a file of the host is read whole
-abbrev pub LooksWhole : List ℕ → ImageForm → List Event → Result (Vec ℕ) Ending → List Event → Type 0
-LooksWhole path form old (Ok bytes) new = LooksAt form old (Ok bytes) new
-LooksWhole path form old (Err ending) new = (why : Ending) × (between : List Event) × LooksAt form old (Err why) between × TellsUnread path why between ending new
+abbrev pub LooksWhole : List ℕ → List Event → Result (Vec ℕ) Ending → List Event → Type 0
+LooksWhole path old (Ok bytes) new = Looks path path old (Ok bytes) new
+LooksWhole path old (Err ending) new = (why : Ending) × (between : List Event) × Looks path path old (Err why) between × TellsUnread path why between ending new
 
 -- a file that is to be put, unless memory is wanted to keep it
 abbrev pub IsNewFile : TextsForm → ℕ → List ℕ → Result NewFile Ending → Type 0
@@ -75,7 +73,7 @@ IsNewFile texts name bytes (Err ending) = ending ≡ Fault Memory
 
 -- the file of a path, after those of earlier ones
 abbrev pub ReadsNext : TextsForm → List NewFile → List ℕ → List Event → Result NewFile Ending → List Event → Type 0
-ReadsNext texts files path = Then (TakesName files path) (λ name. Then (Purely (IsImageOf path None)) (λ form. Then (LooksWhole path form) (λ bytes. Purely (IsNewFile texts name bytes.items))))
+ReadsNext texts files path = Then (TakesName files path) (λ name. Then (LooksWhole path) (λ bytes. Purely (IsNewFile texts name bytes.items)))
 
 -- these are the files
 abbrev pub AreFiles : List NewFile → Result (Vec NewFile) Ending → Type 0

@@ -4,21 +4,21 @@ ghost use Rattle.program_reports.specs.Program.{program_line};
 ghost use Rattle.program_reports.specs.declared.programs.ProgramLine.TheVariants as line;
 ghost use Rattle.volume_commands.specs.Answers.{AreLines};
 ghost use Rattle.many_commands.specs.Checking as spec;
-ghost use Rattle.many_commands.specs.Checking.{ChecksEach, ChecksFiles, ChecksImages, ChecksNext, ChecksOne, ChecksSeveral, EndsSound, PrintsCount, PrintsNamed, PrintsReport};
+ghost use Rattle.many_commands.specs.Checking.{ChecksEach, ChecksFiles, ChecksImages, ChecksNext, ChecksSeveral, PrintsCount};
 ghost use Rattle.many_commands.specs.Progressing.{WithProgress};
 
-use crate::images::image_of;
 use crate::progress::Progress;
-use crate::reports::{Report, report_among, report_on};
-use disk_layouts::Layout;
+use crate::reports::{ReportKind, end_sound};
+use crate::volumes::{report_next, report_one};
 use hosts::Host;
 use outcome::Ending;
-use program_reports::{ProgramLine, put_program, with_prefix};
+use program_reports::{ProgramLine, put_program};
 use program_tasks::CheckForm;
 use std::alloc::Global;
-use volume_commands::{look_at, print};
+use volume_commands::print;
 
-/// Reports on the volumes in image files. Of several each line has the name of the file before it, and the last line counts them.
+/// Reports on the volumes in image files. Of several volumes each line has the name of its file or volume before it, and of several files the
+/// last line counts them (this project's profile).
 pub fn check_images<H: Host>(host: &mut H, alloc: Global, form: &CheckForm) -> Result<(), Ending>
     ensures { ChecksImages form.now (H.history host.old) result (H.history host.new) }
 {
@@ -35,43 +35,15 @@ fn check_files<H: Host>(
     ensures { ChecksFiles form.now (map (λ file. file.bytes.items) files.now) (H.history host.old) result (H.history host.new) }
 {
     match files {
-        [file] => check_one(host, alloc, form.is_all, form.layout, file.as_str()),
+        [file] => report_one(
+            host,
+            alloc,
+            kind_of_check(form.is_all),
+            form.layout,
+            file.as_str(),
+        ),
         _ => check_several(host, alloc, form, files),
     }
-}
-
-/// Reports on the one image that is asked for.
-fn check_one<H: Host>(
-    host: &mut H,
-    alloc: Global,
-    is_all: bool,
-    layout: Option<Layout>,
-    file: &str,
-) -> Result<(), Ending>
-    ensures { ChecksOne is_all layout file.now (H.history host.old) result (H.history host.new) }
-{
-    let image = image_of(alloc, file, layout)?;
-    let bytes = look_at(host, alloc, &image)?;
-    let report = report_on(host, alloc, &bytes, is_all)?;
-    print_report(host, &report)
-}
-
-/// Prints the report of an image, and ends the command.
-fn print_report<H: Host>(host: &mut H, report: &Report) -> Result<(), Ending>
-    ensures { PrintsReport report.now (H.history host.old) result (H.history host.new) }
-{
-    print(host, &report.text)?;
-    end_sound(report.is_sound)
-}
-
-/// How a command ends where all is sound, or not.
-pub(crate) fn end_sound(is_sound: bool) -> Result<(), Ending>
-    ensures { EndsSound is_sound result }
-{
-    if is_sound {
-        return Ok(());
-    }
-    Err(Ending::Failure)
 }
 
 /// Reports on several images, and counts them.
@@ -150,32 +122,17 @@ fn check_next<H: Host>(
     ensures all { progress.new.all ≡ progress.old.all }
 {
     progress.tell(host, done);
-    let image = image_of(alloc, file, form.layout)?;
-    let report = report_among(host, alloc, &image, form.is_all)?;
-    print_named(host, alloc, file, &report)
+    report_next(host, alloc, kind_of_check(form.is_all), form.layout, file)
 }
 
-/// Prints the report of an image, each line with the name of its file before it, and answers whether it is sound.
-fn print_named<H: Host>(
-    host: &mut H,
-    alloc: Global,
-    file: &str,
-    report: &Report,
-) -> Result<bool, Ending>
-    ensures { PrintsNamed file.now report.now (H.history host.old) result (H.history host.new) }
+/// What is reported of each volume: its directory with the first fault, or with each.
+fn kind_of_check(is_all: bool) -> ReportKind
+    ensures { result ≡ spec.kind_of_check is_all }
 {
-    let lines = named_lines(alloc, file, &report.text)?;
-    print(host, &lines)?;
-    Ok(report.is_sound)
-}
-
-/// Lines with the name of a file before each.
-pub(crate) fn named_lines(alloc: Global, file: &str, text: &[u8]) -> Result<Vec<u8>, Ending>
-    ensures { AreLines (spec.named_lines file.now text.now) result }
-{
-    let prefix = format!(in alloc; "{file}: ")?;
-    let lines = with_prefix(alloc, prefix.as_bytes(), text)?;
-    Ok(lines)
+    if is_all {
+        return ReportKind::Survey;
+    }
+    ReportKind::Directory
 }
 
 /// Prints the line that counts images, and ends the command.

@@ -7,15 +7,15 @@ ghost use Rattle.outcome.specs.declared.endings.Ending.TheVariants.{Line, Fault}
 ghost use Rattle.program_reports.specs.declared.programs.ProgramLine.TheVariants.{HostWrite};
 ghost use Rattle.script8.specs.declared.faults.SessionFault.TheVariants as session;
 ghost use Rattle.volume_commands.specs.Answers.{Answers};
-ghost use Rattle.many_commands.specs.Checking.{named_lines};
+ghost use Rattle.many_commands.specs.Reporting.{named_lines};
 ghost use Rattle.volume_commands.specs.Work.{Then};
 ghost use Rattle.many_commands.specs.Progressing.{TellsProgress, WithProgress};
 ghost use Rattle.many_commands.specs.GettingMany as spec;
 ghost use Rattle.many_commands.specs.GettingMany.{AreFilesOn, GetsMany, GivesAsked, GivesEach, GivesFile, GivesWish, MakesFolder, PrintsAnswer, RefusesWord};
 
-use crate::checks::end_sound;
 use crate::giving::{give_file, refuse};
 use crate::progress::Progress;
+use crate::reports::end_sound;
 use crate::texts::take_lists;
 use crate::wishes::{Wish, wishes_of};
 use archive_many::{OpenVolume, VolumeFile, open};

@@ -5,11 +5,11 @@ ghost use Rattle.program_reports.specs.declared.programs.ProgramLine.TheVariants
 ghost use Rattle.script8.specs.Replies.{fault_line};
 ghost use Rattle.script8.specs.declared.faults.SessionFault.TheVariants.{File};
 ghost use Rattle.volume_commands.specs.Answers.{AreLines};
-ghost use Rattle.many_commands.specs.Checking.{named_lines};
+ghost use Rattle.many_commands.specs.Reporting.{named_lines};
 ghost use Rattle.many_commands.specs.GettingMany as spec;
 ghost use Rattle.many_commands.specs.GettingMany.{GivesFile, IsPath, LaysAndTells, LaysFile, PrintsAnswer, TakesFile, IsHostName, TellsLaid};
 
-use crate::checks::named_lines;
+use crate::reports::named_lines;
 use crate::texts::get_form;
 use archive_files::GetForm;
 use archive_many::{OpenVolume, VolumeFile, host_name};

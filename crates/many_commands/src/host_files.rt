@@ -6,18 +6,17 @@ ghost use Rattle.archive_many.specs.declared.putting.NewFile.{NewFile as AsNew};
 ghost use Rattle.many_commands.specs.PuttingMany.{LooksWhole, ReadsEach, ReadsNext, RefusesName, RefusesPath, TakesName, TellsUnread};
 ghost use Rattle.many_commands.specs.NameSteps.{KnowsNames, has_key};
 
-use crate::images::image_of;
 use crate::texts::put_form;
 use archive_many::{NewFile, volume_name};
 use hosts::Host;
 use os8_dir::{FileFault, Name};
 use outcome::{Ending, NameNote, Note, PlainNote};
 use program_reports::ProgramLine;
-use program_tasks::{ImageForm, TextsForm};
+use program_tasks::TextsForm;
 use script8::SessionFault;
 use std::alloc::{AllocError, Global};
 use std::collections::BTreeSet;
-use volume_commands::{look_at, tell_note};
+use volume_commands::{look_file, tell_note};
 
 /// The files of these paths, which are read in their order.
 pub(crate) fn read_files<H: Host>(
@@ -59,8 +58,7 @@ fn read_next<H: Host>(
     ensures names { IfOk result (λ file. (q : ℕ) → has_key names.new q ≡ (has_key names.old q || nat_eq file.name q)) }
 {
     let name = take_name(host, alloc, path, names)?;
-    let form = image_of(alloc, path, None)?;
-    let bytes = look_whole(host, alloc, path, &form)?;
+    let bytes = look_whole(host, alloc, path)?;
     Ok(NewFile {
         name,
         bytes,
@@ -133,15 +131,10 @@ fn refuse_name<H: Host>(host: &mut H, alloc: Global, path: &str) -> Ending
 }
 
 /// All bytes of the file of a path. Where it is not read, the path is printed.
-fn look_whole<H: Host>(
-    host: &mut H,
-    alloc: Global,
-    path: &str,
-    form: &ImageForm,
-) -> Result<Vec<u8>, Ending>
-    ensures { LooksWhole path.now form.now (H.history host.old) result (H.history host.new) }
+fn look_whole<H: Host>(host: &mut H, alloc: Global, path: &str) -> Result<Vec<u8>, Ending>
+    ensures { LooksWhole path.now (H.history host.old) result (H.history host.new) }
 {
-    match look_at(host, alloc, form) {
+    match look_file(host, alloc, path) {
         Ok(bytes) => Ok(bytes),
         Err(ending) => Err(tell_unread(host, alloc, path, ending)),
     }

@@ -1,11 +1,11 @@
 //! What the commands on volumes leave as it was, and what a check that ends well says, as laws.
-ghost use Rattle.std.specs.Prelude.{◌≡◌, ℕ, List, Ok, false, map};
+ghost use Rattle.std.specs.Prelude.{◌≡◌, ℕ, List, Ok, Option, false, map};
 ghost use Rattle.hosts.specs.Event.{Event};
 ghost use Rattle.hosts.specs.Streams.{read};
 ghost use Rattle.archive_files.specs.Asking.{Target};
 ghost use Rattle.archive_files.specs.Getting.{Gets};
-ghost use Rattle.archive_files.specs.Listing.{ListsFiles};
 ghost use Rattle.char_pack.specs.declared.forms.GetForm.{GetForm as How};
+ghost use Rattle.disk_layouts.specs.declared.layouts.Layout.{Layout as Where};
 ghost use Rattle.program_tasks.specs.declared.forms.BlocksForm.{BlocksForm as Blocks};
 ghost use Rattle.program_tasks.specs.declared.forms.CheckForm.{CheckForm as Check};
 ghost use Rattle.program_tasks.specs.declared.forms.CopyForm.{CopyForm as Copy};
@@ -25,10 +25,12 @@ ghost use Rattle.many_commands.specs.Checking.{ChecksImages};
 ghost use Rattle.many_commands.specs.GettingMany.{GetsMany};
 ghost use Rattle.many_commands.specs.Laws.{AreSound, ChangesIn, LeavesFiles, NeverChanges, NeverReplaces};
 ghost use Rattle.many_commands.specs.PuttingMany.{PutsMany};
+ghost use Rattle.many_commands.specs.Volumes.{ReportsOne};
+ghost use Rattle.many_commands.specs.declared.reports.ReportKind.{ReportKind as Kind};
 
 /// A command that shows what images have changes no file, in whichever way it ends.
 pub fn shown_images()
-    ensures lists { (form : Image) → NeverChanges (Shows ListsFiles form) }
+    ensures reports { (kind : Kind) (given : Option Where) (file : List ℕ) → NeverChanges (ReportsOne kind given file) }
     ensures gets { (file : File) (how : How) (form : Image) → NeverChanges (Shows (λ bytes. Gets bytes (wanted_file file) how) form) }
     ensures blocks { (form : Blocks) → NeverChanges (ShowsBlocks form) }
     ensures tape { (file : File) (form : Image) → NeverChanges (ShowsTape file form) }
@@ -52,7 +54,7 @@ pub fn gotten_files()
     ensures older { (form : GetMany) → form.is_forced ≡ false → NeverReplaces (GetsMany form) }
 {}
 
-/// Where a check ends well, each image file was read whole, in its order and nothing else, and each image is sound.
+/// Where a check ends well, each image file was read whole, in its order and nothing else, and each volume in it is sound.
 pub fn sound_images()
     ensures { (form : Check) (old new : List Event) → ChecksImages form old (Ok tt) new
         → AreSound form.is_all form.layout (map (λ file. file.bytes.items) form.images.items) (read old) (read new) }

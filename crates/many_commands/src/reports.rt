@@ -1,20 +1,39 @@
 //! The report of an image.
 ghost use Rattle.std.specs.Prelude.{◌≡◌, length};
-ghost use Rattle.volume_commands.specs.Answers.{Answers};
+ghost use Rattle.archive_files.specs.Checking.{Checks};
+ghost use Rattle.archive_files.specs.Listing.{ListsFiles};
+ghost use Rattle.archive_commands.specs.Dates.{ListsDates};
+ghost use Rattle.volume_commands.specs.Answers.{Answers, AreLines};
 ghost use Rattle.outcome.specs.declared.endings.Ending.TheVariants.{Line};
-ghost use Rattle.many_commands.specs.Checking as spec;
-ghost use Rattle.many_commands.specs.Checking.{ChecksSound, LooksAmong, Reports, ReportsAmong, SurveysAll, TellsRefusal};
+ghost use Rattle.many_commands.specs.Reporting as spec;
+ghost use Rattle.many_commands.specs.Reporting.{EndsSound, IsSoundText, PrintsNamed, PrintsReport, Reports, ReportsAmong, SurveysAll, TellsRefusal};
 
-use archive_files::{ArchiveFault, check};
+use archive_commands::list_dated;
+use archive_files::{ArchiveFault, check, list};
 use archive_survey::survey;
 use hosts::Host;
 use outcome::Ending;
-use program_reports::{ProgramLine, put_program};
-use program_tasks::ImageForm;
+use program_reports::{ProgramLine, put_program, with_prefix};
 use script8::SessionFault;
 use std::alloc::Global;
-use volume_commands::{look_at, refuse_image};
+use volume_commands::{print, refuse_image};
 use volume_image::ImageFault;
+
+/// What is reported of an image.
+#[derive(Clone, Copy, PartialEq, Eq, Debug)]
+pub enum ReportKind {
+    /// What its directory says; its first fault ends the report.
+    Directory,
+
+    /// All that its directory still shows, with each fault.
+    Survey,
+
+    /// Its files, by name.
+    Files,
+
+    /// Its files in order of their blocks, with dates of the eight years up to this one, if one is given.
+    Places(Option<usize>),
+}
 
 /// The report of an image: its lines, and whether it has no fault.
 #[derive(Drop)]
@@ -28,43 +47,32 @@ pub(crate) fn report_on<H: Host>(
     host: &mut H,
     alloc: Global,
     image: &[u8],
-    is_all: bool,
+    kind: ReportKind,
 ) -> Result<Report, Ending>
-    ensures { Answers (Reports is_all image.now) (length image.now) (H.history host.old) result (H.history host.new) }
+    ensures { Answers (Reports kind image.now) (length image.now) (H.history host.old) result (H.history host.new) }
 {
-    match report_of(alloc, image, is_all) {
+    match report_of(alloc, image, kind) {
         Ok(report) => Ok(report),
         Err(fault) => Err(refuse_image(host, image.len(), fault)),
     }
 }
 
-/// The report of the image in one of several files: a refusal by its line.
-pub(crate) fn report_among<H: Host>(
-    host: &mut H,
+/// The report of an image among others: a refusal by its line.
+pub(crate) fn report_or_line(
     alloc: Global,
-    form: &ImageForm,
-    is_all: bool,
+    image: &[u8],
+    kind: ReportKind,
 ) -> Result<Report, Ending>
-    ensures { LooksAmong is_all form.now (H.history host.old) result (H.history host.new) }
+    ensures { ReportsAmong kind image.now result }
 {
-    match look_at(host, alloc, form) {
-        Ok(image) => report_or_line(alloc, &image, is_all),
-        Err(ending) => refusal_report(alloc, ending),
-    }
-}
-
-/// The report of an image among others.
-fn report_or_line(alloc: Global, image: &[u8], is_all: bool) -> Result<Report, Ending>
-    ensures { ReportsAmong is_all image.now result }
-{
-    match report_of(alloc, image, is_all) {
+    match report_of(alloc, image, kind) {
         Ok(report) => Ok(report),
         Err(fault) => refusal_report(alloc, Ending::from(fault)),
     }
 }
 
 /// The report of an image that is refused so: its line, if it has one of its own.
-fn refusal_report(alloc: Global, ending: Ending) -> Result<Report, Ending>
+pub(crate) fn refusal_report(alloc: Global, ending: Ending) -> Result<Report, Ending>
     ensures { TellsRefusal ending result }
 {
     match ending {
@@ -90,20 +98,46 @@ fn line_report(alloc: Global, line: ProgramLine) -> Result<Report, Ending>
     })
 }
 
-/// The report of an image: what its directory says, or all that is left of one that is not sound.
-fn report_of(alloc: Global, image: &[u8], is_all: bool) -> Result<Report, ArchiveFault>
-    ensures { Reports is_all image.now result }
+/// The report of an image of this kind.
+fn report_of(alloc: Global, image: &[u8], kind: ReportKind) -> Result<Report, ArchiveFault>
+    ensures { Reports kind image.now result }
 {
-    if is_all {
-        return survey_of(alloc, image);
+    match kind {
+        ReportKind::Directory => check_of(alloc, image),
+        ReportKind::Survey => survey_of(alloc, image),
+        ReportKind::Files => files_of(alloc, image),
+        ReportKind::Places(year) => places_of(alloc, image, year),
     }
-    check_of(alloc, image)
 }
 
 fn check_of(alloc: Global, image: &[u8]) -> Result<Report, ArchiveFault>
-    ensures { ChecksSound image.now result }
+    ensures { IsSoundText (Checks image.now) result }
 {
     match check(alloc, image) {
+        Ok(text) => Ok(Report {
+            text,
+            is_sound: true,
+        }),
+        Err(fault) => Err(fault),
+    }
+}
+
+fn files_of(alloc: Global, image: &[u8]) -> Result<Report, ArchiveFault>
+    ensures { IsSoundText (ListsFiles image.now) result }
+{
+    match list(alloc, image) {
+        Ok(text) => Ok(Report {
+            text,
+            is_sound: true,
+        }),
+        Err(fault) => Err(fault),
+    }
+}
+
+fn places_of(alloc: Global, image: &[u8], year: Option<usize>) -> Result<Report, ArchiveFault>
+    ensures { IsSoundText (ListsDates year image.now) result }
+{
+    match list_dated(alloc, image, year) {
         Ok(text) => Ok(Report {
             text,
             is_sound: true,
@@ -131,4 +165,45 @@ fn fault_of_image(fault: ImageFault) -> ArchiveFault
         ImageFault::Memory => ArchiveFault::Refused(SessionFault::Memory),
         fault => ArchiveFault::Image(fault),
     }
+}
+
+/// Prints the report of an image, and ends the command.
+pub(crate) fn print_report<H: Host>(host: &mut H, report: &Report) -> Result<(), Ending>
+    ensures { PrintsReport report.now (H.history host.old) result (H.history host.new) }
+{
+    print(host, &report.text)?;
+    end_sound(report.is_sound)
+}
+
+/// How a command ends where all is sound, or not.
+pub(crate) fn end_sound(is_sound: bool) -> Result<(), Ending>
+    ensures { EndsSound is_sound result }
+{
+    if is_sound {
+        return Ok(());
+    }
+    Err(Ending::Failure)
+}
+
+/// Prints the report of an image, each line with a name before it, and answers whether it is sound.
+pub(crate) fn print_named<H: Host>(
+    host: &mut H,
+    alloc: Global,
+    name: &str,
+    report: &Report,
+) -> Result<bool, Ending>
+    ensures { PrintsNamed name.now report.now (H.history host.old) result (H.history host.new) }
+{
+    let lines = named_lines(alloc, name, &report.text)?;
+    print(host, &lines)?;
+    Ok(report.is_sound)
+}
+
+/// Lines with a name before each.
+pub(crate) fn named_lines(alloc: Global, name: &str, text: &[u8]) -> Result<Vec<u8>, Ending>
+    ensures { AreLines (spec.named_lines name.now text.now) result }
+{
+    let prefix = format!(in alloc; "{name}: ")?;
+    let lines = with_prefix(alloc, prefix.as_bytes(), text)?;
+    Ok(lines)
 }

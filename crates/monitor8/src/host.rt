@@ -2,12 +2,12 @@
 //! is printed.
 
 use crate::runs::run_image;
-use archive_commands::{WordPatch, dump_blocks, list_dates, patch_word};
+use archive_commands::{WordPatch, dump_blocks, patch_word};
 use command_table::{TaskFault, task};
 use host_inputs::{tell_bad_argument, texts_of};
 use hosts::Host;
 use index_commands::index_images;
-use many_commands::{check_images, get_files, put_files};
+use many_commands::{check_images, get_files, list_files, list_places, put_files};
 use outcome::{Content, Ending, ending_of_output, gives_data, no_memory_line};
 use program_tasks::{IndexForm, LineForm, ScanForm, Task};
 use salvage_commands::{rescue_image, scan_blocks, scan_into};
@@ -25,7 +25,7 @@ use tape_commands::{
 };
 use volume_commands::{
     Rooms, copy_file, create_image, create_tape, delete_files, end, file_asked, get_bin,
-    get_blocks, get_file, list_files, put_file, rename_file, squeeze_files,
+    get_blocks, get_file, put_file, rename_file, squeeze_files,
 };
 use volume_index::IndexStyle;
 
@@ -96,7 +96,7 @@ where
         ),
         Task::CreateTape(form) => wait_for_image!(rt, form.wait, create_tape(host, alloc, &form)),
         Task::List(image) => list_files(host, alloc, &image),
-        Task::ListLong(image, year) => list_dates(host, alloc, &image, year),
+        Task::ListLong(image, year) => list_places(host, alloc, &image, year),
         Task::Get(image, file, form) => get_file(host, alloc, &image, file, form),
         Task::GetBin(image, file) => get_bin(host, alloc, &image, file),
         Task::GetMany(form) => get_files(host, alloc, &form),

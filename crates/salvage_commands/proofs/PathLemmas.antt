@@ -4,6 +4,10 @@ use Rattle.std.specs.Str.{bytes_eq}
 use Rattle.std.proofs.lemmas.Slice.Eq.{bytes_eq-Decides}
 use Rattle.hosts.specs.Event.{Event}
 use Rattle.hosts.specs.Place.{about}
+use Rattle.image_volumes.specs.Margins.{body_of}
+use Rattle.image_volumes.specs.Volumes.{volumes_in}
+use Rattle.image_volumes.specs.declared.volumes.Volumes.{Volumes}
+use Rattle.image_volumes.specs.declared.volumes.Volumes.TheVariants.{One, Both}
 use Rattle.outcome.specs.Hints.{image_note}
 use Rattle.outcome.specs.declared.contents.Content.TheVariants as content
 use Rattle.outcome.specs.declared.endings.Ending.{Ending}
@@ -17,7 +21,7 @@ use Rattle.script8.specs.declared.faults.SessionFault.TheVariants as fault
 use Rattle.program_tasks.specs.declared.forms.ImageForm.{ImageForm}
 use Rattle.volume_commands.specs.Answers.{Answers, AreLines, Refuses}
 use Rattle.volume_commands.specs.Notes.{Tells}
-use Rattle.volume_commands.specs.Reading.{FindsVolume, Looks, LooksAt}
+use Rattle.volume_commands.specs.Reading.{FindsIn, FindsOne, Looks, LooksAt}
 use Rattle.volume_commands.specs.Saving.{Prints}
 use Rattle.volume_commands.specs.ShowingParts.{RefusesBlocks}
 use Rattle.volume_commands.specs.Work.{Then, Purely}
@@ -121,9 +125,14 @@ looks-stays path name shown old (Err FullOutput) new p = absurd p
 looks-stays path name shown old (Err NoReader) new p = absurd p
 looks-stays path name shown old (Err Misuse) new p = absurd p
 
+finds-stays : (path : List ℕ) (volumes : Volumes) (body : List ℕ) → Stays path (FindsIn volumes body)
+finds-stays path (One layout) body old result new p = same path p.1
+finds-stays path Both body old (Ok image) new p = absurd p
+finds-stays path Both body old (Err ending) new (is, ok, p) = same path p
+
 looks-at-stays : (path : List ℕ) (form : ImageForm) → Stays path (LooksAt form)
-looks-at-stays path form = then-stays path (Looks form.file.bytes.items form.file.bytes.items) (λ file. Purely (FindsVolume form.layout file.items))
-    (looks-stays path form.file.bytes.items form.file.bytes.items) (λ file old between done. purely-stays path (FindsVolume form.layout file.items) between)
+looks-at-stays path form = then-stays path (Looks form.file.bytes.items form.file.bytes.items) (λ file. FindsOne form.layout file.items)
+    (looks-stays path form.file.bytes.items form.file.bytes.items) (λ file old between done. finds-stays path (volumes_in form.layout file.items) (body_of form.layout file.items) between)
 
 gives-stays : (path image : List ℕ) (piece : Piece) → Stays path (GivesPiece image piece)
 gives-stays path image piece old (Ok bytes) new p = same path p.1

@@ -1,13 +1,16 @@
 -- The command that makes a new volume of what a damaged one still shows (this project's profile).
-use Rattle.std.specs.Prelude.{ℕ, Bool, true, false, Result, Ok, Err, List, length}
-use Rattle.hosts.specs.Event.{Event}
+use Rattle.std.specs.Prelude.{◌≡◌, ◌||◌, ℕ, Bool, true, false, not, nat_eq, Option, Result, Ok, Err, List, ◌∷◌, codes, length}
+use Rattle.hosts.specs.Event.{Event, tell_call}
+use Rattle.disk_layouts.specs.declared.layouts.Layout.{Layout}
+use Rattle.image_volumes.specs.Margins.{margins_in}
+use Rattle.image_volumes.specs.declared.margins.Margins.{Margins}
 use Rattle.program_tasks.specs.declared.forms.ImageForm.{ImageForm}
 use Rattle.outcome.specs.declared.endings.Ending.{Ending}
 use Rattle.outcome.specs.declared.endings.Ending.TheVariants.{Failure, FullOutput, NoReader}
 use Rattle.volume_commands.specs.Answers.{Answers, AreLines}
 use Rattle.volume_commands.specs.Making.{MakesFirst}
-use Rattle.volume_commands.specs.Reading.{LooksAt}
-use Rattle.volume_commands.specs.Saving.{Prints}
+use Rattle.volume_commands.specs.Reading.{FindsOne, Looks}
+use Rattle.volume_commands.specs.Saving.{IsDone, Prints}
 use Rattle.volume_commands.specs.Work.{Then, Purely}
 use Rattle.volume_salvage.specs.Salvaging.{Salvages, is_complete, rescued_text}
 
@@ -21,7 +24,27 @@ Finishes false lines old (Err FullOutput) new = Prints lines old (Err FullOutput
 Finishes false lines old (Err NoReader) new = Prints lines old (Err NoReader) new
 Finishes false lines old (Err _) new = ⊥
 
--- An image file is only looked at. The file of the new volume is made, where there is none of its name, and only then is anything printed.
+-- a file has bytes before or after the blocks of its volumes
+abbrev pub has_margins : Margins → Bool
+has_margins margins = not (nat_eq margins.before 0) || not (nat_eq margins.after 0)
+
+-- a note says that these are left out
+abbrev pub with_margin_note : Bool → Bool → List Event → List Event
+with_margin_note true ok old = tell_call ok (codes "note: the file has bytes before or after the blocks of its volume: they are left out\n") ∷ old
+with_margin_note false ok old = old
+
+abbrev pub TellsMargins : Margins → List Event → Result (Unit {0}) Ending → List Event → Type 0
+TellsMargins margins old result new = IsDone result × (ok : Bool) × (new ≡ with_margin_note (has_margins margins) ok old)
+
+-- the file of the new volume is made, where there is none of its name, and only then is anything printed on standard output
+abbrev pub RescuesVolume : List ℕ → List Event → Result (Unit {0}) Ending → List Event → Type 0
+RescuesVolume image =
+    Then (Answers (Salvages image) (length image)) (λ salvage. Then (Purely (AreLines (rescued_text salvage))) (λ lines. Then (MakesFirst salvage.image.items) (λ it. Finishes (is_complete salvage) lines.items)))
+
+-- the one volume in a file of these bytes is rescued
+abbrev pub RescuesFile : Option Layout → List ℕ → List Event → Result (Unit {0}) Ending → List Event → Type 0
+RescuesFile given file = Then (FindsOne given file) (λ image. Then (TellsMargins (margins_in given file)) (λ it. RescuesVolume image.items))
+
+-- An image file is only looked at.
 abbrev pub RescuesImage : ImageForm → List Event → Result (Unit {0}) Ending → List Event → Type 0
-RescuesImage form =
-    Then (LooksAt form) (λ image. Then (Answers (Salvages image.items) (length image.items)) (λ salvage. Then (Purely (AreLines (rescued_text salvage))) (λ lines. Then (MakesFirst salvage.image.items) (λ it. Finishes (is_complete salvage) lines.items))))
+RescuesImage form = Then (Looks form.file.bytes.items form.file.bytes.items) (λ file. RescuesFile form.layout file.items)

@@ -1,14 +1,17 @@
 //! The command that makes a new volume of what a damaged one still shows.
-ghost use Rattle.std.specs.Prelude.{length};
+ghost use Rattle.std.specs.Prelude.{◌≡◌, length};
 ghost use Rattle.volume_salvage.specs.Salvaging.{Salvages, rescued_text};
 ghost use Rattle.volume_commands.specs.Answers.{Answers, AreLines};
-ghost use Rattle.salvage_commands.specs.Rescuing.{Finishes, RescuesImage};
+ghost use Rattle.salvage_commands.specs.Rescuing as spec;
+ghost use Rattle.salvage_commands.specs.Rescuing.{Finishes, RescuesFile, RescuesImage, RescuesVolume};
 
+use disk_layouts::Layout;
 use hosts::Host;
+use image_volumes::{Margins, margins_in};
 use outcome::Ending;
 use program_tasks::ImageForm;
 use std::alloc::Global;
-use volume_commands::{look_at, make_first, print, refuse_image};
+use volume_commands::{look_file, make_first, one_volume_in, print, refuse_image};
 use volume_salvage::{Salvage, salvage_image};
 
 /// Makes the file of a new volume with the files that the volume in an image file still shows, if there is none of its name. The image
@@ -22,8 +25,54 @@ pub fn rescue_image<H: Host>(
 ) -> Result<(), Ending>
     ensures { RescuesImage form.now (H.history host.old) result (H.history host.new) }
 {
-    let image = look_at(host, alloc, form)?;
-    let salvage = salvage_of(host, alloc, &image)?;
+    let file = look_file(host, alloc, form.file.as_str())?;
+    rescue_file(host, alloc, form.layout, file, new)
+}
+
+/// Rescues the one volume in a file of these bytes. A note says that those before and after its blocks are left out.
+fn rescue_file<H: Host>(
+    host: &mut H,
+    alloc: Global,
+    given: Option<Layout>,
+    file: Vec<u8>,
+    new: &str,
+) -> Result<(), Ending>
+    ensures { RescuesFile given file.items (H.history host.old) result (H.history host.new) }
+{
+    let margins = margins_in(given, &file);
+    let image = one_volume_in(host, alloc, file, given)?;
+    tell_margins(host, has_margins(margins));
+    rescue_volume(host, alloc, &image, new)
+}
+
+/// Whether a file has bytes before or after the blocks of its volumes.
+fn has_margins(margins: Margins) -> bool
+    ensures { result ≡ spec.has_margins margins }
+{
+    margins.before != 0 || margins.after != 0
+}
+
+/// Prints a note where a file has such bytes.
+fn tell_margins<H: Host>(host: &mut H, has_margins: bool)
+    ensures { (ok : _) × (H.history host.new ≡ spec.with_margin_note has_margins ok (H.history host.old)) }
+{
+    if has_margins {
+        let _ = host.tell(
+            "note: the file has bytes before or after the blocks of its volume: they are left out\n",
+        );
+    }
+}
+
+/// Rescues the volume of an image.
+fn rescue_volume<H: Host>(
+    host: &mut H,
+    alloc: Global,
+    image: &[u8],
+    new: &str,
+) -> Result<(), Ending>
+    ensures { RescuesVolume image.now (H.history host.old) result (H.history host.new) }
+{
+    let salvage = salvage_of(host, alloc, image)?;
     let lines = lines_of(alloc, &salvage)?;
     make_first(host, alloc, new, &salvage.image)?;
     finish(host, salvage.is_complete(), &lines)

@@ -1,9 +1,13 @@
 -- How an image file is held and read.
-use Rattle.std.specs.Prelude.{◌≡◌, ◌⊎◌, ◌<◌, ◌≤◌, ℕ, Bool, true, false, if◌then◌else◌, Option, None, Some, Result, Ok, Err, List, [], ◌∷◌, length}
+use Rattle.std.specs.Prelude.{◌≡◌, ◌⊎◌, ◌<◌, ◌≤◌, ℕ, ◌%◌, nat_eq, Bool, true, false, if◌then◌else◌, Option, None, Some, Result, Ok, Err, List, [], ◌∷◌, length}
 use Rattle.std.specs.Global.{Vec}
 use Rattle.hosts.specs.Event.{Event, resolve_call, hold_call, drop_seconds_call, look_call, tell_call}
 use Rattle.hosts.specs.Place.{about}
 use Rattle.hosts.specs.Streams.{output, errors, read, failures}
+use Rattle.image_volumes.specs.Margins.{body_of}
+use Rattle.image_volumes.specs.Volumes.{volumes_in}
+use Rattle.image_volumes.specs.declared.volumes.Volumes.{Volumes}
+use Rattle.image_volumes.specs.declared.volumes.Volumes.TheVariants.{One, Both}
 use Rattle.disk_layouts.specs.Disks.{FitsLayout, IsImageIn}
 use Rattle.disk_layouts.specs.Files.{Disk, Opens as OpensDisk}
 use Rattle.disk_layouts.specs.declared.layouts.Layout.{Layout}
@@ -12,13 +16,16 @@ use Rattle.script8.specs.declared.faults.SessionFault.TheVariants.{Memory}
 use Rattle.program_reports.specs.declared.programs.ProgramLine.TheVariants.{HostRead}
 use Rattle.program_reports.specs.declared.programs.ProgramLine.TheVariants as line
 use Rattle.outcome.specs.Contents.{content_name}
-use Rattle.outcome.specs.Notes.{file_text, name_text}
+use Rattle.outcome.specs.Notes.{file_text, name_text, plain_text}
 use Rattle.outcome.specs.declared.contents.Content.TheVariants.{Image}
 use Rattle.outcome.specs.declared.notes.FileNote.TheVariants.{NoLock}
 use Rattle.outcome.specs.declared.notes.NameNote.TheVariants.{TooLong}
+use Rattle.outcome.specs.declared.notes.PlainNote.TheVariants as plain
 use Rattle.outcome.specs.declared.endings.Ending.{Ending}
 use Rattle.outcome.specs.declared.endings.Ending.TheVariants.{Line, Fault, Busy}
 use Rattle.program_tasks.specs.declared.forms.ImageForm.{ImageForm}
+use Rattle.volume_image.specs.declared.faults.ImageFault.{ImageFault}
+use Rattle.volume_image.specs.declared.faults.ImageFault.TheVariants as image
 use Rattle.volume_commands.specs.Work.{Then, Purely}
 use Rattle.volume_commands.specs.declared.reading.ImagePlace.{ImagePlace}
 use Rattle.volume_commands.specs.declared.images.Image.{Image as Opened}
@@ -96,11 +103,29 @@ MakesImage place layout file (Err ending) = IsNoVolume layout file ending
 abbrev pub Opens : ImageForm → List Event → Result Opened Ending → List Event → Type 0
 Opens form = Then (Holds form.file.bytes.items) (λ place. Then (Looks (looked_name place form.file.bytes.items) form.file.bytes.items) (λ file. Purely (MakesImage place form.layout file.items)))
 
--- the image in a file that is only looked at
+-- the image of a volume in bytes without margins
 abbrev pub FindsVolume : Option Layout → List ℕ → Result (Vec ℕ) Ending → Type 0
 FindsVolume layout file (Ok image) = (disk : Option Disk) × IsVolumeOf layout file image.items disk
 FindsVolume layout file (Err ending) = IsNoVolume layout file ending
 
+-- a disk of two volumes is no image of one: it is too large, or isn't whole blocks
+abbrev pub disk_fault : ℕ → ImageFault
+disk_fault size = if nat_eq (size % 512) 0 then image.TooLarge else image.NotWhole
+
+-- a disk of so many bytes is refused where none of its volumes is named; a note says how to name one
+abbrev pub RefusesDisk : ℕ → List Event → Ending → List Event → Type 0
+RefusesDisk size old ending new = (ending ≡ Line (line.Image (disk_fault size))) × (ok : Bool) × (new ≡ tell_call ok (plain_text plain.Disk) ∷ old)
+
+-- the image of the one volume that is meant
+abbrev pub FindsIn : Volumes → List ℕ → List Event → Result (Vec ℕ) Ending → List Event → Type 0
+FindsIn (One layout) body old result new = FindsVolume layout body result × (new ≡ old)
+FindsIn Both body old (Ok image) new = ⊥
+FindsIn Both body old (Err ending) new = RefusesDisk (length body) old ending new
+
+-- that of a file: of the volume that is asked for, or else of the one that it has by its kind
+abbrev pub FindsOne : Option Layout → List ℕ → List Event → Result (Vec ℕ) Ending → List Event → Type 0
+FindsOne given file = FindsIn (volumes_in given file) (body_of given file)
+
 -- an image file is read
 abbrev pub LooksAt : ImageForm → List Event → Result (Vec ℕ) Ending → List Event → Type 0
-LooksAt form = Then (Looks form.file.bytes.items form.file.bytes.items) (λ file. Purely (FindsVolume form.layout file.items))
+LooksAt form = Then (Looks form.file.bytes.items form.file.bytes.items) (λ file. FindsOne form.layout file.items)

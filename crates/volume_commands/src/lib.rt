@@ -32,6 +32,6 @@ pub use making::{make_file, make_first};
 pub use notes::{refuse_image, tell_note};
 pub use printing::{print, store};
 pub use putting::put_file;
-pub use reading::{ImagePlace, look_at};
-pub use showing::{get_file, list_files, list_places};
+pub use reading::{ImagePlace, look_at, look_file, one_volume_in, volume_in};
+pub use showing::get_file;
 pub use showing_parts::{get_bin, get_blocks};

@@ -2,18 +2,20 @@
 ghost use Rattle.std.specs.Prelude.{◌≡◌, ℕ, List};
 ghost use Rattle.hosts.specs.Place.{about};
 ghost use Rattle.hosts.specs.Streams.{output};
-ghost use Rattle.volume_commands.specs.Reading.{Holds, Looks, LooksAt, FindsVolume, looked_name, with_lock_note};
+ghost use Rattle.volume_commands.specs.Reading.{FindsOne, FindsVolume, Holds, Looks, LooksAt, RefusesDisk, looked_name, with_lock_note};
 ghost use Rattle.volume_commands.specs.ReadingSteps.{IsAnswer};
 
 use crate::faults::ending_of_image;
 use crate::notes::{tell, tell_note};
 use disk_layouts::{DiskFile, Layout};
 use hosts::{Host, HostFault, hold_file};
-use outcome::{Content, Ending, FileNote, NameNote, Note};
+use image_volumes::{Volumes, body_of, volumes_in};
+use outcome::{Content, Ending, FileNote, NameNote, Note, PlainNote};
 use program_reports::ProgramLine;
 use program_tasks::ImageForm;
 use script8::readings::MOST;
 use std::alloc::Global;
+use volume_image::ImageFault;
 
 /// Where an image file is held.
 #[derive(Drop)]
@@ -70,8 +72,8 @@ pub(crate) fn look<H: Host>(
     look_file(host, alloc, name)
 }
 
-/// The bytes of a file that is only looked at.
-pub(crate) fn look_file<H: Host>(host: &mut H, alloc: Global, name: &str) -> Result<Vec<u8>, Ending>
+/// The bytes of a file that is only looked at, all of them.
+pub fn look_file<H: Host>(host: &mut H, alloc: Global, name: &str) -> Result<Vec<u8>, Ending>
     ensures { Looks name.now name.now (H.history host.old) result (H.history host.new) }
 {
     let found = host.look(alloc, name, MOST);
@@ -99,18 +101,47 @@ fn within<H: Host>(
     }
 }
 
-/// The image in a file that is only looked at. No file changes, and standard output gets nothing.
+/// The image in a file that is only looked at, of the one volume that is meant. No file changes, and standard output gets nothing.
 pub fn look_at<H: Host>(host: &mut H, alloc: Global, form: &ImageForm) -> Result<Vec<u8>, Ending>
     ensures looks { LooksAt form.now (H.history host.old) result (H.history host.new) }
     ensures files { (path : List ℕ) → about path (H.history host.new) ≡ about path (H.history host.old) }
     ensures output { output (H.history host.new) ≡ output (H.history host.old) }
 {
     let file = look_file(host, alloc, form.file.as_str())?;
-    volume_in(alloc, file, form.layout)
+    one_volume_in(host, alloc, file, form.layout)
 }
 
-/// The image in a file of these bytes: all of it, or the volume that lies in it.
-fn volume_in(alloc: Global, file: Vec<u8>, layout: Option<Layout>) -> Result<Vec<u8>, Ending>
+/// The image of the one volume in a file of these bytes: that of the layout that is given, or else the one that the file has by its kind. A
+/// disk of two is refused, with a note that says how to name one of them. No file changes, and standard output gets nothing.
+pub fn one_volume_in<H: Host>(
+    host: &mut H,
+    alloc: Global,
+    file: Vec<u8>,
+    given: Option<Layout>,
+) -> Result<Vec<u8>, Ending>
+    ensures finds { FindsOne given file.items (H.history host.old) result (H.history host.new) }
+    ensures files { (path : List ℕ) → about path (H.history host.new) ≡ about path (H.history host.old) }
+    ensures output { output (H.history host.new) ≡ output (H.history host.old) }
+{
+    match volumes_in(given, &file) {
+        Volumes::One(layout) => volume_in(alloc, body_of(given, file), layout),
+        Volumes::Both => Err(refuse_disk(host, body_of(given, file).len())),
+    }
+}
+
+/// How a command ends whose image file is a disk of two volumes, of so many bytes, and none of them is named. A note says how to name one.
+fn refuse_disk<H: Host>(host: &mut H, size: usize) -> Ending
+    ensures { RefusesDisk size (H.history host.old) result (H.history host.new) }
+{
+    tell(host, PlainNote::Disk.text());
+    if size % 512 == 0 {
+        return Ending::Line(ProgramLine::Image(ImageFault::TooLarge));
+    }
+    Ending::Line(ProgramLine::Image(ImageFault::NotWhole))
+}
+
+/// The image of a volume in bytes without margins: all of them, or the volume that lies in them as in a disk or a DECtape.
+pub fn volume_in(alloc: Global, file: Vec<u8>, layout: Option<Layout>) -> Result<Vec<u8>, Ending>
     ensures { FindsVolume layout file.items result }
 {
     let Some(layout) = layout else {

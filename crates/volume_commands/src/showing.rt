@@ -1,9 +1,7 @@
-//! The commands that print what the volume in an image file has. No file changes.
+//! The command that prints what a file of the volume in an image file has. No file changes.
 ghost use Rattle.std.specs.Prelude.{length};
 ghost use Rattle.archive_files.specs.Asking.{target_of};
 ghost use Rattle.archive_files.specs.Getting.{Gets};
-ghost use Rattle.archive_files.specs.Listing.{ListsFiles};
-ghost use Rattle.archive_files.specs.LongListing.{ListsLong};
 ghost use Rattle.volume_commands.specs.Answers.{Answers};
 ghost use Rattle.volume_commands.specs.Showing.{Shows, wanted_file};
 
@@ -11,43 +9,11 @@ use crate::answers::answer_of;
 use crate::asking::file_asked;
 use crate::printing::print;
 use crate::reading::look_at;
-use archive_files::{Asked, GetForm, get, list, list_long};
+use archive_files::{Asked, GetForm, get};
 use hosts::Host;
 use outcome::Ending;
 use program_tasks::{FileForm, ImageForm};
 use std::alloc::Global;
-
-/// Lists the files of the volume in an image file.
-pub fn list_files<H: Host>(host: &mut H, alloc: Global, form: &ImageForm) -> Result<(), Ending>
-    ensures { Shows ListsFiles form.now (H.history host.old) result (H.history host.new) }
-{
-    let image = look_at(host, alloc, form)?;
-    let text = listing(host, alloc, &image)?;
-    print(host, &text)
-}
-
-fn listing<H: Host>(host: &mut H, alloc: Global, image: &[u8]) -> Result<Vec<u8>, Ending>
-    ensures { Answers (ListsFiles image.now) (length image.now) (H.history host.old) result (H.history host.new) }
-{
-    let answer = list(alloc, image);
-    answer_of(host, image.len(), answer)
-}
-
-/// Lists them in the directory's order, with where they lie and their information words.
-pub fn list_places<H: Host>(host: &mut H, alloc: Global, form: &ImageForm) -> Result<(), Ending>
-    ensures { Shows ListsLong form.now (H.history host.old) result (H.history host.new) }
-{
-    let image = look_at(host, alloc, form)?;
-    let text = long_listing(host, alloc, &image)?;
-    print(host, &text)
-}
-
-fn long_listing<H: Host>(host: &mut H, alloc: Global, image: &[u8]) -> Result<Vec<u8>, Ending>
-    ensures { Answers (ListsLong image.now) (length image.now) (H.history host.old) result (H.history host.new) }
-{
-    let answer = list_long(alloc, image);
-    answer_of(host, image.len(), answer)
-}
 
 /// Writes what a file has on the volume in an image file: its frames, its text, or the tape that it begins with.
 pub fn get_file<H: Host>(

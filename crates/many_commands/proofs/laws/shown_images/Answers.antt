@@ -1,8 +1,7 @@
 use Rattle.archive_files.specs.Getting.{Gets}
-use Rattle.archive_files.specs.Listing.{ListsFiles}
 use Rattle.volume_commands.specs.Showing.{wanted_file}
-use Rattle.many_commands.proofs.Looking.{blocks-never, checks-never, shows-never, tape-never}
+use Rattle.many_commands.proofs.Looking.{blocks-never, checks-never, one-never, shows-never, tape-never}
 use Rattle.many_commands.proofs.laws.shown_images.Goals as goal
 
 pub returns : goal.returns
-returns c = record { lists = shows-never ListsFiles; gets = λ file how. shows-never (λ bytes. Gets bytes (wanted_file file) how); blocks = blocks-never; tape = tape-never; checks = checks-never }
+returns c = record { reports = one-never; gets = λ file how. shows-never (λ bytes. Gets bytes (wanted_file file) how); blocks = blocks-never; tape = tape-never; checks = checks-never }

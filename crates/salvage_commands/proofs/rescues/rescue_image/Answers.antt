@@ -1,14 +1,5 @@
-use Rattle.std.proofs.Common.{rules, inl, inr, refl}
+use Rattle.std.proofs.Common.{inr}
 use Rattle.salvage_commands.proofs.rescues.rescue_image.Goals as goal
 
-pub returns-in_err-salvage : goal.returns-in_err-salvage
-returns-in_err-salvage g c = inr (record { given = c.in_ok-image.image; between = g.H.Host.history c.look_at.new.host; done = c.in_ok-image.ensures.looks; after = inl (search rules) })
-
-pub returns-in_err-lines : goal.returns-in_err-lines
-returns-in_err-lines g c = inr (record { given = c.in_ok-image.image; between = g.H.Host.history c.look_at.new.host; done = c.in_ok-image.ensures.looks; after = inr (record { given = c.in_ok-salvage.salvage; between = g.H.Host.history c.salvage_of.new.host; done = search rules; after = inl (search rules) }) })
-
-pub returns-in_err-make_first : goal.returns-in_err-make_first
-returns-in_err-make_first g c = inr (record { given = c.in_ok-image.image; between = g.H.Host.history c.look_at.new.host; done = c.in_ok-image.ensures.looks; after = inr (record { given = c.in_ok-salvage.salvage; between = g.H.Host.history c.salvage_of.new.host; done = search rules; after = inr (record { given = c.in_ok-lines.lines; between = g.H.Host.history c.salvage_of.new.host; done = (c.in_ok-lines.ensures, refl); after = inl (search rules) }) }) })
-
 pub returns : goal.returns
-returns g c = inr (record { given = c.in_ok-image.image; between = g.H.Host.history c.look_at.new.host; done = c.in_ok-image.ensures.looks; after = inr (record { given = c.in_ok-salvage.salvage; between = g.H.Host.history c.salvage_of.new.host; done = search rules; after = inr (record { given = c.in_ok-lines.lines; between = g.H.Host.history c.salvage_of.new.host; done = (c.in_ok-lines.ensures, refl); after = inr (record { given = tt; between = g.H.Host.history c.make_first.new.host; done = search rules; after = search rules }) }) }) })
+returns g c = inr (record { given = c.in_ok-file.file; between = g.H.Host.history c.look_file.new.host; done = rw c.as_str.ensures.value at c.in_ok-file.ensures; after = c.rescue_file.ensures })
