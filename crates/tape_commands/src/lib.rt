@@ -3,16 +3,12 @@
 #![tactic(auto)]
 
 mod assembling;
-mod listings;
 mod pal8_assembling;
-mod sources;
 mod tapes;
 mod teletypes;
 mod traces;
 mod volume_sources;
 
 pub use assembling::assemble_files;
-pub use listings::{list_tape, write_rim};
-pub use sources::write_source;
 pub use teletypes::run_teletype;
 pub use traces::{profile_tape, trace_tape};

@@ -71,7 +71,7 @@ pub(crate) fn look<H: Host>(
 }
 
 /// The bytes of a file that is only looked at.
-pub(crate) fn look_file<H: Host>(host: &mut H, alloc: Global, name: &str) -> Result<Vec<u8>, Ending>
+pub fn look_file<H: Host>(host: &mut H, alloc: Global, name: &str) -> Result<Vec<u8>, Ending>
     ensures { Looks name.now name.now (H.history host.old) result (H.history host.new) }
 {
     let found = host.look(alloc, name, MOST);

@@ -1,0 +1,13 @@
+//! The commands that print a tape's words, what a RIM tape has, and a tape's source, over any host: what is read, and what each stream gets.
+#![tactic(auto)]
+
+mod kinds;
+mod programs;
+mod rims;
+mod sources;
+mod tapes;
+
+pub use programs::{Program, given_program, program_of};
+pub use rims::write_rim;
+pub use sources::write_source;
+pub use tapes::list_tape;
