@@ -84,9 +84,9 @@ where
         Task::Rim(tape, form) => write_rim(host, alloc, &tape, form),
         Task::Source(form) => write_source(host, alloc, &form),
         Task::Assemble(form) => assemble_files(rt, &form),
-        Task::Teletype(form) => run_teletype(rt, &form),
-        Task::Trace(form) => trace_tape(rt, &form),
-        Task::Profile(form) => profile_tape(rt, &form),
+        Task::Teletype(form) => run_teletype(rt, host, &form),
+        Task::Trace(form) => trace_tape(rt, host, &form),
+        Task::Profile(form) => profile_tape(rt, host, &form),
         Task::Run(image, form) => run_image(rt, &image, form),
         Task::Create(form, blocks) => wait_for_image!(
             rt,

@@ -64,7 +64,7 @@ has_no_tape (Refused fault) = is_tape_fault fault
 -- All that the file has is got then, and what it is is printed. Any other refusal is as that of each command on a volume.
 abbrev pub RefusesIf : Bool → List ℕ → Target → ArchiveFault → List Event → Ending → List Event → Type 0
 RefusesIf true image wanted fault old ending new = ((frames : Vec ℕ) × Gets image wanted Frames (Ok frames) × RefusesTape frames.items (ending_of_archive fault) old ending new)
-    ⊎ Answers (Gets image wanted Frames) (length image) old (Err {Vec ℕ} ending) new
+    ⊎ Answers (Gets image wanted Frames) (length image) old (Err ending) new
 RefusesIf false image wanted fault old ending new = Refuses fault (length image) old ending new
 
 abbrev pub RefusesMember : List ℕ → Target → ArchiveFault → List Event → Ending → List Event → Type 0

@@ -1,10 +1,10 @@
-//! The commands on tapes, sources and machines, over the files and the streams of the host: what they do with bytes is in the functions
+//! The commands on sources and machines, over the files and the streams of the host: what they do with bytes is in the functions
 //! that they call.
 #![tactic(auto)]
 
 mod assembling;
+mod kinds;
 mod pal8_assembling;
-mod tapes;
 mod teletypes;
 mod traces;
 mod volume_sources;
