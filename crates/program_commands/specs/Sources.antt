@@ -1,7 +1,6 @@
 -- The command that writes the source of a tape.
-use Rattle.std.specs.Prelude.{◌≡◌, ℕ, Option, None, Some, option_map, Result, Ok, Err, List, [], ◌∷◌}
-use Rattle.std.specs.Global.{Vec}
-use Rattle.std.specs.String.{String}
+use Rattle.std.specs.Prelude.{◌≡◌, ℕ, Option, None, Some, option_map, String, Result, Ok, Err, List, [], ◌∷◌}
+use Rattle.std.specs.Global.{Vec, Global}
 use Rattle.hosts.specs.Event.{Event}
 use Rattle.tape_source.specs.declared.faults.ListFault.{ListFault}
 use Rattle.program_reports.specs.Written.{IsSourceText, IsTextFault, fault_of_list}
@@ -15,7 +14,7 @@ use Rattle.program_commands.specs.Kinds.{RefusesFrames}
 use Rattle.program_commands.specs.Programs.{ReadsGiven}
 
 -- the file of the host that names cells is read, if one is named
-abbrev pub ReadsNames : Option String → List Event → Result (Option (Vec ℕ)) Ending → List Event → Type 0
+abbrev pub ReadsNames : Option (String Global) → List Event → Result (Option (Vec ℕ)) Ending → List Event → Type 0
 ReadsNames None old (Ok names) new = (names ≡ None) × (new ≡ old)
 ReadsNames None old (Err ending) new = ⊥
 ReadsNames (Some file) old (Ok None) new = ⊥

@@ -6,7 +6,7 @@ ghost use Rattle.volume_commands.specs.Putting.{TakesInput};
 ghost use Rattle.volume_commands.specs.Reading.{Looks};
 ghost use Rattle.volume_commands.specs.Work.{Then, Purely};
 ghost use Rattle.program_commands.specs.Programs as spec;
-ghost use Rattle.program_commands.specs.Programs.{IsAsked, IsCoreProgram, IsTapeProgram, ReadsCore, ReadsGiven, ReadsMember, ReadsProgram, RefusesMember, TakesProgram, TakesTape};
+ghost use Rattle.program_commands.specs.Programs.{IsAsked, IsCoreProgram, IsTapeProgram, ReadsCore, ReadsGiven, ReadsMember, ReadsProgram, RefusesMember, TakesTape};
 
 use crate::kinds::{is_tape_fault, refuse_tape};
 use archive_files::{ArchiveFault, Asked, GetForm, get};
