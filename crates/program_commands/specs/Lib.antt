@@ -1,4 +1,5 @@
 pub mod Kinds
+pub mod Laws
 pub mod Programs
 pub mod Rims
 pub mod Sources
