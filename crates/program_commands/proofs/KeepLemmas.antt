@@ -1,10 +1,10 @@
 -- The commands on tapes change no file.
-use Rattle.std.proofs.Common.{◌≡◌, ◌∙◌, ℕ, Bool, true, false, codes, option_map, Option, None, Some, Result, Ok, Err, List, ap, inl, inr, length}
+use Rattle.std.proofs.Common.{◌≡◌, ◌∙◌, ℕ, Bool, true, false, option_map, Option, None, Some, Result, Ok, Err, List, ap, inl, inr, length}
 use Rattle.std.specs.Global.{Vec, Global}
 use Rattle.std.specs.Prelude.{String}
 use Rattle.hosts.specs.Event.{Event}
 use Rattle.hosts.specs.Place.{about}
-use Rattle.char_pack.specs.declared.forms.GetForm.TheVariants.{Frames, Tape}
+use Rattle.char_pack.specs.declared.forms.GetForm.TheVariants.{Frames}
 use Rattle.outcome.specs.Hints.{image_note, kind_note}
 use Rattle.outcome.specs.declared.contents.Content.TheVariants as content
 use Rattle.outcome.specs.declared.endings.Ending.{Ending}
@@ -30,7 +30,7 @@ use Rattle.program_commands.specs.Kinds.{RefusesFrames, RefusesTape, is_no_tape}
 use Rattle.program_commands.specs.Kinds as kinds
 use Rattle.program_commands.specs.Laws.{KeepsFiles}
 use Rattle.program_commands.specs.Programs.{IsAsked, IsCoreProgram, IsTapeProgram, ReadsCore, ReadsGiven, ReadsMember, ReadsProgram, RefusesIf, TakesIf, TakesTape, has_no_tape, is_core_name}
-use Rattle.program_commands.specs.Rims.{GetsMember, GivesRim, ReadsFrames, ReadsNamed, WritesRim}
+use Rattle.program_commands.specs.Rims.{GetsMember, GivesRim, ReadsFrames, WritesRim}
 use Rattle.program_commands.specs.Sources.{GivesSource, ReadsNames, WritesSource, starts_or}
 use Rattle.program_commands.specs.Tapes.{GivesLines, ListsTape}
 

@@ -60,11 +60,7 @@ fn tape_program(frames: Vec<u8>) -> Program
 }
 
 /// The program of a tape, or of a core image.
-pub fn program_of<H: Host>(
-    host: &mut H,
-    alloc: Global,
-    tape: &TapeForm,
-) -> Result<Program, Ending>
+pub fn program_of<H: Host>(host: &mut H, alloc: Global, tape: &TapeForm) -> Result<Program, Ending>
     ensures { ReadsProgram tape.now (H.history host.old) result (H.history host.new) }
 {
     match tape {
