@@ -8,7 +8,7 @@ mod rims;
 mod sources;
 mod tapes;
 
-pub use programs::{Program, given_program, program_of};
+pub use programs::{Program, program_of};
 pub use rims::write_rim;
 pub use sources::write_source;
 pub use tapes::list_tape;

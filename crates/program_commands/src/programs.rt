@@ -29,7 +29,7 @@ pub struct Program {
 }
 
 /// The program of a tape; where none is named that of standard input.
-pub fn given_program<H: Host>(
+pub(crate) fn given_program<H: Host>(
     host: &mut H,
     alloc: Global,
     tape: &Option<TapeForm>,
