@@ -1,4 +1,4 @@
-//! Image files of the host, held, read and saved, and what files they have; how far a long command on them is. No image file is left half
+//! Image files of the host, held, read and saved; how far a long command on them is. No image file is left half
 //! written where the host can help it.
 #![tactic(auto)]
 
@@ -12,7 +12,7 @@ mod streams;
 mod words;
 
 pub use arguments::tell_bad_argument;
-pub use files::{answer_of, bytes_of_file, core_of_file, refusal};
+pub use files::{answer_of, refusal};
 pub use images::{Image, bytes_of, image_bytes, make_file, save_and_print};
 pub use inputs::{CountedInput, input_bytes};
 pub use printing::{print_bytes, print_of, tell, tell_line, tell_text};

@@ -9,6 +9,7 @@ use hosts::Host;
 use index_commands::index_images;
 use many_commands::{check_images, get_files, list_files, list_places, put_files};
 use outcome::{Content, Ending, ending_of_output, gives_data, no_memory_line};
+use program_commands::{list_tape, write_rim, write_source};
 use program_tasks::{IndexForm, LineForm, ScanForm, Task};
 use salvage_commands::{rescue_image, scan_blocks, scan_into};
 use script8::SessionFault;
@@ -20,9 +21,7 @@ use std::process::ExitCode;
 use std::thread;
 use std::time::{Clock, Duration};
 use system::System;
-use tape_commands::{
-    assemble_files, list_tape, profile_tape, run_teletype, trace_tape, write_rim, write_source,
-};
+use tape_commands::{assemble_files, profile_tape, run_teletype, trace_tape};
 use volume_commands::{
     Rooms, copy_file, create_image, create_tape, delete_files, end, file_asked, get_bin,
     get_blocks, get_file, put_file, rename_file, squeeze_files,
@@ -81,13 +80,13 @@ where
 {
     let alloc = rt.alloc();
     match task {
-        Task::Tape(tape) => list_tape(rt, &tape),
-        Task::Rim(tape, form) => write_rim(rt, &tape, form),
-        Task::Source(form) => write_source(rt, &form),
+        Task::Tape(tape) => list_tape(host, alloc, &tape),
+        Task::Rim(tape, form) => write_rim(host, alloc, &tape, form),
+        Task::Source(form) => write_source(host, alloc, &form),
         Task::Assemble(form) => assemble_files(rt, &form),
-        Task::Teletype(form) => run_teletype(rt, &form),
-        Task::Trace(form) => trace_tape(rt, &form),
-        Task::Profile(form) => profile_tape(rt, &form),
+        Task::Teletype(form) => run_teletype(rt, host, &form),
+        Task::Trace(form) => trace_tape(rt, host, &form),
+        Task::Profile(form) => profile_tape(rt, host, &form),
         Task::Run(image, form) => run_image(rt, &image, form),
         Task::Create(form, blocks) => wait_for_image!(
             rt,

@@ -7,5 +7,4 @@ pub mod LineEnds
 pub mod Written
 pub mod Rims
 pub mod Cores
-pub mod ListSteps
 pub mod Prefixes

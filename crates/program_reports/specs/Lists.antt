@@ -16,6 +16,12 @@ pub record IsListed (frames text : List ℕ) : Type 0 where
   pub is_tape : IsTape frames items
   pub lines : text ≡ lines_below items CORE
 
+-- the fault that ends the listing of frames: theirs as a tape, or want of memory
+abbrev pub IsListingFault : List ℕ → SessionFault → Type 0
+IsListingFault frames (Tape fault) = IsFault frames fault
+IsListingFault frames Memory = Unit {0}
+IsListingFault frames fault = ⊥
+
 -- The result of listing a reader's tape: its lines are written and nothing else. On a fault of the tape, of the reader or of memory
 -- nothing is written.
 abbrev pub ListsTape : Option (List ℕ) → Option (List ℕ) → Option (List ℕ) → Option (List ℕ) → Result (Unit {0}) SessionFault → Type 0

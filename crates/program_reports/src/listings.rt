@@ -4,8 +4,7 @@ ghost use Rattle.bin_tape.specs.Map.{IsMapOf};
 ghost use Rattle.word12.specs.declared.sizes.TheConstants.{CORE};
 ghost use Rattle.script8.specs.Reading.{TakesBytes};
 ghost use Rattle.program_reports.specs.Listing.{cell_line, line_of, lines_below};
-ghost use Rattle.program_reports.specs.Lists.{IsListed, ListsFrames, ListsTape};
-ghost use Rattle.program_reports.specs.ListSteps.{IsListingFault};
+ghost use Rattle.program_reports.specs.Lists.{IsListed, IsListingFault, ListsFrames, ListsTape};
 ghost use Rattle.script8.specs.declared.faults.SessionFault.TheVariants as fault;
 
 use bin_tape::TapeMap;
@@ -30,7 +29,7 @@ pub fn tape_text<R: Read, W: Write>(
         × (count ≡ 16777217 → result ≡ Err fault.Reader) }
 {
     let frames = read_all(alloc, reader)?;
-    let text = text_of(alloc, &frames)?;
+    let text = tape_lines(alloc, &frames)?;
     write_out(writer, &text)
 }
 
@@ -42,12 +41,12 @@ pub fn put_tape_text<W: Write>(
 ) -> Result<(), SessionFault>
     ensures { ListsFrames frames.now (W.contents writer.old) (W.contents writer.new) result }
 {
-    let text = text_of(alloc, frames)?;
+    let text = tape_lines(alloc, frames)?;
     write_out(writer, &text)
 }
 
-/// The lines of the cells that a tape gives a word.
-fn text_of(alloc: Global, frames: &[u8]) -> Result<Vec<u8>, SessionFault>
+/// The lines of the cells to which the frames of a BIN tape give a word, as `tape_text` writes them.
+pub fn tape_lines(alloc: Global, frames: &[u8]) -> Result<Vec<u8>, SessionFault>
     ensures { MatchResult result (λ text. IsListed frames.now text.items)
         (λ fault. IsListingFault frames.now fault) }
 {

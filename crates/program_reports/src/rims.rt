@@ -65,8 +65,8 @@ pub fn rim_text<R: Read, W: Write>(
     Ok(())
 }
 
-/// What is written of a RIM tape.
-fn rim_output(alloc: Global, frames: &[u8], form: RimForm) -> Result<Vec<u8>, RimFault>
+/// What `rim_text` writes of the frames of a RIM tape.
+pub fn rim_output(alloc: Global, frames: &[u8], form: RimForm) -> Result<Vec<u8>, RimFault>
     ensures { MatchResult result (λ bytes. IsRimWritten form frames.now bytes.items)
         (λ fault. IsFault frames.now fault) }
 {

@@ -86,13 +86,13 @@ pub fn put_source<W: Write>(
     ensures { PutsSource frames.now starts.now (option_map (λ names. names.items) names.now)
         (W.contents writer.old) (W.contents writer.new) result }
 {
-    let text = text_of(alloc, frames, starts, names)?;
+    let text = source_lines(alloc, frames, starts, names)?;
     write_out(writer, &text)?;
     Ok(())
 }
 
-/// The source of frames, by where a program starts, if it is given, and with names, if some are given.
-fn text_of(
+/// The source of frames, by where a program starts, if it is given, and with names, if some are given. `put_source` writes it.
+pub fn source_lines(
     alloc: Global,
     frames: &[u8],
     starts: &[Cell],

@@ -1,18 +1,14 @@
-//! The commands on tapes, sources and machines, over the files and the streams of the host: what they do with bytes is in the functions
+//! The commands on sources and machines, over the files and the streams of the host: what they do with bytes is in the functions
 //! that they call.
 #![tactic(auto)]
 
 mod assembling;
-mod listings;
+mod kinds;
 mod pal8_assembling;
-mod sources;
-mod tapes;
 mod teletypes;
 mod traces;
 mod volume_sources;
 
 pub use assembling::assemble_files;
-pub use listings::{list_tape, write_rim};
-pub use sources::write_source;
 pub use teletypes::run_teletype;
 pub use traces::{profile_tape, trace_tape};

@@ -1,24 +1,26 @@
 //! A program of a tape at the Teletype: standard input is the keyboard, and standard output the paper.
 
-use crate::tapes::{program_of, tell_kind};
+use crate::kinds::tell_kind;
 use core_load::{Core, load};
 use cpu8::Machine;
 use host_inputs::{Output, tell, tell_line};
+use hosts::Host;
 use outcome::{Ending, Note, PlainNote, start_note};
+use program_commands::{Program, program_of};
 use program_reports::{ProgramLine, first_cell, start_cell};
 use program_tasks::TeletypeForm;
 use script8::SessionFault;
-use std::fs::Files;
 use std::io::Input;
 use terminal8::{Form, Input as Keys, TerminalEnd, TerminalFault, run};
 use word12::{Cell, Word};
 
 /// Loads a tape or a core image into a new machine, and runs it at the Teletype.
-pub fn run_teletype<R: Files + Input + Print + Eprint + AllocGlobal>(
+pub fn run_teletype<R: Input + Print + Eprint + AllocGlobal, H: Host>(
     rt: &R,
+    host: &mut H,
     form: &TeletypeForm,
 ) -> Result<(), Ending> {
-    let (frames, start) = program_of(rt, &form.tape)?;
+    let Program { frames, start } = program_of(host, rt.alloc(), &form.tape)?;
     let mut machine = machine_of(rt, &frames, form.start.or(start), form.switches)?;
     let struck = if form.is_raw { Form::Raw } else { Form::Text };
     let keys = if form.is_live {

@@ -1,15 +1,15 @@
 //! A program of a tape whose steps are printed or counted.
 
-use crate::tapes::program_of;
 use crate::teletypes::machine_of;
 use cpu8::Machine;
 use host_inputs::{Output, print_bytes};
+use hosts::Host;
 use outcome::Ending;
 use profile8::{count_fetches, no_counts, profile_text};
+use program_commands::{Program, program_of};
 use program_reports::{ProgramLine, given_cells, put_program};
 use program_tasks::TraceForm;
 use script8::SessionFault;
-use std::fs::Files;
 use std::io::Write;
 use terminal8::{Form, Terminal, keys_of};
 use trace8::{TraceFault, trace};
@@ -29,11 +29,12 @@ struct Start {
 }
 
 /// Prints a line for each step of a program, and how far it went.
-pub fn trace_tape<R: Files + Print + Eprint + AllocGlobal>(
+pub fn trace_tape<R: Print + Eprint + AllocGlobal, H: Host>(
     rt: &R,
+    host: &mut H,
     form: &TraceForm,
 ) -> Result<(), Ending> {
-    let start = start_of(rt, form)?;
+    let start = start_of(rt, host, form)?;
     let given = given_cells(rt.alloc(), &start.frames)?;
     let mut terminal = Terminal::new(start.machine, &start.keys);
     let most = form.steps.unwrap_or(TRACE_STEPS);
@@ -46,11 +47,12 @@ pub fn trace_tape<R: Files + Print + Eprint + AllocGlobal>(
 }
 
 /// Prints how often each cell was fetched, which cells of the tape never were, and how far the program went.
-pub fn profile_tape<R: Files + Print + Eprint + AllocGlobal>(
+pub fn profile_tape<R: Print + Eprint + AllocGlobal, H: Host>(
     rt: &R,
+    host: &mut H,
     form: &TraceForm,
 ) -> Result<(), Ending> {
-    let start = start_of(rt, form)?;
+    let start = start_of(rt, host, form)?;
     let given = given_cells(rt.alloc(), &start.frames)?;
     let mut terminal = Terminal::new(start.machine, &start.keys);
     let mut counts = no_counts(rt.alloc())?;
@@ -73,8 +75,12 @@ fn end_of<R: AllocGlobal>(
 }
 
 /// Loads the program, and starts the machine.
-fn start_of<R: Files + Eprint + AllocGlobal>(rt: &R, form: &TraceForm) -> Result<Start, Ending> {
-    let (frames, start) = program_of(rt, &form.tape)?;
+fn start_of<R: Eprint + AllocGlobal, H: Host>(
+    rt: &R,
+    host: &mut H,
+    form: &TraceForm,
+) -> Result<Start, Ending> {
+    let Program { frames, start } = program_of(host, rt.alloc(), &form.tape)?;
     let machine = machine_of(rt, &frames, form.start.or(start), form.switches)?;
     let text: &[u8] = match &form.keys {
         Some(keys) => keys.as_bytes(),

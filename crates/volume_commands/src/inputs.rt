@@ -27,7 +27,7 @@ pub(crate) fn given_bytes<H: Host>(
 }
 
 /// All bytes of standard input. Where they are more than are read, that is said.
-fn input_bytes<H: Host>(host: &mut H, alloc: Global) -> Result<Vec<u8>, Ending>
+pub fn input_bytes<H: Host>(host: &mut H, alloc: Global) -> Result<Vec<u8>, Ending>
     ensures { TakesInput (H.history host.old) result (H.history host.new) }
 {
     match host.take_input(alloc, MOST) {

@@ -31,7 +31,8 @@ pub fn get_file<H: Host>(
     print(host, &given)
 }
 
-pub(crate) fn show_file<H: Host>(
+/// What a file has on the volume in an image. Where it is refused, what may help is printed.
+pub fn show_file<H: Host>(
     host: &mut H,
     alloc: Global,
     image: &[u8],

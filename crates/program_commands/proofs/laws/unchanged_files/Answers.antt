@@ -1,0 +1,14 @@
+use Rattle.program_commands.proofs.KeepLemmas.{program-keeps, tape-keeps, rim-keeps, source-keeps}
+use Rattle.program_commands.proofs.laws.unchanged_files.Goals as goal
+
+pub returns-clause-program : goal.returns-clause-program
+returns-clause-program c = program-keeps
+
+pub returns-clause-tape : goal.returns-clause-tape
+returns-clause-tape c = tape-keeps
+
+pub returns-clause-rim : goal.returns-clause-rim
+returns-clause-rim c = rim-keeps
+
+pub returns-clause-source : goal.returns-clause-source
+returns-clause-source c = source-keeps
