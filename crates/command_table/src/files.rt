@@ -246,8 +246,5 @@ fn after<'a>(found: &ArgMatches<'_>, moved: &'a str, own: &'a str) -> &'a str
     ensures { result.now ≡ (if has (codes "at") (values_in found.now)
         then moved.entry.now else own.entry.now) }
 {
-    if has(found, "at") {
-        return moved;
-    }
-    own
+    if has(found, "at") { moved } else { own }
 }
