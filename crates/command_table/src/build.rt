@@ -92,6 +92,7 @@ fn with_size<'a>(alloc: Global, id: &'a str) -> Arg<'a>
 }
 
 /// A subcommand of the table.
+#[tactic(auto, using(crate::proofs::CommandLemmas::row_fits, crate::proofs::CommandLemmas::row_more, crate::proofs::CommandLemmas::rows_all))]
 fn leaf_of<'a>(alloc: Global, entry: &'a Entry) -> Draft<'a>
     requires { is_sound (entry_of entry.now) ≡ true }
     ensures { IsDraft result (leaf_app (entry_of entry.now)) }
@@ -123,6 +124,7 @@ pub fn command_line<'a>(alloc: Global) -> Draft<'a>
 }
 
 /// A command with the subcommands of a table.
+#[tactic(auto, using(crate::proofs::CommandLemmas::entry_fits, crate::proofs::CommandLemmas::entry_more, crate::proofs::CommandLemmas::entries_all))]
 fn with_leaves<'a>(alloc: Global, bare: Command<'a>, entries: &'a [Entry]) -> Draft<'a>
     requires sound { list_all is_sound (map entry_of entries.now) ≡ true }
     requires bare { IsCommand bare bare_app }
