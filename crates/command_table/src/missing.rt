@@ -16,13 +16,13 @@ pub fn missing_of(found: &ArgMatches<'_>, which: Verb) -> Option<What>
 {
     match which {
         Verb::Assemble => assemble_missing(found),
-        Verb::Create => unless(
+        Verb::Create => lack(
             has(found, "BLOCKS") || is_set(found, "dectape"),
             What::Blocks,
         ),
         Verb::Get => get_missing(found),
-        Verb::Put => unless(!(puts_many(found) && puts_input(found)), What::As),
-        Verb::Delete => unless(has(found, "NAME") || has(found, "at"), What::Name),
+        Verb::Put => lack(!(puts_many(found) && puts_input(found)), What::As),
+        Verb::Delete => lack(has(found, "NAME") || has(found, "at"), What::Name),
         Verb::Rename => moved_missing(found, "NEW", What::New, What::NameAndNew),
         Verb::Copy => moved_missing(found, "TO", What::To, What::NameAndTo),
         Verb::Tape | Verb::Rim | Verb::Source => tape_missing(found),
@@ -32,8 +32,8 @@ pub fn missing_of(found: &ArgMatches<'_>, which: Verb) -> Option<What>
     }
 }
 
-/// An argument is missing unless it is given.
-fn unless(is_given: bool, what: What) -> Option<What>
+/// What is missing, unless it is given.
+fn lack(is_given: bool, what: What) -> Option<What>
     ensures { result ≡ (if is_given then None else Some what) }
 {
     if is_given { None } else { Some(what) }
@@ -86,7 +86,7 @@ fn get_missing(found: &ArgMatches<'_>) -> Option<What>
     if !names_some(found) {
         return Some(What::Name);
     }
-    unless(has(found, "into") || names_one(found), What::Into)
+    lack(has(found, "into") || names_one(found), What::Into)
 }
 
 /// What is missing where blocks are got.
@@ -96,7 +96,7 @@ fn blocks_missing(found: &ArgMatches<'_>) -> Option<What>
     if !has(found, "NAME") {
         return Some(What::FirstAndCount);
     }
-    unless(word_at(found, "NAME", 1).is_some(), What::Count)
+    lack(word_at(found, "NAME", 1).is_some(), What::Count)
 }
 
 /// Whether a file is named.
@@ -156,5 +156,5 @@ fn moved_missing(found: &ArgMatches<'_>, id: &str, one: What, both: What) -> Opt
     if !has(found, "NAME") {
         return Some(if has(found, "at") { one } else { both });
     }
-    unless(has(found, "at") || has(found, id), one)
+    lack(has(found, "at") || has(found, id), one)
 }
