@@ -121,10 +121,7 @@ fn old_given(found: &ArgMatches<'_>) -> u16
     requires first { IsFirst form.Bits (codes "OLD") (values_in found.now) }
     ensures { option_and_then spec.bits_of (first_of (codes "OLD") (values_in found.now)) ≡ Some result }
 {
-    match bits_in(text_given(found, "OLD").as_bytes()) {
-        Some(bits) => bits,
-        None => unreachable!(),
-    }
+    bits_in(text_given(found, "OLD").as_bytes()).unwrap()
 }
 
 /// The word that is put there.
@@ -133,8 +130,5 @@ fn new_given(found: &ArgMatches<'_>) -> Word
     requires first { IsFirst form.Octal (codes "NEW") (values_in found.now) }
     ensures { option_and_then spec.word_of (first_of (codes "NEW") (values_in found.now)) ≡ Some result }
 {
-    match word_in(text_given(found, "NEW").as_bytes()) {
-        Some(word) => word,
-        None => unreachable!(),
-    }
+    word_in(text_given(found, "NEW").as_bytes()).unwrap()
 }

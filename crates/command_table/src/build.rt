@@ -29,6 +29,7 @@ fn argument_of<'a>(alloc: Global, row: &'a Argument) -> Arg<'a>
 }
 
 /// An option with its letter, if it has one.
+#[tactic(auto, unfolding(crate::specs::Steps::IsArgument))]
 fn with_letter<'a>(argument: Arg<'a>, letter: Option<char>) -> Arg<'a>
     ensures { (rule : _) → IsArgument argument.entry rule → rule.short ≡ None → IsArgument result (rule_with_letter letter rule) }
 {
@@ -39,6 +40,7 @@ fn with_letter<'a>(argument: Arg<'a>, letter: Option<char>) -> Arg<'a>
 }
 
 /// An argument of a kind.
+#[tactic(auto, unfolding(crate::specs::Steps::IsArgument))]
 fn of_kind<'a>(alloc: Global, id: &'a str, kind: Kind, value: &'a str) -> Arg<'a>
     requires { fits kind ≡ true }
     ensures { IsArgument result (kind_rule id.entry.now kind) }
@@ -56,6 +58,7 @@ fn of_kind<'a>(alloc: Global, id: &'a str, kind: Kind, value: &'a str) -> Arg<'a
 }
 
 /// An option with a value of this name.
+#[tactic(auto, unfolding(crate::specs::Steps::IsArgument))]
 fn with_value<'a>(alloc: Global, id: &'a str, value: &'a str) -> Arg<'a>
     ensures { IsArgument result (option_rule id.entry.now) }
 {
@@ -63,6 +66,7 @@ fn with_value<'a>(alloc: Global, id: &'a str, value: &'a str) -> Arg<'a>
 }
 
 /// An option with a value of this name, which may be given several times.
+#[tactic(auto, unfolding(crate::specs::Steps::IsArgument))]
 fn with_values<'a>(alloc: Global, id: &'a str, value: &'a str) -> Arg<'a>
     ensures { IsArgument result (options_rule id.entry.now) }
 {
@@ -70,6 +74,7 @@ fn with_values<'a>(alloc: Global, id: &'a str, value: &'a str) -> Arg<'a>
 }
 
 /// An option with a number from 1 up.
+#[tactic(auto, unfolding(crate::specs::Steps::IsArgument))]
 fn with_count<'a>(alloc: Global, id: &'a str, value: &'a str) -> Arg<'a>
     ensures { IsArgument result (kind_rule id.entry.now kind.Count) }
 {
@@ -78,6 +83,7 @@ fn with_count<'a>(alloc: Global, id: &'a str, value: &'a str) -> Arg<'a>
 }
 
 /// A number of blocks, 8 to 4095, in its place.
+#[tactic(auto, unfolding(crate::specs::Steps::IsArgument))]
 fn with_size<'a>(alloc: Global, id: &'a str) -> Arg<'a>
     ensures { IsArgument result (kind_rule id.entry.now kind.Size) }
 {
@@ -86,6 +92,7 @@ fn with_size<'a>(alloc: Global, id: &'a str) -> Arg<'a>
 }
 
 /// A subcommand of the table.
+#[tactic(auto, using(crate::proofs::CommandLemmas::row_fits, crate::proofs::CommandLemmas::row_more, crate::proofs::CommandLemmas::rows_all))]
 fn leaf_of<'a>(alloc: Global, entry: &'a Entry) -> Draft<'a>
     requires { is_sound (entry_of entry.now) ≡ true }
     ensures { IsDraft result (leaf_app (entry_of entry.now)) }
@@ -98,6 +105,7 @@ fn leaf_of<'a>(alloc: Global, entry: &'a Entry) -> Draft<'a>
 }
 
 /// A subcommand before it has its arguments, with its texts.
+#[tactic(auto, unfolding(crate::specs::Steps::IsCommand))]
 fn bare_leaf<'a>(alloc: Global, entry: &'a Entry) -> Command<'a>
     ensures { IsCommand result (new_app entry.now.word.now) }
 {
@@ -116,6 +124,7 @@ pub fn command_line<'a>(alloc: Global) -> Draft<'a>
 }
 
 /// A command with the subcommands of a table.
+#[tactic(auto, using(crate::proofs::CommandLemmas::entry_fits, crate::proofs::CommandLemmas::entry_more, crate::proofs::CommandLemmas::entries_all))]
 fn with_leaves<'a>(alloc: Global, bare: Command<'a>, entries: &'a [Entry]) -> Draft<'a>
     requires sound { list_all is_sound (map entry_of entries.now) ≡ true }
     requires bare { IsCommand bare bare_app }
@@ -137,6 +146,7 @@ fn bare_command_line<'a>(alloc: Global) -> Draft<'a>
 }
 
 /// The command of the name `pdp8`, by which its texts call it, whatever the first word is.
+#[tactic(auto, unfolding(crate::specs::Steps::IsCommand))]
 fn named_command_line<'a>(alloc: Global) -> Draft<'a>
     ensures { IsDraft result (new_app (codes "pdp8")) }
 {
@@ -144,6 +154,7 @@ fn named_command_line<'a>(alloc: Global) -> Draft<'a>
 }
 
 /// The program's command with its texts for help.
+#[tactic(auto, unfolding(crate::specs::Steps::IsCommand))]
 fn with_texts<'a>(command: Command<'a>) -> Command<'a>
     ensures { (app : _) → IsCommand command.entry app → IsCommand result app }
 {
@@ -153,6 +164,7 @@ fn with_texts<'a>(command: Command<'a>) -> Command<'a>
 }
 
 /// The program's command with its version, which wants a subcommand.
+#[tactic(auto, unfolding(crate::specs::Steps::IsCommand))]
 fn with_version<'a>(command: Command<'a>) -> Command<'a>
     ensures { IsCommand command.entry (new_app (codes "pdp8")) → IsCommand result bare_app }
 {

@@ -44,6 +44,7 @@ pub fn get(alloc: Global, found: &ArgMatches<'_>) -> Read<Task>
 }
 
 /// The blocks that are to be got.
+#[tactic(auto, using(crate::proofs::RefusalLemmas::blocks_read))]
 fn get_blocks(alloc: Global, found: &ArgMatches<'_>) -> Read<Task>
     requires needs { Needs verb.Get (values_in found.now) }
     requires blocks { is_set (codes "blocks") (values_in found.now) ≡ true }
@@ -93,6 +94,7 @@ fn get_many(alloc: Global, found: &ArgMatches<'_>) -> Read<Task>
 }
 
 /// The file that is to be got, and how.
+#[tactic(auto, using(crate::proofs::RefusalLemmas::one_named))]
 fn get_one(alloc: Global, found: &ArgMatches<'_>) -> Read<Task>
     requires needs { Needs verb.Get (values_in found.now) }
     requires no_blocks { is_set (codes "blocks") (values_in found.now) ≡ false }
@@ -224,6 +226,7 @@ pub fn copy(alloc: Global, found: &ArgMatches<'_>) -> Read<Task>
 }
 
 /// The file whose first block `--at` gives, or else that of the name.
+#[tactic(auto, using(crate::proofs::RefusalLemmas::not_placed))]
 fn file_of(alloc: Global, found: &ArgMatches<'_>, verb: Verb) -> Read<FileForm>
     requires at { takes_block (kind_at (codes "at") (rows_for verb)) ≡ true }
     requires name { has_text (kind_at (codes "NAME") (rows_for verb)) ≡ true }
@@ -246,8 +249,5 @@ fn after<'a>(found: &ArgMatches<'_>, moved: &'a str, own: &'a str) -> &'a str
     ensures { result.now ≡ (if has (codes "at") (values_in found.now)
         then moved.entry.now else own.entry.now) }
 {
-    if has(found, "at") {
-        return moved;
-    }
-    own
+    if has(found, "at") { moved } else { own }
 }

@@ -235,13 +235,7 @@ pub fn block_of(found: &ArgMatches<'_>, _verb: Verb, id: &str) -> Option<usize>
     ensures { option_map place_of (first_of id.now (values_in found.now))
         ≡ option_map (λ place. Some place) result }
 {
-    match text_of(found, id) {
-        Some(text) => match number_in(text.as_bytes(), 0, MOST_BLOCKS) {
-            Some(block) => Some(block),
-            None => unreachable!(),
-        },
-        None => None,
-    }
+    Some(number_in(text_of(found, id)?.as_bytes(), 0, MOST_BLOCKS).unwrap())
 }
 
 /// The blocks of an argument, the first and the last, if it was given.
@@ -267,13 +261,7 @@ pub fn date_of(found: &ArgMatches<'_>, _verb: Verb) -> Option<Word>
     ensures { option_map spec.date_word (first_of (codes "date") (values_in found.now))
         ≡ option_map (λ word. Some word) result }
 {
-    match text_of(found, "date") {
-        Some(text) => match date_in(text.as_bytes()) {
-            Some(word) => Some(word),
-            None => unreachable!(),
-        },
-        None => None,
-    }
+    Some(date_in(text_of(found, "date")?.as_bytes()).unwrap())
 }
 
 /// The text of an argument that was given.
@@ -281,10 +269,7 @@ pub fn text_given<'a>(found: &ArgMatches<'a>, id: &str) -> &'a str
     requires { Has id.now (values_in found.now) }
     ensures { first_of id.now (values_in found.now) ≡ Some result.now }
 {
-    match text_of(found, id) {
-        Some(text) => text,
-        None => unreachable!(),
-    }
+    text_of(found, id).unwrap()
 }
 
 /// How many seconds are waited for a held image, none where it is not said.

@@ -79,13 +79,7 @@ fn both_of(one: Option<&'static str>, other: Option<&'static str>) -> Option<Pai
     ensures { option_map pair_of result
         ≡ spec.both_of (option_map (λ text. text.now) one.entry) (option_map (λ text. text.now) other.entry) }
 {
-    match one {
-        Some(one) => match other {
-            Some(other) => Some((one, other)),
-            None => None,
-        },
-        None => None,
-    }
+    Some((one?, other?))
 }
 
 /// What the argument of a name is called in refusals, if it was given.

@@ -1,5 +1,5 @@
 //! What `clap` found for an option that is given several times, where each value is a number.
-ghost use Rattle.std.specs.Prelude.{◌≡◌, ◌++◌, ◌∷◌, [], codes, map, option_map, IfOk, None, OnOk, Some};
+ghost use Rattle.std.specs.Prelude.{◌≡◌, codes, map, option_map, IfOk, None, Some};
 ghost use Rattle.command_table.specs.Found.{cell_of, first_not, place_of, word_of};
 ghost use Rattle.command_table.specs.Steps.{IsFirst, IsWell, kind_at, values_in};
 ghost use Rattle.command_table.specs.Found as spec;
@@ -33,20 +33,9 @@ fn cells_in(alloc: Global, texts: &[&str]) -> Read<Vec<Cell>>
 {
     let mut cells = Vec::new(alloc);
     for text in texts {
-        let Some(cell) = cell_in(text.as_bytes()) else {
-            unreachable!()
-        };
-        put_cell(&mut cells, cell)?;
+        cells.push(cell_in(text.as_bytes()).unwrap())?;
     }
     Ok(cells)
-}
-
-/// Puts a cell after others.
-fn put_cell(cells: &mut Vec<Cell>, cell: Cell) -> Read<()>
-    ensures { OnOk result (cells.new.items ≡ cells.old.items ++ cell ∷ []) }
-{
-    cells.push(cell)?;
-    Ok(())
 }
 
 /// The blocks of an option.
@@ -67,20 +56,9 @@ fn blocks_in(alloc: Global, texts: &[&str]) -> Read<Vec<usize>>
 {
     let mut blocks = Vec::new(alloc);
     for text in texts {
-        let Some(block) = number_in(text.as_bytes(), 0, MOST_BLOCKS) else {
-            unreachable!()
-        };
-        put_block(&mut blocks, block)?;
+        blocks.push(number_in(text.as_bytes(), 0, MOST_BLOCKS).unwrap())?;
     }
     Ok(blocks)
-}
-
-/// Puts a block after others.
-fn put_block(blocks: &mut Vec<usize>, block: usize) -> Read<()>
-    ensures { OnOk result (blocks.new.items ≡ blocks.old.items ++ block ∷ []) }
-{
-    blocks.push(block)?;
-    Ok(())
 }
 
 /// The information words, if any is given: that of a date, or those that are given themselves.
@@ -95,7 +73,7 @@ pub fn info_of(alloc: Global, found: &ArgMatches<'_>, verb: Verb) -> Read<Option
     match date_of(found, verb) {
         Some(word) => {
             let mut words = Vec::new(alloc);
-            put_word(&mut words, word)?;
+            words.push(word)?;
             Ok(Some(words))
         }
         None => given_info(alloc, found, verb),
@@ -126,18 +104,7 @@ fn words_in(alloc: Global, texts: &[&str]) -> Read<Vec<Word>>
 {
     let mut words = Vec::new(alloc);
     for text in texts {
-        let Some(word) = word_in(text.as_bytes()) else {
-            unreachable!()
-        };
-        put_word(&mut words, word)?;
+        words.push(word_in(text.as_bytes()).unwrap())?;
     }
     Ok(words)
-}
-
-/// Puts a word after others.
-fn put_word(words: &mut Vec<Word>, word: Word) -> Read<()>
-    ensures { OnOk result (words.new.items ≡ words.old.items ++ word ∷ []) }
-{
-    words.push(word)?;
-    Ok(())
 }

@@ -1,5 +1,5 @@
 //! What is missing of the arguments of a subcommand, where its table says of none of them that it must be given.
-ghost use Rattle.std.specs.Prelude.{◌≡◌, ◌≤◌, codes, length, map};
+ghost use Rattle.std.specs.Prelude.{◌≡◌, ◌≤◌, if◌then◌else◌, codes, length, map, None, Some};
 ghost use Rattle.command_table.specs.Steps.{values_in};
 ghost use Rattle.command_table.specs.Found.{values_of};
 ghost use Rattle.command_table.specs.Refusals as spec;
@@ -16,21 +16,27 @@ pub fn missing_of(found: &ArgMatches<'_>, which: Verb) -> Option<What>
 {
     match which {
         Verb::Assemble => assemble_missing(found),
-        Verb::Create => create_missing(found),
+        Verb::Create => lack(
+            has(found, "BLOCKS") || is_set(found, "dectape"),
+            What::Blocks,
+        ),
         Verb::Get => get_missing(found),
-        Verb::Put => put_missing(found),
-        Verb::Delete => delete_missing(found),
+        Verb::Put => lack(!(puts_many(found) && puts_input(found)), What::As),
+        Verb::Delete => lack(has(found, "NAME") || has(found, "at"), What::Name),
         Verb::Rename => moved_missing(found, "NEW", What::New, What::NameAndNew),
         Verb::Copy => moved_missing(found, "TO", What::To, What::NameAndTo),
-        Verb::Tape => tape_missing(found),
-        Verb::Rim => tape_missing(found),
-        Verb::Source => tape_missing(found),
-        Verb::Teletype => tape_missing(found),
-        Verb::Trace => tape_missing(found),
-        Verb::Profile => tape_missing(found),
+        Verb::Tape | Verb::Rim | Verb::Source => tape_missing(found),
+        Verb::Teletype | Verb::Trace | Verb::Profile => tape_missing(found),
         Verb::Run | Verb::List | Verb::Squeeze | Verb::Check => None,
         Verb::Dump | Verb::Patch | Verb::Index | Verb::Rescue | Verb::Scan => None,
     }
+}
+
+/// What is missing, unless it is given.
+fn lack(is_given: bool, what: What) -> Option<What>
+    ensures { result ≡ (if is_given then None else Some what) }
+{
+    if is_given { None } else { Some(what) }
 }
 
 /// What is missing of a file of a volume, where it is said where the volume lies.
@@ -70,16 +76,6 @@ fn says_of_volume(found: &ArgMatches<'_>) -> bool
     has(found, "onto") || has(found, "volume") || is_set(found, "dectape")
 }
 
-/// What is missing of a new volume: its size.
-fn create_missing(found: &ArgMatches<'_>) -> Option<What>
-    ensures { result ≡ spec.missing_of verb.Create (values_in found.now) }
-{
-    if has(found, "BLOCKS") || is_set(found, "dectape") {
-        return None;
-    }
-    Some(What::Blocks)
-}
-
 /// What is missing where files are got.
 fn get_missing(found: &ArgMatches<'_>) -> Option<What>
     ensures { result ≡ spec.missing_of verb.Get (values_in found.now) }
@@ -90,10 +86,7 @@ fn get_missing(found: &ArgMatches<'_>) -> Option<What>
     if !names_some(found) {
         return Some(What::Name);
     }
-    if has(found, "into") || names_one(found) {
-        return None;
-    }
-    Some(What::Into)
+    lack(has(found, "into") || names_one(found), What::Into)
 }
 
 /// What is missing where blocks are got.
@@ -103,10 +96,7 @@ fn blocks_missing(found: &ArgMatches<'_>) -> Option<What>
     if !has(found, "NAME") {
         return Some(What::FirstAndCount);
     }
-    if word_at(found, "NAME", 1).is_none() {
-        return Some(What::Count);
-    }
-    None
+    lack(word_at(found, "NAME", 1).is_some(), What::Count)
 }
 
 /// Whether a file is named.
@@ -129,16 +119,6 @@ fn is_alone(found: &ArgMatches<'_>, id: &str, other: &str) -> bool
     ensures { result ≡ spec.is_alone id.now other.now (values_in found.now) }
 {
     has(found, id) && word_at(found, id, 1).is_none() && !has(found, other)
-}
-
-/// What is missing where files are put: a name for standard input.
-fn put_missing(found: &ArgMatches<'_>) -> Option<What>
-    ensures { result ≡ spec.missing_of verb.Put (values_in found.now) }
-{
-    if puts_many(found) && puts_input(found) {
-        return Some(What::As);
-    }
-    None
 }
 
 /// Whether files of the host are put under their own names.
@@ -169,28 +149,12 @@ pub fn input_count(names: &[&str]) -> usize
     count
 }
 
-/// What is missing where files are taken out.
-fn delete_missing(found: &ArgMatches<'_>) -> Option<What>
-    ensures { result ≡ spec.missing_of verb.Delete (values_in found.now) }
-{
-    if has(found, "NAME") || has(found, "at") {
-        return None;
-    }
-    Some(What::Name)
-}
-
 /// What is missing of a file and the argument after it, which stands in the place of the name where `--at` gives the file.
 fn moved_missing(found: &ArgMatches<'_>, id: &str, one: What, both: What) -> Option<What>
     ensures { result ≡ spec.moved_missing id.now one both (values_in found.now) }
 {
     if !has(found, "NAME") {
-        if has(found, "at") {
-            return Some(one);
-        }
-        return Some(both);
+        return Some(if has(found, "at") { one } else { both });
     }
-    if has(found, "at") || has(found, id) {
-        return None;
-    }
-    Some(one)
+    lack(has(found, "at") || has(found, id), one)
 }

@@ -48,10 +48,7 @@ pub fn number_of(digits: &[u8], least: usize, most: usize) -> usize
     ensures value { spec.number_in least most digits.now ≡ Some result }
     ensures range { (least ≤ result) × (result ≤ most) }
 {
-    match number_in(digits, least, most) {
-        Some(number) => number,
-        None => unreachable!(),
-    }
+    number_in(digits, least, most).unwrap()
 }
 
 /// A cell: an octal number up to 77777, or its field, a colon and its address.

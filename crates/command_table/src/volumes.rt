@@ -74,6 +74,7 @@ fn saving(found: &ArgMatches<'_>) -> Saving
 }
 
 /// The new volume that is asked for.
+#[tactic(auto, using(crate::proofs::RefusalLemmas::sized_tape))]
 pub fn create(alloc: Global, found: &ArgMatches<'_>) -> Read<Task>
     requires { Needs verb.Create (values_in found.now) }
     ensures { IfOk result (IsAskedBy verb.Create (values_in found.now)) }

@@ -4,11 +4,11 @@ use Rattle.command_table.specs.Tasks.{given_info}
 use Rattle.command_table.proofs.InfoLemmas.{info-dated, info-given}
 use Rattle.command_table.proofs.lists.info_of.Goals as goal
 
-pub returns-in_ok-put_word-in-Some : goal.returns-in_ok-put_word-in-Some
-returns-in_ok-put_word-in-Some c =
+pub returns-in_ok-push-in-Some : goal.returns-in_ok-push-in-Some
+returns-in_ok-push-in-Some c =
     let rows = values_in c.args.found.now in
-    info-dated (first_of (codes "date") rows) (given_info rows) c.in-Some.word c.put_word.new.words.items (c.date_of.ensures ∙ ap (option_map (λ word. Some word)) c.in-Some.is)
-    (rw c.new-words.ensures.items at c.in_ok-put_word-in-Some.ensures)
+    info-dated (first_of (codes "date") rows) (given_info rows) c.in-Some.word c.push.new.self.items (c.date_of.ensures ∙ ap (option_map (λ word. Some word)) c.in-Some.is)
+    (rw c.new-words.ensures.items at c.in_ok-push-in-Some.ensures.items)
 
 pub returns-in-None : goal.returns-in-None
 returns-in-None c =
