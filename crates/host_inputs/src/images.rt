@@ -157,7 +157,7 @@ fn write_held<R: Files<File = File> + Eprint>(
 }
 
 /// The bytes of an image that is only looked at.
-pub fn image_bytes<R: Files + Eprint + AllocGlobal>(
+fn image_bytes<R: Files + Eprint + AllocGlobal>(
     rt: &R,
     form: &ImageForm,
 ) -> Result<Vec<u8>, Ending> {

@@ -1,5 +1,4 @@
-//! Image files of the host, held, read and saved; how far a long command on them is. No image file is left half
-//! written where the host can help it.
+//! Image files of the host, held, read and saved. No image file is left half written where the host can help it.
 #![tactic(auto)]
 
 mod arguments;
@@ -7,15 +6,13 @@ mod files;
 mod images;
 mod inputs;
 mod printing;
-mod progress;
 mod streams;
 mod words;
 
 pub use arguments::tell_bad_argument;
 pub use files::{answer_of, refusal};
-pub use images::{Image, bytes_of, image_bytes, make_file, save_and_print};
+pub use images::{Image, bytes_of, make_file, save_and_print};
 pub use inputs::{CountedInput, input_bytes};
-pub use printing::{print_bytes, print_of, tell, tell_line, tell_text};
-pub use progress::Progress;
+pub use printing::{print_bytes, tell, tell_line, tell_text};
 pub use streams::Output;
 pub use words::texts_of;

@@ -2,7 +2,7 @@
 
 use crate::Output;
 use outcome::{Ending, Note};
-use program_reports::{ProgramLine, put_program, with_prefix};
+use program_reports::{ProgramLine, put_program};
 use std::io::Write;
 
 /// Prints lines or data on standard output.
@@ -12,13 +12,6 @@ pub fn print_bytes<R: Print>(rt: &R, bytes: &[u8]) -> Result<(), Ending> {
         return Err(output.ending());
     }
     Ok(())
-}
-
-/// Prints the line of the report of a name or of a file, with that before it.
-pub fn print_of<R: Print + AllocGlobal>(rt: &R, name: &str, text: &[u8]) -> Result<(), Ending> {
-    let prefix = format!(in rt.alloc(); "{name}: ")?;
-    let lines = with_prefix(rt.alloc(), prefix.as_bytes(), text)?;
-    print_bytes(rt, &lines)
 }
 
 /// Prints on standard error a line that is no fault.
