@@ -15,6 +15,10 @@ use Rattle.archive_files.specs.Getting.{Gets}
 use Rattle.archive_files.specs.declared.faults.ArchiveFault.{ArchiveFault}
 use Rattle.program_reports.specs.declared.programs.ProgramLine.TheVariants as line
 use Rattle.script8.specs.declared.faults.SessionFault.TheVariants as fault
+use Rattle.image_volumes.specs.Margins.{body_of}
+use Rattle.image_volumes.specs.Volumes.{volumes_in}
+use Rattle.image_volumes.specs.declared.volumes.Volumes.{Volumes}
+use Rattle.image_volumes.specs.declared.volumes.Volumes.TheVariants.{One, Both}
 use Rattle.program_tasks.specs.declared.forms.ImageForm.{ImageForm}
 use Rattle.program_tasks.specs.declared.forms.TapeForm.{TapeForm}
 use Rattle.program_tasks.specs.declared.forms.TapeForm.TheVariants as tape
@@ -23,7 +27,7 @@ use Rattle.program_tasks.specs.declared.tasks.SourceForm.{SourceForm}
 use Rattle.volume_commands.specs.Answers.{Answers, Refuses}
 use Rattle.volume_commands.specs.Notes.{Tells}
 use Rattle.volume_commands.specs.Putting.{TakesInput}
-use Rattle.volume_commands.specs.Reading.{FindsVolume, Looks, LooksAt}
+use Rattle.volume_commands.specs.Reading.{FindsIn, FindsOne, Looks, LooksAt}
 use Rattle.volume_commands.specs.Saving.{Prints}
 use Rattle.volume_commands.specs.Work.{Then, Purely}
 use Rattle.program_commands.specs.Kinds.{RefusesFrames, RefusesTape, is_no_tape}
@@ -123,9 +127,14 @@ looks-keeps name shown old (Err FullOutput) new p path = absurd p
 looks-keeps name shown old (Err NoReader) new p path = absurd p
 looks-keeps name shown old (Err Misuse) new p path = absurd p
 
+finds-keeps : (volumes : Volumes) (body : List ℕ) → KeepsFiles (FindsIn volumes body)
+finds-keeps (One layout) body old result new p path = same path p.1
+finds-keeps Both body old (Ok image) new p path = absurd p
+finds-keeps Both body old (Err ending) new (is, ok, p) path = same path p
+
 looks-at-keeps : (form : ImageForm) → KeepsFiles (LooksAt form)
-looks-at-keeps form = then-keeps (Looks form.file.bytes.items form.file.bytes.items) (λ file. Purely (FindsVolume form.layout file.items))
-    (looks-keeps form.file.bytes.items form.file.bytes.items) (λ file. purely-keeps (FindsVolume form.layout file.items))
+looks-at-keeps form = then-keeps (Looks form.file.bytes.items form.file.bytes.items) (λ file. FindsOne form.layout file.items)
+    (looks-keeps form.file.bytes.items form.file.bytes.items) (λ file. finds-keeps (volumes_in form.layout file.items) (body_of form.layout file.items))
 
 input-keeps : KeepsFiles TakesInput
 input-keeps old (Ok bytes) new p path = same path p.1
