@@ -57,8 +57,8 @@ export const isVolume = ({ refusal }) => refusal === null || refusal.startsWith(
 
 /** @typedef {{ refusal: string | null, said: string }} Asked */
 
-// What an image is, by what the program says of it, and the line by which that refuses it, if it does. `index` reports a disk by its volumes. An
-// image of which it says nothing is asked for in each way that its length leaves.
+// What an image is, by what the program says of it, and the line by which that refuses it, if it does. `index` reports a disk by its volumes, and
+// `check` takes a DECtape by itself. An image of which they say nothing is asked for in each way that its length leaves.
 /** @param {Page} page @param {Uint8Array} bytes @returns {Promise<Asked & { kind: Kind }>} */
 export async function kindOf({ programs, store }, bytes) {
     const name = `.kind-${++last}`;
@@ -76,7 +76,8 @@ export async function kindOf({ programs, store }, bytes) {
         const isTold = kind === 'disk' && /^\.kind-\d+(?: |\t)[12](?:: |\t)/m.test(await indexOf(programs, name));
         const parts = kind === 'disk' ? [await asked('--volume', '1'), await asked('--volume', '2')] : [await asked('--dectape')];
         const part = parts.find(it => it.refusal === null) ?? parts.find(isVolume);
-        return part && (isTold || !isVolume(plain)) ? { kind, ...part } : { kind: '', ...plain };
+        const isTape = kind === 'DECtape' && part?.refusal === null;
+        return part && (isTold || isTape || !isVolume(plain)) ? { kind, ...part } : { kind: '', ...plain };
     } finally {
         store.remove(name);
     }
