@@ -80,7 +80,7 @@ def announce(count: int, is_quick: bool) -> None:
         print(f"gate: the last run here took {clock(last['seconds'])} on {last['processors']} processors", flush=True)
     except (OSError, ValueError, KeyError):
         told = re.search(r"(\d+)\s+seconds\s+on\s+(\w+)\s+processors", open(f"{TOP}/docs/CONTRIBUTING.md", encoding="utf-8").read())
-        print(f"gate: none ran here; docs/CONTRIBUTING.md tells of {clock(int(told[1]))} on {told[2]} processors" if told else "gate: none ran here", flush=True)
+        print(f"gate: none ran here; docs/CONTRIBUTING.md has {clock(int(told[1]))} on {told[2]} processors" if told else "gate: none ran here", flush=True)
 
 
 class Part:
