@@ -35,7 +35,8 @@ SECONDS = {
     "program_tasks": 40, "command_table": 500, "program_reports": 170, "outcome": 100, "program_commands": 60, "host_inputs": 150, "tape_commands": 200,
     "monitor8": 150, "pdp8": 140,
 }  # fmt: skip
-# What compiles the program: the toolchain's compiler, which lays jumps so that none crosses or ends at 32 bytes. There some processors are slow.
+# What compiles the program: the toolchain's compiler, which lays direct jumps so that none crosses or ends at 32 bytes. There some processors are
+# slow.
 COMPILER = """#!/bin/sh
 case " $* " in
 *" -O3 "*) exec "{clang}" "$@" -mllvm -x86-branches-within-32B-boundaries -mllvm -align-all-functions=6 ;;
