@@ -32,7 +32,7 @@ SECONDS = {
     "char_pack": 70, "pal_lex": 150, "pal_sym": 65, "pal_asm": 160, "pal_blocks": 55, "source_notes": 60, "source_names": 60, "tape_source": 140,
     "trace8": 65, "profile8": 70, "host_sources": 240, "source_listing": 120, "terminal8": 90, "host_images": 80, "disk_layouts": 60, "volume_image": 85,
     "os8_dir": 160, "os8_files": 180, "script8": 170, "archive_files": 220, "archive_many": 130, "archive_survey": 100, "volume_jobs": 150, "system_session": 300,
-    "program_tasks": 40, "command_table": 500, "program_reports": 170, "outcome": 100, "program_commands": 60, "host_inputs": 150, "tape_commands": 200,
+    "program_tasks": 40, "command_table": 500, "program_reports": 170, "outcome": 100, "host_progress": 20, "program_commands": 60, "host_inputs": 150, "tape_commands": 200,
     "monitor8": 150, "pdp8": 140,
 }  # fmt: skip
 # What compiles the program: the toolchain's compiler, which lays direct jumps so that none crosses or ends at 32 bytes. There some processors are
@@ -66,18 +66,19 @@ class Wanted:
         own = self.own_library(name)
         return own if os.path.exists(own) else f"{TOP}/crates/{name}/out/rlib/{name}.rlib"
 
-    def mark(self, name: str) -> str:
-        """What is kept of a crate's proof: the sum of what it rests on, and of the program also the sum of its bytes. Of a library that the
-        toolchain's gate left it is also the time of that library."""
+    def mark(self, name: str, note: str) -> str:
+        """What is kept of a crate's proof: the sum of what it rests on, and of the program also the sum of its bytes. Where it was compiled by
+        COMPILER, that is kept too. Of a library that the toolchain's gate left it is also the time of that library."""
         if name == self.program:
-            return f"{self.sums[name]} {hashlib.sha256(open(self.made, 'rb').read()).hexdigest()}"
+            compiler = f" {hashlib.sha256(COMPILER.encode()).hexdigest()}" if note == "laid" else ""
+            return f"{self.sums[name]} {hashlib.sha256(open(self.made, 'rb').read()).hexdigest()}{compiler}"
         left = "" if os.path.exists(self.own_library(name)) else f" {os.stat(f'{self.library(name)}/format').st_mtime_ns}"
         return f"{self.sums[name]}{left}"
 
     def is_proved(self, name: str, note: str = "sum") -> bool:
         """Whether the crate was proved as it stands here."""
         try:
-            return open(f"{self.kept(name)}/{note}", encoding="utf-8").read() == self.mark(name)
+            return open(f"{self.kept(name)}/{note}", encoding="utf-8").read() == self.mark(name, note)
         except OSError:
             return False
 
@@ -89,7 +90,7 @@ class Wanted:
         """Notes that the crate is proved as it stands here."""
         os.makedirs(self.kept(name), exist_ok=True)
         with open(f"{self.kept(name)}/{note}", "w", encoding="utf-8") as kept:
-            kept.write(self.mark(name))
+            kept.write(self.mark(name, note))
 
     def keep_all(self) -> None:
         """Notes that all was proved by the toolchain's gate, which has just left the program and libraries."""

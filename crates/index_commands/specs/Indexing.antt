@@ -1,5 +1,5 @@
 -- The command that writes the index of many images (this project's profile).
-use Rattle.std.specs.Prelude.{◌≡◌, ◌⊎◌, ℕ, Bool, true, false, ◌||◌, codes, Option, None, Result, Ok, Err, List, [], ◌∷◌}
+use Rattle.std.specs.Prelude.{◌≡◌, ◌⊎◌, ℕ, ◌+◌, Bool, true, false, ◌||◌, codes, Option, None, Result, Ok, Err, List, [], ◌∷◌, length}
 use Rattle.std.specs.Global.{Vec}
 use Rattle.hosts.specs.Event.{Event, tell_call}
 use Rattle.disk_layouts.specs.declared.layouts.Layout.{Layout}
@@ -10,9 +10,10 @@ use Rattle.volume_index.specs.declared.styles.IndexStyle.{IndexStyle}
 use Rattle.outcome.specs.Endings.{ending_of_archive}
 use Rattle.outcome.specs.declared.endings.Ending.{Ending}
 use Rattle.outcome.specs.declared.endings.Ending.TheVariants.{Failure, Misuse}
-use Rattle.volume_commands.specs.Work.{Then}
+use Rattle.volume_commands.specs.Work.{Then, Purely}
 use Rattle.volume_commands.specs.Reading.{Looks}
 use Rattle.volume_commands.specs.Saving.{Prints}
+use Rattle.host_progress.specs.Progressing.{TellsProgress, WithProgress}
 use Rattle.index_commands.specs.Refusing.{PassesOver}
 use Rattle.index_commands.specs.Volumes.{IsImageAt, IsNoImage, body_of, layouts_in, number_of}
 
@@ -64,11 +65,19 @@ abbrev pub ending_of_refusal : Bool → Result (Unit {0}) Ending
 ending_of_refusal true = Err Failure
 ending_of_refusal false = Ok tt
 
--- Images are read in order, one at a time; of each the index is printed, or why it is passed over.
-abbrev pub IndexesImages : IndexStyle → Option Layout → List (List ℕ) → Bool → List Event → Result (Unit {0}) Ending → List Event → Type 0
-IndexesImages style layout [] is_refused old result new = (result ≡ ending_of_refusal is_refused) × (new ≡ old)
-IndexesImages style layout (name ∷ names) is_refused old result new =
-    Then (IndexesImage style layout name) (λ more. IndexesImages style layout names (is_refused || more)) old result new
+-- how many of all images are done may be printed, and then the next one is indexed
+abbrev pub IndexesNext : IndexStyle → Option Layout → Bool → ℕ → ℕ → List ℕ → List Event → Result Bool Ending → List Event → Type 0
+IndexesNext style layout is_told done all name = Then (TellsProgress is_told done all) (λ it. IndexesImage style layout name)
+
+-- Images are read in order, one at a time; of each the index is printed, or why it is passed over. The answer is whether one is refused.
+abbrev pub IndexesImages : IndexStyle → Option Layout → Bool → ℕ → ℕ → List (List ℕ) → Bool → List Event → Result Bool Ending → List Event → Type 0
+IndexesImages style layout is_told done all [] is_refused = Purely (λ result. result ≡ Ok is_refused)
+IndexesImages style layout is_told done all (name ∷ names) is_refused =
+    Then (IndexesNext style layout is_told done all name) (λ more. IndexesImages style layout is_told (done + 1) all names (is_refused || more))
+
+-- the same with its progress
+abbrev pub IndexesAll : IndexStyle → Option Layout → List (List ℕ) → List Event → Result Bool Ending → List Event → Type 0
+IndexesAll style layout names = WithProgress (λ is_told. IndexesImages style layout is_told 0 (length names) names false)
 
 -- a word that is no name and no pattern is refused
 abbrev pub ChecksWord : List ℕ → List Event → Result (Unit {0}) Ending → List Event → Type 0
@@ -77,6 +86,7 @@ ChecksWord word old (Err Misuse) new =
     (is_choice word ≡ false) × (ok : Bool) × (new ≡ tell_call ok (codes "error: --find takes a name, or a pattern of letters, digits, * and ?\n") ∷ old)
 ChecksWord word old (Err _) new = ⊥
 
--- The word that chooses files is looked at, and then the index of all images is printed.
+-- The word that chooses files is looked at, and then the index of all images is printed. Where one was refused, the command ends so.
 abbrev pub Indexes : IndexStyle → Option Layout → List (List ℕ) → List Event → Result (Unit {0}) Ending → List Event → Type 0
-Indexes style layout names = Then (ChecksWord style.find.bytes.items) (λ it. IndexesImages style layout names false)
+Indexes style layout names =
+    Then (ChecksWord style.find.bytes.items) (λ it. Then (IndexesAll style layout names) (λ is_refused. Purely (λ result. result ≡ ending_of_refusal is_refused)))

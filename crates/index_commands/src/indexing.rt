@@ -1,12 +1,13 @@
-ghost use Rattle.std.specs.Prelude.{◌≡◌, Some, false, ◌||◌, ◌∷◌, [], map};
+ghost use Rattle.std.specs.Prelude.{◌≡◌, Some, false, ◌||◌, ◌∷◌, [], length, map};
 ghost use Rattle.image_kind.specs.declared.kinds.Form.TheVariants.{Disk};
-ghost use Rattle.index_commands.specs.Indexing.{ChecksWord, GivesIndex, Indexes, IndexesImage, IndexesImages, IndexesVolume, IndexesVolumes, PrintsLines};
+ghost use Rattle.index_commands.specs.Indexing.{ChecksWord, GivesIndex, Indexes, IndexesAll, IndexesImage, IndexesImages, IndexesNext, IndexesVolume, IndexesVolumes, PrintsLines, ending_of_refusal};
 ghost use Rattle.index_commands.specs.Volumes.{body_of, layouts_in, layouts_of};
 
 use crate::refusals::pass_over;
 use crate::volumes::{body_in, number_of, volume_at};
 use archive_many::{ChoiceFault, choose_files};
 use disk_layouts::Layout;
+use host_progress::Progress;
 use hosts::Host;
 use image_kind::{Form, kind_of};
 use outcome::Ending;
@@ -17,7 +18,8 @@ use volume_index::{IndexStyle, index_volume};
 /// Prints the index of the volumes in image files: a line for each file of each that is wanted, images as they are given and files as they
 /// lie. Images are read one at a time, and no file changes. Where no layout is given, each file's length and directory show which volumes it
 /// has. What is refused is said on standard error, the rest goes on, and the command ends with a refusal. Where the word that chooses files is
-/// no name and no pattern, nothing is read (this project's profile).
+/// no name and no pattern, nothing is read. A terminal on standard error shows the progress, where standard output goes elsewhere (this
+/// project's profile).
 pub fn index_images<H: Host>(
     host: &mut H,
     alloc: Global,
@@ -28,7 +30,34 @@ pub fn index_images<H: Host>(
     ensures { Indexes style.now layout (map (λ image. image.bytes.items) images.now) (H.history host.old) result (H.history host.new) }
 {
     check_word(host, alloc, style.find.as_bytes())?;
-    index_each(host, alloc, style, images, layout)
+    let is_refused = index_all(host, alloc, style, images, layout)?;
+    ending_of_refusal(is_refused)
+}
+
+/// How the command ends, by whether an image was refused.
+fn ending_of_refusal(is_refused: bool) -> Result<(), Ending>
+    ensures { result ≡ ending_of_refusal is_refused }
+{
+    if is_refused {
+        return Err(Ending::Failure);
+    }
+    Ok(())
+}
+
+/// Prints the index of all image files, with the progress, and answers whether one is refused.
+fn index_all<H: Host>(
+    host: &mut H,
+    alloc: Global,
+    style: &IndexStyle,
+    images: &[String],
+    layout: Option<Layout>,
+) -> Result<bool, Ending>
+    ensures { IndexesAll style.now layout (map (λ image. image.bytes.items) images.now) (H.history host.old) result (H.history host.new) }
+{
+    let mut progress = Progress::begin(host, images.len());
+    let is_refused = index_each(host, alloc, style, images, layout, &mut progress);
+    progress.end(host);
+    is_refused
 }
 
 /// Refuses a word that is no name and no pattern.
@@ -46,27 +75,46 @@ fn check_word<H: Host>(host: &mut H, alloc: Global, word: &[u8]) -> Result<(), E
     }
 }
 
-/// Prints the index of each image file.
+/// Prints the index of each image file, and answers whether one is refused.
 fn index_each<H: Host>(
     host: &mut H,
     alloc: Global,
     style: &IndexStyle,
     images: &[String],
     layout: Option<Layout>,
-) -> Result<(), Ending>
-    ensures { IndexesImages style.now layout (map (λ image. image.bytes.items) images.now) false (H.history host.old) result (H.history host.new) }
+    progress: &mut Progress,
+) -> Result<bool, Ending>
+    ensures indexes { IndexesImages style.now layout progress.old.is_told 0 progress.old.all (map (λ image. image.bytes.items) images.now) false (H.history host.old) result (H.history host.new) }
+    ensures told { progress.new.is_told ≡ progress.old.is_told }
 {
+    let mut done = 0;
     let mut is_refused = false;
     let mut rest = images;
     while let [image, others @ ..] = rest {
-        let more = index_image(host, alloc, style, image.as_str(), layout)?;
+        let more = index_next(host, alloc, style, image.as_str(), layout, progress, done)?;
         is_refused = is_either(is_refused, more);
+        done += 1;
         rest = others;
     }
-    if is_refused {
-        return Err(Ending::Failure);
-    }
-    Ok(())
+    Ok(is_refused)
+}
+
+/// Prints the index of an image file after so many others, and answers whether one of its volumes is refused.
+fn index_next<H: Host>(
+    host: &mut H,
+    alloc: Global,
+    style: &IndexStyle,
+    name: &str,
+    layout: Option<Layout>,
+    progress: &mut Progress,
+    done: usize,
+) -> Result<bool, Ending>
+    ensures indexes { IndexesNext style.now layout progress.old.is_told done progress.old.all name.now (H.history host.old) result (H.history host.new) }
+    ensures told { progress.new.is_told ≡ progress.old.is_told }
+    ensures all { progress.new.all ≡ progress.old.all }
+{
+    progress.tell(host, done);
+    index_image(host, alloc, style, name, layout)
 }
 
 /// Whether one of two is so.

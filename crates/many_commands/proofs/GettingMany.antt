@@ -25,7 +25,7 @@ use Rattle.volume_commands.specs.Saving.{Prints}
 use Rattle.volume_commands.specs.Work.{Then, Purely}
 use Rattle.many_commands.specs.GettingMany.{AreFilesOn, GetsMany, GivesAsked, GivesEach, GivesFile, GivesWish, HasLaid, IsPath, LaysAndTells, LaysFile, MakesFolder, PrintsAnswer, RefusesWord, ReplacesIf, TakesFile, IsHostName, TellsLaid, count_after, path_in}
 use Rattle.many_commands.specs.Laws.{ChangesIn, ChangesNothing, IsIn, NeverChanges, NeverReplaces}
-use Rattle.many_commands.specs.Progressing.{TellsProgress, WithProgress}
+use Rattle.host_progress.specs.Progressing.{TellsProgress, WithProgress}
 use Rattle.many_commands.specs.Reporting.{EndsSound, named_lines}
 use Rattle.many_commands.specs.Texts.{TakesLists, get_form}
 use Rattle.many_commands.specs.Wishing.{AreWishes, words_of}

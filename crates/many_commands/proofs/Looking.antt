@@ -33,7 +33,7 @@ use Rattle.many_commands.specs.Checking.{ChecksEach, ChecksFiles, ChecksImages, 
 use Rattle.many_commands.specs.Reporting.{EndsSound, PrintsNamed, PrintsReport, Reports, TellsRefusal, named_lines}
 use Rattle.many_commands.specs.Volumes.{IsVolumeName, ReportsAlone, ReportsAt, ReportsBoth, ReportsFile, ReportsNext, ReportsNumbered, ReportsOne, ReportsRead, ReportsVolume, ReportsVolumes}
 use Rattle.many_commands.specs.Laws.{ChangesNothing, NeverChanges}
-use Rattle.many_commands.specs.Progressing.{BeginsProgress, EndsProgress, TellsDone, TellsProgress, WithProgress}
+use Rattle.host_progress.specs.Progressing.{BeginsProgress, EndsProgress, TellsDone, TellsProgress, WithProgress}
 use Rattle.many_commands.proofs.Keeping.{answers-never, looks-at-never, looks-never, prints-never, purely-never, refuses-never, same, then-never}
 
 -- ## What the commands on volumes show

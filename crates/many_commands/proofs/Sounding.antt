@@ -19,7 +19,7 @@ use Rattle.volume_commands.specs.Work.{Then, Purely}
 use Rattle.many_commands.specs.declared.reports.Report.{Report}
 use Rattle.many_commands.specs.Checking.{ChecksEach, ChecksFiles, ChecksNext, ChecksSeveral, PrintsCount, kind_of_check, with_refusal}
 use Rattle.many_commands.specs.Laws.{AreSound, AreSoundIn, IsSoundFile, IsSoundVolume}
-use Rattle.many_commands.specs.Progressing.{BeginsProgress, EndsProgress, TellsDone, progress_text}
+use Rattle.host_progress.specs.Progressing.{BeginsProgress, EndsProgress, TellsDone, progress_text}
 use Rattle.many_commands.specs.Reporting.{EndsSound, PrintsNamed, PrintsReport, Reports, TellsLine, TellsRefusal, line_in}
 use Rattle.many_commands.specs.Volumes.{ReportsAlone, ReportsAt, ReportsBoth, ReportsFile, ReportsNext, ReportsNumbered, ReportsOne, ReportsVolume, ReportsVolumes}
 

@@ -8,7 +8,7 @@ use Rattle.program_tasks.specs.declared.forms.CheckForm.{CheckForm}
 use Rattle.volume_commands.specs.Work.{Then, Purely}
 use Rattle.volume_commands.specs.Answers.{AreLines}
 use Rattle.volume_commands.specs.Saving.{Prints}
-use Rattle.many_commands.specs.Progressing.{TellsProgress, WithProgress}
+use Rattle.host_progress.specs.Progressing.{TellsProgress, WithProgress}
 use Rattle.many_commands.specs.Reporting.{EndsSound}
 use Rattle.many_commands.specs.Volumes.{ReportsNext, ReportsOne}
 use Rattle.many_commands.specs.declared.reports.ReportKind.{ReportKind}

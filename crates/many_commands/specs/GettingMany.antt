@@ -26,7 +26,7 @@ use Rattle.volume_commands.specs.Reading.{LooksAt}
 use Rattle.volume_commands.specs.Answers.{Answers, AreLines}
 use Rattle.volume_commands.specs.Saving.{Prints, TouchesOnly}
 use Rattle.many_commands.specs.Reporting.{EndsSound, named_lines}
-use Rattle.many_commands.specs.Progressing.{TellsProgress, WithProgress}
+use Rattle.host_progress.specs.Progressing.{TellsProgress, WithProgress}
 use Rattle.many_commands.specs.Texts.{TakesLists, get_form}
 use Rattle.many_commands.specs.Wishing.{AreWishes, words_of}
 use Rattle.many_commands.specs.declared.wishes.Wish.{Wish}

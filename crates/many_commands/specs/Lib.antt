@@ -1,4 +1,3 @@
-pub mod Progressing
 pub mod Reporting
 pub mod Volumes
 pub mod Checking

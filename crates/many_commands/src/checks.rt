@@ -5,11 +5,11 @@ ghost use Rattle.program_reports.specs.declared.programs.ProgramLine.TheVariants
 ghost use Rattle.volume_commands.specs.Answers.{AreLines};
 ghost use Rattle.many_commands.specs.Checking as spec;
 ghost use Rattle.many_commands.specs.Checking.{ChecksEach, ChecksFiles, ChecksImages, ChecksNext, ChecksSeveral, PrintsCount};
-ghost use Rattle.many_commands.specs.Progressing.{WithProgress};
+ghost use Rattle.host_progress.specs.Progressing.{WithProgress};
 
-use crate::progress::Progress;
 use crate::reports::{ReportKind, end_sound};
 use crate::volumes::{report_next, report_one};
+use host_progress::Progress;
 use hosts::Host;
 use outcome::Ending;
 use program_reports::{ProgramLine, put_program};

@@ -9,16 +9,16 @@ ghost use Rattle.script8.specs.declared.faults.SessionFault.TheVariants as sessi
 ghost use Rattle.volume_commands.specs.Answers.{Answers};
 ghost use Rattle.many_commands.specs.Reporting.{named_lines};
 ghost use Rattle.volume_commands.specs.Work.{Then};
-ghost use Rattle.many_commands.specs.Progressing.{TellsProgress, WithProgress};
+ghost use Rattle.host_progress.specs.Progressing.{TellsProgress, WithProgress};
 ghost use Rattle.many_commands.specs.GettingMany as spec;
 ghost use Rattle.many_commands.specs.GettingMany.{AreFilesOn, GetsMany, GivesAsked, GivesEach, GivesFile, GivesWish, MakesFolder, PrintsAnswer, RefusesWord};
 
 use crate::giving::{give_file, refuse};
-use crate::progress::Progress;
 use crate::reports::end_sound;
 use crate::texts::take_lists;
 use crate::wishes::{Wish, wishes_of};
 use archive_many::{OpenVolume, VolumeFile, open};
+use host_progress::Progress;
 use hosts::{Host, HostFault};
 use os8_dir::FileFault;
 use outcome::Ending;

@@ -7,7 +7,6 @@ mod getting;
 mod giving;
 mod host_files;
 pub mod laws;
-mod progress;
 mod putting;
 mod reports;
 mod texts;

@@ -1,4 +1,4 @@
-use Rattle.std.proofs.Common.{Result, List, length, map, false}
+use Rattle.std.proofs.Common.{◌≡◌, ◌+◌, Bool, false, Result, List, length, map}
 use Rattle.hosts.specs.Event.{Event}
 use Rattle.outcome.specs.declared.endings.Ending.{Ending}
 use Rattle.index_commands.specs.Indexing.{IndexesImages}
@@ -6,9 +6,14 @@ use Rattle.index_commands.proofs.indexing.index_each.Given as goal
 
 -- what comes of the images that are left is what comes of all
 abbrev pub invariant-loop-rest : goal.invariant-loop-rest
-invariant-loop-rest g l = (result : Result (Unit {0}) Ending) (new : List Event)
-    → IndexesImages l.fn.style l.fn.layout (map (λ image. image.bytes.items) l.rest) l.is_refused (g.H.Host.history l.host) result new
-    → IndexesImages l.fn.style l.fn.layout (map (λ image. image.bytes.items) l.fn.images) false (g.H.Host.history l.fn.host) result new
+invariant-loop-rest g l = record {
+  told : l.progress.is_told ≡ l.fn.progress.is_told;
+  all : l.progress.all ≡ l.fn.progress.all;
+  count : l.done + length l.rest ≡ length l.fn.images;
+  goes_on : (result : Result Bool Ending) (new : List Event)
+      → IndexesImages l.fn.style l.fn.layout l.progress.is_told l.done l.progress.all (map (λ image. image.bytes.items) l.rest) l.is_refused (g.H.Host.history l.host) result new
+      → IndexesImages l.fn.style l.fn.layout l.fn.progress.is_told 0 l.fn.progress.all (map (λ image. image.bytes.items) l.fn.images) false (g.H.Host.history l.fn.host) result new;
+}
 
 abbrev pub decreases-loop-rest : goal.decreases-loop-rest
 decreases-loop-rest g l = length l.rest

@@ -1,7 +1,7 @@
 use Rattle.std.proofs.Common.{inl, inr, length, map, sym, subst, Err, Ok}
 use Rattle.std.proofs.lemmas.List.{length-map}
 use Rattle.many_commands.specs.Checking.{ChecksEach, PrintsCount}
-use Rattle.many_commands.specs.Progressing.{WithProgress}
+use Rattle.host_progress.specs.Progressing.{WithProgress}
 use Rattle.many_commands.proofs.WorkLemmas.{ends_with}
 use Rattle.many_commands.proofs.checks.check_several.Goals as goal
 

@@ -1,6 +1,6 @@
 //! How far a long command is: printed on a terminal whose owner sees no line of it, since standard output goes elsewhere.
 ghost use Rattle.std.specs.Prelude.{◌≡◌};
-ghost use Rattle.many_commands.specs.Progressing.{BeginsProgress, EndsProgress, TellsDone};
+ghost use Rattle.host_progress.specs.Progressing.{BeginsProgress, EndsProgress, TellsDone};
 
 use hosts::{Host, Stream};
 use script8::text_lines::{TextLine, put, put_number};
@@ -8,7 +8,8 @@ use script8::text_lines::{TextLine, put, put_number};
 /// How many seconds a command works before it prints how far it is.
 const PATIENCE: u64 = 2;
 
-/// What is printed on standard error, from two seconds on and once a second, on one line that is written over. No memory is taken.
+/// What is printed on standard error, from two seconds on and once a second. It stands on one line, over which all that is printed later
+/// is written. No memory is taken.
 #[derive(Drop)]
 pub struct Progress {
     /// Whether it is printed at all.
@@ -51,10 +52,10 @@ impl Progress {
         self.last = seconds;
         let all = self.all;
         let mut line = TextLine::new();
-        put(&mut line, b"\r");
         put_number(&mut line, done as u64);
         put(&mut line, b" of ");
         put_number(&mut line, all as u64);
+        put(&mut line, b"\r");
         if let Ok(text) = str::from_utf8(line.as_slice()) {
             let _ = host.tell(text);
         }
@@ -65,7 +66,7 @@ impl Progress {
         ensures { EndsProgress self.now.is_told (H.history host.old) (H.history host.new) }
     {
         if self.is_told && self.last > 0 {
-            let _ = host.tell("\r\x1b[K");
+            let _ = host.tell("\x1b[K");
         }
     }
 }

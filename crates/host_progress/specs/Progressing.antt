@@ -1,5 +1,5 @@
 -- How far a long command is, which is printed at a terminal. No line of its work depends on it.
-use Rattle.std.specs.Prelude.{◌≡◌, ◌⊎◌, ℕ, Bool, true, false, Result, List, ◌∷◌, ◌++◌, codes, decimal}
+use Rattle.std.specs.Prelude.{◌≡◌, ◌⊎◌, ℕ, Bool, true, false, Result, List, [], ◌∷◌, ◌++◌, codes, decimal}
 use Rattle.hosts.specs.Event.{Event, terminal_call, seconds_call, tell_call}
 use Rattle.outcome.specs.declared.endings.Ending.{Ending}
 use Rattle.volume_commands.specs.Saving.{IsDone}
@@ -9,9 +9,9 @@ abbrev pub BeginsProgress : Bool → List Event → List Event → Type 0
 BeginsProgress true old new = new ≡ seconds_call ∷ terminal_call false 1 ∷ terminal_call true 2 ∷ old
 BeginsProgress false old new = (new ≡ terminal_call false 2 ∷ old) ⊎ (new ≡ terminal_call true 1 ∷ terminal_call true 2 ∷ old)
 
--- how many of all are done, in place of what stood on the line
+-- how many of all are done, on a line that is written over by what is printed next
 abbrev pub progress_text : ℕ → ℕ → List ℕ
-progress_text done all = 0o15 ∷ decimal done ++ codes " of " ++ decimal all
+progress_text done all = decimal done ++ codes " of " ++ decimal all ++ 0o15 ∷ []
 
 -- where progress is printed, the time is asked for, and then it may be printed how many of all are done
 abbrev pub TellsDone : Bool → ℕ → ℕ → List Event → List Event → Type 0
@@ -25,7 +25,7 @@ TellsProgress is_told done all old result new = IsDone result × TellsDone is_to
 -- what was printed of progress is taken away
 abbrev pub EndsProgress : Bool → List Event → List Event → Type 0
 EndsProgress false old new = new ≡ old
-EndsProgress true old new = (new ≡ old) ⊎ ((ok : Bool) × (new ≡ tell_call ok (0o15 ∷ 0o33 ∷ codes "[K") ∷ old))
+EndsProgress true old new = (new ≡ old) ⊎ ((ok : Bool) × (new ≡ tell_call ok (0o33 ∷ codes "[K") ∷ old))
 
 -- a work of so many things whose progress may be printed
 pub record WithProgress {A : Type 0} (work : Bool → List Event → Result A Ending → List Event → Type 0) (old : List Event) (result : Result A Ending) (new : List Event) : Type 0 where
