@@ -1,7 +1,7 @@
 #!/usr/bin/env python3
 """check_terminal.py [--program FILE]: runs programs at the Teletype through a pseudo-terminal, as a person would, with what ./pdp8 and an installed
 pdp8 do around the program. It tries keys one by one and in bursts, the game, each end, and each way in which the program or the shell around it can
-be ended. Each time it looks that the terminal is as it was, and that no process is left. The last line is 'N passed, M failed'.
+be ended. Each time it looks that the terminal is as it was, and that no process is left. It looks at an index as a terminal shows it. The last line is 'N passed, M failed'.
 """
 import argparse
 import os
@@ -213,6 +213,39 @@ def streams(folder: str) -> list[str]:
     return told + ended(sitting, 0, 1, "standard output closed")
 
 
+def shown(folder: str, *words: str, is_output: bool) -> bytes:
+    """What a call prints to a terminal, which is its standard output, or else its standard error while standard output is the file `lines`."""
+    terminal, end = pty.openpty()
+    with open(f"{folder}/lines", "wb") as lines:
+        run = subprocess.Popen(["./pdp8", *words], cwd=folder, stdin=subprocess.DEVNULL, stdout=end if is_output else lines, stderr=end)
+    os.close(end)
+    said = b""
+    try:
+        while more := os.read(terminal, 4096):
+            said += more
+    except OSError:  # the terminal of a process that has ended
+        pass
+    run.wait()
+    os.close(terminal)
+    return said
+
+
+def index(folder: str) -> list[str]:
+    """The index at a terminal: its columns line up. With standard output elsewhere it shows how far it is."""
+    shutil.copy(f"{folder}/echo.bin", f"{folder}/ECHO.BN")
+    for words in (("create", "V", "40"), ("put", "V", f"{TOP}/examples/hello.pa", "--text"), ("put", "V", "ECHO.BN")):
+        subprocess.run(["./pdp8", *words], cwd=folder, stdout=subprocess.DEVNULL, check=True)
+    shutil.copy(f"{folder}/V", f"{folder}/longer")
+    lines = [it for it in shown(folder, "index", "V", "longer", is_output=True).split(b"\r\n") if it]
+    places = {tuple(it.start() for it in re.finditer(rb"(?<=  )\S", line)) for line in lines}
+    told = [] if len(lines) == 4 and len(places) == 1 and len(places.pop()) == 7 else [f"columns of the index: {lines!r}"]
+    os.mkfifo(f"{folder}/slow")
+    with subprocess.Popen(["sh", "-c", "sleep 2.5; cat V >slow"], cwd=folder):
+        said = shown(folder, "index", "slow", "missing", "V", is_output=False)
+    told += [] if said == b"1 of 3\rmissing: ? HOST READ\r\n\x1b[K" else [f"progress of the index: {said!r}"]
+    return told + ([] if open(f"{folder}/lines", "rb").read().count(b"\t") == 28 else ["lines of the index with progress"])
+
+
 def main() -> int:
     words = argparse.ArgumentParser(description=__doc__, formatter_class=argparse.RawDescriptionHelpFormatter)
     words.add_argument("--program", default=f"{TOP}/crates/pdp8/out/pdp8")
@@ -226,7 +259,7 @@ def main() -> int:
         for name, it in (("echo", ECHO), ("dots", DOTS)):
             with open(f"{folder}/{name}.bin", "wb") as file:
                 file.write(bytes(tape_of([(0o200 + k, word) for k, word in enumerate(it)])))
-        for case in (game, keys, waiting, killed, streams):
+        for case in (game, keys, waiting, killed, streams, index):
             told = case(folder)
             print(*(f"check_terminal: {line}" for line in told), sep="\n", end="\n" if told else "")
             passed, failed = passed + (not told), failed + bool(told)

@@ -1,3 +1,4 @@
+pub mod Columns
 pub mod Indexing
 pub mod IndexSteps
 pub mod Refusing

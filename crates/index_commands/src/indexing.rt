@@ -1,8 +1,9 @@
 ghost use Rattle.std.specs.Prelude.{◌≡◌, Some, false, ◌||◌, ◌∷◌, [], length, map};
 ghost use Rattle.image_kind.specs.declared.kinds.Form.TheVariants.{Disk};
-ghost use Rattle.index_commands.specs.Indexing.{ChecksWord, GivesIndex, Indexes, IndexesAll, IndexesImage, IndexesImages, IndexesNext, IndexesVolume, IndexesVolumes, PrintsLines, ending_of_refusal};
+ghost use Rattle.index_commands.specs.Indexing.{ChecksWord, GivesIndex, Indexes, IndexesAll, IndexesImage, IndexesImages, IndexesInColumns, IndexesNext, IndexesVolume, IndexesVolumes, PrintsLines, ending_of_refusal};
 ghost use Rattle.index_commands.specs.Volumes.{body_of, layouts_in, layouts_of};
 
+use crate::columns::Columns;
 use crate::refusals::pass_over;
 use crate::volumes::{body_in, number_of, volume_at};
 use archive_many::{ChoiceFault, choose_files};
@@ -12,13 +13,13 @@ use hosts::Host;
 use image_kind::{Form, kind_of};
 use outcome::Ending;
 use std::alloc::Global;
-use volume_commands::{look_file, print};
+use volume_commands::look_file;
 use volume_index::{IndexStyle, index_volume};
 
 /// Prints the index of the volumes in image files: a line for each file of each that is wanted, images as they are given and files as they
 /// lie. Images are read one at a time, and no file changes. Where no layout is given, each file's length and directory show which volumes it
 /// has. What is refused is said on standard error, the rest goes on, and the command ends with a refusal. Where the word that chooses files is
-/// no name and no pattern, nothing is read. A terminal on standard error shows the progress, where standard output goes elsewhere (this
+/// no name and no pattern, nothing is read. At a terminal the columns line up. A terminal on standard error shows the progress, where standard output goes elsewhere (this
 /// project's profile).
 pub fn index_images<H: Host>(
     host: &mut H,
@@ -30,8 +31,22 @@ pub fn index_images<H: Host>(
     ensures { Indexes style.now layout (map (λ image. image.bytes.items) images.now) (H.history host.old) result (H.history host.new) }
 {
     check_word(host, alloc, style.find.as_bytes())?;
-    let is_refused = index_all(host, alloc, style, images, layout)?;
+    let is_refused = index_in_columns(host, alloc, style, images, layout)?;
     ending_of_refusal(is_refused)
+}
+
+/// Prints the index of all image files, in columns that line up at a terminal, and answers whether one is refused.
+fn index_in_columns<H: Host>(
+    host: &mut H,
+    alloc: Global,
+    style: &IndexStyle,
+    images: &[String],
+    layout: Option<Layout>,
+) -> Result<bool, Ending>
+    ensures { IndexesInColumns style.now layout (map (λ image. image.bytes.items) images.now) (H.history host.old) result (H.history host.new) }
+{
+    let columns = Columns::choose(host, alloc, style, images)?;
+    index_all(host, alloc, &columns, style, images, layout)
 }
 
 /// How the command ends, by whether an image was refused.
@@ -48,14 +63,15 @@ fn ending_of_refusal(is_refused: bool) -> Result<(), Ending>
 fn index_all<H: Host>(
     host: &mut H,
     alloc: Global,
+    columns: &Columns,
     style: &IndexStyle,
     images: &[String],
     layout: Option<Layout>,
 ) -> Result<bool, Ending>
-    ensures { IndexesAll style.now layout (map (λ image. image.bytes.items) images.now) (H.history host.old) result (H.history host.new) }
+    ensures { IndexesAll columns.now style.now layout (map (λ image. image.bytes.items) images.now) (H.history host.old) result (H.history host.new) }
 {
     let mut progress = Progress::begin(host, images.len());
-    let is_refused = index_each(host, alloc, style, images, layout, &mut progress);
+    let is_refused = index_each(host, alloc, columns, style, images, layout, &mut progress);
     progress.end(host);
     is_refused
 }
@@ -79,19 +95,29 @@ fn check_word<H: Host>(host: &mut H, alloc: Global, word: &[u8]) -> Result<(), E
 fn index_each<H: Host>(
     host: &mut H,
     alloc: Global,
+    columns: &Columns,
     style: &IndexStyle,
     images: &[String],
     layout: Option<Layout>,
     progress: &mut Progress,
 ) -> Result<bool, Ending>
-    ensures indexes { IndexesImages style.now layout progress.old.is_told 0 progress.old.all (map (λ image. image.bytes.items) images.now) false (H.history host.old) result (H.history host.new) }
+    ensures indexes { IndexesImages columns.now style.now layout progress.old.is_told 0 progress.old.all (map (λ image. image.bytes.items) images.now) false (H.history host.old) result (H.history host.new) }
     ensures told { progress.new.is_told ≡ progress.old.is_told }
 {
     let mut done = 0;
     let mut is_refused = false;
     let mut rest = images;
     while let [image, others @ ..] = rest {
-        let more = index_next(host, alloc, style, image.as_str(), layout, progress, done)?;
+        let more = index_next(
+            host,
+            alloc,
+            columns,
+            style,
+            image.as_str(),
+            layout,
+            progress,
+            done,
+        )?;
         is_refused = is_either(is_refused, more);
         done += 1;
         rest = others;
@@ -103,18 +129,19 @@ fn index_each<H: Host>(
 fn index_next<H: Host>(
     host: &mut H,
     alloc: Global,
+    columns: &Columns,
     style: &IndexStyle,
     name: &str,
     layout: Option<Layout>,
     progress: &mut Progress,
     done: usize,
 ) -> Result<bool, Ending>
-    ensures indexes { IndexesNext style.now layout progress.old.is_told done progress.old.all name.now (H.history host.old) result (H.history host.new) }
+    ensures indexes { IndexesNext columns.now style.now layout progress.old.is_told done progress.old.all name.now (H.history host.old) result (H.history host.new) }
     ensures told { progress.new.is_told ≡ progress.old.is_told }
     ensures all { progress.new.all ≡ progress.old.all }
 {
     progress.tell(host, done);
-    index_image(host, alloc, style, name, layout)
+    index_image(host, alloc, columns, style, name, layout)
 }
 
 /// Whether one of two is so.
@@ -128,14 +155,15 @@ fn is_either(one: bool, other: bool) -> bool
 fn index_image<H: Host>(
     host: &mut H,
     alloc: Global,
+    columns: &Columns,
     style: &IndexStyle,
     name: &str,
     layout: Option<Layout>,
 ) -> Result<bool, Ending>
-    ensures { IndexesImage style.now layout name.now (H.history host.old) result (H.history host.new) }
+    ensures { IndexesImage columns.now style.now layout name.now (H.history host.old) result (H.history host.new) }
 {
     match look_file(host, alloc, name) {
-        Ok(file) => index_file(host, alloc, style, name.as_bytes(), &file, layout),
+        Ok(file) => index_file(host, alloc, columns, style, name.as_bytes(), &file, layout),
         Err(ending) => pass_over(host, alloc, name.as_bytes(), None, ending),
     }
 }
@@ -144,21 +172,22 @@ fn index_image<H: Host>(
 fn index_file<H: Host>(
     host: &mut H,
     alloc: Global,
+    columns: &Columns,
     style: &IndexStyle,
     name: &[u8],
     file: &[u8],
     layout: Option<Layout>,
 ) -> Result<bool, Ending>
-    ensures { IndexesVolumes style.now name.now (body_of layout file.now) (layouts_in layout file.now) false (H.history host.old) result (H.history host.new) }
+    ensures { IndexesVolumes columns.now style.now name.now (body_of layout file.now) (layouts_in layout file.now) false (H.history host.old) result (H.history host.new) }
 {
     if let Some(given) = layout {
-        return index_alone(host, alloc, style, name, file, Some(given));
+        return index_alone(host, alloc, columns, style, name, file, Some(given));
     }
     let kind = kind_of(file);
     let bytes = body_in(kind, file);
     match kind {
-        None => index_alone(host, alloc, style, name, bytes, None),
-        Some(kind) => index_form(host, alloc, style, name, bytes, kind.form),
+        None => index_alone(host, alloc, columns, style, name, bytes, None),
+        Some(kind) => index_form(host, alloc, columns, style, name, bytes, kind.form),
     }
 }
 
@@ -166,17 +195,26 @@ fn index_file<H: Host>(
 fn index_form<H: Host>(
     host: &mut H,
     alloc: Global,
+    columns: &Columns,
     style: &IndexStyle,
     name: &[u8],
     bytes: &[u8],
     form: Form,
 ) -> Result<bool, Ending>
-    ensures { IndexesVolumes style.now name.now bytes.now (layouts_of form) false (H.history host.old) result (H.history host.new) }
+    ensures { IndexesVolumes columns.now style.now name.now bytes.now (layouts_of form) false (H.history host.old) result (H.history host.new) }
 {
     match form {
-        Form::Volume => index_alone(host, alloc, style, name, bytes, None),
-        Form::Dectape => index_alone(host, alloc, style, name, bytes, Some(Layout::Dectape)),
-        Form::Disk => index_disk(host, alloc, style, name, bytes),
+        Form::Volume => index_alone(host, alloc, columns, style, name, bytes, None),
+        Form::Dectape => index_alone(
+            host,
+            alloc,
+            columns,
+            style,
+            name,
+            bytes,
+            Some(Layout::Dectape),
+        ),
+        Form::Disk => index_disk(host, alloc, columns, style, name, bytes),
     }
 }
 
@@ -184,14 +222,15 @@ fn index_form<H: Host>(
 fn index_alone<H: Host>(
     host: &mut H,
     alloc: Global,
+    columns: &Columns,
     style: &IndexStyle,
     name: &[u8],
     bytes: &[u8],
     layout: Option<Layout>,
 ) -> Result<bool, Ending>
-    ensures { IndexesVolumes style.now name.now bytes.now (layout ∷ []) false (H.history host.old) result (H.history host.new) }
+    ensures { IndexesVolumes columns.now style.now name.now bytes.now (layout ∷ []) false (H.history host.old) result (H.history host.new) }
 {
-    let is_refused = index_one(host, alloc, style, name, bytes, layout)?;
+    let is_refused = index_one(host, alloc, columns, style, name, bytes, layout)?;
     Ok(is_refused)
 }
 
@@ -199,14 +238,31 @@ fn index_alone<H: Host>(
 fn index_disk<H: Host>(
     host: &mut H,
     alloc: Global,
+    columns: &Columns,
     style: &IndexStyle,
     name: &[u8],
     bytes: &[u8],
 ) -> Result<bool, Ending>
-    ensures { IndexesVolumes style.now name.now bytes.now (layouts_of Disk) false (H.history host.old) result (H.history host.new) }
+    ensures { IndexesVolumes columns.now style.now name.now bytes.now (layouts_of Disk) false (H.history host.old) result (H.history host.new) }
 {
-    let first = index_one(host, alloc, style, name, bytes, Some(Layout::First))?;
-    let second = index_one(host, alloc, style, name, bytes, Some(Layout::Second))?;
+    let first = index_one(
+        host,
+        alloc,
+        columns,
+        style,
+        name,
+        bytes,
+        Some(Layout::First),
+    )?;
+    let second = index_one(
+        host,
+        alloc,
+        columns,
+        style,
+        name,
+        bytes,
+        Some(Layout::Second),
+    )?;
     Ok(first || second)
 }
 
@@ -214,25 +270,31 @@ fn index_disk<H: Host>(
 fn index_one<H: Host>(
     host: &mut H,
     alloc: Global,
+    columns: &Columns,
     style: &IndexStyle,
     name: &[u8],
     bytes: &[u8],
     layout: Option<Layout>,
 ) -> Result<bool, Ending>
-    ensures { IndexesVolume style.now name.now bytes.now layout (H.history host.old) result (H.history host.new) }
+    ensures { IndexesVolume columns.now style.now name.now bytes.now layout (H.history host.old) result (H.history host.new) }
 {
     let number = number_of(layout);
     match lines_of(alloc, style, name, bytes, layout) {
-        Ok(lines) => print_lines(host, &lines),
+        Ok(lines) => print_lines(host, alloc, columns, &lines),
         Err(ending) => pass_over(host, alloc, name, number, ending),
     }
 }
 
 /// Prints lines, of which nothing is refused.
-fn print_lines<H: Host>(host: &mut H, lines: &[u8]) -> Result<bool, Ending>
-    ensures { PrintsLines lines.now (H.history host.old) result (H.history host.new) }
+fn print_lines<H: Host>(
+    host: &mut H,
+    alloc: Global,
+    columns: &Columns,
+    lines: &[u8],
+) -> Result<bool, Ending>
+    ensures { PrintsLines columns.now lines.now (H.history host.old) result (H.history host.new) }
 {
-    print(host, lines)?;
+    columns.print(host, alloc, lines)?;
     Ok(false)
 }
 

@@ -3,6 +3,7 @@
 //! In each contract a file and an image are the lists of their bytes.
 #![tactic(auto)]
 
+mod columns;
 mod indexing;
 mod refusals;
 mod volumes;
