@@ -7,6 +7,7 @@ pub mod InstructionLemmas
 pub mod InterruptLemmas
 pub mod AutoIndexLemmas
 pub mod GoLemmas
+pub mod LeftLemmas
 pub mod QuietLemmas
 pub mod UnaskedLemmas
 pub mod FetchLemmas

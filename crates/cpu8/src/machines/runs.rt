@@ -220,9 +220,9 @@ impl Machine {
         ensures counts { AddsFetches result self.old counts.old counts.new }
     {
         let mut processor = self.processor.with_settled_state();
-        let steps = processor.run_counting(&mut self.core, n, counts);
+        let left = processor.count_fetches(&mut self.core, n, counts);
         self.processor = processor;
-        steps
+        n - left
     }
 
     /// A step: its character is appended, for which there is room. The answer is why to stop after it, if there is a reason.

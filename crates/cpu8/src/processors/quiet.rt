@@ -141,26 +141,29 @@ impl Processor {
         0
     }
 
-    /// Makes up to n steps, and answers how many. It ends where a step is not quiet, and at a KSF that finds the keyboard flag
-    /// clear. For each cell it counts how often its word was fetched.
+    /// Makes up to n steps, and answers how many of the n are left. It ends where a step is not quiet, and at a KSF that finds the
+    /// keyboard flag clear. For each cell it counts how often its word was fetched. It counts before the step, so that no register
+    /// of the host has to keep the cell meanwhile. Where the step is not made, it takes the count back.
     #[inline(always)]
-    pub(crate) fn run_counting(&mut self, core: &mut Core, n: usize, counts: &mut [u64]) -> usize
+    pub(crate) fn count_fetches(&mut self, core: &mut Core, n: usize, counts: &mut [u64]) -> usize
         requires quiet { is_quiet true self.old ≡ true }
         requires size { length counts.old ≡ CORE }
         requires room { HaveRoom n counts.old }
         ensures within { result ≤ n }
-        ensures state { with_core self.new core.new ≡ after true result (with_core self.old core.old) }
-        ensures unasked { AreUnasked (with_core self.old core.old) result }
-        ensures counts { AddsFetches result (with_core self.old core.old) counts.old counts.new }
+        ensures state { with_core self.new core.new ≡ after true (n - result) (with_core self.old core.old) }
+        ensures unasked { AreUnasked (with_core self.old core.old) (n - result) }
+        ensures counts { AddsFetches (n - result) (with_core self.old core.old) counts.old counts.new }
     {
-        for steps in 0..n {
-            let cell = self.next_cell();
+        let mut left = n;
+        while left > 0 {
+            counts[self.next_cell().index()] += 1;
             if !self.step_quietly::<false, true, false>(core, true) {
-                return steps;
+                counts[self.next_cell().index()] -= 1;
+                return left;
             }
-            counts[cell.index()] += 1;
+            left -= 1;
         }
-        n
+        0
     }
 
     /// Makes up to n steps, IOTs among them, and answers how many. It ends where a step is not quiet, and where a break is ahead.

@@ -1,19 +1,13 @@
-use Rattle.std.proofs.Common.{◌≡◌, ℕ, ◌+◌, ◌-◌, ◌<◌, ◌≤◌, ap, arith, refl, sym, subst, ◌∙◌}
+use Rattle.std.proofs.Common.{◌≡◌, ◌-◌, ap, arith, refl, sym, subst, ◌∙◌}
 use Rattle.cpu8.specs.State.{next_cell, with_core}
 use Rattle.cpu8.proofs.GoLemmas.{after-none}
+use Rattle.cpu8.proofs.LeftLemmas.{none-made, one-more}
 use Rattle.cpu8.proofs.QuietLemmas.{none-quiet, after-goes, after-quiet, quiet-goes, quiet-next, stays-quiet, fields-same}
 use Rattle.cpu8.specs.Go.{after, is_break}
 use Rattle.cpu8.specs.QuietSteps.{AreMinded, AreQuiet, is_quiet}
 use Rattle.cpu8.specs.Unasked.{AreUnasked}
 use Rattle.cpu8.proofs.UnaskedLemmas.{none-unasked, unasked-on}
 use Rattle.cpu8.proofs.processors.Processor.make_quiet_steps.Goals as goal
-
-none-made : (n : ℕ) → 0 ≡ n - n
-none-made n = omega arith
-
--- one step fewer is left when one more is made
-one-more : (n left : ℕ) → 0 < left → left ≤ n → n - left + 1 ≡ n - (left - 1)
-one-more n left some fits = omega (arith, some, fits)
 
 pub loop-left-init : goal.loop-left-init
 loop-left-init g c =
