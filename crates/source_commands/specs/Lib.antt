@@ -1,0 +1,6 @@
+pub mod Assembling
+pub mod Clashes
+pub mod FaultSteps
+pub mod Faults
+pub mod Outputs
+pub mod Sources

@@ -1,0 +1,11 @@
+//! The command that assembles sources in files, of the host or of a volume, over any host: what is read, what each stream gets, and which files
+//! hold what.
+#![tactic(auto)]
+
+mod assembling;
+mod clashes;
+mod faults;
+mod outputs;
+mod sources;
+
+pub use assembling::assemble_files;
