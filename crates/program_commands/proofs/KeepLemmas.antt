@@ -32,7 +32,7 @@ use Rattle.volume_commands.specs.Saving.{Prints}
 use Rattle.volume_commands.specs.Work.{Then, Purely}
 use Rattle.program_commands.specs.Kinds.{RefusesFrames, RefusesTape, is_no_tape}
 use Rattle.program_commands.specs.Kinds as kinds
-use Rattle.program_commands.specs.Laws.{KeepsFiles}
+use Rattle.volume_commands.specs.Laws.{KeepsFiles}
 use Rattle.program_commands.specs.Programs.{IsAsked, IsCoreProgram, IsTapeProgram, ReadsCore, ReadsGiven, ReadsMember, ReadsProgram, RefusesIf, TakesIf, TakesTape, has_no_tape, is_core_name}
 use Rattle.program_commands.specs.Rims.{GetsMember, GivesRim, ReadsFrames, WritesRim}
 use Rattle.program_commands.specs.Sources.{GivesSource, ReadsNames, WritesSource, starts_or}

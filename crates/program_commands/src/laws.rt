@@ -3,7 +3,7 @@ ghost use Rattle.std.specs.Prelude.{Option};
 ghost use Rattle.program_tasks.specs.declared.forms.TapeForm.{TapeForm};
 ghost use Rattle.program_tasks.specs.declared.tasks.RimForm.{RimForm};
 ghost use Rattle.program_tasks.specs.declared.tasks.SourceForm.{SourceForm};
-ghost use Rattle.program_commands.specs.Laws.{KeepsFiles};
+ghost use Rattle.volume_commands.specs.Laws.{KeepsFiles};
 ghost use Rattle.program_commands.specs.Programs.{ReadsProgram};
 ghost use Rattle.program_commands.specs.Rims.{WritesRim};
 ghost use Rattle.program_commands.specs.Sources.{WritesSource};

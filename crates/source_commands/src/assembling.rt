@@ -10,7 +10,7 @@ use crate::sources::{names_of, read_sources, slices_of};
 use host_sources::{SourceFault, assemble_sources};
 use hosts::Host;
 use outcome::Ending;
-use pal8_tape::tape_of;
+use pal8_tape::{SourceFault as Pal8Fault, tape_of};
 use program_tasks::{AssembleForm, ImageForm};
 use script8::SessionFault;
 use source_listing::{ListingForm, list_sources};
@@ -249,13 +249,13 @@ fn refuse_pal8<H: Host>(
     alloc: Global,
     source: &[u8],
     name: &str,
-    fault: pal8_tape::SourceFault,
+    fault: Pal8Fault,
 ) -> Ending
     ensures { RefusesPal8 source.now name.now fault (H.history host.old) result (H.history host.new) }
 {
     match fault {
-        pal8_tape::SourceFault::Memory => Ending::Fault(SessionFault::Memory),
-        pal8_tape::SourceFault::At(first) => match pal8_faults_text(alloc, source, name, first) {
+        Pal8Fault::Memory => Ending::Fault(SessionFault::Memory),
+        Pal8Fault::At(first) => match pal8_faults_text(alloc, source, name, first) {
             Ok(text) => print_faults(host, &text),
             Err(ending) => ending,
         },

@@ -5,6 +5,7 @@
 mod assembling;
 mod clashes;
 mod faults;
+pub mod laws;
 mod outputs;
 mod sources;
 

@@ -29,7 +29,7 @@ struct HeldFile {
 /// The files that are held, and the one that is made beside a path.
 #[derive(Drop)]
 pub(crate) struct Opened {
-    held: Vec<HeldFile>,
+    files: Vec<HeldFile>,
     beside: Option<File>,
     place: Option<Beside>,
 
@@ -40,7 +40,7 @@ pub(crate) struct Opened {
 impl Opened {
     pub(crate) fn new(alloc: Global) -> Opened {
         Opened {
-            held: Vec::new(alloc),
+            files: Vec::new(alloc),
             beside: None,
             place: None,
             new_file: None,
@@ -77,7 +77,7 @@ impl Opened {
         let _names = self.place(alloc, path)?;
         let own = String::from_str(alloc, path)?;
         let (file, has_lock) = hold_path(rt, path)?;
-        keep(&mut self.held, HeldFile { path: own, file })?;
+        keep(&mut self.files, HeldFile { path: own, file })?;
         Ok(has_lock)
     }
 
@@ -86,7 +86,7 @@ impl Opened {
         rt: &R,
         path: &str,
     ) -> Result<(), HostFault> {
-        match (file_of(&self.held, path), &mut self.place) {
+        match (file_of(&self.files, path), &mut self.place) {
             (Some(file), Some(place)) => remove_besides(rt, file, &mut place.names),
             _ => Err(HostFault::Absent),
         }
@@ -95,21 +95,21 @@ impl Opened {
     pub(crate) fn look(&self, alloc: Global, path: &str, most: usize) -> Result<Vec<u8>, HostFault>
         ensures { IfOk result (λ bytes. length bytes.items ≤ most + 1) }
     {
-        match file_of(&self.held, path) {
+        match file_of(&self.files, path) {
             Some(file) => held_bytes(alloc, file, most),
             None => Err(HostFault::Absent),
         }
     }
 
     pub(crate) fn is_alone(&self, path: &str) -> Result<bool, HostFault> {
-        match file_of(&self.held, path) {
+        match file_of(&self.files, path) {
             Some(file) => stands_alone(file),
             None => Err(HostFault::Absent),
         }
     }
 
     pub(crate) fn leads<R: Files<File = File>>(&self, rt: &R, path: &str) -> bool {
-        match file_of(&self.held, path) {
+        match file_of(&self.files, path) {
             Some(file) => leads_to(rt, path, file),
             None => false,
         }
@@ -131,7 +131,7 @@ impl Opened {
         rt: &R,
         path: &str,
     ) -> Result<(), HostFault> {
-        match (&self.beside, file_of(&self.held, path)) {
+        match (&self.beside, file_of(&self.files, path)) {
             (Some(file), Some(older)) => answer(take_owner(rt, file, self.name_beside(), older)),
             _ => Err(HostFault::Absent),
         }
@@ -177,7 +177,7 @@ impl Opened {
             return Err(rename_fault(&error));
         }
         if let Some(file) = self.beside.take() {
-            put_in_place(&mut self.held, path, file);
+            put_in_place(&mut self.files, path, file);
         }
         self.new_file = None;
         Ok(())
@@ -220,7 +220,7 @@ impl Opened {
         at: usize,
         bytes: &[u8],
     ) -> Result<(), HostFault> {
-        for it in &mut self.held {
+        for it in &mut self.files {
             if it.path.as_str() == path {
                 return answer(put_at(&mut it.file, at, bytes));
             }
@@ -229,7 +229,7 @@ impl Opened {
     }
 
     pub(crate) fn finish_over(&mut self, path: &str, size: usize) -> Result<(), HostFault> {
-        for it in &mut self.held {
+        for it in &mut self.files {
             if it.path.as_str() == path {
                 return answer(cut_at(&mut it.file, size));
             }
@@ -238,14 +238,14 @@ impl Opened {
     }
 }
 
-fn keep(held: &mut Vec<HeldFile>, file: HeldFile) -> Result<(), AllocError> {
-    held.push(file)?;
+fn keep(files: &mut Vec<HeldFile>, file: HeldFile) -> Result<(), AllocError> {
+    files.push(file)?;
     Ok(())
 }
 
 /// The file of a path, if it is held.
-fn file_of<'a>(held: &'a [HeldFile], path: &str) -> Option<&'a File> {
-    for it in held {
+fn file_of<'a>(files: &'a [HeldFile], path: &str) -> Option<&'a File> {
+    for it in files {
         if it.path.as_str() == path {
             return Some(&it.file);
         }
@@ -254,8 +254,8 @@ fn file_of<'a>(held: &'a [HeldFile], path: &str) -> Option<&'a File> {
 }
 
 /// Has a file held in place of the one of a path, if that is held.
-fn put_in_place(held: &mut Vec<HeldFile>, path: &str, file: File) {
-    for it in held {
+fn put_in_place(files: &mut Vec<HeldFile>, path: &str, file: File) {
+    for it in files {
         if it.path.as_str() == path {
             it.file = file;
             return;
