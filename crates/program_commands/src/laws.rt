@@ -9,10 +9,14 @@ ghost use Rattle.program_commands.specs.Rims.{WritesRim};
 ghost use Rattle.program_commands.specs.Sources.{WritesSource};
 ghost use Rattle.program_commands.specs.Tapes.{ListsTape};
 
+use volume_commands::laws::kept_files;
+
 /// A law: none of these commands changes a file of the host, in whichever way it ends, nor does the reading of a program for another.
 pub fn unchanged_files()
     ensures program { (form : TapeForm) → KeepsFiles (ReadsProgram form) }
     ensures tape { (form : Option TapeForm) → KeepsFiles (ListsTape form) }
     ensures rim { (form : RimForm) (tape : Option TapeForm) → KeepsFiles (WritesRim form tape) }
     ensures source { (form : SourceForm) → KeepsFiles (WritesSource form) }
-{}
+{
+    kept_files();
+}

@@ -8,9 +8,7 @@ use Rattle.hosts.specs.Event.{Event}
 use Rattle.hosts.specs.Place.{about}
 use Rattle.hosts.specs.declared.faults.HostFault.{HostFault}
 use Rattle.hosts.specs.declared.faults.HostFault.TheVariants as host
-use Rattle.char_pack.specs.declared.forms.PutForm.TheVariants.{Frames}
 use Rattle.archive_files.specs.Asking.{Target, target_of}
-use Rattle.archive_files.specs.Putting.{PutsFile}
 use Rattle.archive_files.specs.declared.faults.ArchiveFault.{ArchiveFault}
 use Rattle.archive_files.specs.declared.faults.ArchiveFault.TheVariants as archive
 use Rattle.archive_files.specs.declared.putting.NewImage.{NewImage}
@@ -27,7 +25,7 @@ use Rattle.pal8_tape.specs.declared.faults.SourceFault as pal8_fault
 use Rattle.pal8_tape.specs.declared.faults.SourceFault.TheVariants as pal8_is
 use Rattle.program_tasks.specs.declared.forms.ImageForm.{ImageForm}
 use Rattle.program_tasks.specs.declared.tasks.AssembleForm.{AssembleForm}
-use Rattle.volume_commands.specs.Answers.{Answers, AreLines, Refuses}
+use Rattle.volume_commands.specs.Answers.{AreLines, Refuses}
 use Rattle.volume_commands.specs.Ending.{TellsLine}
 use Rattle.volume_commands.specs.Laws.{KeepsFiles}
 use Rattle.volume_commands.specs.Making.{IsUnheldFile, MakesBy, MakesFile, ending_of_file}
@@ -36,10 +34,10 @@ use Rattle.volume_commands.specs.Reading.{Looks, LooksAt, Opens}
 use Rattle.volume_commands.specs.Saving.{Prints, SavesIf, Stores, Writes}
 use Rattle.volume_commands.specs.Work.{Then, Purely}
 use Rattle.volume_commands.specs.declared.images.Image.{Image}
-use Rattle.source_commands.specs.Assembling.{Assembles, AssemblesAll, AssemblesFrom, AssemblesOnto, AssemblesSeen, AssemblesTo, HasNone, IsTapeOf, ListsTape, Makes, MakesFirst, MakesIf, MakesPal3, MakesPal8, PrintsFaults, RefusesPal8, RefusesSources}
+use Rattle.source_commands.specs.Assembling.{Assembles, AssemblesAll, AssemblesFrom, AssemblesTo, HasNone, IsTapeOf, ListsTape, Makes, MakesFirst, MakesIf, MakesPal3, MakesPal8, PrintsFaults, RefusesPal8, RefusesSources}
 use Rattle.source_commands.specs.Clashes.{IsRefused, RefusesClash, clash_of}
 use Rattle.source_commands.specs.Laws.{is_refusal}
-use Rattle.source_commands.specs.Outputs.{PutsTape, WritesIf, WritesListing, WritesTape, WritesTo}
+use Rattle.source_commands.specs.Outputs.{PutsTape, WritesIf, WritesListing, WritesTape}
 use Rattle.source_commands.specs.Sources.{AreLent, AreTexts, GetsText, IsAsked, IsText, NamesIf, ReadsBytes, ReadsEach, ReadsFile, ReadsIf, ReadsMember, ReadsSource, RefusesSource, is_standard, is_unread, source_text}
 use Rattle.source_commands.specs.declared.assembling.Assembled.{Assembled}
 

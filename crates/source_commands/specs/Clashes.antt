@@ -1,5 +1,5 @@
 -- Which words of the command would have two things written to one place, or one over a source (this project's profile).
-use Rattle.std.specs.Prelude.{◌≡◌, ◌⊎◌, ℕ, Bool, true, false, not, ◌&&◌, ◌||◌, if◌then◌else◌, Option, None, Some, option_map, String, codes, Result, Ok, Err, List, [], ◌∷◌}
+use Rattle.std.specs.Prelude.{◌≡◌, ◌⊎◌, ℕ, Bool, true, false, not, ◌&&◌, ◌||◌, if◌then◌else◌, Option, None, Some, is_some, option_map, String, codes, Result, Ok, Err, List, [], ◌∷◌}
 use Rattle.std.specs.Global.{Global}
 use Rattle.std.specs.Str.{bytes_eq}
 use Rattle.hosts.specs.Event.{Event, tell_call}
@@ -15,10 +15,6 @@ use Rattle.script8.specs.declared.faults.SessionFault.TheVariants.{Memory}
 -- the name of a standard stream where a file's may stand
 abbrev pub standard : List ℕ
 standard = codes "-"
-
-abbrev pub is_given : {A : Type 0} → Option A → Bool
-is_given None = false
-is_given (Some it) = true
 
 -- the name that is given, if one is
 abbrev pub name_given : Option (String Global) → Option (List ℕ)
@@ -36,7 +32,7 @@ is_listed_at (Some name) place = bytes_eq name.bytes.items place
 
 -- the tape and the listing would be written to one place
 abbrev pub is_one_place : AssembleForm → Bool
-is_one_place form = not (is_given form.onto) && is_listed_at form.list (tape_place form.output)
+is_one_place form = not (is_some form.onto) && is_listed_at form.list (tape_place form.output)
 
 -- one of these words is a name
 abbrev pub is_among : List ℕ → List (String Global) → Bool

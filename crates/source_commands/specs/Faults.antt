@@ -1,5 +1,5 @@
 -- What is printed of the faults of sources, as a function of the sources, their names and the first fault (this project's profile).
-use Rattle.std.specs.Prelude.{ℕ, zero, suc, nat_eq, Bool, true, false, ◌&&◌, if◌then◌else◌, List, [], ◌∷◌, ◌++◌, map}
+use Rattle.std.specs.Prelude.{ℕ, ◌-◌, nat_eq, Bool, true, false, ◌&&◌, if◌then◌else◌, List, [], ◌∷◌, ◌++◌, map}
 use Rattle.std.specs.Borrow.{Bor}
 use Rattle.file_kind.specs.Texts.{are_marked, is_text}
 use Rattle.host_sources.specs.FaultLines as pal3
@@ -33,11 +33,14 @@ abbrev pub sign_note : List ℕ → List ℕ
 sign_note [] = []
 sign_note (c ∷ sign) = name_text Pal8 (c ∷ sign)
 
+-- how many lines are left after a byte
+abbrev pub lines_after : ℕ → ℕ → ℕ
+lines_after count byte = if nat_eq byte 0o12 then count - 1 else count
+
 -- so many first lines of a text
 abbrev pub first_lines : ℕ → List ℕ → List ℕ
-first_lines zero text = []
-first_lines (suc n) [] = []
-first_lines (suc n) (b ∷ text) = b ∷ first_lines (if nat_eq b 0o12 then n else suc n) text
+first_lines count [] = []
+first_lines count (byte ∷ text) = if nat_eq count 0 then [] else byte ∷ first_lines (lines_after count byte) text
 
 -- texts of faults without their numbered lines, of which only the first fault has one
 abbrev pub texts_without_numbers : List (List ℕ) → List ℕ

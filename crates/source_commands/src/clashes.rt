@@ -1,5 +1,5 @@
 //! Words by which two things would be written to one place, or one over a source.
-ghost use Rattle.std.specs.Prelude.{◌≡◌, option_map};
+ghost use Rattle.std.specs.Prelude.{◌≡◌, option_copied};
 ghost use Rattle.source_commands.specs.Clashes as spec;
 ghost use Rattle.source_commands.specs.Clashes.{RefusesClash};
 
@@ -67,7 +67,7 @@ fn is_listed_at(list: &Option<String>, place: &str) -> bool
 
 /// The name of the source, or of the image that has them, that would be written over, if one would.
 fn lost_source(form: &AssembleForm) -> Option<&str>
-    ensures { option_map (λ name. name.now) result ≡ spec.lost_source form.now form.now.from }
+    ensures { option_copied result ≡ spec.lost_source form.now form.now.from }
 {
     match &form.from {
         None => lost_file(form),
@@ -76,7 +76,7 @@ fn lost_source(form: &AssembleForm) -> Option<&str>
 }
 
 fn lost_file(form: &AssembleForm) -> Option<&str>
-    ensures { option_map (λ name. name.now) result ≡ spec.lost_file form.now }
+    ensures { option_copied result ≡ spec.lost_file form.now }
 {
     if is_over_source(&form.output, &form.sources) {
         return given_text(&form.output);
@@ -88,7 +88,7 @@ fn lost_file(form: &AssembleForm) -> Option<&str>
 }
 
 fn lost_member<'a>(form: &'a AssembleForm, image: &ImageForm) -> Option<&'a str>
-    ensures { option_map (λ name. name.now) result ≡ spec.lost_member form.now image.now }
+    ensures { option_copied result ≡ spec.lost_member form.now image.now }
 {
     if is_over_source(&form.onto, &form.sources) {
         return given_text(&form.onto);
@@ -103,7 +103,7 @@ fn lost_member<'a>(form: &'a AssembleForm, image: &ImageForm) -> Option<&'a str>
 }
 
 fn given_text(name: &Option<String>) -> Option<&str>
-    ensures { option_map (λ name. name.now) result ≡ option_map (λ name. name.bytes.items) name.now }
+    ensures { option_copied result ≡ spec.name_given name.now }
 {
     match name {
         Some(name) => Some(name.as_str()),

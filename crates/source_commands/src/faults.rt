@@ -181,10 +181,18 @@ fn put_first_lines(lines: &[u8], text: &mut Vec<u8>) -> Result<(), AllocError>
             return Ok(());
         }
         text.push(*byte)?;
-        if *byte == b'\n' {
-            count -= 1;
-        }
+        count = lines_after(count, *byte);
         rest = others;
     }
     Ok(())
+}
+
+/// How many lines are left after a byte.
+fn lines_after(count: usize, byte: u8) -> usize
+    ensures { result ≡ spec.lines_after count byte }
+{
+    if byte == b'\n' {
+        return count.saturating_sub(1);
+    }
+    count
 }

@@ -9,4 +9,4 @@ pub mod laws;
 mod outputs;
 mod sources;
 
-pub use assembling::assemble_files;
+pub use assembling::{Assembled, assemble_files};

@@ -1,6 +1,5 @@
 -- The steps that read and print change no file.
 use Rattle.std.proofs.Common.{◌≡◌, ◌∙◌, ℕ, Bool, true, false, Option, None, Some, Result, Ok, Err, List, ap, refl, inl, inr}
-use Rattle.std.specs.Global.{Vec}
 use Rattle.hosts.specs.Event.{Event}
 use Rattle.hosts.specs.Place.{about}
 use Rattle.outcome.specs.Hints.{image_note}
