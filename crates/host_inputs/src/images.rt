@@ -1,10 +1,10 @@
 //! Images in files of the host. An image that a command may change is held from before it is read until the program ends.
 
 use crate::inputs::tell_of_limit;
-use crate::printing::{print_bytes, tell};
+use crate::printing::tell;
 use disk_layouts::{DiskFile, Layout};
-use host_images::{Durability, HeldFile, HoldFault, Unwritten, hold, hold_within, look, make};
-use outcome::{Content, Ending, FileNote, Note, ending_of_read, ending_of_write};
+use host_images::{Durability, HeldFile, HoldFault, Unwritten, hold_within, look};
+use outcome::{Content, Ending, FileNote, Note, ending_of_read};
 use program_reports::ProgramLine;
 use program_tasks::ImageForm;
 use script8::readings::MOST;
@@ -39,7 +39,7 @@ impl Image {
             return Image::look(rt, form);
         }
         let held = found.map_err(|fault| ending_of_read(fault))?;
-        tell_of_lock(rt, &held, Content::Image);
+        tell_of_lock(rt, &held);
         let file = bytes_within(rt, &form.file, held.read(rt, MOST))?;
         let (bytes, disk) = volume_in(rt, file, form.layout)?;
         Ok(Image {
@@ -84,76 +84,24 @@ impl Image {
             return Err(Ending::NotWritten(Content::Image, Unwritten::AsItWas));
         };
         if !self.is_place_told {
-            tell_of_place(rt, held, Content::Image);
+            tell_of_place(rt, held);
             self.is_place_told = true;
         }
         let durability = match &mut self.disk {
-            None => write(rt, held, bytes, Content::Image)?,
+            None => write(rt, held, bytes)?,
             Some(disk) => {
                 if !disk.lay(bytes) {
                     return Err(Ending::NotWritten(Content::Image, Unwritten::AsItWas));
                 }
-                write(rt, held, disk.bytes(), Content::Image)?
+                write(rt, held, disk.bytes())?
             }
         };
         if !self.is_folder_told {
-            self.is_folder_told = tells_of_folder(rt, durability, Content::Image);
+            self.is_folder_told = tells_of_folder(rt, durability);
         }
         mem::swap(&mut self.bytes, bytes);
         Ok(())
     }
-}
-
-/// Has an image file hold these bytes, and then prints the lines that report the change.
-pub fn save_and_print<R: Files<File = File> + Print + Eprint>(
-    rt: &R,
-    held: &mut Image,
-    bytes: Vec<u8>,
-    lines: &[u8],
-) -> Result<(), Ending> {
-    let mut bytes = bytes;
-    held.save(rt, &mut bytes)?;
-    print_bytes(rt, lines)
-}
-
-/// Makes a file that holds these bytes, in place of any of its name.
-pub fn make_file<R: Files<File = File> + Eprint + AllocGlobal>(
-    rt: &R,
-    name: &str,
-    bytes: &[u8],
-    content: Content,
-) -> Result<(), Ending> {
-    match hold(rt, name) {
-        Ok(mut held) => write_held(rt, &mut held, bytes, content),
-        Err(HoldFault::Absent) => make_absent(rt, name, bytes, content),
-        Err(fault) => Err(ending_of_write(content, fault)),
-    }
-}
-
-/// Makes a file that holds these bytes, where there was none of its name.
-fn make_absent<R: Files<File = File> + Eprint + AllocGlobal>(
-    rt: &R,
-    name: &str,
-    bytes: &[u8],
-    content: Content,
-) -> Result<(), Ending> {
-    let durability = make(rt, name, bytes).map_err(|fault| ending_of_write(content, fault))?;
-    let _ = tells_of_folder(rt, durability, content);
-    Ok(())
-}
-
-/// Has a held file hold these bytes.
-fn write_held<R: Files<File = File> + Eprint>(
-    rt: &R,
-    held: &mut HeldFile,
-    bytes: &[u8],
-    content: Content,
-) -> Result<(), Ending> {
-    tell_of_lock(rt, held, content);
-    tell_of_place(rt, held, content);
-    let durability = write(rt, held, bytes, content)?;
-    let _ = tells_of_folder(rt, durability, content);
-    Ok(())
 }
 
 /// The bytes of an image that is only looked at.
@@ -166,7 +114,7 @@ fn image_bytes<R: Files + Eprint + AllocGlobal>(
 }
 
 /// The bytes of a file that is only looked at.
-pub fn bytes_of<R: Files + Eprint + AllocGlobal>(rt: &R, name: &str) -> Result<Vec<u8>, Ending> {
+fn bytes_of<R: Files + Eprint + AllocGlobal>(rt: &R, name: &str) -> Result<Vec<u8>, Ending> {
     bytes_within(rt, name, look(rt, name, MOST))
 }
 
@@ -198,9 +146,9 @@ fn bytes_within<R: Eprint>(
     Ok(bytes)
 }
 
-fn tell_of_place<R: Eprint>(rt: &R, held: &HeldFile, content: Content) {
+fn tell_of_place<R: Eprint>(rt: &R, held: &HeldFile) {
     if !held.is_alone() {
-        tell(rt, Note::OnFile(FileNote::InPlace, content));
+        tell(rt, Note::OnFile(FileNote::InPlace, Content::Image));
     }
 }
 
@@ -208,27 +156,26 @@ fn write<R: Files<File = File>>(
     rt: &R,
     held: &mut HeldFile,
     bytes: &[u8],
-    content: Content,
 ) -> Result<Durability, Ending> {
     match held.write(rt, bytes) {
         Ok(durability) => Ok(durability),
-        Err(left) => Err(Ending::NotWritten(content, left)),
+        Err(left) => Err(Ending::NotWritten(Content::Image, left)),
     }
 }
 
-/// Says of a file that was written that a crash of the system may undo this, and answers whether that was to be said.
-fn tells_of_folder<R: Eprint>(rt: &R, durability: Durability, content: Content) -> bool {
+/// Says of an image that was written that a crash of the system may undo this, and answers whether that was to be said.
+fn tells_of_folder<R: Eprint>(rt: &R, durability: Durability) -> bool {
     match durability {
         Durability::Certain => false,
         Durability::Unknown => {
-            tell(rt, Note::OnFile(FileNote::NoSync, content));
+            tell(rt, Note::OnFile(FileNote::NoSync, Content::Image));
             true
         }
     }
 }
 
-fn tell_of_lock<R: Eprint>(rt: &R, held: &HeldFile, content: Content) {
+fn tell_of_lock<R: Eprint>(rt: &R, held: &HeldFile) {
     if !held.has_lock() {
-        tell(rt, Note::OnFile(FileNote::NoLock, content));
+        tell(rt, Note::OnFile(FileNote::NoLock, Content::Image));
     }
 }

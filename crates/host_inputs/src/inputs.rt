@@ -1,10 +1,9 @@
-//! Standard input, and how much of an input is read at most.
+//! How much of an input is read at most.
 
 use crate::printing::tell;
-use outcome::{Ending, NameNote, Note};
-use script8::read_all;
+use outcome::{NameNote, Note};
 use script8::readings::MOST;
-use std::io::{self, Input, Read};
+use std::io::{self, Read};
 
 /// A reader, of which it is known how many bytes it gave.
 #[derive(Drop)]
@@ -31,18 +30,6 @@ impl<I: Read> Read for CountedInput<I> {
         let count = self.from.read(buf)?;
         self.count = self.count.saturating_add(count);
         Ok(count)
-    }
-}
-
-/// All bytes of standard input. Where they are more than are read, that is said.
-pub fn input_bytes<R: Input + Eprint + AllocGlobal>(rt: &R) -> Result<Vec<u8>, Ending> {
-    let mut input = CountedInput::new(rt.reader());
-    match read_all(rt.alloc(), &mut input) {
-        Ok(bytes) => Ok(bytes),
-        Err(fault) => {
-            input.tell_of_limit(rt);
-            Err(Ending::Fault(fault))
-        }
     }
 }
 

@@ -10,9 +10,9 @@ mod streams;
 mod words;
 
 pub use arguments::tell_bad_argument;
-pub use files::{answer_of, refusal};
-pub use images::{Image, bytes_of, make_file, save_and_print};
-pub use inputs::{CountedInput, input_bytes};
-pub use printing::{print_bytes, tell, tell_line, tell_text};
+pub use files::refusal;
+pub use images::Image;
+pub use inputs::CountedInput;
+pub use printing::{print_bytes, tell, tell_line};
 pub use streams::Output;
 pub use words::texts_of;

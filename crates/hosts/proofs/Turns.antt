@@ -1,5 +1,5 @@
 -- What a program that holds a file knows of its changes.
-use Rattle.std.proofs.Common.{◌≡◌, Bool, true, false, List, [], ◌∷◌, ◌++◌, Option, None, Some, ◌⊎◌, inl, inr, refl, ap, ◌∙◌, ℕ, not, ◌&&◌}
+use Rattle.std.proofs.Common.{◌≡◌, Bool, true, false, List, [], ◌∷◌, ◌++◌, Option, None, Some, ◌⊎◌, inl, inr, refl, ap, ◌∙◌, ℕ, ◌&&◌}
 use Rattle.std.specs.Str.{bytes_eq}
 use Rattle.hosts.specs.Event.{Event}
 use Rattle.hosts.specs.Event as event
@@ -45,9 +45,7 @@ put_if_append true turn later earlier = refl
 put_if_append false turn later earlier = refl
 
 with_turn_append : (c : event.Call) (who : Bool) (e : Event) (path : List ℕ) (later earlier : List Turn) → with_turn c who e path (later ++ earlier) ≡ with_turn c who e path later ++ earlier
-with_turn_append event.Hold who e path later earlier =
-    ap (put_if (bytes_eq e.name path) (Hold who e.ok)) (put_if_append (not (bytes_eq e.name path) && e.ok) (End who) later earlier)
-    ∙ put_if_append (bytes_eq e.name path) (Hold who e.ok) (put_if (not (bytes_eq e.name path) && e.ok) (End who) later) earlier
+with_turn_append event.Hold who e path later earlier = put_if_append (bytes_eq e.name path) (Hold who e.ok) later earlier
 with_turn_append event.Look who e path later earlier = put_if_append (bytes_eq e.name path) (Look who) later earlier
 with_turn_append (event.Alter change) who e path later earlier = put_if_append (bytes_eq e.name path && is_of_path change) (Change who) later earlier
 with_turn_append event.Resolve who e path later earlier = refl

@@ -1,5 +1,5 @@
 -- The turns of two programs at one file, which each holds before it reads it and while it changes it.
-use Rattle.std.specs.Prelude.{◌≡◌, ℕ, Bool, true, false, not, ◌&&◌, List, [], ◌∷◌, Option, None, Some, ◌⊎◌}
+use Rattle.std.specs.Prelude.{◌≡◌, ℕ, Bool, true, false, ◌&&◌, List, [], ◌∷◌, Option, None, Some, ◌⊎◌}
 use Rattle.std.specs.Str.{bytes_eq}
 use Rattle.hosts.specs.Event.{Event}
 use Rattle.hosts.specs.Event as event
@@ -71,9 +71,9 @@ abbrev pub put_if : Bool → Turn → List Turn → List Turn
 put_if true turn before = turn ∷ before
 put_if false turn before = before
 
--- who holds a file holds no other one from then on
+-- a program may hold several files
 abbrev pub with_turn : event.Call → Bool → Event → List ℕ → List Turn → List Turn
-with_turn event.Hold who e path before = put_if (bytes_eq e.name path) (Hold who e.ok) (put_if (not (bytes_eq e.name path) && e.ok) (End who) before)
+with_turn event.Hold who e path before = put_if (bytes_eq e.name path) (Hold who e.ok) before
 with_turn event.Look who e path before = put_if (bytes_eq e.name path) (Look who) before
 with_turn (event.Alter change) who e path before = put_if (bytes_eq e.name path && is_of_path change) (Change who) before
 with_turn _ who e path before = before

@@ -18,8 +18,8 @@ pub trait Host {
             (λ path. history self.new ≡ resolve_call name.now true path.bytes.items ∷ history self.old)
             (λ _. history self.new ≡ resolve_call name.now false [] ∷ history self.old) };
 
-    /// Holds the file of a path, so no other program writes it, until another one is held or the program ends. It must still have that path
-    /// once it is held, and be no pipe. The answer says whether its file system has locks. The memory for the names beside it is taken here.
+    /// Holds the file of a path, so no other program writes it, until the program ends. It must still have that path once it is held, and be
+    /// no pipe. The answer says whether its file system has locks. The memory for the names beside it is taken here.
     fn hold(&mut self, alloc: Global, path: &str) -> Result<bool, HostFault>
         ensures { history self.new ≡ hold_call path.now (is_ok result) ∷ history self.old };
 

@@ -45,7 +45,7 @@ pub fn saved_files()
 {}
 
 /// Of two programs that hold a file before they read it and while they change it, none loses the other's change. From where one holds it
-/// until it ends or holds another, each change is its own, so what it read is what it changes.
+/// until it ends, each change is its own, so what it read is what it changes.
 pub fn lost_updates()
     ensures { (path : List ℕ) (who : Bool) (later earlier : List (Bool × Option Event)) → IsLawful (turns path (later ++ earlier))
         → holder (turns path earlier) ≡ Some who → GoesOn who (turns path later) → AllOwn who (turns path later) }

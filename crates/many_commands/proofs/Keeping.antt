@@ -133,7 +133,7 @@ pub looks-at-never : (form : ImageForm) → NeverChanges (LooksAt form)
 looks-at-never form = then-never (Looks form.file.bytes.items form.file.bytes.items) (λ file. FindsOne form.layout file.items)
     (looks-never form.file.bytes.items form.file.bytes.items) (λ file. finds-never (volumes_in form.layout file.items) (body_of form.layout file.items))
 
-noted-lock : (has ok : Bool) (path : List ℕ) (old : List Event) → about path (with_lock_note has ok old) ≡ about path old
+noted-lock : (has ok : Bool) (path : List ℕ) (old : List Event) → about path (with_lock_note content.Image has ok old) ≡ about path old
 noted-lock true ok path old = refl
 noted-lock false ok path old = refl
 
@@ -156,7 +156,7 @@ opens-never form = then-never (Holds form.file.bytes.items) (λ place. Then (Loo
 never : false ≡ true → ⊥
 never is = cc
 
-writes-no-refusal : (path file : List ℕ) (old : List Event) (ending : Ending) (new : List Event) → Writes path file old (Err ending) new → is_refusal ending ≡ true → ⊥
+writes-no-refusal : (path file : List ℕ) (old : List Event) (ending : Ending) (new : List Event) → Writes content.Image path file old (Err ending) new → is_refusal ending ≡ true → ⊥
 writes-no-refusal path file old (Line it) new p is = p
 writes-no-refusal path file old (Fault it) new p is = p
 writes-no-refusal path file old Failure new p is = p

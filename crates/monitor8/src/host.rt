@@ -10,9 +10,10 @@ use index_commands::index_images;
 use many_commands::{check_images, get_files, list_files, list_places, put_files};
 use outcome::{Content, Ending, ending_of_output, gives_data, no_memory_line};
 use program_commands::{list_tape, write_rim, write_source};
-use program_tasks::{IndexForm, LineForm, ScanForm, Task};
+use program_tasks::{AssembleForm, IndexForm, LineForm, ScanForm, Task};
 use salvage_commands::{rescue_image, scan_blocks, scan_into};
 use script8::SessionFault;
+use source_commands::assemble_files;
 use std::alloc::{AllocError, Global};
 use std::env::{self, Env};
 use std::fs::{File, Files};
@@ -21,7 +22,7 @@ use std::process::ExitCode;
 use std::thread;
 use std::time::{Clock, Duration};
 use system::System;
-use tape_commands::{assemble_files, profile_tape, run_teletype, trace_tape};
+use tape_commands::{profile_tape, run_teletype, trace_tape};
 use volume_commands::{
     Rooms, copy_file, create_image, create_tape, delete_files, end, file_asked, get_bin,
     get_blocks, get_file, put_file, rename_file, squeeze_files,
@@ -83,7 +84,11 @@ where
         Task::Tape(tape) => list_tape(host, alloc, &tape),
         Task::Rim(tape, form) => write_rim(host, alloc, &tape, form),
         Task::Source(form) => write_source(host, alloc, &form),
-        Task::Assemble(form) => assemble_files(rt, &form),
+        Task::Assemble(form) => wait_for_image!(
+            rt,
+            wait_of(&form),
+            assemble_files(host, alloc, &form)
+        ),
         Task::Teletype(form) => run_teletype(rt, host, &form),
         Task::Trace(form) => trace_tape(rt, host, &form),
         Task::Profile(form) => profile_tape(rt, host, &form),
@@ -133,6 +138,14 @@ where
                 patch_word(host, alloc, &form.image, &wanted)
             )
         }
+    }
+}
+
+/// How many seconds are waited for the image that has the sources, and may get the tape.
+fn wait_of(form: &AssembleForm) -> usize {
+    match &form.from {
+        Some(image) => image.wait,
+        None => 0,
     }
 }
 

@@ -5,20 +5,13 @@ use Rattle.std.specs.Prelude.{String}
 use Rattle.hosts.specs.Event.{Event}
 use Rattle.hosts.specs.Place.{about}
 use Rattle.char_pack.specs.declared.forms.GetForm.TheVariants.{Frames}
-use Rattle.outcome.specs.Hints.{image_note, kind_note}
-use Rattle.outcome.specs.declared.contents.Content.TheVariants as content
+use Rattle.outcome.specs.Hints.{kind_note}
 use Rattle.outcome.specs.declared.endings.Ending.{Ending}
-use Rattle.outcome.specs.declared.endings.Ending.TheVariants.{Line, Fault, Failure, Busy, NotWritten, FullOutput, NoReader, Misuse}
+use Rattle.outcome.specs.declared.endings.Ending.TheVariants.{Fault}
 use Rattle.outcome.specs.declared.notes.PlainNote.{PlainNote}
 use Rattle.archive_files.specs.Asking.{Target, target_of}
 use Rattle.archive_files.specs.Getting.{Gets}
 use Rattle.archive_files.specs.declared.faults.ArchiveFault.{ArchiveFault}
-use Rattle.program_reports.specs.declared.programs.ProgramLine.TheVariants as line
-use Rattle.script8.specs.declared.faults.SessionFault.TheVariants as fault
-use Rattle.image_volumes.specs.Margins.{body_of}
-use Rattle.image_volumes.specs.Volumes.{volumes_in}
-use Rattle.image_volumes.specs.declared.volumes.Volumes.{Volumes}
-use Rattle.image_volumes.specs.declared.volumes.Volumes.TheVariants.{One, Both}
 use Rattle.program_tasks.specs.declared.forms.ImageForm.{ImageForm}
 use Rattle.program_tasks.specs.declared.forms.TapeForm.{TapeForm}
 use Rattle.program_tasks.specs.declared.forms.TapeForm.TheVariants as tape
@@ -27,12 +20,12 @@ use Rattle.program_tasks.specs.declared.tasks.SourceForm.{SourceForm}
 use Rattle.volume_commands.specs.Answers.{Answers, Refuses}
 use Rattle.volume_commands.specs.Notes.{Tells}
 use Rattle.volume_commands.specs.Putting.{TakesInput}
-use Rattle.volume_commands.specs.Reading.{FindsIn, FindsOne, Looks, LooksAt}
+use Rattle.volume_commands.specs.Reading.{Looks, LooksAt}
 use Rattle.volume_commands.specs.Saving.{Prints}
 use Rattle.volume_commands.specs.Work.{Then, Purely}
 use Rattle.program_commands.specs.Kinds.{RefusesFrames, RefusesTape, is_no_tape}
 use Rattle.program_commands.specs.Kinds as kinds
-use Rattle.program_commands.specs.Laws.{KeepsFiles}
+use Rattle.volume_commands.specs.Laws.{KeepsFiles}
 use Rattle.program_commands.specs.Programs.{IsAsked, IsCoreProgram, IsTapeProgram, ReadsCore, ReadsGiven, ReadsMember, ReadsProgram, RefusesIf, TakesIf, TakesTape, has_no_tape, is_core_name}
 use Rattle.program_commands.specs.Rims.{GetsMember, GivesRim, ReadsFrames, WritesRim}
 use Rattle.program_commands.specs.Sources.{GivesSource, ReadsNames, WritesSource, starts_or}
@@ -50,114 +43,9 @@ then-keeps first next f n old result new (inr it) path = n it.given it.between r
 purely-keeps : {A : Type 0} (gives : Result A Ending → Type 0) → KeepsFiles (Purely gives)
 purely-keeps gives old result new p path = same path p.1
 
--- ## What is printed
-
-prints-keeps : (bytes : List ℕ) → KeepsFiles (Prints bytes)
-prints-keeps bytes old (Ok it) new p path = same path p
-prints-keeps bytes old (Err (Line it)) new p path = absurd p
-prints-keeps bytes old (Err (Fault it)) new p path = absurd p
-prints-keeps bytes old (Err Failure) new p path = absurd p
-prints-keeps bytes old (Err (Busy it)) new p path = absurd p
-prints-keeps bytes old (Err (NotWritten it left)) new p path = absurd p
-prints-keeps bytes old (Err FullOutput) new p path = same path p
-prints-keeps bytes old (Err NoReader) new p path = same path p
-prints-keeps bytes old (Err Misuse) new p path = absurd p
-
 tells-keeps : (path : List ℕ) (note : Option PlainNote) (old new : List Event) → Tells note old new → about path new ≡ about path old
 tells-keeps path None old new p = same path p
 tells-keeps path (Some note) old new p = same path p.1
-
-refuses-keeps : (path : List ℕ) (why : ArchiveFault) (size : ℕ) (old : List Event) (ending : Ending) (new : List Event) → Refuses why size old ending new → about path new ≡ about path old
-refuses-keeps path why size old ending new p = tells-keeps path (image_note size why) old new p.1
-
-answers-keeps : {A : Type 0} (gives : Result A ArchiveFault → Type 0) (size : ℕ) → KeepsFiles (Answers gives size)
-answers-keeps gives size old (Ok it) new p path = same path p.1
-answers-keeps gives size old (Err ending) new (why, gave, p) path = refuses-keeps path why size old ending new p
-
--- ## What is read
-
-looks-keeps : (name shown : List ℕ) → KeepsFiles (Looks name shown)
-looks-keeps name shown old (Ok bytes) new p path = same path p.1
-looks-keeps name shown old (Err (Line (line.Created n))) new p path = absurd p
-looks-keeps name shown old (Err (Line line.HostRead)) new (inl p) path = same path p
-looks-keeps name shown old (Err (Line line.HostRead)) new (inr (bytes, many, ok, p)) path = same path p
-looks-keeps name shown old (Err (Line line.HostWrite)) new p path = absurd p
-looks-keeps name shown old (Err (Line line.HostBusy)) new p path = absurd p
-looks-keeps name shown old (Err (Line line.NoWord)) new p path = absurd p
-looks-keeps name shown old (Err (Line (line.NoStart n))) new p path = absurd p
-looks-keeps name shown old (Err (Line (line.Names n why))) new p path = absurd p
-looks-keeps name shown old (Err (Line (line.Renamed one other))) new p path = absurd p
-looks-keeps name shown old (Err (Line line.Exists)) new p path = absurd p
-looks-keeps name shown old (Err (Line (line.Squeezed n))) new p path = absurd p
-looks-keeps name shown old (Err (Line (line.Got got n))) new p path = absurd p
-looks-keeps name shown old (Err (Line line.HostExists)) new p path = absurd p
-looks-keeps name shown old (Err (Line line.SameName)) new p path = absurd p
-looks-keeps name shown old (Err (Line (line.OnlyBlocks n))) new p path = absurd p
-looks-keeps name shown old (Err (Line (line.Images n refused))) new p path = absurd p
-looks-keeps name shown old (Err (Line (line.Disk fault))) new p path = absurd p
-looks-keeps name shown old (Err (Line line.NothingToRun)) new p path = absurd p
-looks-keeps name shown old (Err (Line (line.Halted cell ac l))) new p path = absurd p
-looks-keeps name shown old (Err (Line (line.Unassigned cell word))) new p path = absurd p
-looks-keeps name shown old (Err (Line (line.KeysEnd cell))) new p path = absurd p
-looks-keeps name shown old (Err (Line (line.Limit cell))) new p path = absurd p
-looks-keeps name shown old (Err (Line (line.Steps ended cell))) new p path = absurd p
-looks-keeps name shown old (Err (Line (line.Start cell))) new p path = absurd p
-looks-keeps name shown old (Err (Line (line.Core fault))) new p path = absurd p
-looks-keeps name shown old (Err (Line (line.Rim fault))) new p path = absurd p
-looks-keeps name shown old (Err (Line (line.Image fault))) new p path = absurd p
-looks-keeps name shown old (Err (Line (line.Directory fault))) new p path = absurd p
-looks-keeps name shown old (Err (Fault fault.BadLine)) new p path = absurd p
-looks-keeps name shown old (Err (Fault fault.NoJob)) new p path = absurd p
-looks-keeps name shown old (Err (Fault fault.TooManyJobs)) new p path = absurd p
-looks-keeps name shown old (Err (Fault (fault.File why))) new p path = absurd p
-looks-keeps name shown old (Err (Fault (fault.Asm why))) new p path = absurd p
-looks-keeps name shown old (Err (Fault (fault.Tape why))) new p path = absurd p
-looks-keeps name shown old (Err (Fault fault.BadText)) new p path = absurd p
-looks-keeps name shown old (Err (Fault fault.Reader)) new p path = absurd p
-looks-keeps name shown old (Err (Fault fault.Writer)) new p path = absurd p
-looks-keeps name shown old (Err (Fault fault.Memory)) new (inl p) path = same path p
-looks-keeps name shown old (Err (Fault fault.Memory)) new (inr (bytes, many, p)) path = same path p
-looks-keeps name shown old (Err (Fault fault.TooManyBreaks)) new p path = absurd p
-looks-keeps name shown old (Err Failure) new p path = absurd p
-looks-keeps name shown old (Err (Busy content.Image)) new p path = same path p
-looks-keeps name shown old (Err (Busy content.Tape)) new p path = absurd p
-looks-keeps name shown old (Err (Busy content.Listing)) new p path = absurd p
-looks-keeps name shown old (Err (NotWritten it left)) new p path = absurd p
-looks-keeps name shown old (Err FullOutput) new p path = absurd p
-looks-keeps name shown old (Err NoReader) new p path = absurd p
-looks-keeps name shown old (Err Misuse) new p path = absurd p
-
-finds-keeps : (volumes : Volumes) (body : List ℕ) → KeepsFiles (FindsIn volumes body)
-finds-keeps (One layout) body old result new p path = same path p.1
-finds-keeps Both body old (Ok image) new p path = absurd p
-finds-keeps Both body old (Err ending) new (is, ok, p) path = same path p
-
-looks-at-keeps : (form : ImageForm) → KeepsFiles (LooksAt form)
-looks-at-keeps form = then-keeps (Looks form.file.bytes.items form.file.bytes.items) (λ file. FindsOne form.layout file.items)
-    (looks-keeps form.file.bytes.items form.file.bytes.items) (λ file. finds-keeps (volumes_in form.layout file.items) (body_of form.layout file.items))
-
-input-keeps : KeepsFiles TakesInput
-input-keeps old (Ok bytes) new p path = same path p.1
-input-keeps old (Err (Line it)) new p path = absurd p
-input-keeps old (Err (Fault fault.BadLine)) new p path = absurd p
-input-keeps old (Err (Fault fault.NoJob)) new p path = absurd p
-input-keeps old (Err (Fault fault.TooManyJobs)) new p path = absurd p
-input-keeps old (Err (Fault (fault.File why))) new p path = absurd p
-input-keeps old (Err (Fault (fault.Asm why))) new p path = absurd p
-input-keeps old (Err (Fault (fault.Tape why))) new p path = absurd p
-input-keeps old (Err (Fault fault.BadText)) new p path = absurd p
-input-keeps old (Err (Fault fault.Reader)) new (inl p) path = same path p
-input-keeps old (Err (Fault fault.Reader)) new (inr (bytes, many, ok, p)) path = same path p
-input-keeps old (Err (Fault fault.Writer)) new p path = absurd p
-input-keeps old (Err (Fault fault.Memory)) new (inl p) path = same path p
-input-keeps old (Err (Fault fault.Memory)) new (inr (bytes, many, p)) path = same path p
-input-keeps old (Err (Fault fault.TooManyBreaks)) new p path = absurd p
-input-keeps old (Err Failure) new p path = absurd p
-input-keeps old (Err (Busy it)) new p path = absurd p
-input-keeps old (Err (NotWritten it left)) new p path = absurd p
-input-keeps old (Err FullOutput) new p path = absurd p
-input-keeps old (Err NoReader) new p path = absurd p
-input-keeps old (Err Misuse) new p path = absurd p
 
 -- ## What is refused
 
@@ -172,80 +60,92 @@ refused-if false path frames why old ending new p = same path p.1
 frames-refused : (path frames : List ℕ) (why : Ending) (old : List Event) (ending : Ending) (new : List Event) → RefusesFrames frames why old ending new → about path new ≡ about path old
 frames-refused path frames why old ending new p = refused-if (is_no_tape why) path frames why old ending new p
 
--- ## Programs
+-- what volume_commands knows of its steps is handed in
+module _
+    (looks-keeps : (name shown : List ℕ) → KeepsFiles (Looks name shown))
+    (looks-at-keeps : (form : ImageForm) → KeepsFiles (LooksAt form))
+    (input-keeps : KeepsFiles TakesInput)
+    (prints-keeps : (bytes : List ℕ) → KeepsFiles (Prints bytes))
+    (refuses-keeps : (why : ArchiveFault) (size : ℕ) (old : List Event) (ending : Ending) (new : List Event) → Refuses why size old ending new → (path : List ℕ) → about path new ≡ about path old)
+  where
+    answers-keeps : {A : Type 0} (gives : Result A ArchiveFault → Type 0) (size : ℕ) → KeepsFiles (Answers gives size)
+    answers-keeps gives size old (Ok it) new p path = same path p.1
+    answers-keeps gives size old (Err ending) new (why, gave, p) path = refuses-keeps why size old ending new p path
 
-file-keeps : (name : List ℕ) → KeepsFiles (Then (Looks name name) (λ frames. Purely (IsTapeProgram frames.items)))
-file-keeps name = then-keeps (Looks name name) (λ frames. Purely (IsTapeProgram frames.items)) (looks-keeps name name) (λ frames. purely-keeps (IsTapeProgram frames.items))
+    -- ## Programs
 
-core-keeps : (image : List ℕ) (wanted : Target) → KeepsFiles (ReadsCore image wanted)
-core-keeps image wanted = then-keeps (Answers (Gets image wanted Frames) (length image)) (λ frames. Purely (IsCoreProgram frames.items))
-    (answers-keeps (Gets image wanted Frames) (length image)) (λ frames. purely-keeps (IsCoreProgram frames.items))
+    file-keeps : (name : List ℕ) → KeepsFiles (Then (Looks name name) (λ frames. Purely (IsTapeProgram frames.items)))
+    file-keeps name = then-keeps (Looks name name) (λ frames. Purely (IsTapeProgram frames.items)) (looks-keeps name name) (λ frames. purely-keeps (IsTapeProgram frames.items))
 
-member-refused : (is : Bool) (path image : List ℕ) (wanted : Target) (why : ArchiveFault) (old : List Event) (ending : Ending) (new : List Event) → RefusesIf is image wanted why old ending new
-    → about path new ≡ about path old
-member-refused true path image wanted why old ending new (inl (frames, gets, p)) = tape-refused path frames.items _ old ending new p
-member-refused true path image wanted why old ending new (inr p) = answers-keeps (Gets image wanted Frames) (length image) old (Err ending) new p path
-member-refused false path image wanted why old ending new p = refuses-keeps path why (length image) old ending new p
+    core-keeps : (image : List ℕ) (wanted : Target) → KeepsFiles (ReadsCore image wanted)
+    core-keeps image wanted = then-keeps (Answers (Gets image wanted Frames) (length image)) (λ frames. Purely (IsCoreProgram frames.items))
+        (answers-keeps (Gets image wanted Frames) (length image)) (λ frames. purely-keeps (IsCoreProgram frames.items))
 
-takes-keeps : (image : List ℕ) (wanted : Target) → KeepsFiles (TakesTape image wanted)
-takes-keeps image wanted old (Ok program) new p path = same path p.2
-takes-keeps image wanted old (Err ending) new (why, gets, p) path = member-refused (has_no_tape why) path image wanted why old ending new p
+    member-refused : (is : Bool) (path image : List ℕ) (wanted : Target) (why : ArchiveFault) (old : List Event) (ending : Ending) (new : List Event) → RefusesIf is image wanted why old ending new
+        → about path new ≡ about path old
+    member-refused true path image wanted why old ending new (inl (frames, gets, p)) = tape-refused path frames.items _ old ending new p
+    member-refused true path image wanted why old ending new (inr p) = answers-keeps (Gets image wanted Frames) (length image) old (Err ending) new p path
+    member-refused false path image wanted why old ending new p = refuses-keeps why (length image) old ending new p path
 
-takes-if : (is : Bool) (image : List ℕ) (wanted : Target) → KeepsFiles (TakesIf is image wanted)
-takes-if true image wanted = core-keeps image wanted
-takes-if false image wanted = takes-keeps image wanted
+    takes-keeps : (image : List ℕ) (wanted : Target) → KeepsFiles (TakesTape image wanted)
+    takes-keeps image wanted old (Ok program) new p path = same path p.2
+    takes-keeps image wanted old (Err ending) new (why, gets, p) path = member-refused (has_no_tape why) path image wanted why old ending new p
 
-member-keeps : (form : ImageForm) (name : List ℕ) → KeepsFiles (ReadsMember form name)
-member-keeps form name = then-keeps (Purely (IsAsked name)) (λ asked. Then (LooksAt form) (λ bytes. TakesIf (is_core_name name) bytes.items (target_of asked))) (purely-keeps (IsAsked name))
-    (λ asked. then-keeps (LooksAt form) (λ bytes. TakesIf (is_core_name name) bytes.items (target_of asked)) (looks-at-keeps form) (λ bytes. takes-if (is_core_name name) bytes.items (target_of asked)))
+    takes-if : (is : Bool) (image : List ℕ) (wanted : Target) → KeepsFiles (TakesIf is image wanted)
+    takes-if true image wanted = core-keeps image wanted
+    takes-if false image wanted = takes-keeps image wanted
 
-pub program-keeps : (form : TapeForm) → KeepsFiles (ReadsProgram form)
-program-keeps (tape.File file) old result new p path = file-keeps file.bytes.items old result new p path
-program-keeps (tape.Member form name) old result new p path = member-keeps form name.bytes.items old result new p path
+    member-keeps : (form : ImageForm) (name : List ℕ) → KeepsFiles (ReadsMember form name)
+    member-keeps form name = then-keeps (Purely (IsAsked name)) (λ asked. Then (LooksAt form) (λ bytes. TakesIf (is_core_name name) bytes.items (target_of asked))) (purely-keeps (IsAsked name))
+        (λ asked. then-keeps (LooksAt form) (λ bytes. TakesIf (is_core_name name) bytes.items (target_of asked)) (looks-at-keeps form) (λ bytes. takes-if (is_core_name name) bytes.items (target_of asked)))
 
-given-keeps : (form : Option TapeForm) → KeepsFiles (ReadsGiven form)
-given-keeps None old result new p path = then-keeps TakesInput (λ frames. Purely (IsTapeProgram frames.items)) input-keeps (λ frames. purely-keeps (IsTapeProgram frames.items)) old result new p path
-given-keeps (Some form) old result new p path = program-keeps form old result new p path
+    pub program-keeps : (form : TapeForm) → KeepsFiles (ReadsProgram form)
+    program-keeps (tape.File file) old result new p path = file-keeps file.bytes.items old result new p path
+    program-keeps (tape.Member form name) old result new p path = member-keeps form name.bytes.items old result new p path
 
--- ## The commands
+    given-keeps : (form : Option TapeForm) → KeepsFiles (ReadsGiven form)
+    given-keeps None old result new p path = then-keeps TakesInput (λ frames. Purely (IsTapeProgram frames.items)) input-keeps (λ frames. purely-keeps (IsTapeProgram frames.items)) old result new p path
+    given-keeps (Some form) old result new p path = program-keeps form old result new p path
 
-lines-keeps : (frames : List ℕ) → KeepsFiles (GivesLines frames)
-lines-keeps frames old (Ok text) new p path = same path p.1
-lines-keeps frames old (Err ending) new (why, is, p) path = frames-refused path frames (Fault why) old ending new p
+    -- ## The commands
 
-pub tape-keeps : (form : Option TapeForm) → KeepsFiles (ListsTape form)
-tape-keeps form = then-keeps (ReadsGiven form) (λ program. Then (GivesLines program.frames.items) (λ text. Prints text.items)) (given-keeps form)
-    (λ program. then-keeps (GivesLines program.frames.items) (λ text. Prints text.items) (lines-keeps program.frames.items) (λ text. prints-keeps text.items))
+    lines-keeps : (frames : List ℕ) → KeepsFiles (GivesLines frames)
+    lines-keeps frames old (Ok text) new p path = same path p.1
+    lines-keeps frames old (Err ending) new (why, is, p) path = frames-refused path frames (Fault why) old ending new p
 
-gets-keeps : (form : ImageForm) (name : List ℕ) → KeepsFiles (GetsMember form name)
-gets-keeps form name = then-keeps (Purely (IsAsked name)) (λ asked. Then (LooksAt form) (λ bytes. Answers (Gets bytes.items (target_of asked) Frames) (length bytes.items))) (purely-keeps (IsAsked name))
-    (λ asked. then-keeps (LooksAt form) (λ bytes. Answers (Gets bytes.items (target_of asked) Frames) (length bytes.items)) (looks-at-keeps form)
-    (λ bytes. answers-keeps (Gets bytes.items (target_of asked) Frames) (length bytes.items)))
+    pub tape-keeps : (form : Option TapeForm) → KeepsFiles (ListsTape form)
+    tape-keeps form = then-keeps (ReadsGiven form) (λ program. Then (GivesLines program.frames.items) (λ text. Prints text.items)) (given-keeps form)
+        (λ program. then-keeps (GivesLines program.frames.items) (λ text. Prints text.items) (lines-keeps program.frames.items) (λ text. prints-keeps text.items))
 
-frames-keeps : (form : Option TapeForm) → KeepsFiles (ReadsFrames form)
-frames-keeps None old result new p path = input-keeps old result new p path
-frames-keeps (Some (tape.File file)) old result new p path = looks-keeps file.bytes.items file.bytes.items old result new p path
-frames-keeps (Some (tape.Member form name)) old result new p path = gets-keeps form name.bytes.items old result new p path
+    gets-keeps : (form : ImageForm) (name : List ℕ) → KeepsFiles (GetsMember form name)
+    gets-keeps form name = then-keeps (Purely (IsAsked name)) (λ asked. Then (LooksAt form) (λ bytes. Answers (Gets bytes.items (target_of asked) Frames) (length bytes.items))) (purely-keeps (IsAsked name))
+        (λ asked. then-keeps (LooksAt form) (λ bytes. Answers (Gets bytes.items (target_of asked) Frames) (length bytes.items)) (looks-at-keeps form)
+        (λ bytes. answers-keeps (Gets bytes.items (target_of asked) Frames) (length bytes.items)))
 
-pub rim-keeps : (form : RimForm) (given : Option TapeForm) → KeepsFiles (WritesRim form given)
-rim-keeps form given = then-keeps (ReadsFrames given) (λ frames. Then (Purely (GivesRim form frames.items)) (λ bytes. Prints bytes.items)) (frames-keeps given)
-    (λ frames. then-keeps (Purely (GivesRim form frames.items)) (λ bytes. Prints bytes.items) (purely-keeps (GivesRim form frames.items)) (λ bytes. prints-keeps bytes.items))
+    frames-keeps : (form : Option TapeForm) → KeepsFiles (ReadsFrames form)
+    frames-keeps None old result new p path = input-keeps old result new p path
+    frames-keeps (Some (tape.File file)) old result new p path = looks-keeps file.bytes.items file.bytes.items old result new p path
+    frames-keeps (Some (tape.Member form name)) old result new p path = gets-keeps form name.bytes.items old result new p path
 
-names-keeps : (names : Option (String Global)) → KeepsFiles (ReadsNames names)
-names-keeps None old (Ok names) new p path = same path p.1
-names-keeps None old (Err ending) new p path = absurd p
-names-keeps (Some file) old (Ok None) new p path = absurd p
-names-keeps (Some file) old (Ok (Some names)) new p path = looks-keeps file.bytes.items file.bytes.items old (Ok names) new p path
-names-keeps (Some file) old (Err ending) new p path = looks-keeps file.bytes.items file.bytes.items old (Err ending) new p path
+    pub rim-keeps : (form : RimForm) (given : Option TapeForm) → KeepsFiles (WritesRim form given)
+    rim-keeps form given = then-keeps (ReadsFrames given) (λ frames. Then (Purely (GivesRim form frames.items)) (λ bytes. Prints bytes.items)) (frames-keeps given)
+        (λ frames. then-keeps (Purely (GivesRim form frames.items)) (λ bytes. Prints bytes.items) (purely-keeps (GivesRim form frames.items)) (λ bytes. prints-keeps bytes.items))
 
-gives-keeps : (frames starts : List ℕ) (names : Option (List ℕ)) → KeepsFiles (GivesSource frames starts names)
-gives-keeps frames starts names old (Ok text) new p path = same path p.1
-gives-keeps frames starts names old (Err ending) new (why, is, p) path = frames-refused path frames _ old ending new p
+    names-keeps : (names : Option (String Global)) → KeepsFiles (ReadsNames names)
+    names-keeps None old (Ok names) new p path = same path p.1
+    names-keeps None old (Err ending) new p path = absurd p
+    names-keeps (Some file) old (Ok None) new p path = absurd p
+    names-keeps (Some file) old (Ok (Some names)) new p path = looks-keeps file.bytes.items file.bytes.items old (Ok names) new p path
+    names-keeps (Some file) old (Err ending) new p path = looks-keeps file.bytes.items file.bytes.items old (Err ending) new p path
 
-pub source-keeps : (form : SourceForm) → KeepsFiles (WritesSource form)
-source-keeps form =
-    let named : Option (Vec ℕ) → Option (List ℕ) = option_map (λ names. names.items) in
-    then-keeps (ReadsNames form.names) (λ names. Then (ReadsGiven form.tape) (λ program. Then (GivesSource program.frames.items (starts_or form.starts.items program.start) (named names)) (λ text. Prints text.items)))
-    (names-keeps form.names) (λ names. then-keeps (ReadsGiven form.tape) (λ program. Then (GivesSource program.frames.items (starts_or form.starts.items program.start) (named names)) (λ text. Prints text.items))
-    (given-keeps form.tape) (λ program. then-keeps (GivesSource program.frames.items (starts_or form.starts.items program.start) (named names)) (λ text. Prints text.items)
-    (gives-keeps program.frames.items (starts_or form.starts.items program.start) (named names)) (λ text. prints-keeps text.items)))
+    gives-keeps : (frames starts : List ℕ) (names : Option (List ℕ)) → KeepsFiles (GivesSource frames starts names)
+    gives-keeps frames starts names old (Ok text) new p path = same path p.1
+    gives-keeps frames starts names old (Err ending) new (why, is, p) path = frames-refused path frames _ old ending new p
+
+    pub source-keeps : (form : SourceForm) → KeepsFiles (WritesSource form)
+    source-keeps form =
+        let named : Option (Vec ℕ) → Option (List ℕ) = option_map (λ names. names.items) in
+        then-keeps (ReadsNames form.names) (λ names. Then (ReadsGiven form.tape) (λ program. Then (GivesSource program.frames.items (starts_or form.starts.items program.start) (named names)) (λ text. Prints text.items)))
+        (names-keeps form.names) (λ names. then-keeps (ReadsGiven form.tape) (λ program. Then (GivesSource program.frames.items (starts_or form.starts.items program.start) (named names)) (λ text. Prints text.items))
+        (given-keeps form.tape) (λ program. then-keeps (GivesSource program.frames.items (starts_or form.starts.items program.start) (named names)) (λ text. Prints text.items)
+        (gives-keeps program.frames.items (starts_or form.starts.items program.start) (named names)) (λ text. prints-keeps text.items)))

@@ -1,5 +1,4 @@
 pub mod Kinds
-pub mod Laws
 pub mod Programs
 pub mod Rims
 pub mod Sources

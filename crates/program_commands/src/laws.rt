@@ -3,11 +3,13 @@ ghost use Rattle.std.specs.Prelude.{Option};
 ghost use Rattle.program_tasks.specs.declared.forms.TapeForm.{TapeForm};
 ghost use Rattle.program_tasks.specs.declared.tasks.RimForm.{RimForm};
 ghost use Rattle.program_tasks.specs.declared.tasks.SourceForm.{SourceForm};
-ghost use Rattle.program_commands.specs.Laws.{KeepsFiles};
+ghost use Rattle.volume_commands.specs.Laws.{KeepsFiles};
 ghost use Rattle.program_commands.specs.Programs.{ReadsProgram};
 ghost use Rattle.program_commands.specs.Rims.{WritesRim};
 ghost use Rattle.program_commands.specs.Sources.{WritesSource};
 ghost use Rattle.program_commands.specs.Tapes.{ListsTape};
+
+use volume_commands::laws::kept_files;
 
 /// A law: none of these commands changes a file of the host, in whichever way it ends, nor does the reading of a program for another.
 pub fn unchanged_files()
@@ -15,4 +17,6 @@ pub fn unchanged_files()
     ensures tape { (form : Option TapeForm) → KeepsFiles (ListsTape form) }
     ensures rim { (form : RimForm) (tape : Option TapeForm) → KeepsFiles (WritesRim form tape) }
     ensures source { (form : SourceForm) → KeepsFiles (WritesSource form) }
-{}
+{
+    kept_files();
+}

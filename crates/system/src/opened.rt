@@ -1,4 +1,4 @@
-//! The files that are open: the one that is held, and the one that is made beside a path.
+//! The files that are open: those that are held, and the one that is made beside a path.
 
 ghost use Rattle.std.specs.Prelude.{◌≤◌, ◌+◌, length, IfOk};
 
@@ -8,7 +8,7 @@ use crate::files::{
     made_beside, put_at, remove_besides, rename_fault, stands_alone, take_owner,
 };
 use hosts::{HostFault, LinkFault, RenameFault};
-use std::alloc::Global;
+use std::alloc::{AllocError, Global};
 use std::fs::{self, File, Files};
 use std::io::Write;
 
@@ -19,11 +19,17 @@ struct Beside {
     names: Besides,
 }
 
-/// The file that is held, and the one that is made beside its path or beside another.
+/// The file of a path that is held.
+#[derive(Drop)]
+struct HeldFile {
+    path: String,
+    file: File,
+}
+
+/// The files that are held, and the one that is made beside a path.
 #[derive(Drop)]
 pub(crate) struct Opened {
-    file: Option<File>,
-    held_path: Option<String>,
+    files: Vec<HeldFile>,
     beside: Option<File>,
     place: Option<Beside>,
 
@@ -32,10 +38,9 @@ pub(crate) struct Opened {
 }
 
 impl Opened {
-    pub(crate) fn new() -> Opened {
+    pub(crate) fn new(alloc: Global) -> Opened {
         Opened {
-            file: None,
-            held_path: None,
+            files: Vec::new(alloc),
             beside: None,
             place: None,
             new_file: None,
@@ -72,36 +77,39 @@ impl Opened {
         let _names = self.place(alloc, path)?;
         let own = String::from_str(alloc, path)?;
         let (file, has_lock) = hold_path(rt, path)?;
-        self.file = Some(file);
-        self.held_path = Some(own);
+        keep(&mut self.files, HeldFile { path: own, file })?;
         Ok(has_lock)
     }
 
-    pub(crate) fn drop_seconds<R: Files<File = File>>(&mut self, rt: &R) -> Result<(), HostFault> {
-        match (&self.file, &mut self.place) {
+    pub(crate) fn drop_seconds<R: Files<File = File>>(
+        &mut self,
+        rt: &R,
+        path: &str,
+    ) -> Result<(), HostFault> {
+        match (file_of(&self.files, path), &mut self.place) {
             (Some(file), Some(place)) => remove_besides(rt, file, &mut place.names),
             _ => Err(HostFault::Absent),
         }
     }
 
-    pub(crate) fn look(&self, alloc: Global, most: usize) -> Result<Vec<u8>, HostFault>
+    pub(crate) fn look(&self, alloc: Global, path: &str, most: usize) -> Result<Vec<u8>, HostFault>
         ensures { IfOk result (λ bytes. length bytes.items ≤ most + 1) }
     {
-        match &self.file {
+        match file_of(&self.files, path) {
             Some(file) => held_bytes(alloc, file, most),
             None => Err(HostFault::Absent),
         }
     }
 
-    pub(crate) fn is_alone(&self) -> Result<bool, HostFault> {
-        match &self.file {
+    pub(crate) fn is_alone(&self, path: &str) -> Result<bool, HostFault> {
+        match file_of(&self.files, path) {
             Some(file) => stands_alone(file),
             None => Err(HostFault::Absent),
         }
     }
 
     pub(crate) fn leads<R: Files<File = File>>(&self, rt: &R, path: &str) -> bool {
-        match &self.file {
+        match file_of(&self.files, path) {
             Some(file) => leads_to(rt, path, file),
             None => false,
         }
@@ -118,8 +126,12 @@ impl Opened {
         Ok(())
     }
 
-    pub(crate) fn own_beside<R: Files<File = File>>(&self, rt: &R) -> Result<(), HostFault> {
-        match (&self.beside, &self.file) {
+    pub(crate) fn own_beside<R: Files<File = File>>(
+        &self,
+        rt: &R,
+        path: &str,
+    ) -> Result<(), HostFault> {
+        match (&self.beside, file_of(&self.files, path)) {
             (Some(file), Some(older)) => answer(take_owner(rt, file, self.name_beside(), older)),
             _ => Err(HostFault::Absent),
         }
@@ -164,9 +176,8 @@ impl Opened {
         if let Err(error) = fs::rename(rt, self.name_beside(), path) {
             return Err(rename_fault(&error));
         }
-        let file = self.beside.take();
-        if is_path(&self.held_path, path) {
-            self.file = file;
+        if let Some(file) = self.beside.take() {
+            put_in_place(&mut self.files, path, file);
         }
         self.new_file = None;
         Ok(())
@@ -203,17 +214,51 @@ impl Opened {
         answer(fs::remove_file(rt, path))
     }
 
-    pub(crate) fn write_over(&mut self, at: usize, bytes: &[u8]) -> Result<(), HostFault> {
-        match &mut self.file {
-            Some(file) => answer(put_at(file, at, bytes)),
-            None => Err(HostFault::Absent),
+    pub(crate) fn write_over(
+        &mut self,
+        path: &str,
+        at: usize,
+        bytes: &[u8],
+    ) -> Result<(), HostFault> {
+        for it in &mut self.files {
+            if it.path.as_str() == path {
+                return answer(put_at(&mut it.file, at, bytes));
+            }
         }
+        Err(HostFault::Absent)
     }
 
-    pub(crate) fn finish_over(&mut self, size: usize) -> Result<(), HostFault> {
-        match &mut self.file {
-            Some(file) => answer(cut_at(file, size)),
-            None => Err(HostFault::Absent),
+    pub(crate) fn finish_over(&mut self, path: &str, size: usize) -> Result<(), HostFault> {
+        for it in &mut self.files {
+            if it.path.as_str() == path {
+                return answer(cut_at(&mut it.file, size));
+            }
+        }
+        Err(HostFault::Absent)
+    }
+}
+
+fn keep(files: &mut Vec<HeldFile>, file: HeldFile) -> Result<(), AllocError> {
+    files.push(file)?;
+    Ok(())
+}
+
+/// The file of a path, if it is held.
+fn file_of<'a>(files: &'a [HeldFile], path: &str) -> Option<&'a File> {
+    for it in files {
+        if it.path.as_str() == path {
+            return Some(&it.file);
+        }
+    }
+    None
+}
+
+/// Has a file held in place of the one of a path, if that is held.
+fn put_in_place(files: &mut Vec<HeldFile>, path: &str, file: File) {
+    for it in files {
+        if it.path.as_str() == path {
+            it.file = file;
+            return;
         }
     }
 }
@@ -221,13 +266,6 @@ impl Opened {
 fn is_of(place: &Option<Beside>, path: &str) -> bool {
     match place {
         Some(place) => place.path.as_str() == path,
-        None => false,
-    }
-}
-
-fn is_path(held: &Option<String>, path: &str) -> bool {
-    match held {
-        Some(held) => held.as_str() == path,
         None => false,
     }
 }

@@ -53,13 +53,13 @@ pub struct System<'a, R> {
     log: Record,
 }
 
-impl<'a, R: Files<File = File>> System<'a, R> {
+impl<'a, R: Files<File = File> + AllocGlobal> System<'a, R> {
     pub fn new(rt: &'a R) -> System<'a, R>
         ensures { events_of result.log.events ≡ [] }
     {
         System {
             rt,
-            files: Opened::new(),
+            files: Opened::new(rt.alloc()),
             start: None,
             log: Record::new(),
         }
@@ -89,14 +89,14 @@ impl<'a, R: Env + Files<File = File> + Input + Print + Eprint + Clock + AllocGlo
     }
 
     fn drop_seconds(&mut self, path: &str) -> Result<(), HostFault> {
-        let done = self.files.drop_seconds(self.rt);
+        let done = self.files.drop_seconds(self.rt, path);
         self.log
             .note(&[DROP_SECONDS, number(&done), 0], path.as_bytes(), &[]);
         done
     }
 
     fn look_held(&mut self, alloc: Global, path: &str, most: usize) -> Result<Vec<u8>, HostFault> {
-        let done = self.files.look(alloc, most);
+        let done = self.files.look(alloc, path, most);
         match &done {
             Ok(it) => self.log.note(&[LOOK, 1, 0], path.as_bytes(), it),
             Err(_) => self.log.note(&[LOOK, 0, 0], path.as_bytes(), &[]),
@@ -123,7 +123,7 @@ impl<'a, R: Env + Files<File = File> + Input + Print + Eprint + Clock + AllocGlo
     }
 
     fn is_alone(&mut self, path: &str) -> Result<bool, HostFault> {
-        let done = self.files.is_alone();
+        let done = self.files.is_alone(path);
         match &done {
             Ok(is) => self
                 .log
@@ -148,7 +148,7 @@ impl<'a, R: Env + Files<File = File> + Input + Print + Eprint + Clock + AllocGlo
     }
 
     fn own_beside(&mut self, path: &str) -> Result<(), HostFault> {
-        let done = self.files.own_beside(self.rt);
+        let done = self.files.own_beside(self.rt, path);
         self.log
             .note(&[OWN_BESIDE, number(&done), 0], path.as_bytes(), &[]);
         done
@@ -225,7 +225,7 @@ impl<'a, R: Env + Files<File = File> + Input + Print + Eprint + Clock + AllocGlo
     }
 
     fn write_over(&mut self, path: &str, at: usize, bytes: &[u8]) -> Result<(), HostFault> {
-        let done = self.files.write_over(at, bytes);
+        let done = self.files.write_over(path, at, bytes);
         self.log.note(
             &[WRITE_OVER, number(&done), at as u64],
             path.as_bytes(),
@@ -235,7 +235,7 @@ impl<'a, R: Env + Files<File = File> + Input + Print + Eprint + Clock + AllocGlo
     }
 
     fn finish_over(&mut self, path: &str, size: usize) -> Result<(), HostFault> {
-        let done = self.files.finish_over(size);
+        let done = self.files.finish_over(path, size);
         self.log.note(
             &[FINISH_OVER, number(&done), size as u64],
             path.as_bytes(),

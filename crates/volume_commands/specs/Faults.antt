@@ -8,6 +8,7 @@ use Rattle.hosts.specs.declared.faults.Unwritten.TheVariants as write
 use Rattle.host_images.specs.declared.faults.Unwritten.TheVariants as left
 use Rattle.script8.specs.declared.faults.SessionFault.TheVariants.{Memory}
 use Rattle.program_reports.specs.declared.programs.ProgramLine.TheVariants.{HostRead}
+use Rattle.outcome.specs.declared.contents.Content.{Content}
 use Rattle.outcome.specs.declared.contents.Content.TheVariants.{Image}
 use Rattle.outcome.specs.declared.endings.Ending.{Ending}
 use Rattle.outcome.specs.declared.endings.Ending.TheVariants as ending
@@ -25,7 +26,7 @@ abbrev pub ending_of_print : PrintFault → Ending
 ending_of_print print.Abandoned = ending.NoReader
 ending_of_print print.Failed = ending.FullOutput
 
--- an image is not written
-abbrev pub ending_of_write : Unwritten → Ending
-ending_of_write write.AsItWas = ending.NotWritten Image left.AsItWas
-ending_of_write write.InPart = ending.NotWritten Image left.InPart
+-- a file for this is not written
+abbrev pub ending_of_write : Content → Unwritten → Ending
+ending_of_write content write.AsItWas = ending.NotWritten content left.AsItWas
+ending_of_write content write.InPart = ending.NotWritten content left.InPart

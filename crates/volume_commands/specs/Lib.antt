@@ -10,6 +10,7 @@ pub mod DeleteSteps
 pub mod Deleting
 pub mod Ending
 pub mod Faults
+pub mod Laws
 pub mod Making
 pub mod MakingSteps
 pub mod Notes

@@ -10,6 +10,7 @@ use Rattle.hosts.specs.declared.faults.HostFault.{HostFault}
 use Rattle.hosts.specs.declared.faults.HostFault.TheVariants as host
 use Rattle.host_images.specs.declared.faults.Unwritten.TheVariants.{AsItWas}
 use Rattle.script8.specs.declared.faults.SessionFault.TheVariants.{Memory}
+use Rattle.outcome.specs.declared.contents.Content.{Content}
 use Rattle.outcome.specs.declared.contents.Content.TheVariants.{Image}
 use Rattle.outcome.specs.declared.endings.Ending.{Ending}
 use Rattle.outcome.specs.declared.endings.Ending.TheVariants.{Line, Fault, Busy, NotWritten}
@@ -27,13 +28,13 @@ use Rattle.volume_commands.specs.declared.creating.TheConstants.{TAPE_BLOCKS}
 use Rattle.volume_commands.specs.Reading.{IsIdle, with_lock_note, hold_calls}
 use Rattle.volume_commands.specs.Saving.{Writes, IsSyncTold, TouchesOnly, Prints}
 
--- a file that is to be written can't be held, or can't be made, and is as it was
-abbrev pub ending_of_file : HostFault → Ending
-ending_of_file host.Busy = Busy Image
-ending_of_file host.Memory = Fault Memory
-ending_of_file host.Absent = NotWritten Image AsItWas
-ending_of_file host.Unwritable = NotWritten Image AsItWas
-ending_of_file host.Failed = NotWritten Image AsItWas
+-- a file for this that is to be written can't be held, or can't be made, and is as it was
+abbrev pub ending_of_file : Content → HostFault → Ending
+ending_of_file content host.Busy = Busy content
+ending_of_file content host.Memory = Fault Memory
+ending_of_file content host.Absent = NotWritten content AsItWas
+ending_of_file content host.Unwritable = NotWritten content AsItWas
+ending_of_file content host.Failed = NotWritten content AsItWas
 
 -- a file that is to be the first of its name can't be made: there is one, or a call failed
 abbrev pub ending_of_first : HostFault → Ending
@@ -46,11 +47,11 @@ ending_of_first host.Failed = NotWritten Image AsItWas
 -- A file of these bytes is made where the host says that a name has none. It is there whole, on the disk, unless a note says that it is not
 -- known whether a crash keeps it. At each moment meanwhile a crash left what it might have left before, or the file, whole, where the file
 -- system has further names.
-pub record HasMade (file : List ℕ) (old new : List Event) : Type 0 where
+pub record HasMade (content : Content) (file : List ℕ) (old new : List Event) : Type 0 where
   pub durability : Durability
   pub made : Makes (Ok durability) file (about (path_of_name new) old) (about (path_of_name new) new)
   pub moments : AnyMomentOf (has_links new) file (about (path_of_name new) old) (about (path_of_name new) new)
-  pub sync : IsSyncTold durability (errors old) (errors new)
+  pub sync : IsSyncTold content durability (errors old) (errors new)
   pub only : TouchesOnly (path_of_name new) old new
 
 -- no file is made, since a call failed
@@ -62,29 +63,29 @@ pub record HasNotMade (file : List ℕ) (fault : HostFault) (old new : List Even
   pub only : TouchesOnly (path_of_name new) old new
 
 -- a file is made where there is none of its name, or else the command ends so by a fault
-abbrev pub MakesBy : (HostFault → Ending) → List ℕ → List Event → Result (Unit {0}) Ending → List Event → Type 0
-MakesBy ends file old (Ok it) new = HasMade file old new
-MakesBy ends file old (Err ending) new = (fault : HostFault) × (ending ≡ ends fault) × HasNotMade file fault old new
+abbrev pub MakesBy : Content → (HostFault → Ending) → List ℕ → List Event → Result (Unit {0}) Ending → List Event → Type 0
+MakesBy content ends file old (Ok it) new = HasMade content file old new
+MakesBy content ends file old (Err ending) new = (fault : HostFault) × (ending ≡ ends fault) × HasNotMade file fault old new
 
 -- a file of these bytes is the first of its name, or none is made
 abbrev pub MakesFirst : List ℕ → List Event → Result (Unit {0}) Ending → List Event → Type 0
-MakesFirst = MakesBy ending_of_first
+MakesFirst = MakesBy Image ending_of_first
 
 -- why the file of a name can't be held to be written
-abbrev pub IsUnheldFile : Result (Unit {0}) Ending → Type 0
-IsUnheldFile (Ok it) = ⊥
-IsUnheldFile (Err (Busy Image)) = Unit {0}
-IsUnheldFile (Err (Fault Memory)) = Unit {0}
-IsUnheldFile (Err (NotWritten Image AsItWas)) = Unit {0}
-IsUnheldFile (Err _) = ⊥
+abbrev pub IsUnheldFile : Content → Result (Unit {0}) Ending → Type 0
+IsUnheldFile content (Ok it) = ⊥
+IsUnheldFile content (Err (Busy it)) = it ≡ content
+IsUnheldFile content (Err (Fault Memory)) = Unit {0}
+IsUnheldFile content (Err (NotWritten it AsItWas)) = it ≡ content
+IsUnheldFile content (Err _) = ⊥
 
--- A file of a name is to have these bytes: one that is there is held, and gets them as any image file does. Where there is none, one is
--- made. Else a call failed, and nothing is changed.
-abbrev pub MakesFile : List ℕ → List ℕ → List Event → Result (Unit {0}) Ending → List Event → Type 0
-MakesFile name file old result new =
-    ((path : List ℕ) × (has_lock : Bool) × (ok : Bool) × Writes path file (with_lock_note has_lock ok (hold_calls name path old)) result new)
-    ⊎ (((between : List Event) × IsIdle old between × (failures old < failures between) × MakesBy ending_of_file file between result new)
-    ⊎ (IsUnheldFile result × IsIdle old new × (failures old < failures new)))
+-- A file of a name, which is for this, is to have these bytes: one that is there is held, and gets them as any image file does. Where there
+-- is none, one is made. Else a call failed, and nothing is changed.
+abbrev pub MakesFile : Content → List ℕ → List ℕ → List Event → Result (Unit {0}) Ending → List Event → Type 0
+MakesFile content name file old result new =
+    ((path : List ℕ) × (has_lock : Bool) × (ok : Bool) × Writes content path file (with_lock_note content has_lock ok (hold_calls name path old)) result new)
+    ⊎ (((between : List Event) × IsIdle old between × (failures old < failures between) × MakesBy content (ending_of_file content) file between result new)
+    ⊎ (IsUnheldFile content result × IsIdle old new × (failures old < failures new)))
 
 -- the image of an empty volume of so many blocks
 abbrev pub IsBlankImage : ℕ → Result (Vec ℕ) Ending → Type 0
@@ -99,7 +100,7 @@ IsBlankTapeFile (Err ending) = Unit {0}
 -- whether a file of these bytes is to be the first of its name
 abbrev pub MakesIf : Bool → List ℕ → List ℕ → List Event → Result (Unit {0}) Ending → List Event → Type 0
 MakesIf true name file old result new = MakesFirst file old result new
-MakesIf false name file old result new = MakesFile name file old result new
+MakesIf false name file old result new = MakesFile Image name file old result new
 
 -- a file gets these bytes, and only then the line of a new volume of so many blocks is printed
 abbrev pub MakesVolume : CreateForm → List ℕ → ℕ → List Event → Result (Unit {0}) Ending → List Event → Type 0

@@ -2,8 +2,9 @@
 use Rattle.std.specs.Prelude.{ℕ, Result, Ok, Err, List}
 use Rattle.hosts.specs.Event.{Event}
 use Rattle.hosts.specs.declared.faults.HostFault.{HostFault}
+use Rattle.outcome.specs.declared.contents.Content.{Content}
 use Rattle.volume_commands.specs.Making.{HasMade, HasNotMade}
 
-abbrev pub MakesNewFile : List ℕ → List Event → Result (Unit {0}) HostFault → List Event → Type 0
-MakesNewFile file old (Ok it) new = HasMade file old new
-MakesNewFile file old (Err fault) new = HasNotMade file fault old new
+abbrev pub MakesNewFile : Content → List ℕ → List Event → Result (Unit {0}) HostFault → List Event → Type 0
+MakesNewFile content file old (Ok it) new = HasMade content file old new
+MakesNewFile content file old (Err fault) new = HasNotMade file fault old new

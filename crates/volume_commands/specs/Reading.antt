@@ -17,6 +17,7 @@ use Rattle.program_reports.specs.declared.programs.ProgramLine.TheVariants.{Host
 use Rattle.program_reports.specs.declared.programs.ProgramLine.TheVariants as line
 use Rattle.outcome.specs.Contents.{content_name}
 use Rattle.outcome.specs.Notes.{file_text, name_text, plain_text}
+use Rattle.outcome.specs.declared.contents.Content.{Content}
 use Rattle.outcome.specs.declared.contents.Content.TheVariants.{Image}
 use Rattle.outcome.specs.declared.notes.FileNote.TheVariants.{NoLock}
 use Rattle.outcome.specs.declared.notes.NameNote.TheVariants.{TooLong}
@@ -41,10 +42,10 @@ pub record IsIdle (old new : List Event) : Type 0 where
 abbrev pub hold_calls : List ℕ → List ℕ → List Event → List Event
 hold_calls name path old = drop_seconds_call path true ∷ hold_call path true ∷ resolve_call name true path ∷ old
 
--- a note was printed where the file system has no locks
-abbrev pub with_lock_note : Bool → Bool → List Event → List Event
-with_lock_note true ok old = old
-with_lock_note false ok old = tell_call ok (file_text NoLock (content_name Image)) ∷ old
+-- a note was printed where the file system of a file for this has no locks
+abbrev pub with_lock_note : Content → Bool → Bool → List Event → List Event
+with_lock_note content true ok old = old
+with_lock_note content false ok old = tell_call ok (file_text NoLock (content_name content)) ∷ old
 
 -- why an image file can't be held
 abbrev pub IsUnheld : Ending → Type 0
@@ -56,7 +57,7 @@ IsUnheld _ = ⊥
 -- An image file is held before it is read. One that may not be written is not held, and a call failed; where another program holds it
 -- the command ends.
 abbrev pub HoldsAt : List ℕ → ImagePlace → Bool → List Event → List Event → Type 0
-HoldsAt name place true old new = (has_lock : Bool) × (ok : Bool) × (new ≡ with_lock_note has_lock ok (hold_calls name place.path.bytes.items old))
+HoldsAt name place true old new = (has_lock : Bool) × (ok : Bool) × (new ≡ with_lock_note Image has_lock ok (hold_calls name place.path.bytes.items old))
 HoldsAt name place false old new = IsIdle old new × (failures old < failures new)
 
 abbrev pub Holds : List ℕ → List Event → Result ImagePlace Ending → List Event → Type 0

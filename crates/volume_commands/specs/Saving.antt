@@ -12,7 +12,8 @@ use Rattle.disk_layouts.specs.Disks.{image_size}
 use Rattle.disk_layouts.specs.Files.{Disk, HasLaid}
 use Rattle.outcome.specs.Contents.{content_name}
 use Rattle.outcome.specs.Notes.{file_text}
-use Rattle.outcome.specs.declared.contents.Content.TheVariants as content
+use Rattle.outcome.specs.declared.contents.Content.{Content}
+use Rattle.outcome.specs.declared.contents.Content.TheVariants as kind
 use Rattle.outcome.specs.declared.notes.FileNote.TheVariants.{InPlace, NoSync}
 use Rattle.outcome.specs.declared.endings.Ending.{Ending}
 use Rattle.outcome.specs.declared.endings.Ending.TheVariants.{NotWritten, FullOutput, NoReader}
@@ -20,13 +21,13 @@ use Rattle.volume_commands.specs.Work.{Then}
 use Rattle.volume_commands.specs.declared.images.Image.{Image}
 
 -- what standard error got besides: nothing, or the note that the file is written in its place
-abbrev pub IsPlaceTold : List (Bool × List ℕ) → List (Bool × List ℕ) → Type 0
-IsPlaceTold old new = (new ≡ old) ⊎ ((ok : Bool) × (new ≡ (ok, file_text InPlace (content_name content.Image)) ∷ old))
+abbrev pub IsPlaceTold : Content → List (Bool × List ℕ) → List (Bool × List ℕ) → Type 0
+IsPlaceTold content old new = (new ≡ old) ⊎ ((ok : Bool) × (new ≡ (ok, file_text InPlace (content_name content)) ∷ old))
 
 -- what standard error got besides: the note that it is not known whether a crash keeps the file, where this is so
-abbrev pub IsSyncTold : Durability → List (Bool × List ℕ) → List (Bool × List ℕ) → Type 0
-IsSyncTold Certain old new = new ≡ old
-IsSyncTold Unknown old new = (ok : Bool) × (new ≡ (ok, file_text NoSync (content_name content.Image)) ∷ old)
+abbrev pub IsSyncTold : Content → Durability → List (Bool × List ℕ) → List (Bool × List ℕ) → Type 0
+IsSyncTold content Certain old new = new ≡ old
+IsSyncTold content Unknown old new = (ok : Bool) × (new ≡ (ok, file_text NoSync (content_name content)) ∷ old)
 
 -- what the file is that has this image: the image alone, or the disk or the DECtape with it
 abbrev pub IsFileWith : Option Disk → List ℕ → List ℕ → Type 0
@@ -42,36 +43,36 @@ pub record TouchesOnly (path : List ℕ) (old new : List Event) : Type 0 where
 -- The file at a path has these bytes now, and after a crash too, unless a note says that this is not known. At each moment meanwhile a crash
 -- left what it might have left before, or these bytes, whole. Where the file could only be written in its place, nothing is promised of a
 -- crash meanwhile.
-pub record HasSaved (path file : List ℕ) (old new : List Event) : Type 0 where
+pub record HasSaved (content : Content) (path file : List ℕ) (old new : List Event) : Type 0 where
   pub durability : Durability
   pub kept : KeepsFile (may_replace new) durability file (about path old) (about path new)
   pub moments : AnyMomentOf (may_replace new) file (about path old) (about path new)
   pub noted : List (Bool × List ℕ)
-  pub place : IsPlaceTold (errors old) noted
-  pub sync : IsSyncTold durability noted (errors new)
+  pub place : IsPlaceTold content (errors old) noted
+  pub sync : IsSyncTold content durability noted (errors new)
   pub only : TouchesOnly path old new
 
 -- the file at a path is as it was, and so it was at each moment or it had these bytes, since a call failed
-pub record IsUnsaved (path file : List ℕ) (old new : List Event) : Type 0 where
+pub record IsUnsaved (content : Content) (path file : List ℕ) (old new : List Event) : Type 0 where
   pub same : StaysAsItWas (about path old) (about path new)
   pub moments : AnyMomentOf (may_replace new) file (about path old) (about path new)
   pub cause : failures old < failures new
-  pub place : IsPlaceTold (errors old) (errors new)
+  pub place : IsPlaceTold content (errors old) (errors new)
   pub only : TouchesOnly path old new
 
 -- the file at a path, which could only be written in its place, may have a part of what it was to have, since a call failed
-pub record IsInPart (path : List ℕ) (old new : List Event) : Type 0 where
+pub record IsInPart (content : Content) (path : List ℕ) (old new : List Event) : Type 0 where
   pub in_place : may_replace new ≡ false
   pub cause : failures old < failures new
-  pub place : IsPlaceTold (errors old) (errors new)
+  pub place : IsPlaceTold content (errors old) (errors new)
   pub only : TouchesOnly path old new
 
--- what becomes of the file at a path that is to have these bytes
-abbrev pub Writes : List ℕ → List ℕ → List Event → Result (Unit {0}) Ending → List Event → Type 0
-Writes path file old (Ok it) new = HasSaved path file old new
-Writes path file old (Err (NotWritten content.Image unwritten.AsItWas)) new = IsUnsaved path file old new
-Writes path file old (Err (NotWritten content.Image unwritten.InPart)) new = IsInPart path old new
-Writes path file old (Err _) new = ⊥
+-- what becomes of the file at a path, for this, that is to have these bytes
+abbrev pub Writes : Content → List ℕ → List ℕ → List Event → Result (Unit {0}) Ending → List Event → Type 0
+Writes content path file old (Ok it) new = HasSaved content path file old new
+Writes content path file old (Err (NotWritten it unwritten.AsItWas)) new = (it ≡ content) × IsUnsaved content path file old new
+Writes content path file old (Err (NotWritten it unwritten.InPart)) new = (it ≡ content) × IsInPart content path old new
+Writes content path file old (Err _) new = ⊥
 
 -- an image can't be saved: its file may not be written, or it has another size than the volume
 abbrev pub CannotHold : Image → List ℕ → Type 0
@@ -83,13 +84,13 @@ IsDone (Err ending) = ⊥
 
 abbrev pub IsRefused : Result (Unit {0}) Ending → Type 0
 IsRefused (Ok it) = ⊥
-IsRefused (Err ending) = ending ≡ NotWritten content.Image unwritten.AsItWas
+IsRefused (Err ending) = ending ≡ NotWritten kind.Image unwritten.AsItWas
 
 -- whether the image has these bytes, and what becomes of its file
 abbrev pub SavesIf : Bool → Image → List ℕ → List Event → Result (Unit {0}) Ending → List Event → Type 0
 SavesIf true image bytes old result new = IsDone result × (new ≡ old)
 SavesIf false image bytes old result new = (IsRefused result × CannotHold image bytes × (new ≡ old))
-    ⊎ ((image.place.is_held ≡ true) × (file : List ℕ) × IsFileWith image.disk bytes file × Writes image.place.path.bytes.items file old result new)
+    ⊎ ((image.place.is_held ≡ true) × (file : List ℕ) × IsFileWith image.disk bytes file × Writes kind.Image image.place.path.bytes.items file old result new)
 
 -- What becomes of an image file that is to have these bytes of an image. Where it has them, nothing is asked of the host.
 abbrev pub Saves : Image → List ℕ → List Event → Result (Unit {0}) Ending → List Event → Type 0

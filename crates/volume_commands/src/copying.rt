@@ -9,7 +9,7 @@ use crate::asking::copy_of_asked;
 use crate::images::Image;
 use crate::notes::{refuse_image, tell_note};
 use crate::printing::store;
-use crate::putting::line_of;
+use crate::putting::stored_line;
 use crate::reading::look_at;
 use archive_files::{ArchiveFault, Asked, CopyFault, NewImage, copy};
 use disk_layouts::Layout;
@@ -55,7 +55,7 @@ fn copy_within<H: Host>(
     ensures { CopiesInto form.now (target_of file.now) image image.bytes.items (H.history host.old) result (H.history host.new) }
 {
     let new = image_with(host, alloc, form, file, &image.bytes, &image)?;
-    let line = line_of(alloc, &new)?;
+    let line = stored_line(alloc, &new)?;
     store(host, alloc, image, &new.bytes, &line)
 }
 
@@ -71,7 +71,7 @@ fn copy_between<H: Host>(
 {
     let from = look_at(host, alloc, &form.image)?;
     let new = image_with(host, alloc, form, file, &from, &image)?;
-    let line = line_of(alloc, &new)?;
+    let line = stored_line(alloc, &new)?;
     store(host, alloc, image, &new.bytes, &line)
 }
 

@@ -6,7 +6,7 @@ use crate::making::{make_file, make_first};
 use crate::printing::print;
 use disk_layouts::blank_tape;
 use hosts::Host;
-use outcome::Ending;
+use outcome::{Content, Ending};
 use program_reports::ProgramLine;
 use program_tasks::CreateForm;
 use std::alloc::Global;
@@ -82,5 +82,5 @@ fn make_wanted<H: Host>(
     if form.is_new {
         return make_first(host, alloc, form.file.as_str(), file);
     }
-    make_file(host, alloc, form.file.as_str(), file)
+    make_file(host, alloc, Content::Image, form.file.as_str(), file)
 }

@@ -57,7 +57,7 @@ fn print_outcome<H: Host>(host: &mut H, outcome: &Outcome) -> Result<(), Ending>
 }
 
 /// Prints a line on standard error, where it is a text.
-pub(crate) fn tell_line<H: Host>(host: &mut H, line: &[u8])
+pub fn tell_line<H: Host>(host: &mut H, line: &[u8])
     ensures { TellsLine line.now (H.history host.old) (H.history host.new) }
 {
     if let Ok(text) = str::from_utf8(line) {

@@ -31,25 +31,25 @@ pub fn ending_of_print(fault: PrintFault) -> Ending
     }
 }
 
-/// How a command ends if its image is not written, and what its file holds (this project's profile).
-pub fn ending_of_write(left: Unwritten) -> Ending
-    ensures { result ≡ spec.ending_of_write left }
+/// How a command ends if its file for this is not written, and what that holds (this project's profile).
+pub fn ending_of_write(content: Content, left: Unwritten) -> Ending
+    ensures { result ≡ spec.ending_of_write content left }
 {
     match left {
-        Unwritten::AsItWas => Ending::NotWritten(Content::Image, host_images::Unwritten::AsItWas),
-        Unwritten::InPart => Ending::NotWritten(Content::Image, host_images::Unwritten::InPart),
+        Unwritten::AsItWas => Ending::NotWritten(content, host_images::Unwritten::AsItWas),
+        Unwritten::InPart => Ending::NotWritten(content, host_images::Unwritten::InPart),
     }
 }
 
-/// How a command ends if its file for an image can't be held or made, and is as it was (this project's profile).
-pub fn ending_of_file(fault: HostFault) -> Ending
-    ensures { result ≡ ending_of_file fault }
+/// How a command ends if its file for this can't be held or made, and is as it was (this project's profile).
+pub fn ending_of_file(content: Content, fault: HostFault) -> Ending
+    ensures { result ≡ ending_of_file content fault }
 {
     match fault {
-        HostFault::Busy => Ending::Busy(Content::Image),
+        HostFault::Busy => Ending::Busy(content),
         HostFault::Memory => Ending::Fault(SessionFault::Memory),
         HostFault::Absent | HostFault::Unwritable | HostFault::Failed => {
-            Ending::NotWritten(Content::Image, host_images::Unwritten::AsItWas)
+            Ending::NotWritten(content, host_images::Unwritten::AsItWas)
         }
     }
 }

@@ -10,7 +10,7 @@ use crate::reading::{ImagePlace, hold, look};
 use crate::saving::write_file;
 use disk_layouts::{DiskFile, Layout};
 use hosts::{Host, Unwritten};
-use outcome::Ending;
+use outcome::{Content, Ending};
 use program_tasks::ImageForm;
 use std::alloc::Global;
 
@@ -52,17 +52,17 @@ impl Image {
             return Ok(());
         }
         if !place.is_held {
-            return Err(ending_of_write(Unwritten::AsItWas));
+            return Err(ending_of_write(Content::Image, Unwritten::AsItWas));
         }
         let path = place.path.as_str();
         match disk {
-            None => write_file(host, alloc, path, bytes),
+            None => write_file(host, alloc, Content::Image, path, bytes),
             Some(disk) => {
                 let mut disk = disk;
                 if !disk.lay(bytes) {
-                    return Err(ending_of_write(Unwritten::AsItWas));
+                    return Err(ending_of_write(Content::Image, Unwritten::AsItWas));
                 }
-                write_file(host, alloc, path, disk.bytes())
+                write_file(host, alloc, Content::Image, path, disk.bytes())
             }
         }
     }

@@ -10,26 +10,27 @@ use hosts::{Durability, Host, HostFault, hold_file, make};
 use outcome::{Content, Ending, FileNote};
 use std::alloc::Global;
 
-/// Makes a file of an image that holds these bytes, in place of any of its name.
+/// Makes a file for this that holds these bytes, in place of any of its name.
 pub fn make_file<H: Host>(
     host: &mut H,
     alloc: Global,
+    content: Content,
     name: &str,
     bytes: &[u8],
 ) -> Result<(), Ending>
-    ensures { MakesFile name.now bytes.now (H.history host.old) result (H.history host.new) }
+    ensures { MakesFile content name.now bytes.now (H.history host.old) result (H.history host.new) }
 {
     match hold_file(host, alloc, name) {
         Ok(held) => {
-            tell_of_lock(host, held.has_lock);
-            write_file(host, alloc, held.path.as_str(), bytes)
+            tell_of_lock(host, content, held.has_lock);
+            write_file(host, alloc, content, held.path.as_str(), bytes)
         }
         Err(fault) => match fault {
-            HostFault::Absent => match make_new(host, alloc, name, bytes) {
+            HostFault::Absent => match make_new(host, alloc, content, name, bytes) {
                 Ok(()) => Ok(()),
-                Err(fault) => Err(ending_of_file(fault)),
+                Err(fault) => Err(ending_of_file(content, fault)),
             },
-            _ => Err(ending_of_file(fault)),
+            _ => Err(ending_of_file(content, fault)),
         },
     }
 }
@@ -43,21 +44,27 @@ pub fn make_first<H: Host>(
 ) -> Result<(), Ending>
     ensures { MakesFirst bytes.now (H.history host.old) result (H.history host.new) }
 {
-    match make_new(host, alloc, name, bytes) {
+    match make_new(host, alloc, Content::Image, name, bytes) {
         Ok(()) => Ok(()),
         Err(fault) => Err(ending_of_first(fault)),
     }
 }
 
-/// Makes a file where there is none of its name.
-fn make_new<H: Host>(host: &mut H, alloc: Global, name: &str, bytes: &[u8]) -> Result<(), HostFault>
-    ensures { MakesNewFile bytes.now (H.history host.old) result (H.history host.new) }
+/// Makes a file for this where there is none of its name.
+fn make_new<H: Host>(
+    host: &mut H,
+    alloc: Global,
+    content: Content,
+    name: &str,
+    bytes: &[u8],
+) -> Result<(), HostFault>
+    ensures { MakesNewFile content bytes.now (H.history host.old) result (H.history host.new) }
 {
     match make(host, alloc, name, bytes) {
         Ok(durability) => match durability {
             Durability::Certain => Ok(()),
             Durability::Unknown => {
-                tell(host, FileNote::NoSync.text(Content::Image));
+                tell(host, FileNote::NoSync.text(content));
                 Ok(())
             }
         },

@@ -40,7 +40,7 @@ fn put_into<H: Host>(
 {
     keep_words(host, alloc, form, &image.bytes, bytes)?;
     let new = new_image(host, alloc, form, &image.bytes, bytes)?;
-    let line = line_of(alloc, &new)?;
+    let line = stored_line(alloc, &new)?;
     store(host, alloc, image, &new.bytes, &line)
 }
 
@@ -161,7 +161,7 @@ fn tell_bad_text<H: Host>(host: &mut H, alloc: Global, text: &[u8]) -> Result<()
 }
 
 /// The line of a file that was put.
-pub(crate) fn line_of(alloc: Global, new: &NewImage) -> Result<Vec<u8>, Ending>
+pub fn stored_line(alloc: Global, new: &NewImage) -> Result<Vec<u8>, Ending>
     ensures { AreLines (stored_line new.now) result }
 {
     let stored = Reply::Line(LineReply::Stored {

@@ -31,7 +31,7 @@ pub(crate) fn hold<H: Host>(host: &mut H, alloc: Global, name: &str) -> Result<I
 {
     match hold_file(host, alloc, name) {
         Ok(held) => {
-            tell_of_lock(host, held.has_lock);
+            tell_of_lock(host, Content::Image, held.has_lock);
             Ok(ImagePlace {
                 path: held.path,
                 is_held: true,
@@ -47,12 +47,12 @@ pub(crate) fn hold<H: Host>(host: &mut H, alloc: Global, name: &str) -> Result<I
     }
 }
 
-/// Prints a note where the file system of a held file has no locks.
-pub(crate) fn tell_of_lock<H: Host>(host: &mut H, has_lock: bool)
-    ensures { (ok : _) × (H.history host.new ≡ with_lock_note has_lock ok (H.history host.old)) }
+/// Prints a note where the file system of a held file for this has no locks.
+pub(crate) fn tell_of_lock<H: Host>(host: &mut H, content: Content, has_lock: bool)
+    ensures { (ok : _) × (H.history host.new ≡ with_lock_note content has_lock ok (H.history host.old)) }
 {
     if !has_lock {
-        tell(host, FileNote::NoLock.text(Content::Image));
+        tell(host, FileNote::NoLock.text(content));
     }
 }
 

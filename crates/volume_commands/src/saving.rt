@@ -16,25 +16,26 @@ use word12::{BLOCK, FIRST_FILE_BLOCK};
 /// How many bytes of an image stand before the blocks of files.
 const DIRECTORY: usize = FIRST_FILE_BLOCK * BLOCK * 2;
 
-/// Has the held file of a path hold these bytes: whole or not at all, or in its place, which a note says before. A note after that says
+/// Has the held file of a path, which is for this, hold these bytes: whole or not at all, or in its place, which a note says before. A note after that says
 /// where it isn't known whether a crash keeps them. No memory is taken.
 pub(crate) fn write_file<H: Host>(
     host: &mut H,
     alloc: Global,
+    content: Content,
     path: &str,
     bytes: &[u8],
 ) -> Result<(), Ending>
-    ensures { Writes path.now bytes.now (H.history host.old) result (H.history host.new) }
+    ensures { Writes content path.now bytes.now (H.history host.old) result (H.history host.new) }
 {
-    match save_noted(host, alloc, path, bytes) {
+    match save_noted(host, alloc, content, path, bytes) {
         Ok(durability) => match durability {
             Durability::Certain => Ok(()),
             Durability::Unknown => {
-                tell(host, FileNote::NoSync.text(Content::Image));
+                tell(host, FileNote::NoSync.text(content));
                 Ok(())
             }
         },
-        Err(left) => Err(ending_of_write(left)),
+        Err(left) => Err(ending_of_write(content, left)),
     }
 }
 
@@ -42,33 +43,34 @@ pub(crate) fn write_file<H: Host>(
 fn save_noted<H: Host>(
     host: &mut H,
     alloc: Global,
+    content: Content,
     path: &str,
     bytes: &[u8],
 ) -> Result<Durability, Unwritten>
     ensures saves { SavesFile result (may_replace (H.history host.new)) bytes.now (about path.now (H.history host.old)) (about path.now (H.history host.new)) }
     ensures any_moment { AnyMomentOf (may_replace (H.history host.new)) bytes.now (about path.now (H.history host.old)) (about path.now (H.history host.new)) }
     ensures cause { OnErr result (failures (H.history host.old) < failures (H.history host.new)) }
-    ensures errors { IsPlaceTold (errors (H.history host.old)) (errors (H.history host.new)) }
+    ensures errors { IsPlaceTold content (errors (H.history host.old)) (errors (H.history host.new)) }
     ensures others { (other : List ℕ) → bytes_eq path.now other ≡ false
         → about other (H.history host.new) ≡ about other (H.history host.old) }
     ensures output { output (H.history host.new) ≡ output (H.history host.old) }
     ensures read { read (H.history host.new) ≡ read (H.history host.old) }
 {
-    tell_of_place(host, path);
+    tell_of_place(host, content, path);
     save_file(host, alloc, path, DIRECTORY, bytes)
 }
 
-/// Prints a note where a file is written in its place.
-fn tell_of_place<H: Host>(host: &mut H, path: &str)
+/// Prints a note where a file for this is written in its place.
+fn tell_of_place<H: Host>(host: &mut H, content: Content, path: &str)
     ensures failures { failures (H.history host.old) ≤ failures (H.history host.new) }
     ensures files { (path : List ℕ) → about path (H.history host.new) ≡ about path (H.history host.old) }
-    ensures errors { IsPlaceTold (errors (H.history host.old)) (errors (H.history host.new)) }
+    ensures errors { IsPlaceTold content (errors (H.history host.old)) (errors (H.history host.new)) }
     ensures output { output (H.history host.new) ≡ output (H.history host.old) }
     ensures read { read (H.history host.new) ≡ read (H.history host.old) }
 {
     match host.is_alone(path) {
         Ok(true) => {}
-        Ok(false) => tell(host, FileNote::InPlace.text(Content::Image)),
-        Err(_) => tell(host, FileNote::InPlace.text(Content::Image)),
+        Ok(false) => tell(host, FileNote::InPlace.text(content)),
+        Err(_) => tell(host, FileNote::InPlace.text(content)),
     }
 }

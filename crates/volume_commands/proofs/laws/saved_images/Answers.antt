@@ -4,7 +4,7 @@ use Rattle.hosts.specs.Saving.{KeepsFile}
 use Rattle.volume_commands.proofs.laws.saved_images.Goals as goal
 
 pub returns : goal.returns
-returns c path file old new saved certain may start found leaves =
+returns c content path file old new saved certain may start found leaves =
     let kept = subst (λ b. KeepsFile b saved.durability file (about path old) (about path new)) may saved.kept in
     c.saved_files.ensures file (replay start (about path new)) found
     (subst (λ d. KeepsFile true d file (about path old) (about path new)) certain kept start) leaves

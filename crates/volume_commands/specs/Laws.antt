@@ -1,4 +1,4 @@
--- What the commands on tapes leave as it was.
+-- What steps of commands leave as it was.
 use Rattle.std.specs.Prelude.{◌≡◌, ℕ, Result, List}
 use Rattle.hosts.specs.Event.{Event}
 use Rattle.hosts.specs.Place.{about}

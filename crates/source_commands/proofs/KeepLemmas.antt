@@ -1,0 +1,320 @@
+-- What the command leaves as it was. What is known of the steps of volume_commands is handed in.
+use Rattle.std.proofs.Common.{◌≡◌, ◌∙◌, ℕ, Bool, true, false, ◌++◌, Option, None, Some, Result, Ok, Err, List, [], ◌∷◌, ap, refl, sym, inl, inr, length, map}
+use Rattle.std.specs.Borrow.{Bor}
+use Rattle.std.specs.Global.{Vec, Global}
+use Rattle.std.specs.Prelude.{String, is_some}
+use Rattle.std.specs.Str.{bytes_eq}
+use Rattle.hosts.specs.Event.{Event}
+use Rattle.hosts.specs.Place.{about}
+use Rattle.hosts.specs.declared.faults.HostFault.{HostFault}
+use Rattle.hosts.specs.declared.faults.HostFault.TheVariants as host
+use Rattle.archive_files.specs.Asking.{Target, target_of}
+use Rattle.archive_files.specs.declared.faults.ArchiveFault.{ArchiveFault}
+use Rattle.archive_files.specs.declared.faults.ArchiveFault.TheVariants as archive
+use Rattle.archive_files.specs.declared.putting.NewImage.{NewImage}
+use Rattle.script8.specs.declared.faults.SessionFault.TheVariants.{Memory}
+use Rattle.outcome.specs.Endings.{ending_of_archive}
+use Rattle.outcome.specs.declared.contents.Content.{Content}
+use Rattle.outcome.specs.declared.contents.Content.TheVariants.{Image as ForImage, Tape, Listing}
+use Rattle.outcome.specs.declared.endings.Ending.{Ending}
+use Rattle.outcome.specs.declared.endings.Ending.TheVariants.{Line, Fault, Failure, Busy, NotWritten, FullOutput, NoReader, Misuse}
+use Rattle.outcome.specs.declared.notes.NameNote.{NameNote}
+use Rattle.host_sources.specs.declared.faults.SourceFault as pal3_fault
+use Rattle.host_sources.specs.declared.faults.SourceFault.TheVariants as pal3_is
+use Rattle.pal8_tape.specs.declared.faults.SourceFault as pal8_fault
+use Rattle.pal8_tape.specs.declared.faults.SourceFault.TheVariants as pal8_is
+use Rattle.program_tasks.specs.declared.forms.ImageForm.{ImageForm}
+use Rattle.program_tasks.specs.declared.tasks.AssembleForm.{AssembleForm}
+use Rattle.volume_commands.specs.Answers.{AreLines, Refuses}
+use Rattle.volume_commands.specs.Ending.{TellsLine}
+use Rattle.volume_commands.specs.Laws.{KeepsFiles}
+use Rattle.volume_commands.specs.Making.{IsUnheldFile, MakesBy, MakesFile, ending_of_file}
+use Rattle.volume_commands.specs.Putting.{TakesInput, stored_line}
+use Rattle.volume_commands.specs.Reading.{Looks, LooksAt, Opens}
+use Rattle.volume_commands.specs.Saving.{Prints, SavesIf, Stores, Writes}
+use Rattle.volume_commands.specs.Work.{Then, Purely}
+use Rattle.volume_commands.specs.declared.images.Image.{Image}
+use Rattle.source_commands.specs.Assembling.{Assembles, AssemblesAll, AssemblesFrom, AssemblesTo, HasNone, IsTapeOf, ListsTape, Makes, MakesFirst, MakesIf, MakesPal3, MakesPal8, PrintsFaults, RefusesPal8, RefusesSources}
+use Rattle.source_commands.specs.Clashes.{IsRefused, RefusesClash, clash_of}
+use Rattle.source_commands.specs.Laws.{is_refusal}
+use Rattle.source_commands.specs.Outputs.{PutsTape, WritesIf, WritesListing, WritesTape}
+use Rattle.source_commands.specs.Sources.{AreLent, AreTexts, GetsText, IsAsked, IsText, NamesIf, ReadsBytes, ReadsEach, ReadsFile, ReadsIf, ReadsMember, ReadsSource, RefusesSource, is_standard, is_unread, source_text}
+use Rattle.source_commands.specs.declared.assembling.Assembled.{Assembled}
+
+same : {old new : List Event} (path : List ℕ) → new ≡ old → about path new ≡ about path old
+same path is = ap (λ (events : List Event). about path events) is
+
+then-keeps : {A B : Type 0} (first : List Event → Result A Ending → List Event → Type 0) (next : A → List Event → Result B Ending → List Event → Type 0)
+    → KeepsFiles first → ((given : A) → KeepsFiles (next given)) → KeepsFiles (Then first next)
+then-keeps first next f n old (Ok r) new (inl ends) path = absurd ends
+then-keeps first next f n old (Err e) new (inl ends) path = f old (Err e) new ends path
+then-keeps first next f n old result new (inr it) path = n it.given it.between result new it.after path ∙ f old (Ok it.given) it.between it.done path
+
+purely-keeps : {A : Type 0} (gives : Result A Ending → Type 0) → KeepsFiles (Purely gives)
+purely-keeps gives old result new p path = same path p.1
+
+-- ## Words that clash
+
+clash-refused : (clash : Option (NameNote × List ℕ)) (old : List Event) (ending : Ending) (new : List Event) → IsRefused clash old ending new → (path : List ℕ) → about path new ≡ about path old
+clash-refused None old ending new p path = absurd p
+clash-refused (Some clash) old ending new (inl (is, ok, p)) path = same path p
+clash-refused (Some clash) old ending new (inr p) path = same path p.1
+
+clash-keeps : (form : AssembleForm) → KeepsFiles (RefusesClash form)
+clash-keeps form old (Ok it) new p path = same path p.1
+clash-keeps form old (Err ending) new p path = clash-refused (clash_of form) old ending new p path
+
+-- ## What sources come to
+
+line-keeps : (line : List ℕ) (old new : List Event) → TellsLine line old new → (path : List ℕ) → about path new ≡ about path old
+line-keeps line old new (inl (is, ok, p)) path = same path p
+line-keeps line old new (inr p) path = same path p.1
+
+faults-keep : (text : List ℕ) (old : List Event) (ending : Ending) (new : List Event) → PrintsFaults text old ending new → (path : List ℕ) → about path new ≡ about path old
+faults-keep text old ending new (inl p) path = line-keeps text old new p.1 path
+faults-keep text old ending new (inr p) path = same path p.1
+
+sources-refused : (sources names : List (Bor (List ℕ))) (fault : pal3_fault.SourceFault) (old : List Event) (ending : Ending) (new : List Event) → RefusesSources sources names fault old ending new → (path : List ℕ) → about path new ≡ about path old
+sources-refused sources names (pal3_is.At fault) old ending new p path = faults-keep _ old ending new p path
+sources-refused sources names pal3_is.Memory old ending new p path = same path p.1
+
+pal8-refused : (source name : List ℕ) (fault : pal8_fault.SourceFault) (old : List Event) (ending : Ending) (new : List Event) → RefusesPal8 source name fault old ending new → (path : List ℕ) → about path new ≡ about path old
+pal8-refused source name (pal8_is.At fault) old ending new p path = faults-keep _ old ending new p path
+pal8-refused source name pal8_is.Memory old ending new p path = same path p.1
+
+pal3-keeps : (is_listed is_cross : Bool) (sources names : List (Bor (List ℕ))) → KeepsFiles (MakesPal3 is_listed is_cross sources names)
+pal3-keeps is_listed is_cross sources names old (Ok made) new (assembled, listed, p) path = same path p
+pal3-keeps is_listed is_cross sources names old (Err ending) new (fault, told, p) path = sources-refused sources names fault old ending new p path
+
+pal8-keeps : (source name : List ℕ) → KeepsFiles (MakesPal8 source name)
+pal8-keeps source name old (Ok made) new (assembled, listed, p) path = same path p
+pal8-keeps source name old (Err ending) new (fault, told, p) path = pal8-refused source name fault old ending new p path
+
+none-keeps : KeepsFiles HasNone
+none-keeps old (Ok made) new p path = absurd p
+none-keeps old (Err ending) new p path = same path p.1
+
+first-keeps : (sources names : List (Bor (List ℕ))) → KeepsFiles (MakesFirst sources names)
+first-keeps [] names old result new p path = none-keeps old result new p path
+first-keeps (source ∷ sources) [] old result new p path = none-keeps old result new p path
+first-keeps (source ∷ sources) (name ∷ names) old result new p path = pal8-keeps source.now name.now old result new p path
+
+makes-if : (is : Bool) (form : AssembleForm) (sources names : List (Bor (List ℕ))) → KeepsFiles (MakesIf is form sources names)
+makes-if true form sources names old result new p path = first-keeps sources names old result new p path
+makes-if false form sources names old result new p path = pal3-keeps (is_some form.list) form.is_cross sources names old result new p path
+
+makes-keeps : (form : AssembleForm) (texts : List (List ℕ)) → KeepsFiles (Makes form texts)
+makes-keeps form texts = then-keeps (Purely (AreLent texts)) (λ sources. Then (Purely (AreLent (map (λ name. name.bytes.items) form.sources.items))) (λ names. MakesIf form.is_pal8 form sources.items names.items))
+    (purely-keeps (AreLent texts)) (λ sources. then-keeps (Purely (AreLent (map (λ name. name.bytes.items) form.sources.items))) (λ names. MakesIf form.is_pal8 form sources.items names.items)
+    (purely-keeps (AreLent (map (λ name. name.bytes.items) form.sources.items))) (λ names. makes-if form.is_pal8 form sources.items names.items))
+
+-- ## Endings that no step has which writes
+
+never : false ≡ true → ⊥
+never is = cc
+
+-- a step ends in no refusal
+abbrev Never : {A : Type 0} → (List Event → Result A Ending → List Event → Type 0) → Type 0
+Never step = (old : List Event) (ending : Ending) (new : List Event) → step old (Err ending) new → is_refusal ending ≡ true → ⊥
+
+prints-never : (bytes : List ℕ) → Never (Prints bytes)
+prints-never bytes old (Line it) new p is = p
+prints-never bytes old (Fault it) new p is = p
+prints-never bytes old Failure new p is = p
+prints-never bytes old (Busy it) new p is = p
+prints-never bytes old (NotWritten it left) new p is = p
+prints-never bytes old FullOutput new p is = never is
+prints-never bytes old NoReader new p is = never is
+prints-never bytes old Misuse new p is = p
+
+writes-never : (content : Content) (path file : List ℕ) → Never (Writes content path file)
+writes-never content path file old (Line it) new p is = p
+writes-never content path file old (Fault it) new p is = p
+writes-never content path file old Failure new p is = p
+writes-never content path file old (Busy it) new p is = p
+writes-never content path file old (NotWritten it left) new p is = never is
+writes-never content path file old FullOutput new p is = p
+writes-never content path file old NoReader new p is = p
+writes-never content path file old Misuse new p is = p
+
+unheld-never : (content : Content) (ending : Ending) → IsUnheldFile content (Err ending) → is_refusal ending ≡ true → ⊥
+unheld-never content (Line it) p is = p
+unheld-never content (Fault it) p is = never is
+unheld-never content Failure p is = p
+unheld-never content (Busy it) p is = never is
+unheld-never content (NotWritten it left) p is = never is
+unheld-never content FullOutput p is = p
+unheld-never content NoReader p is = p
+unheld-never content Misuse p is = p
+
+file-ending : (content : Content) (fault : HostFault) → is_refusal (ending_of_file content fault) ≡ false
+file-ending content host.Busy = refl
+file-ending content host.Memory = refl
+file-ending content host.Absent = refl
+file-ending content host.Unwritable = refl
+file-ending content host.Failed = refl
+
+archive-ending : (fault : ArchiveFault) → is_refusal (ending_of_archive fault) ≡ false
+archive-ending (archive.Image fault) = refl
+archive-ending (archive.Directory fault) = refl
+archive-ending (archive.Refused fault) = refl
+
+other-ending : (ending other : Ending) → ending ≡ other → is_refusal other ≡ false → is_refusal ending ≡ true → ⊥
+other-ending ending other is none some = never (sym none ∙ ap is_refusal (sym is) ∙ some)
+
+by-never : (content : Content) (file : List ℕ) → Never (MakesBy content (ending_of_file content) file)
+by-never content file old ending new (fault, ends, unmade) is = other-ending ending (ending_of_file content fault) ends (file-ending content fault) is
+
+file-never : (content : Content) (name file : List ℕ) → Never (MakesFile content name file)
+file-never content name file old ending new (inl (path, has, ok, p)) is = writes-never content path file _ ending new p is
+file-never content name file old ending new (inr (inl (between, idle, failed, p))) is = by-never content file between ending new p is
+file-never content name file old ending new (inr (inr (unheld, idle, failed))) is = unheld-never content ending unheld is
+
+writes-if : (is : Bool) (content : Content) (name bytes : List ℕ) → Never (WritesIf is content name bytes)
+writes-if true content name bytes old ending new p is = prints-never bytes old ending new p is
+writes-if false content name bytes old ending new p is = file-never content name bytes old ending new p is
+
+listing-never : (list : Option (String Global)) (listing : Option (Vec ℕ)) → Never (WritesListing list listing)
+listing-never None listing old ending new p is = p.0
+listing-never (Some name) None old ending new p is = p.0
+listing-never (Some name) (Some listing) old ending new p is = writes-if (is_standard name.bytes.items) Listing name.bytes.items listing.items old ending new p is
+
+tape-never : (output : Option (String Global)) (tape : List ℕ) → Never (WritesTape output tape)
+tape-never None tape old ending new p is = prints-never tape old ending new p is
+tape-never (Some name) tape old ending new p is = writes-if (is_standard name.bytes.items) Tape name.bytes.items tape old ending new p is
+
+listed-never : (form : AssembleForm) (made : Assembled) → Never (Then (WritesListing form.list made.listing) (λ it. Purely (IsTapeOf made)))
+listed-never form made old ending new (inl p) is = listing-never form.list made.listing old ending new p is
+listed-never form made old ending new (inr it) is = it.after.0
+
+saves-never : (is_same : Bool) (image : Image) (bytes : List ℕ) → Never (SavesIf is_same image bytes)
+saves-never true image bytes old ending new (done, stays) is = done
+saves-never false image bytes old ending new (inl (refused, cannot, stays)) is = never (rw refused at is)
+saves-never false image bytes old ending new (inr (held, file, laid, p)) is = writes-never ForImage image.place.path.bytes.items file old ending new p is
+
+stores-never : (image : Image) (bytes lines : List ℕ) → Never (Stores image bytes lines)
+stores-never image bytes lines old ending new (inl p) is = saves-never (bytes_eq image.bytes.items bytes) image bytes old ending new p is
+stores-never image bytes lines old ending new (inr it) is = prints-never lines it.between ending new it.after is
+
+line-never : (made : NewImage) (image : Image) → Never (Then (Purely (AreLines (stored_line made))) (λ line. Stores image made.bytes.items line.items))
+line-never made image old ending new (inl p) is = other-ending ending (Fault Memory) p.0 refl is
+line-never made image old ending new (inr it) is = stores-never image made.bytes.items it.given.items it.between ending new it.after is
+
+puts-never : (name tape : List ℕ) (image : Image) → Never (PutsTape name tape image)
+puts-never name tape image old ending new (inl (fault, puts, ends, tells)) is = other-ending ending (ending_of_archive fault) ends (archive-ending fault) is
+puts-never name tape image old ending new (inr it) is = line-never it.given image it.between ending new it.after is
+
+-- ## What is written where nothing is named
+
+given : {A : Type 0} {it : A} → Some it ≡ None → ⊥
+given is = cc
+
+listing-keeps : (list : Option (String Global)) → list ≡ None → (listing : Option (Vec ℕ)) → KeepsFiles (WritesListing list listing)
+listing-keeps None is listing old result new p path = same path p.1
+listing-keeps (Some name) is listing old result new p path = absurd (given is)
+
+made-refused : (form : AssembleForm) (texts : List (Vec ℕ)) (old : List Event) (ending : Ending) (new : List Event) → Then (Makes form (map (λ text. text.items) texts)) (λ made. Then (WritesListing form.list made.listing) (λ it. Purely (IsTapeOf made))) old (Err ending) new
+    → is_refusal ending ≡ true → (path : List ℕ) → about path new ≡ about path old
+made-refused form texts old ending new (inl p) is path = makes-keeps form (map (λ text. text.items) texts) old (Err ending) new p path
+made-refused form texts old ending new (inr it) is path = absurd (listed-never form it.given it.between ending new it.after is)
+
+module _
+    (looks : (name shown : List ℕ) → KeepsFiles (Looks name shown))
+    (looks-at : (form : ImageForm) → KeepsFiles (LooksAt form))
+    (opens : (form : ImageForm) → KeepsFiles (Opens form))
+    (input : KeepsFiles TakesInput)
+    (prints : (bytes : List ℕ) → KeepsFiles (Prints bytes))
+    (refuses : (fault : ArchiveFault) (size : ℕ) (old : List Event) (ending : Ending) (new : List Event) → Refuses fault size old ending new → (path : List ℕ) → about path new ≡ about path old)
+  where
+    -- ## What is read
+
+    named : (is : Bool) (name : List ℕ) (why : Ending) (old : List Event) (ending : Ending) (new : List Event) → NamesIf is name why old ending new → (path : List ℕ) → about path new ≡ about path old
+    named false name why old ending new p path = same path p.1
+    named true name why old ending new (inl (is, ok, p)) path = same path p
+    named true name why old ending new (inr p) path = same path p.1
+
+    file-keeps : (name : List ℕ) → KeepsFiles (ReadsFile name)
+    file-keeps name old (Ok bytes) new p path = looks name name old (Ok bytes) new p path
+    file-keeps name old (Err ending) new (why, between, p, q) path = named (is_unread why) name why between ending new q path ∙ looks name name old (Err why) between p path
+
+    reads-if : (is : Bool) (name : List ℕ) → KeepsFiles (ReadsIf is name)
+    reads-if true name old result new p path = input old result new p path
+    reads-if false name old result new p path = file-keeps name old result new p path
+
+    source-refused : (name : List ℕ) (fault : ArchiveFault) (size : ℕ) (old : List Event) (ending : Ending) (new : List Event) → RefusesSource name fault size old ending new → (path : List ℕ) → about path new ≡ about path old
+    source-refused name fault size old ending new (inl (ok, p)) path = refuses fault size _ ending new p path
+    source-refused name fault size old ending new (inr p) path = same path p.1
+
+    text-keeps : (image name : List ℕ) (wanted : Target) → KeepsFiles (GetsText image name wanted)
+    text-keeps image name wanted old (Ok text) new p path = same path p.1
+    text-keeps image name wanted old (Err ending) new (fault, gets, p) path = source-refused name fault (length image) old ending new p path
+
+    member-keeps : (image name : List ℕ) → KeepsFiles (ReadsMember image name)
+    member-keeps image name = then-keeps (Purely (IsAsked name)) (λ asked. GetsText image name (target_of asked)) (purely-keeps (IsAsked name)) (λ asked. text-keeps image name (target_of asked))
+
+    bytes-keep : (volume : Option (List ℕ)) (name : List ℕ) → KeepsFiles (ReadsBytes volume name)
+    bytes-keep None name old result new p path = reads-if (is_standard name) name old result new p path
+    bytes-keep (Some image) name old result new p path = member-keeps image name old result new p path
+
+    source-keeps : (volume : Option (List ℕ)) (name : List ℕ) → KeepsFiles (ReadsSource volume name)
+    source-keeps volume name = then-keeps (ReadsBytes volume name) (λ bytes. Purely (IsText (source_text volume bytes.items))) (bytes-keep volume name) (λ bytes. purely-keeps (IsText (source_text volume bytes.items)))
+
+    each-keeps : (volume : Option (List ℕ)) (names : List (List ℕ)) (texts : List (Vec ℕ)) → KeepsFiles (ReadsEach volume texts names)
+    each-keeps volume [] texts = purely-keeps (AreTexts texts)
+    each-keeps volume (name ∷ names) texts = then-keeps (ReadsSource volume name) (λ text. ReadsEach volume (texts ++ text ∷ []) names) (source-keeps volume name) (λ text. each-keeps volume names (texts ++ text ∷ []))
+
+    -- ## Where nothing is named
+
+    tape-keeps : (output : Option (String Global)) → output ≡ None → (tape : List ℕ) → KeepsFiles (WritesTape output tape)
+    tape-keeps None is tape old result new p path = prints tape old result new p path
+    tape-keeps (Some name) is tape old result new p path = absurd (given is)
+
+    lists-keeps : (volume : Option (List ℕ)) (form : AssembleForm) → form.list ≡ None → KeepsFiles (ListsTape volume form)
+    lists-keeps volume form is = then-keeps (ReadsEach volume [] (map (λ name. name.bytes.items) form.sources.items)) (λ texts. Then (Makes form (map (λ text. text.items) texts.items)) (λ made. Then (WritesListing form.list made.listing) (λ it. Purely (IsTapeOf made))))
+        (each-keeps volume (map (λ name. name.bytes.items) form.sources.items) [])
+        (λ texts. then-keeps (Makes form (map (λ text. text.items) texts.items)) (λ made. Then (WritesListing form.list made.listing) (λ it. Purely (IsTapeOf made)))
+        (makes-keeps form (map (λ text. text.items) texts.items))
+        (λ made. then-keeps (WritesListing form.list made.listing) (λ it. Purely (IsTapeOf made)) (listing-keeps form.list is made.listing) (λ it. purely-keeps (IsTapeOf made))))
+
+    to-keeps : (volume : Option (List ℕ)) (form : AssembleForm) → form.output ≡ None → form.list ≡ None → KeepsFiles (AssemblesTo volume form)
+    to-keeps volume form no is = then-keeps (ListsTape volume form) (λ tape. WritesTape form.output tape.items) (lists-keeps volume form is) (λ tape. tape-keeps form.output no tape.items)
+
+    from-keeps : (form : AssembleForm) (image : ImageForm) (onto : Option (String Global)) → onto ≡ None → form.output ≡ None → form.list ≡ None → KeepsFiles (AssemblesFrom form image onto)
+    from-keeps form image None none no is old result new p path =
+        then-keeps (LooksAt image) (λ bytes. AssemblesTo (Some bytes.items) form) (looks-at image) (λ bytes. to-keeps (Some bytes.items) form no is) old result new p path
+    from-keeps form image (Some name) none no is old result new p path = absurd (given none)
+
+    all-keeps : (form : AssembleForm) (from : Option ImageForm) → form.onto ≡ None → form.output ≡ None → form.list ≡ None → KeepsFiles (AssemblesAll form from)
+    all-keeps form None none no is old result new p path = to-keeps None form no is old result new p path
+    all-keeps form (Some image) none no is old result new p path = from-keeps form image form.onto none no is old result new p path
+
+    pub assembles-keeps : (form : AssembleForm) → form.onto ≡ None → form.output ≡ None → form.list ≡ None → KeepsFiles (Assembles form)
+    assembles-keeps form none no is = then-keeps (RefusesClash form) (λ it. AssemblesAll form form.from) (clash-keeps form) (λ it. all-keeps form form.from none no is)
+
+    -- ## Where the command is refused
+
+    lists-refused : (volume : Option (List ℕ)) (form : AssembleForm) (old : List Event) (ending : Ending) (new : List Event) → ListsTape volume form old (Err ending) new → is_refusal ending ≡ true → (path : List ℕ) → about path new ≡ about path old
+    lists-refused volume form old ending new (inl p) is path = each-keeps volume (map (λ name. name.bytes.items) form.sources.items) [] old (Err ending) new p path
+    lists-refused volume form old ending new (inr it) is path = made-refused form it.given.items it.between ending new it.after is path ∙ each-keeps volume (map (λ name. name.bytes.items) form.sources.items) [] old (Ok it.given) it.between it.done path
+
+    to-refused : (volume : Option (List ℕ)) (form : AssembleForm) (old : List Event) (ending : Ending) (new : List Event) → AssemblesTo volume form old (Err ending) new → is_refusal ending ≡ true → (path : List ℕ) → about path new ≡ about path old
+    to-refused volume form old ending new (inl p) is path = lists-refused volume form old ending new p is path
+    to-refused volume form old ending new (inr it) is path = absurd (tape-never form.output it.given.items it.between ending new it.after is)
+
+    onto-refused : (form : AssembleForm) (held : Image) (name : List ℕ) (old : List Event) (ending : Ending) (new : List Event) → Then (ListsTape (Some held.bytes.items) form) (λ tape. PutsTape name tape.items held) old (Err ending) new → is_refusal ending ≡ true → (path : List ℕ) → about path new ≡ about path old
+    onto-refused form held name old ending new (inl p) is path = lists-refused (Some held.bytes.items) form old ending new p is path
+    onto-refused form held name old ending new (inr it) is path = absurd (puts-never name it.given.items held it.between ending new it.after is)
+
+    from-refused : (form : AssembleForm) (image : ImageForm) (onto : Option (String Global)) (old : List Event) (ending : Ending) (new : List Event) → AssemblesFrom form image onto old (Err ending) new → is_refusal ending ≡ true → (path : List ℕ) → about path new ≡ about path old
+    from-refused form image None old ending new (inl p) is path = looks-at image old (Err ending) new p path
+    from-refused form image None old ending new (inr it) is path = to-refused (Some it.given.items) form it.between ending new it.after is path ∙ looks-at image old (Ok it.given) it.between it.done path
+    from-refused form image (Some name) old ending new (inl p) is path = opens image old (Err ending) new p path
+    from-refused form image (Some name) old ending new (inr it) is path = onto-refused form it.given name.bytes.items it.between ending new it.after is path ∙ opens image old (Ok it.given) it.between it.done path
+
+    all-refused : (form : AssembleForm) (from : Option ImageForm) (old : List Event) (ending : Ending) (new : List Event) → AssemblesAll form from old (Err ending) new → is_refusal ending ≡ true → (path : List ℕ) → about path new ≡ about path old
+    all-refused form None old ending new p is path = to-refused None form old ending new p is path
+    all-refused form (Some image) old ending new p is path = from-refused form image form.onto old ending new p is path
+
+    pub assembles-refused : (form : AssembleForm) (old : List Event) (ending : Ending) (new : List Event) → is_refusal ending ≡ true → Assembles form old (Err ending) new → (path : List ℕ) → about path new ≡ about path old
+    assembles-refused form old ending new is (inl p) path = clash-keeps form old (Err ending) new p path
+    assembles-refused form old ending new is (inr it) path = all-refused form form.from it.between ending new it.after is path ∙ clash-keeps form old (Ok it.given) it.between it.done path

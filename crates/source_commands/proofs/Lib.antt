@@ -1,0 +1,3 @@
+mod KeepLemmas
+mod SourceLemmas
+mod WorkLemmas

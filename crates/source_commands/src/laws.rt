@@ -1,0 +1,26 @@
+//! What the command that assembles sources leaves as it was.
+ghost use Rattle.std.specs.Prelude.{◌≡◌, ℕ, List, Err, None, true};
+ghost use Rattle.hosts.specs.Event.{Event};
+ghost use Rattle.hosts.specs.Place.{about};
+ghost use Rattle.outcome.specs.declared.endings.Ending.{Ending};
+ghost use Rattle.program_tasks.specs.declared.tasks.AssembleForm.{AssembleForm};
+ghost use Rattle.volume_commands.specs.Laws.{KeepsFiles};
+ghost use Rattle.source_commands.specs.Assembling.{Assembles};
+ghost use Rattle.source_commands.specs.Laws.{is_refusal};
+
+use volume_commands::laws::kept_files;
+
+/// A law: where the words clash, a file can't be read or the sources have a fault, no file of the host is changed.
+pub fn refused_sources()
+    ensures { (form : AssembleForm) (old : List Event) (ending : Ending) (new : List Event) → is_refusal ending ≡ true → Assembles form old (Err ending) new
+        → (path : List ℕ) → about path new ≡ about path old }
+{
+    kept_files();
+}
+
+/// A law: where no file is named for the tape or the listing, no file of the host is changed, in whichever way the command ends.
+pub fn unchanged_files()
+    ensures { (form : AssembleForm) → form.onto ≡ None → form.output ≡ None → form.list ≡ None → KeepsFiles (Assembles form) }
+{
+    kept_files();
+}
