@@ -4,7 +4,7 @@ use Rattle.std.specs.Borrow.{Bor}
 use Rattle.std.specs.Global.{Vec, Global}
 use Rattle.std.specs.Prelude.{String, is_some}
 use Rattle.std.specs.Str.{bytes_eq}
-use Rattle.hosts.specs.Event.{Event}
+use Rattle.hosts.specs.Event.{Event, tell_call}
 use Rattle.hosts.specs.Place.{about}
 use Rattle.hosts.specs.declared.faults.HostFault.{HostFault}
 use Rattle.hosts.specs.declared.faults.HostFault.TheVariants as host
@@ -18,7 +18,9 @@ use Rattle.outcome.specs.declared.contents.Content.{Content}
 use Rattle.outcome.specs.declared.contents.Content.TheVariants.{Image as ForImage, Tape, Listing}
 use Rattle.outcome.specs.declared.endings.Ending.{Ending}
 use Rattle.outcome.specs.declared.endings.Ending.TheVariants.{Line, Fault, Failure, Busy, NotWritten, FullOutput, NoReader, Misuse}
+use Rattle.outcome.specs.Notes.{name_text}
 use Rattle.outcome.specs.declared.notes.NameNote.{NameNote}
+use Rattle.outcome.specs.declared.notes.NameNote.TheVariants.{NoSource}
 use Rattle.host_sources.specs.declared.faults.SourceFault as pal3_fault
 use Rattle.host_sources.specs.declared.faults.SourceFault.TheVariants as pal3_is
 use Rattle.pal8_tape.specs.declared.faults.SourceFault as pal8_fault
@@ -30,12 +32,13 @@ use Rattle.volume_commands.specs.Ending.{TellsLine}
 use Rattle.volume_commands.specs.Laws.{KeepsFiles}
 use Rattle.volume_commands.specs.Making.{IsUnheldFile, MakesBy, MakesFile, ending_of_file}
 use Rattle.volume_commands.specs.Putting.{TakesInput, stored_line}
-use Rattle.volume_commands.specs.Reading.{Looks, LooksAt, Opens}
+use Rattle.volume_commands.specs.Reading.{Looks, LooksAt, Opens, hold_calls, with_lock_note}
 use Rattle.volume_commands.specs.Saving.{Prints, SavesIf, Stores, Writes}
 use Rattle.volume_commands.specs.Work.{Then, Purely}
 use Rattle.volume_commands.specs.declared.images.Image.{Image}
 use Rattle.source_commands.specs.Assembling.{Assembles, AssemblesAll, AssemblesFrom, AssemblesTo, HasNone, IsTapeOf, ListsTape, Makes, MakesFirst, MakesIf, MakesPal3, MakesPal8, PrintsFaults, RefusesPal8, RefusesSources}
 use Rattle.source_commands.specs.Clashes.{IsRefused, RefusesClash, clash_of}
+use Rattle.source_commands.specs.Faults.{faults_text, pal8_faults_text}
 use Rattle.source_commands.specs.Laws.{is_refusal}
 use Rattle.source_commands.specs.Outputs.{PutsTape, WritesIf, WritesListing, WritesTape}
 use Rattle.source_commands.specs.Sources.{AreLent, AreTexts, GetsText, IsAsked, IsText, NamesIf, ReadsBytes, ReadsEach, ReadsFile, ReadsIf, ReadsMember, ReadsSource, RefusesSource, is_standard, is_unread, source_text}
@@ -75,11 +78,11 @@ faults-keep text old ending new (inl p) path = line-keeps text old new p.1 path
 faults-keep text old ending new (inr p) path = same path p.1
 
 sources-refused : (sources names : List (Bor (List ℕ))) (fault : pal3_fault.SourceFault) (old : List Event) (ending : Ending) (new : List Event) → RefusesSources sources names fault old ending new → (path : List ℕ) → about path new ≡ about path old
-sources-refused sources names (pal3_is.At fault) old ending new p path = faults-keep _ old ending new p path
+sources-refused sources names (pal3_is.At fault) old ending new p path = faults-keep (faults_text sources names fault) old ending new p path
 sources-refused sources names pal3_is.Memory old ending new p path = same path p.1
 
 pal8-refused : (source name : List ℕ) (fault : pal8_fault.SourceFault) (old : List Event) (ending : Ending) (new : List Event) → RefusesPal8 source name fault old ending new → (path : List ℕ) → about path new ≡ about path old
-pal8-refused source name (pal8_is.At fault) old ending new p path = faults-keep _ old ending new p path
+pal8-refused source name (pal8_is.At fault) old ending new p path = faults-keep (pal8_faults_text source name fault) old ending new p path
 pal8-refused source name pal8_is.Memory old ending new p path = same path p.1
 
 pal3-keeps : (is_listed is_cross : Bool) (sources names : List (Bor (List ℕ))) → KeepsFiles (MakesPal3 is_listed is_cross sources names)
@@ -166,7 +169,7 @@ by-never : (content : Content) (file : List ℕ) → Never (MakesBy content (end
 by-never content file old ending new (fault, ends, unmade) is = other-ending ending (ending_of_file content fault) ends (file-ending content fault) is
 
 file-never : (content : Content) (name file : List ℕ) → Never (MakesFile content name file)
-file-never content name file old ending new (inl (path, has, ok, p)) is = writes-never content path file _ ending new p is
+file-never content name file old ending new (inl (path, has, ok, p)) is = writes-never content path file (with_lock_note content has ok (hold_calls name path old)) ending new p is
 file-never content name file old ending new (inr (inl (between, idle, failed, p))) is = by-never content file between ending new p is
 file-never content name file old ending new (inr (inr (unheld, idle, failed))) is = unheld-never content ending unheld is
 
@@ -201,7 +204,7 @@ line-never made image old ending new (inl p) is = other-ending ending (Fault Mem
 line-never made image old ending new (inr it) is = stores-never image made.bytes.items it.given.items it.between ending new it.after is
 
 puts-never : (name tape : List ℕ) (image : Image) → Never (PutsTape name tape image)
-puts-never name tape image old ending new (inl (fault, puts, ends, tells)) is = other-ending ending (ending_of_archive fault) ends (archive-ending fault) is
+puts-never name tape image old ending new (inl (fault, puts, refused)) is = other-ending ending (ending_of_archive fault) refused.0 (archive-ending fault) is
 puts-never name tape image old ending new (inr it) is = line-never it.given image it.between ending new it.after is
 
 -- ## What is written where nothing is named
@@ -242,7 +245,7 @@ module _
     reads-if false name old result new p path = file-keeps name old result new p path
 
     source-refused : (name : List ℕ) (fault : ArchiveFault) (size : ℕ) (old : List Event) (ending : Ending) (new : List Event) → RefusesSource name fault size old ending new → (path : List ℕ) → about path new ≡ about path old
-    source-refused name fault size old ending new (inl (ok, p)) path = refuses fault size _ ending new p path
+    source-refused name fault size old ending new (inl (ok, p)) path = refuses fault size (tell_call ok (name_text NoSource name) ∷ old) ending new p path
     source-refused name fault size old ending new (inr p) path = same path p.1
 
     text-keeps : (image name : List ℕ) (wanted : Target) → KeepsFiles (GetsText image name wanted)
@@ -277,19 +280,19 @@ module _
         (λ made. then-keeps (WritesListing form.list made.listing) (λ it. Purely (IsTapeOf made)) (listing-keeps form.list is made.listing) (λ it. purely-keeps (IsTapeOf made))))
 
     to-keeps : (volume : Option (List ℕ)) (form : AssembleForm) → form.output ≡ None → form.list ≡ None → KeepsFiles (AssemblesTo volume form)
-    to-keeps volume form no is = then-keeps (ListsTape volume form) (λ tape. WritesTape form.output tape.items) (lists-keeps volume form is) (λ tape. tape-keeps form.output no tape.items)
+    to-keeps volume form unnamed is = then-keeps (ListsTape volume form) (λ tape. WritesTape form.output tape.items) (lists-keeps volume form is) (λ tape. tape-keeps form.output unnamed tape.items)
 
     from-keeps : (form : AssembleForm) (image : ImageForm) (onto : Option (String Global)) → onto ≡ None → form.output ≡ None → form.list ≡ None → KeepsFiles (AssemblesFrom form image onto)
-    from-keeps form image None none no is old result new p path =
-        then-keeps (LooksAt image) (λ bytes. AssemblesTo (Some bytes.items) form) (looks-at image) (λ bytes. to-keeps (Some bytes.items) form no is) old result new p path
-    from-keeps form image (Some name) none no is old result new p path = absurd (given none)
+    from-keeps form image None none unnamed is old result new p path =
+        then-keeps (LooksAt image) (λ bytes. AssemblesTo (Some bytes.items) form) (looks-at image) (λ bytes. to-keeps (Some bytes.items) form unnamed is) old result new p path
+    from-keeps form image (Some name) none unnamed is old result new p path = absurd (given none)
 
     all-keeps : (form : AssembleForm) (from : Option ImageForm) → form.onto ≡ None → form.output ≡ None → form.list ≡ None → KeepsFiles (AssemblesAll form from)
-    all-keeps form None none no is old result new p path = to-keeps None form no is old result new p path
-    all-keeps form (Some image) none no is old result new p path = from-keeps form image form.onto none no is old result new p path
+    all-keeps form None none unnamed is old result new p path = to-keeps None form unnamed is old result new p path
+    all-keeps form (Some image) none unnamed is old result new p path = from-keeps form image form.onto none unnamed is old result new p path
 
     pub assembles-keeps : (form : AssembleForm) → form.onto ≡ None → form.output ≡ None → form.list ≡ None → KeepsFiles (Assembles form)
-    assembles-keeps form none no is = then-keeps (RefusesClash form) (λ it. AssemblesAll form form.from) (clash-keeps form) (λ it. all-keeps form form.from none no is)
+    assembles-keeps form none unnamed is = then-keeps (RefusesClash form) (λ it. AssemblesAll form form.from) (clash-keeps form) (λ it. all-keeps form form.from none unnamed is)
 
     -- ## Where the command is refused
 

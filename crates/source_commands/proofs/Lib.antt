@@ -1,3 +1,4 @@
 mod KeepLemmas
+mod SignLemmas
 mod SourceLemmas
 mod WorkLemmas

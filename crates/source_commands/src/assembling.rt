@@ -1,5 +1,5 @@
 //! The command that assembles sources.
-ghost use Rattle.std.specs.Prelude.{is_some, map, option_copied};
+ghost use Rattle.std.specs.Prelude.{◌≡◌, true, map, option_copied};
 ghost use Rattle.source_commands.specs.Assembling.{Assembles, AssemblesFrom, AssemblesTo, ListsTape, Makes, MakesFirst, MakesIf, MakesPal3, MakesPal8, PrintsFaults, RefusesPal8, RefusesSources};
 ghost use Rattle.source_commands.specs.Assembling as spec;
 

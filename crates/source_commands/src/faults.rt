@@ -1,8 +1,9 @@
 //! What is printed of the faults of sources.
-ghost use Rattle.std.specs.Prelude.{◌≡◌, ◌++◌, ◌∷◌, [], map, OnOk};
+ghost use Rattle.std.specs.Prelude.{◌≡◌, ◌++◌, ◌∷◌, [], map, OnOk, IsAscii};
 ghost use Rattle.host_sources.specs.FaultLines as pal3;
 ghost use Rattle.host_sources.specs.Further.{further_faults};
 ghost use Rattle.outcome.specs.Notes.{note_text};
+ghost use Rattle.pal8_tape.specs.Signs as signs;
 ghost use Rattle.volume_commands.specs.Answers.{AreLines};
 ghost use Rattle.source_commands.specs.Faults as spec;
 ghost use Rattle.source_commands.specs.FaultSteps.{AreFurther};
@@ -28,11 +29,10 @@ pub(crate) fn faults_text(
 {
     let further = further_texts(alloc, sources, names)?;
     let first = host_sources::fault_text(alloc, sources, names, fault)?;
-    let sign = sign_text(alloc, fault.about)?;
     let mut text = Vec::new(alloc);
     put_top_bits_notes(alloc, sources, names, &mut text)?;
     text.extend_from_slice(&first)?;
-    put_sign_note(alloc, &sign, &mut text)?;
+    put_sign_note(alloc, fault.about, &mut text)?;
     put_further(&further, &mut text)?;
     Ok(text)
 }
@@ -134,8 +134,17 @@ fn put_note(alloc: Global, note: Note<'_>, text: &mut Vec<u8>) -> Result<(), All
     Ok(())
 }
 
-/// Puts at which word of PAL8 a source of PAL III has its fault, if it has it at one.
-fn put_sign_note(alloc: Global, sign: &[u8], text: &mut Vec<u8>) -> Result<(), AllocError>
+/// Puts at which word of PAL8 a source of PAL III has its fault, by what that is about, if it has it at one.
+#[tactic(auto, using(crate::proofs::SignLemmas::sign_ascii))]
+fn put_sign_note(alloc: Global, about: About, text: &mut Vec<u8>) -> Result<(), AllocError>
+    ensures { OnOk result (text.new.items ≡ text.old.items ++ spec.sign_note (signs.sign_text about)) }
+{
+    let sign = sign_text(alloc, about)?;
+    put_sign(alloc, &sign, text)
+}
+
+fn put_sign(alloc: Global, sign: &[u8], text: &mut Vec<u8>) -> Result<(), AllocError>
+    requires { IsAscii sign.now }
     ensures { OnOk result (text.new.items ≡ text.old.items ++ spec.sign_note sign.now) }
 {
     if sign.is_empty() {

@@ -1,5 +1,5 @@
 //! Sources that are read: files of the host, standard input, or files of the volume in an image.
-ghost use Rattle.std.specs.Prelude.{◌≡◌, ◌++◌, ◌∷◌, [], map, option_copied, OnOk};
+ghost use Rattle.std.specs.Prelude.{◌≡◌, ◌++◌, ◌∷◌, [], true, map, option_copied, OnOk};
 ghost use Rattle.archive_files.specs.Asking.{target_of};
 ghost use Rattle.source_commands.specs.Sources as spec;
 ghost use Rattle.source_commands.specs.Sources.{AreLent, GetsText, IsAsked, IsText, NamesIf, NamesUnread, ReadsBytes, ReadsEach, ReadsFile, ReadsIf, ReadsSource, RefusesSource};
