@@ -22,7 +22,7 @@ use std::time::Clock;
 const STANDARD: &str = "-";
 
 /// How many further faults are printed at most.
-const MOST_FURTHER: usize = 20;
+pub(crate) const MOST_FURTHER: usize = 20;
 
 /// Assembles the sources in files, of the host or of a volume, to a tape, and lists them if that is asked for. Nothing is written where they
 /// have a fault; the listing is written before the tape.
@@ -248,7 +248,7 @@ fn tell_further_faults<R: Eprint + AllocGlobal>(
 }
 
 /// Prints the lines of a further fault without the numbered one, which is that of the first fault alone.
-fn tell_without_number<R: Eprint>(rt: &R, text: &[u8]) {
+pub(crate) fn tell_without_number<R: Eprint>(rt: &R, text: &[u8]) {
     if let Ok(text) = str::from_utf8(text) {
         for line in text.lines().take(3) {
             let _ = eprintln!(rt; "{line}");

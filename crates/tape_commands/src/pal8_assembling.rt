@@ -1,9 +1,11 @@
 //! A PAL8 source in a file of the host, or on a volume, to a BIN tape, which is written whole or not at all.
 
-use crate::assembling::{read_source, tell_top_bits, write_tape};
-use host_inputs::{Image, tell_text};
-use outcome::Ending;
-use pal8_tape::{SourceFault, fault_text, tape_of};
+use crate::assembling::{
+    MOST_FURTHER, read_source, tell_top_bits, tell_without_number, write_tape,
+};
+use host_inputs::{Image, tell, tell_text};
+use outcome::{Ending, Note, PlainNote};
+use pal8_tape::{SourceFault, fault_text, further_faults, tape_of};
 use program_tasks::AssembleForm;
 use script8::SessionFault;
 use std::fs::{File, Files};
@@ -38,7 +40,7 @@ fn refusal<R: Eprint + AllocGlobal>(
     }
 }
 
-/// Prints the fault of a source on standard error.
+/// Prints the fault of a source on standard error, and further ones.
 fn print_fault<R: Eprint + AllocGlobal>(
     rt: &R,
     name: &str,
@@ -50,7 +52,27 @@ fn print_fault<R: Eprint + AllocGlobal>(
         SourceFault::At(fault) => {
             tell_top_bits(rt, &[source], &[name]);
             tell_text(rt, &fault_text(rt.alloc(), source, name, fault)?);
-            Ok(())
+            print_further_faults(rt, name, source)
         }
     }
+}
+
+/// Prints the faults of a source after the first.
+fn print_further_faults<R: Eprint + AllocGlobal>(
+    rt: &R,
+    name: &str,
+    source: &[u8],
+) -> Result<(), Ending> {
+    let further = match further_faults(rt.alloc(), source, MOST_FURTHER) {
+        Ok(further) => further,
+        Err(SourceFault::Memory) => return Err(Ending::Fault(SessionFault::Memory)),
+        Err(SourceFault::At(_)) => return Ok(()),
+    };
+    if !further.is_empty() {
+        tell(rt, Note::Plain(PlainNote::FurtherFaults));
+    }
+    for fault in &further {
+        tell_without_number(rt, &fault_text(rt.alloc(), source, name, *fault)?);
+    }
+    Ok(())
 }
