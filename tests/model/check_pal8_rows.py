@@ -38,7 +38,7 @@ def run(words: list[str], given: bytes) -> subprocess.CompletedProcess[bytes]:
 
 
 def program_answer(program: str, source: bytes) -> str:
-    """What the program says of a source: the lines of its tape, or the numbered line of its fault, which has four lines; or what is wrong."""
+    """What the program says of a source: the lines of its tape, or the numbered line of its first fault, which has four lines; or what is wrong."""
     with tempfile.TemporaryDirectory() as folder:
         with open(f"{folder}/s.pa", "wb") as file:
             file.write(source)
@@ -46,7 +46,8 @@ def program_answer(program: str, source: bytes) -> str:
     told = ran.stderr.decode("latin1").splitlines(keepends=True)
     if ran.returncode == 0 and not told:
         return run([program, "tape"], ran.stdout).stdout.decode("latin1")
-    if ran.returncode == 1 and not ran.stdout and len(told) == 4:
+    is_one_fault = len(told) == 4 or told[4:5] == ["note: these words have a fault too:\n"]
+    if ran.returncode == 1 and not ran.stdout and is_one_fault:
         return told[3]
     return f"status {ran.returncode}, {len(ran.stdout)} bytes of a tape\n{''.join(told)}"
 

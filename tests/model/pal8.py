@@ -35,11 +35,11 @@ CORE_END = 0o10000
 
 class Fault(Exception):
     """A code, with the line of its statement, and where that begins among the characters that are there. It has the number of the name or the cell
-    that it is about, too."""
+    that it is about, too, and the radix of its statement."""
 
-    def __init__(self, code: str, line: int = 0, start: int = 0, about: Optional[int] = None) -> None:
+    def __init__(self, code: str, line: int = 0, start: int = 0, about: Optional[int] = None, radix: int = 8) -> None:
         super().__init__(code, line, start, about)
-        self.code, self.line, self.start, self.about = code, line, start, about
+        self.code, self.line, self.start, self.about, self.radix = code, line, start, about, radix
 
 
 @dataclass(frozen=True)
@@ -389,6 +389,14 @@ def said(statement: Statement, before: Before) -> tuple[list[str], Body]:
     return [free_name(tag) for tag in tags], body
 
 
+def harmless_reading(statement: Statement) -> tuple[list[str], Body]:
+    """What a statement with a fault says instead: its tags that are free names, and the word 0."""
+    tags, rest = list[str](), statement.tokens
+    while len(rest) > 1 and rest[1] == Token("sign", ","):
+        tags, rest = tags + [free_name(rest[0])], rest[2:]
+    return [tag for tag in tags if tag], Body("word", value=Expression((("+", 0),)))
+
+
 # Places, names and conditions
 
 
@@ -428,10 +436,11 @@ def firm(name: str, now: Judged) -> Optional[int]:
 
 
 class Source:
-    """A source's selected statements, each judged after those before it, up to the first selected `$`."""
+    """A source's selected statements, each judged after those before it, up to the first selected `$`. Those that begin at certain places are
+    harmless."""
 
-    def __init__(self, text: bytes) -> None:
-        self.text = live_text(text)
+    def __init__(self, text: bytes, harmless: frozenset[int] = frozenset()) -> None:
+        self.text, self.harmless = live_text(text), harmless
         self.judged: list[Judged] = []
         self.brackets: list[bool] = []
         self.before = Before(8, {name: PERMANENT[name] for name in OPERATIONS})
@@ -450,7 +459,7 @@ class Source:
                 if statement.end == ">" and not self.brackets:
                     raise Fault("PH")
             except Fault as fault:
-                raise Fault(fault.code, statement.line, statement.start, fault.about)
+                raise Fault(fault.code, statement.line, statement.start, fault.about, self.before.radix)
             if statement.end == ">":
                 self.brackets.pop()
             elif statement.end == "<":
@@ -482,7 +491,8 @@ class Source:
 
     def judge(self, statement: Statement) -> bool:
         """Judges a selected statement, and answers whether its condition holds."""
-        tags, body = said(statement, self.before)
+        is_harmless = statement.start in self.harmless
+        tags, body = harmless_reading(statement) if is_harmless else said(statement, self.before)
         now = Judged(statement.line, tags, body, self.location, self.place(), self.field, self.is_punched, 0, statement.start, self.is_expunged)
         for tag in tags:
             if now.location >= CORE_END:
@@ -490,7 +500,7 @@ class Source:
             value = self.definition_before(tag, self.judged)
             kept = firm(tag, now) if value is None else value
             if kept is not None and kept != now.place:
-                raise Fault("DT")
+                raise Fault("DT", about=name_number(tag))
             now.definitions.append((tag, now.place))
         value = None
         if body.form == "definition" and body.value is not None:
@@ -652,22 +662,32 @@ def rank(asks: list[Ask], ask: Ask) -> int:
 
 
 class Words:
-    """The words of a source, with what they ask of pools, up to the first fault."""
+    """The words of a source, with what they ask of pools, up to the first fault; or, where it goes on, the faults of words, each by itself. A word with
+    a fault then asks nothing, and a late definition with one isn't there."""
 
-    def __init__(self, source: Source) -> None:
+    def __init__(self, source: Source, goes_on: bool = False) -> None:
         self.source = source
+        self.faults: list[Fault] = []
         self.asks: list[Ask] = []
         self.punched_asks: list[Ask] = []
         self.words: list[tuple[int, int]] = []
         self.clashes: Optional[Fault] = None
         for k, now in enumerate(source.judged):
+            counts = len(self.asks), len(self.punched_asks)
             try:
                 words = self.words_of(now, k)
             except Fault as fault:
-                raise Fault(fault.code, now.line, now.start, fault.about)
+                self.faults.append(Fault(fault.code, now.line, now.start, fault.about))
+                if not goes_on:
+                    raise self.faults[0]
+                del self.asks[counts[0] :], self.punched_asks[counts[1] :]
+                now.is_late, now.body = False, Body("nothing")
+                continue
             cell = 0o10000 * now.in_field + now.location
             self.words += [(cell + n, word) for n, word in enumerate(words) if now.is_punched]
             self.clashes = self.clashes or self.clash(now)
+        if goes_on:
+            return
         if self.clashes:
             raise self.clashes
         if not self.words:
@@ -765,6 +785,71 @@ def pairs(text: bytes) -> list[tuple[int, int]]:
     """The pairs of a source's tape: its words, and then its pools by rising cell; or its first fault."""
     words = Words(Source(text))
     return words.words + words.pool()
+
+
+# Further faults
+
+
+def concerns_others(text: bytes, start: int) -> bool:
+    """Whether the statement that begins there is ended by `<`, or a reserved name begins its body."""
+    statement = next(it for it in statements(live_text(text)) if it.start == start)
+    rest = behind_tags(statement.tokens)
+    return statement.end == "<" or bool(rest) and name_in(rest[0]) in RESERVED
+
+
+def lexical_faults(text: bytes, first: Fault, most: int) -> list[Fault]:
+    """The faults after one of a statement's characters, numbers and form, as long as they are such."""
+    found, harmless = [first], list[int]()
+    while len(found) <= most and not concerns_others(text, found[-1].start):
+        harmless.append(found[-1].start)
+        try:
+            Source(text, frozenset(harmless))
+            break
+        except Fault as fault:
+            if fault.code not in ("IC", "NU", "SY"):
+                break
+            found.append(fault)
+    return found[1:]
+
+
+def further_faults(text: bytes, most: int) -> list[Fault]:
+    """So many faults after the first."""
+    try:
+        source = Source(text)
+    except Fault as fault:
+        return lexical_faults(text, fault, most) if fault.code in ("IC", "NU", "SY") else []
+    faults = Words(source, True).faults
+    return [fault for fault in faults[1:] if fault.code in ("UA", "DZ", "RL", "II")][:most]
+
+
+def mark_of(statement: Statement, fault: Fault) -> int:
+    """Where in its statement a fault is: at the character, the number or the name that it is about, else where the statement begins."""
+    runs = [token for token in statement.tokens if token.kind == "run"]
+    marks = {
+        "IC": [token for token in statement.tokens if token.kind == "bad"],
+        "NU": [token for token in runs if token.text[0].isdigit() and not is_number(token.text, fault.radix)],
+        "UA": [token for token in runs if name_in(token) and name_number(token.text) == fault.about],
+        "DT": [token for token in runs if name_in(token) and name_number(token.text) == fault.about],
+        "RD": behind_tags(statement.tokens),
+    }
+    return next((token.start for token in marks.get(fault.code, [])), statement.start)
+
+
+def headline(text: bytes, fault: Fault) -> str:
+    """A fault with its line and its column, as they are printed."""
+    statement = next((it for it in statements(live_text(text)) if it.start == fault.start), Statement(0, [], "", False, fault.start))
+    before = text[: place_in(text, mark_of(statement, fault))]
+    column = 1 + len(before.rpartition(b"\n")[2].replace(b"\r", b""))
+    return f"{1 + before.count(10)}:{column}: {fault.code}"
+
+
+def headlines(text: bytes, most: int) -> list[str]:
+    """The first fault of a source, and so many after it."""
+    try:
+        pairs(text)
+        return []
+    except Fault as first:
+        return [headline(text, fault) for fault in (first, *further_faults(text, most))]
 
 
 def lines_of(meaning: dict[int, int]) -> str:

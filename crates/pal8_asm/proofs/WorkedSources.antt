@@ -25,7 +25,7 @@ brief (Ok made) = Ok (made.words, cells made.asks made.asks, cells made.asks mad
 abbrev read : List ℕ → Result (List (ℕ × ℕ) × List (ℕ × ℕ) × List (ℕ × ℕ)) (Code × ℕ)
 read bytes = brief (result_of_text (text_of bytes))
 
-dt : read (codes "A=1;A, 2" ++ 10 ∷ codes "$" ++ 10 ∷ []) ≡ Err (DT, 1)
+dt : read (codes "A=1;A, 2" ++ 10 ∷ codes "$" ++ 10 ∷ []) ≡ Err (DT (name_number (codes "A")), 1)
 unfolding permanent pal8_permanent
 dt = refl
 

@@ -49,7 +49,7 @@ without_one name has n = if nat_eq name n then false else has n
 
 -- a tag stands for the place, which must not be past 7777, and its name keeps no other value
 abbrev pub with_tag_by : ℕ → ℕ → Standing → Bool → Result Standing Code
-with_tag_by tag place s true = Err code.DT
+with_tag_by tag place s true = Err (code.DT tag)
 with_tag_by tag place s false = Ok record { names = names_with_tag tag place s.names; late = without_one tag s.late; position = s.position }
 
 abbrev pub with_tag_at : ℕ → Option ℕ → Standing → Result Standing Code

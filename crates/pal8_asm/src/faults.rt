@@ -19,9 +19,9 @@ pub enum Code {
     /// statement, by the number that its six sixbit codes make.
     #[error("undefined name")]
     UA(u64),
-    /// A tag whose name is permanent or defined with another value.
+    /// A tag whose name is permanent or defined with another value: the first such name of its statement, by the number that its six sixbit codes make.
     #[error("duplicate tag")]
-    DT,
+    DT(u64),
     /// A name that `=` defines, and that is permanent or a tag with another value.
     #[error("redefinition")]
     RD,

@@ -34,7 +34,7 @@ fn define_tag(names: &mut KnownNames, name: Name, position: Position) -> Result<
             Ok(())
         }
         Err(SymFault::Memory) => Err(Stop::Memory),
-        Err(SymFault::DT | SymFault::RD) => Err(Stop::At(Code::DT)),
+        Err(SymFault::DT | SymFault::RD) => Err(Stop::At(Code::DT(name.number()))),
     }
 }
 

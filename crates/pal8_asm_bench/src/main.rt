@@ -49,7 +49,7 @@ fn letters_of(code: Code) -> &'static str {
         Code::SY => "SY",
         Code::NU => "NU",
         Code::UA(_) => "UA",
-        Code::DT => "DT",
+        Code::DT(_) => "DT",
         Code::RD => "RD",
         Code::IR => "IR",
         Code::II => "II",
@@ -70,6 +70,7 @@ fn letters_of(code: Code) -> &'static str {
 fn about(code: Code) -> Option<u64> {
     match code {
         Code::UA(name) => Some(name),
+        Code::DT(name) => Some(name),
         Code::PageClash(cell) | Code::ZeroClash(cell) => Some(cell.index() as u64),
         _ => None,
     }

@@ -1,3 +1,5 @@
 pub mod PlaceLemmas
 pub mod WordLemmas
 pub mod MarkLemmas
+pub mod MendLemmas
+pub mod FurtherLemmas

@@ -2,5 +2,8 @@ pub mod Places
 pub mod Marks
 pub mod FaultLines
 pub mod Answers
+pub mod Mending
+pub mod MendSteps
+pub mod Further
 pub mod Laws
 pub mod Signs

@@ -34,7 +34,7 @@ is_number_fault IC = false
 is_number_fault SY = false
 is_number_fault NU = true
 is_number_fault (UA name) = false
-is_number_fault DT = false
+is_number_fault (DT name) = false
 is_number_fault RD = false
 is_number_fault IR = false
 is_number_fault II = false
@@ -56,7 +56,7 @@ is_redefinition IC = false
 is_redefinition SY = false
 is_redefinition NU = false
 is_redefinition (UA name) = false
-is_redefinition DT = false
+is_redefinition (DT name) = false
 is_redefinition RD = true
 is_redefinition IR = false
 is_redefinition II = false
@@ -74,13 +74,13 @@ is_redefinition NE = false
 is_redefinition NW = false
 
 -- A token is what the fault of its statement is about. Of IC it is a byte that stands in no token, of NU a
--- number that is none by this radix, of UA the name.
+-- number that is none by this radix, of UA and DT the name.
 abbrev pub is_meant : Code → Radix → Kind → Bool
 is_meant IC radix token = is_bad token
 is_meant (UA name) radix token = is_name name token
 is_meant SY radix token = false
 is_meant NU radix token = is_bad_number radix token
-is_meant DT radix token = false
+is_meant (DT name) radix token = is_name name token
 is_meant RD radix token = false
 is_meant IR radix token = false
 is_meant II radix token = false

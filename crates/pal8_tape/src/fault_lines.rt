@@ -64,7 +64,7 @@ fn put_about(text: &mut Vec<u8>, code: Code, byte: u8) -> Result<(), AllocError>
         }
         Code::PageClash(cell) => put_cell(text, cell),
         Code::ZeroClash(cell) => put_cell(text, cell),
-        Code::SY | Code::NU | Code::DT | Code::RD | Code::IR | Code::II | Code::FD => Ok(()),
+        Code::SY | Code::NU | Code::DT(_) | Code::RD | Code::IR | Code::II | Code::FD => Ok(()),
         Code::PG | Code::PF | Code::DZ | Code::PE | Code::ZE | Code::RL | Code::PH => Ok(()),
         Code::NE | Code::NW => Ok(()),
     }

@@ -9,11 +9,11 @@ use thiserror::Error;
 /// A fault of a source.
 #[derive(Clone, Copy, PartialEq, Eq, Debug)]
 pub struct Fault {
-    /// What is wrong; of UA with the name, and of a word on a pool's cell with the cell.
+    /// What is wrong; of UA and DT with the name, and of a word on a pool's cell with the cell.
     pub code: Code,
     /// The line, as it is reported to scripts: 1 and up, or 2^64 - 1 where it would be more.
     pub line: u64,
-    /// Of IC where the character stands, of UA where the name first stands in the statement; of any other fault where the statement begins.
+    /// Of IC where the character stands, of UA and DT where the name first stands in the statement; of any other fault where the statement begins.
     pub place: Place,
     /// The byte that stands there.
     pub byte: u8,

@@ -8,13 +8,16 @@
 mod codes;
 mod fault_lines;
 mod faults;
+mod further;
 pub mod laws;
 mod marks;
+mod mending;
 mod places;
 mod signs;
 mod tapes;
 
 pub use fault_lines::fault_text;
 pub use faults::{Fault, SourceFault};
+pub use further::further_faults;
 pub use signs::sign_text;
 pub use tapes::tape_of;

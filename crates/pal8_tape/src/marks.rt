@@ -66,7 +66,7 @@ fn is_number_fault(code: &Code) -> bool
 {
     match code {
         Code::NU => true,
-        Code::IC | Code::SY | Code::UA(_) | Code::DT | Code::RD | Code::IR | Code::II => false,
+        Code::IC | Code::SY | Code::UA(_) | Code::DT(_) | Code::RD | Code::IR | Code::II => false,
         Code::FD | Code::PG | Code::PF | Code::DZ | Code::PE | Code::ZE | Code::PH => false,
         Code::RL | Code::NE | Code::NW | Code::PageClash(_) | Code::ZeroClash(_) => false,
     }
@@ -77,7 +77,7 @@ fn is_redefinition(code: &Code) -> bool
 {
     match code {
         Code::RD => true,
-        Code::IC | Code::SY | Code::NU | Code::UA(_) | Code::DT | Code::IR | Code::II => false,
+        Code::IC | Code::SY | Code::NU | Code::UA(_) | Code::DT(_) | Code::IR | Code::II => false,
         Code::FD | Code::PG | Code::PF | Code::DZ | Code::PE | Code::ZE | Code::PH => false,
         Code::RL | Code::NE | Code::NW | Code::PageClash(_) | Code::ZeroClash(_) => false,
     }
@@ -117,7 +117,7 @@ fn with_statement(code: &Code, radix: Radix, start: u64, mark: u64, tokens: &[To
     }
 }
 
-/// Where a fault is in its statement: of RD at the name, of others at the first token that they are about, else at the start.
+/// Where a fault is in its statement: of RD at the name after the tags, of others at the first token that they are about, else at the start.
 fn mark_of(code: &Code, radix: Radix, start: u64, tokens: &[Token]) -> u64
     ensures { result ≡ mark_of code.now radix start tokens.now }
 {
@@ -160,7 +160,8 @@ fn is_meant(code: &Code, radix: Radix, token: &Token) -> bool
         Code::IC => is_bad(token.kind),
         Code::NU => is_bad_number(radix, token.kind),
         Code::UA(name) => is_name(*name, token.kind),
-        Code::SY | Code::DT | Code::RD | Code::IR | Code::II | Code::FD => false,
+        Code::DT(name) => is_name(*name, token.kind),
+        Code::SY | Code::RD | Code::IR | Code::II | Code::FD => false,
         Code::PG | Code::PF | Code::DZ | Code::PE | Code::ZE | Code::PH | Code::NE => false,
         Code::RL | Code::NW | Code::PageClash(_) | Code::ZeroClash(_) => false,
     }

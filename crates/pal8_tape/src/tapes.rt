@@ -69,7 +69,7 @@ fn at_token(alloc: Global, source: &[u8], code: Code, at: Place) -> Result<Fault
 }
 
 /// A fault of a source that is at a byte, by its number from 0.
-fn at_mark(source: &[u8], code: Code, line: u64, at: usize) -> Fault
+pub(crate) fn at_mark(source: &[u8], code: Code, line: u64, at: usize) -> Fault
     ensures { result ≡ record { code = code; line = line; place = places.place_of source.now at; byte = get_or source.now at 0 } }
 {
     let byte = match source.get(at) {

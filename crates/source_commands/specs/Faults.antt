@@ -7,6 +7,7 @@ use Rattle.host_sources.specs.Further.{further_faults}
 use Rattle.host_sources.specs.declared.faults.About.{About}
 use Rattle.host_sources.specs.declared.faults.Fault as pal3_fault
 use Rattle.pal8_tape.specs.FaultLines as pal8
+use Rattle.pal8_tape.specs.Further as pal8_further
 use Rattle.pal8_tape.specs.Signs.{sign_text}
 use Rattle.pal8_tape.specs.declared.faults.Fault as pal8_fault
 use Rattle.outcome.specs.Notes.{name_text, plain_text}
@@ -58,6 +59,8 @@ faults_text sources names fault =
     top_bits_notes sources names ++ pal3.fault_text sources names fault ++ sign_note (sign_text fault.about)
     ++ further_text (map (pal3.fault_text sources names) (further_faults sources MOST_FURTHER))
 
--- what is printed of the faults of a PAL8 source
+-- what is printed of the faults of a PAL8 source: the first one, and then the further ones
 abbrev pub pal8_faults_text : List ℕ → List ℕ → pal8_fault.Fault → List ℕ
-pal8_faults_text source name fault = top_bits_note source name ++ pal8.fault_text source name fault ++ further_text []
+pal8_faults_text source name fault =
+    top_bits_note source name ++ pal8.fault_text source name fault
+    ++ further_text (map (pal8.fault_text source name) (pal8_further.further_faults source MOST_FURTHER))

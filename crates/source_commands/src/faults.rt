@@ -3,6 +3,8 @@ ghost use Rattle.std.specs.Prelude.{◌≡◌, ◌++◌, ◌∷◌, [], map, OnO
 ghost use Rattle.host_sources.specs.FaultLines as pal3;
 ghost use Rattle.host_sources.specs.Further.{further_faults};
 ghost use Rattle.outcome.specs.Notes.{note_text};
+ghost use Rattle.pal8_tape.specs.FaultLines as pal8;
+ghost use Rattle.pal8_tape.specs.Further as pal8_further;
 ghost use Rattle.pal8_tape.specs.Signs as signs;
 ghost use Rattle.volume_commands.specs.Answers.{AreLines};
 ghost use Rattle.source_commands.specs.Faults as spec;
@@ -46,11 +48,12 @@ pub(crate) fn pal8_faults_text(
 ) -> Result<Vec<u8>, Ending>
     ensures { AreLines (spec.pal8_faults_text source.now name.now fault) result }
 {
+    let further = pal8_further_texts(alloc, source, name)?;
     let first = pal8_tape::fault_text(alloc, source, name, fault)?;
     let mut text = Vec::new(alloc);
     put_top_bits_note(alloc, source, name, &mut text)?;
     text.extend_from_slice(&first)?;
-    put_further(&[], &mut text)?;
+    put_further(&further, &mut text)?;
     Ok(text)
 }
 
@@ -77,6 +80,35 @@ fn texts_of(
     let mut rest = faults;
     while let [fault, others @ ..] = rest {
         let text = host_sources::fault_text(alloc, sources, names, *fault)?;
+        add(&mut texts, text)?;
+        rest = others;
+    }
+    Ok(texts)
+}
+
+/// The texts of the faults of a PAL8 source after the first, so many of them as are printed.
+fn pal8_further_texts(alloc: Global, source: &[u8], name: &str) -> Result<Vec<Vec<u8>>, Ending>
+    ensures { AreFurther (map (pal8.fault_text source.now name.now) (pal8_further.further_faults source.now MOST_FURTHER)) result }
+{
+    match pal8_tape::further_faults(alloc, source, MOST_FURTHER) {
+        Ok(faults) => pal8_texts_of(alloc, source, name, &faults),
+        Err(_) => Err(Ending::Fault(SessionFault::Memory)),
+    }
+}
+
+/// The texts of faults of a PAL8 source.
+fn pal8_texts_of(
+    alloc: Global,
+    source: &[u8],
+    name: &str,
+    faults: &[pal8_tape::Fault],
+) -> Result<Vec<Vec<u8>>, Ending>
+    ensures { AreFurther (map (pal8.fault_text source.now name.now) faults.now) result }
+{
+    let mut texts = Vec::new(alloc);
+    let mut rest = faults;
+    while let [fault, others @ ..] = rest {
+        let text = pal8_tape::fault_text(alloc, source, name, *fault)?;
         add(&mut texts, text)?;
         rest = others;
     }
