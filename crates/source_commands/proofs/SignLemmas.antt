@@ -1,9 +1,9 @@
 -- The word of PAL8 at which a source has its fault is ASCII, so it is a text.
 use Rattle.std.proofs.Common.{◌≡◌, ◌<◌, ◌+◌, ◌/◌, ◌%◌, ℕ, zero, suc, Bool, true, false, if◌then◌else◌, List, [], ◌∷◌, ◌++◌, arith, refl}
-use Rattle.std.specs.Prelude.{nat_eq, nat_lt, ◌||◌}
+use Rattle.std.specs.Prelude.{nat_eq, nat_lt}
 use Rattle.std.specs.Str.{IsAscii}
 use Rattle.std.proofs.lemmas.Bool.Decides.{nat_tests}
-use Rattle.host_sources.specs.Spelling.{character, character_of, codes_of, spelt}
+use Rattle.host_sources.specs.Spelling.{character_of, codes_of, spelt}
 use Rattle.host_sources.specs.declared.faults.About.{About}
 use Rattle.host_sources.specs.declared.faults.About.TheVariants.{Nothing, Name, Character}
 use Rattle.pal8_tape.specs.Signs.{is_of_pal8, sign_text}

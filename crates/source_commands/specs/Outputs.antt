@@ -1,5 +1,5 @@
 -- Where a listing and a tape are written: to a file of the host, to standard output, or to a file of a volume.
-use Rattle.std.specs.Prelude.{◌≡◌, ℕ, Bool, true, false, Option, None, Some, String, Result, Ok, Err, List, length}
+use Rattle.std.specs.Prelude.{◌≡◌, ℕ, Bool, true, false, Option, None, Some, String, Result, List, length}
 use Rattle.std.specs.Global.{Vec, Global}
 use Rattle.hosts.specs.Event.{Event}
 use Rattle.char_pack.specs.declared.forms.PutForm.TheVariants.{Frames}

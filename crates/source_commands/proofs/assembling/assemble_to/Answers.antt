@@ -1,4 +1,4 @@
-use Rattle.std.proofs.Common.{inr, rules}
+use Rattle.std.proofs.Common.{inr}
 use Rattle.source_commands.proofs.assembling.assemble_to.Goals as goal
 
 pub returns : goal.returns
