@@ -1,5 +1,5 @@
 -- The columns of an index at a terminal (this project's profile).
-use Rattle.std.specs.Prelude.{◌≡◌, ◌⊎◌, ℕ, nat_lt, Bool, true, false, not, ◌&&◌, if◌then◌else◌, Result, Ok, Err, List, [], ◌∷◌, length}
+use Rattle.std.specs.Prelude.{◌≡◌, ◌⊎◌, ℕ, ◌+◌, ◌-◌, Bool, true, false, not, ◌&&◌, if◌then◌else◌, Result, Ok, Err, List, [], ◌∷◌, length}
 use Rattle.hosts.specs.Event.{Event, terminal_call}
 use Rattle.script8.specs.declared.faults.SessionFault.TheVariants.{Memory}
 use Rattle.outcome.specs.declared.endings.Ending.{Ending}
@@ -9,8 +9,9 @@ use Rattle.volume_commands.specs.Saving.{Prints}
 use Rattle.text_columns.specs.Columns.{with_columns}
 use Rattle.index_commands.specs.declared.columns.Columns.{Columns}
 
+-- the larger of two
 abbrev pub larger : ℕ → ℕ → ℕ
-larger a b = if nat_lt a b then b else a
+larger a b = a + (b - a)
 
 -- how many bytes the longest of some names has
 abbrev pub longest : List (List ℕ) → ℕ

@@ -72,8 +72,8 @@ fn longest(images: &[String]) -> usize
 {
     let mut most = 0;
     let mut rest = images;
-    while let [others @ .., image] = rest {
-        most = larger(image.len(), most);
+    while let [image, others @ ..] = rest {
+        most = larger(most, image.len());
         rest = others;
     }
     most
