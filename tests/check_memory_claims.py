@@ -30,8 +30,8 @@ PLACES: dict[str, dict[str, tuple[int, str]]] = {
     "volume_index/src/kinds.rt": {
         "kind_of_words": (1, "`kind_of`'s own, in the arm of its pattern"),
     },
-    "many_commands/src/wishes.rt": {
-        "add_word": (1, "`chosen`'s own, in the arm of its pattern"),
+    "archive_many/src/wishes.rt": {
+        "add_word": (1, "`choose_files`'s own, in the arm of its pattern"),
     },
     "pal8_asm/src/late.rt": {
         "put": (1, "`late_value`'s own, in the arm of its pattern"),

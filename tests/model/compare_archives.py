@@ -100,7 +100,8 @@ class Case:
 
     def delete(self) -> str:
         random, image = self.random, self.random.choice(IMAGES)
-        asked = [random_asked(random, self.keeper.volumes[image]) for _ in range(random.choice([1, 1, 2, 3]))]
+        volume, share = self.keeper.volumes[image], random.choice([0, 0, 0.5])
+        asked = [random_pattern(random, volume).encode() if random.random() < share else random_asked(random, volume) for _ in range(random.choice([1, 1, 2, 3]))]
         asked.sort(key=lambda it: isinstance(it, int))
         words = ["delete", image, *(word for it in asked for word in asked_words(it)), *self.held[image].words()]
         return self.differs(words, b"", self.keeper.delete(image, asked))

@@ -122,8 +122,14 @@ class Keeper:
         return lines, 0
 
     def delete(self, image: str, asked: list[Asked]) -> Answer:
-        """Takes files out, all or none."""
+        """Takes files out, all or none. With a pattern among them each is taken out once, where it is asked for first."""
         volume, lines = self.volumes[image], []
+        if any(has_sign(asked_text(it)) for it in asked):
+            names, refused_lines = self.chosen(image, [asked_text(it) for it in asked], False)
+            if refused_lines:
+                word, _, why = refused_lines[0].rpartition(": ")
+                return [f"note: {word} is refused, and no file is taken out", why], 1
+            asked = [volume.places[it] for it in names]
         for one in asked:
             name, why = found(volume, one)
             if name is not None and not why:
@@ -199,7 +205,7 @@ class Keeper:
         for typed in words:
             word = typed if typed.startswith("--at ") else typed.upper()
             asked: Asked = int(word[5:]) if word.startswith("--at ") else word.encode()
-            if "*" in word or "?" in word:
+            if has_sign(word):
                 found_names, why = [it for it in in_order if is_like(word, it)], "" if is_pattern(word) else BAD_NAME
                 found_names, why = ([], why) if why else (found_names, "" if found_names else NOT_FOUND)
             else:
@@ -213,6 +219,10 @@ class Keeper:
 
 def extension(name: Name) -> str:
     return shown_word(name[3])
+
+
+def has_sign(word: str) -> bool:
+    return "*" in word or "?" in word
 
 
 def is_pattern(word: str) -> bool:

@@ -35,7 +35,7 @@ some-eq : {X : Type 0} (x y : X) → Some x ≡ Some y → x ≡ y
 some-eq x y same = cc
 
 -- an image is that of one list of blocks
-one-volume : WrittenIsReadBack → (bytes : List ℕ) (one two : List (List ℕ)) → IsImageOf bytes one → IsImageOf bytes two → two ≡ one
+pub one-volume : WrittenIsReadBack → (bytes : List ℕ) (one two : List (List ℕ)) → IsImageOf bytes one → IsImageOf bytes two → two ≡ one
 one-volume law bytes one two is also = law bytes one (Ok (record { blocks = two; reads = 0; writes = 0 })) is (also, refl, refl)
 
 -- ## Maps

@@ -7,3 +7,5 @@ pub mod ChoiceLemmas
 pub mod LawLemmas
 pub mod SpelledLemmas
 pub mod VolumeLemmas
+pub mod WishLemmas
+pub mod GoneLemmas

@@ -31,11 +31,11 @@ same-following : {X : Type 0} (x y : X) (xs ys : List X) → x ∷ xs ≡ y ∷ 
 same-following x y xs ys is = cc
 
 -- the names of files
-abbrev names : List FilePlace → List ℕ
+abbrev pub names : List FilePlace → List ℕ
 names [] = []
 names (f ∷ fs) = f.name ∷ names fs
 
-names-at : (place : ℕ) (es : List DirEntry) → names (files_at place es) ≡ names_of es
+pub names-at : (place : ℕ) (es : List DirEntry) → names (files_at place es) ≡ names_of es
 names-at place [] = refl
 names-at place (entry.File name info zero ∷ es) = names-at place es
 names-at place (entry.File name info (suc size) ∷ es) = ap (λ l. name ∷ l) (names-at (place + suc size) es)

@@ -1,7 +1,8 @@
 -- What holds of files that were put into an image at once, of words that choose files, and of the files of a volume.
-use Rattle.std.specs.Prelude.{◌≡◌, ◌≢◌, ℕ, ◌<◌, true, codes, Option, Some, Ok, List, [], ◌∷◌, ◌++◌, All}
+use Rattle.std.specs.Prelude.{◌≡◌, ◌≢◌, ℕ, ◌<◌, true, false, if◌then◌else◌, codes, Option, Some, None, Ok, List, [], ◌∷◌, ◌++◌, All, map}
 use Rattle.std.specs.Global.{Vec}
 use Rattle.std.specs.FinMap.{get}
+use Rattle.volume_image.specs.Image.{IsImageOf}
 use Rattle.volume_image.specs.Volume.{IsVolume}
 use Rattle.char_pack.specs.declared.forms.GetForm.{GetForm}
 use Rattle.char_pack.specs.declared.forms.GetForm.TheVariants as get_as
@@ -9,11 +10,14 @@ use Rattle.char_pack.specs.declared.forms.PutForm.TheVariants as put_as
 use Rattle.os8_dir.specs.Names.{parsed_name}
 use Rattle.os8_dir.specs.Files.{FileData, files_of}
 use Rattle.archive_files.specs.Opening.{IsOpened}
+use Rattle.archive_files.specs.Deleting.{DeletesFiles}
+use Rattle.archive_files.specs.declared.deleting.DeletedImage.{DeletedImage}
 use Rattle.archive_files.specs.Getting.{IsGiven}
 use Rattle.archive_files.specs.Laws.{whole_blocks}
 use Rattle.archive_many.specs.Opened.{GetsFile, LiesOn, OpensVolume, files_on}
 use Rattle.archive_many.specs.Putting.{PutsAll, words_in}
-use Rattle.archive_many.specs.Patterns.{is_choice, matches}
+use Rattle.archive_many.specs.Patterns.{is_choice, is_like_one, matches}
+use Rattle.archive_many.specs.Wishing.{by_place, first_unfound, found_files, wishes_of}
 use Rattle.archive_many.specs.HostNames.{NamesHost}
 use Rattle.archive_many.specs.declared.opened.VolumeFile.{VolumeFile}
 use Rattle.archive_many.specs.declared.putting.NewFile.{NewFile}
@@ -69,6 +73,15 @@ pub record AllAreLike : Type 0 where
 -- only the name that a word spells is like that word
 abbrev pub SpelledAlone : Type 0
 SpelledAlone = (word : List ℕ) (spelled name : ℕ) → parsed_name word ≡ Some spelled → matches word name ≡ true → name ≡ spelled
+
+-- ## Files that are taken out
+
+-- After the files that words choose are taken out, where each word chooses one, the volume has just those whose names are like no word. Each of
+-- these has its words and its information words.
+abbrev pub LikeAreGone : Type 0
+LikeAreGone = (image : List ℕ) (old : List (List ℕ)) (words : List (List ℕ)) (new : DeletedImage) → IsOpened image old → first_unfound (wishes_of (files_on old) false words []) ≡ None
+    → DeletesFiles image (map by_place (found_files (wishes_of (files_on old) false words []))) (Ok new)
+    → (blocks : List (List ℕ)) × IsImageOf new.bytes.items blocks × ((name : ℕ) → get (files_of blocks) name ≡ (if is_like_one words name then None else get (files_of old) name))
 
 -- ## Files of a volume
 

@@ -10,3 +10,5 @@ pub mod PutSteps
 pub mod PatternSteps
 pub mod ExtensionSteps
 pub mod Laws
+pub mod Wishing
+pub mod WishSteps

@@ -88,12 +88,22 @@ like_extension (Some pattern) = like pattern
 abbrev pub matches : List ℕ → ℕ → Bool
 matches word name = like (before_dot word) (stem_of (words_of_name name)) && like_extension (after_dot word) (extension_of (words_of_name name))
 
+-- a name is like one of some words
+abbrev pub is_like_one : List (List ℕ) → ℕ → Bool
+is_like_one [] name = false
+is_like_one (word ∷ words) name = matches word name || is_like_one words name
+
 -- ## Words that choose
 
 -- a sign stands in a word
 abbrev pub has_sign : List ℕ → Bool
 has_sign [] = false
 has_sign (character ∷ word) = is_sign character || has_sign word
+
+-- a pattern is among words: one in which a sign stands
+abbrev pub has_pattern : List (List ℕ) → Bool
+has_pattern [] = false
+has_pattern (word ∷ words) = has_sign word || has_pattern words
 
 -- capital letters, digits and signs
 abbrev pub are_of_pattern : List ℕ → Bool

@@ -1,5 +1,5 @@
 //! What holds of many files that are got and put. Each function does nothing: its contract is the law.
-ghost use Rattle.archive_many.specs.Laws.{AllAreLike, EachLies, NamesDiffer, OthersLie, OthersStay, PutAreGot, PutAreThere, PutFramesAreGot, SpelledAlone};
+ghost use Rattle.archive_many.specs.Laws.{AllAreLike, EachLies, LikeAreGone, NamesDiffer, OthersLie, OthersStay, PutAreGot, PutAreThere, PutFramesAreGot, SpelledAlone};
 
 use char_pack::laws::packed_bytes;
 use os8_dir::laws::{files_found, sound_directory};
@@ -25,6 +25,15 @@ pub fn words_choose()
     ensures all { AllAreLike }
     ensures one { SpelledAlone }
 {}
+
+/// A law: after the files that words choose are taken out, the volume has just those whose names are like no word, each as it was.
+pub fn chosen_are_gone()
+    ensures { LikeAreGone }
+{
+    image_round_trip();
+    files_found();
+    sound_directory();
+}
 
 /// A law: each file that is listed of a volume lies on it where the list says, so it can be got.
 pub fn files_lie()

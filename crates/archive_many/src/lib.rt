@@ -14,6 +14,7 @@ mod opened;
 mod patterns;
 mod putting;
 mod raw;
+mod wishes;
 
 pub use choosing::{at_place, choose_files};
 pub use emptying::empties;
@@ -21,5 +22,7 @@ pub use extensions::{bad_extensions, is_text};
 pub use faults::{BlocksFault, ChoiceFault, ManyFault};
 pub use host_names::{host_name, volume_name};
 pub use opened::{OpenVolume, VolumeFile, open};
+pub use patterns::has_pattern;
 pub use putting::{ManyImage, NewFile, put_all};
 pub use raw::blocks_of;
+pub use wishes::{Wish, first_unfound, wishes_of};

@@ -1,4 +1,4 @@
-ghost use Rattle.std.specs.Prelude.{◌≡◌, ◌≤◌, [], ◌∷◌, length, take};
+ghost use Rattle.std.specs.Prelude.{◌≡◌, ◌≤◌, [], ◌∷◌, length, map, take};
 ghost use Rattle.os8_dir.specs.Names.{before_dot, words_of_name};
 ghost use Rattle.archive_many.specs.Patterns as spec;
 ghost use Rattle.archive_many.specs.PatternSteps.{is_pattern_from, like_from};
@@ -36,6 +36,18 @@ pub fn is_choice(word: &[u8]) -> bool
     } else {
         Name::parse(word).is_some()
     }
+}
+
+/// Whether a pattern is among words: one in which `*` or `?` stands.
+pub fn has_pattern(words: &[String]) -> bool
+    ensures { result ≡ spec.has_pattern (map (λ word. word.bytes.items) words.now) }
+{
+    for word in words {
+        if has_sign(word.as_bytes()) {
+            return true;
+        }
+    }
+    false
 }
 
 /// The place of the first dot, or the length of a word with none.
@@ -148,10 +160,14 @@ fn is_sign(character: u8) -> bool
 fn has_sign(word: &[u8]) -> bool
     ensures { result ≡ spec.has_sign word.now }
 {
-    match word {
-        [] => false,
-        [character, following @ ..] => is_sign(*character) || has_sign(following),
+    let mut rest = word;
+    while let [character, others @ ..] = rest {
+        if is_sign(*character) {
+            return true;
+        }
+        rest = others;
     }
+    false
 }
 
 /// Whether a word is a pattern.

@@ -152,8 +152,8 @@ pub fn texts_of(verb: Verb) -> Texts {
         },
         Verb::Delete => Texts {
             about: "Take files out of a volume",
-            long_about: "Takes the files NAME out of the OS/8 volume in the file IMAGE, and those whose first blocks --at{n}gives, and prints DELETED and the name of each. After a fault of one of them the image is as it{n}was.",
-            examples: "Examples:\n  pdp8 delete disk.img old.tx\n  pdp8 delete disk.img --at 70 --at 83",
+            long_about: "Takes the files NAME out of the OS/8 volume in the file IMAGE, and those whose first blocks --at{n}gives, and prints DELETED and the name of each. A pattern, as '*.PA', stands for each name that it{n}fits, and each file is then taken out once. After a fault of one of them the image is as it was.",
+            examples: "Examples:\n  pdp8 delete disk.img old.tx '*.bn'\n  pdp8 delete disk.img --at 70 --at 83",
         },
         Verb::Rename => Texts {
             about: "Give a file of a volume another name",

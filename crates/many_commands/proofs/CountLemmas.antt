@@ -2,8 +2,8 @@
 use Rattle.std.proofs.Common.{◌≡◌, ◌+◌, ◌-◌, ◌≤◌, ℕ, Bool, true, false, List, ◌∷◌, ap, arith, drop, length, take}
 use Rattle.many_commands.specs.Checking.{with_refusal}
 use Rattle.many_commands.specs.GettingMany.{count_after}
-use Rattle.many_commands.specs.declared.wishes.Wish.{Wish}
-use Rattle.many_commands.specs.declared.wishes.Wish.TheVariants as wish
+use Rattle.archive_many.specs.declared.wishes.Wish.{Wish}
+use Rattle.archive_many.specs.declared.wishes.Wish.TheVariants as wish
 
 pub few-more : (is_sound : Bool) (refused done new : ℕ) → new ≡ with_refusal is_sound refused → refused ≤ done → new ≤ done + 1
 few-more true refused done new is few = omega (arith, is, few)

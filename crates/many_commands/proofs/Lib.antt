@@ -2,7 +2,7 @@ pub mod CountLemmas
 pub mod WorkLemmas
 pub mod VolumeLemmas
 pub mod NameLemmas
-pub mod WishLemmas
+pub mod WordLemmas
 pub mod Keeping
 pub mod Looking
 pub mod Refusing

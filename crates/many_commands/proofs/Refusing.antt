@@ -4,7 +4,7 @@ use Rattle.hosts.specs.Event.{Event}
 use Rattle.outcome.specs.declared.endings.Ending.{Ending}
 use Rattle.outcome.specs.declared.endings.Ending.TheVariants as ending
 use Rattle.script8.specs.declared.faults.SessionFault.TheVariants as session
-use Rattle.archive_files.specs.Asking.{Target, target_of}
+use Rattle.archive_files.specs.Asking.{Target, AtBlock, target_of}
 use Rattle.archive_files.specs.declared.faults.ArchiveFault.{ArchiveFault}
 use Rattle.archive_files.specs.declared.faults.CopyFault.{CopyFault}
 use Rattle.archive_files.specs.declared.faults.CopyFault.TheVariants.{From, To}
@@ -14,22 +14,27 @@ use Rattle.archive_files.specs.declared.faults.RenameFault.{RenameFault}
 use Rattle.archive_files.specs.declared.faults.RenameFault.TheVariants as rename
 use Rattle.archive_files.specs.declared.places.TextPlace.{TextPlace}
 use Rattle.archive_files.specs.Squeezing.{SqueezesFiles}
+use Rattle.archive_many.specs.Opened.{OpensVolume}
+use Rattle.archive_many.specs.Patterns.{has_pattern}
+use Rattle.archive_many.specs.declared.wishes.Wish.{Wish}
+use Rattle.archive_many.specs.declared.wishes.Wish.TheVariants as wish
 use Rattle.program_tasks.specs.declared.forms.CopyForm.{CopyForm}
 use Rattle.program_tasks.specs.declared.forms.DeleteForm.{DeleteForm}
 use Rattle.program_tasks.specs.declared.forms.ImageForm.{ImageForm}
 use Rattle.program_tasks.specs.declared.forms.PutOneForm.{PutOneForm}
 use Rattle.volume_commands.specs.Answers.{Answers, AreLines}
-use Rattle.volume_commands.specs.Asking.{MeansFile, MeansFiles}
+use Rattle.volume_commands.specs.Asking.{AreNamed, MeansFile}
 use Rattle.volume_commands.specs.Changing.{Changes, GivesName, RefusesName, Renames, Squeezes}
+use Rattle.volume_commands.specs.Choosing.{AreWished, Chooses, FindsAll, MeansFiles, MeansIf, RefusesWish, TellsRefused, one_of_several, word_at, words_in}
 use Rattle.volume_commands.specs.Copying.{Copies, CopiesFrom, CopiesInto, MakesCopy, RefusesCopy, RefusesIf, is_one_image, is_want_of}
-use Rattle.volume_commands.specs.Deleting.{Deletes, DeletesAsked, TakesOut, RefusesFile, TellsRefused, one_of_several}
+use Rattle.volume_commands.specs.Deleting.{Deletes, TakesMeant, TakesOut, RefusesFile}
 use Rattle.volume_commands.specs.Putting.{KeepsWords, MakesNew, Puts, PutsInto, Reads, ReadsIf, TakesInput, TellsIf, TellsPlace, is_bad_text, stored_line}
 use Rattle.volume_commands.specs.Reading.{LooksAt, Opens}
 use Rattle.volume_commands.specs.Saving.{Stores}
 use Rattle.volume_commands.specs.Work.{Then, Purely}
 use Rattle.volume_commands.specs.declared.images.Image.{Image}
 use Rattle.many_commands.specs.Laws.{ChangesNothing, LeavesFiles, NeverChanges}
-use Rattle.many_commands.proofs.Keeping.{answers-never, looks-at-never, looks-never, opens-never, purely-never, refuses-never, same, stores-leaves, then-leaves, told}
+use Rattle.many_commands.proofs.Keeping.{answers-never, looks-at-never, looks-never, opens-never, purely-never, refuses-never, same, stores-leaves, then-leaves, then-never, told}
 
 -- ## One change of an image
 
@@ -72,9 +77,32 @@ takes-out-never wanted image old (Err ending) new (inl (why, deletes, p)) = refu
     refused (Name place fault) r = tells-refused (one_of_several wanted place) old new r.1
 takes-out-never wanted image old (Err ending) new (inr p) = same old new p.1
 
+refuses-wish : (form : DeleteForm) (one : Wish) (old : List Event) (ending : Ending) (new : List Event) → RefusesWish form one old ending new → ChangesNothing old new
+refuses-wish form (wish.File file) old ending new p = absurd p
+refuses-wish form (wish.BadWord place) old ending new p = tells-refused (word_at form place) old new p.1
+refuses-wish form (wish.NotFound place) old ending new p = tells-refused (word_at form place) old new p.1
+refuses-wish form (wish.Block block) old ending new p = tells-refused (Some (AtBlock block)) old new p.1
+
+finds-all-never : (form : DeleteForm) (wishes : List Wish) → NeverChanges (FindsAll form wishes)
+finds-all-never form wishes old (Ok files) new p = same old new p.2
+finds-all-never form wishes old (Err ending) new (inl (one, first, p)) = refuses-wish form one old ending new p
+finds-all-never form wishes old (Err ending) new (inr p) = same old new p.1
+
+chooses-never : (form : DeleteForm) (image : List ℕ) → NeverChanges (Chooses form image)
+chooses-never form image =
+    then-never (Answers (OpensVolume image) (length image)) (λ blocks. Then (Purely (AreWished form blocks)) (λ wishes. FindsAll form wishes.items)) (answers-never (OpensVolume image) (length image))
+    (λ blocks. then-never (Purely (AreWished form blocks)) (λ wishes. FindsAll form wishes.items) (purely-never (AreWished form blocks)) (λ wishes. finds-all-never form wishes.items))
+
+means-if-never : (is : Bool) (form : DeleteForm) (image : List ℕ) → NeverChanges (MeansIf is form image)
+means-if-never true form image = chooses-never form image
+means-if-never false form image = purely-never (AreNamed form)
+
+takes-meant-never : (form : DeleteForm) (image : List ℕ) → NeverChanges (TakesMeant form image)
+takes-meant-never form image =
+    then-never (MeansFiles form image) (λ files. TakesOut (map target_of files.items) image) (means-if-never (has_pattern (words_in form)) form image) (λ files. takes-out-never (map target_of files.items) image)
+
 pub deletes-leave : (form : DeleteForm) → LeavesFiles (Deletes form)
-deletes-leave form = then-leaves (Purely (MeansFiles form)) (λ files. DeletesAsked (map target_of files.items) form.image) (purely-never (MeansFiles form))
-    (λ files. changes-leave (TakesOut (map target_of files.items)) _ _ form.image (takes-out-never (map target_of files.items)))
+deletes-leave form = changes-leave (TakesMeant form) _ _ form.image (takes-meant-never form)
 
 -- ## A copy
 

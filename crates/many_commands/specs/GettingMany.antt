@@ -29,8 +29,8 @@ use Rattle.many_commands.specs.Reporting.{EndsSound, named_lines}
 use Rattle.many_commands.specs.Progressing.{TellsProgress, WithProgress}
 use Rattle.many_commands.specs.Texts.{TakesLists, get_form}
 use Rattle.many_commands.specs.Wishing.{AreWishes, words_of}
-use Rattle.many_commands.specs.declared.wishes.Wish.{Wish}
-use Rattle.many_commands.specs.declared.wishes.Wish.TheVariants as wish
+use Rattle.archive_many.specs.declared.wishes.Wish.{Wish}
+use Rattle.archive_many.specs.declared.wishes.Wish.TheVariants as wish
 
 -- ## A file of the host
 

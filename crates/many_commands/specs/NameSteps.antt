@@ -1,12 +1,10 @@
--- Sets of names and of blocks that are taken. No contract of a public function cites these.
+-- Sets of names that are taken. No contract of a public function cites these.
 use Rattle.std.specs.Prelude.{◌≡◌, ℕ, Bool, List}
 use Rattle.std.specs.Ordering.{nat_cmp}
 use Rattle.std.specs.BTreeSet.{BTreeSet}
 use Rattle.std.specs.BTreeSet as set
 use Rattle.archive_many.specs.declared.putting.NewFile.{NewFile}
 use Rattle.many_commands.specs.PuttingMany.{has_name}
-use Rattle.many_commands.specs.Wishing.{has_place}
-use Rattle.many_commands.specs.declared.wishes.Wish.{Wish}
 
 -- a number is in a set
 abbrev pub has_key : BTreeSet ℕ → ℕ → Bool
@@ -15,7 +13,3 @@ has_key names name = set.contains nat_cmp names name
 -- a set has the names of some files
 abbrev pub KnowsNames : BTreeSet ℕ → List NewFile → Type 0
 KnowsNames names files = (name : ℕ) → has_key names name ≡ has_name name files
-
--- a set has the first blocks of the files that are asked for
-abbrev pub KnowsPlaces : BTreeSet ℕ → List Wish → Type 0
-KnowsPlaces places wishes = (place : ℕ) → has_key places place ≡ has_place place wishes

@@ -1,24 +1,22 @@
 //! The command that writes several files of the volume in an image file to a folder of the host, each whole or not at all.
 ghost use Rattle.std.specs.Prelude.{◌≡◌, ◌⊎◌, ◌<◌, ◌&&◌, ◌++◌, codes, decimal, false, length, map, slice_get, true, IfOk};
-ghost use Rattle.archive_many.specs.Opened.{OpensVolume};
 ghost use Rattle.script8.specs.Replies.{fault_line};
 ghost use Rattle.os8_dir.specs.declared.file_faults.FileFault.TheVariants.{NotFound};
 ghost use Rattle.outcome.specs.declared.endings.Ending.TheVariants.{Line, Fault};
 ghost use Rattle.program_reports.specs.declared.programs.ProgramLine.TheVariants.{HostWrite};
 ghost use Rattle.script8.specs.declared.faults.SessionFault.TheVariants as session;
-ghost use Rattle.volume_commands.specs.Answers.{Answers};
 ghost use Rattle.many_commands.specs.Reporting.{named_lines};
 ghost use Rattle.volume_commands.specs.Work.{Then};
 ghost use Rattle.many_commands.specs.Progressing.{TellsProgress, WithProgress};
 ghost use Rattle.many_commands.specs.GettingMany as spec;
+ghost use Rattle.many_commands.specs.Wishing.{AreWishes};
 ghost use Rattle.many_commands.specs.GettingMany.{AreFilesOn, GetsMany, GivesAsked, GivesEach, GivesFile, GivesWish, MakesFolder, PrintsAnswer, RefusesWord};
 
 use crate::giving::{give_file, refuse};
 use crate::progress::Progress;
 use crate::reports::end_sound;
 use crate::texts::take_lists;
-use crate::wishes::{Wish, wishes_of};
-use archive_many::{OpenVolume, VolumeFile, open};
+use archive_many::{OpenVolume, VolumeFile, Wish, wishes_of};
 use hosts::{Host, HostFault};
 use os8_dir::FileFault;
 use outcome::Ending;
@@ -26,7 +24,7 @@ use program_reports::ProgramLine;
 use program_tasks::GetManyForm;
 use script8::SessionFault;
 use std::alloc::{AllocError, Global};
-use volume_commands::{look_at, refuse_image};
+use volume_commands::{look_at, open_volume};
 
 /// Writes files of the volume in an image file to a folder, and reports each. The image file doesn't change.
 pub fn get_files<H: Host>(host: &mut H, alloc: Global, form: &GetManyForm) -> Result<(), Ending>
@@ -34,18 +32,8 @@ pub fn get_files<H: Host>(host: &mut H, alloc: Global, form: &GetManyForm) -> Re
 {
     take_lists(host, alloc, &form.texts)?;
     let image = look_at(host, alloc, &form.image)?;
-    let volume = volume_in(host, alloc, &image)?;
+    let volume = open_volume(host, alloc, &image)?;
     give_asked(host, alloc, form, &volume)
-}
-
-/// The volume in an image. Where it is refused, what may help is printed.
-fn volume_in<H: Host>(host: &mut H, alloc: Global, image: &[u8]) -> Result<OpenVolume, Ending>
-    ensures { Answers (OpensVolume image.now) (length image.now) (H.history host.old) result (H.history host.new) }
-{
-    match open(alloc, image) {
-        Ok(volume) => Ok(volume),
-        Err(fault) => Err(refuse_image(host, image.len(), fault)),
-    }
 }
 
 /// Gives the files of a volume that are asked for.
@@ -58,7 +46,7 @@ fn give_asked<H: Host>(
     ensures { GivesAsked form.now volume.now (H.history host.old) result (H.history host.new) }
 {
     let files = files_on(alloc, volume)?;
-    let wishes = wishes_of(alloc, form, &files)?;
+    let wishes = wishes_in(alloc, form, &files)?;
     make_folder(host, form.folder.as_str())?;
     let are_there = give_all(host, alloc, form, volume, files.len(), &wishes)?;
     end_sound(are_there)
@@ -69,6 +57,14 @@ fn files_on(alloc: Global, volume: &OpenVolume) -> Result<Vec<VolumeFile>, Endin
 {
     let files = volume.files(alloc)?;
     Ok(files)
+}
+
+/// What the words of the command ask for of these files.
+fn wishes_in(alloc: Global, form: &GetManyForm, files: &[VolumeFile]) -> Result<Vec<Wish>, Ending>
+    ensures { AreWishes form.now files.now result }
+{
+    let wishes = wishes_of(alloc, files, form.is_all, &form.names, &form.places)?;
+    Ok(wishes)
 }
 
 /// Makes a folder, unless there is one of its name.

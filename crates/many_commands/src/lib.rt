@@ -12,11 +12,9 @@ mod putting;
 mod reports;
 mod texts;
 mod volumes;
-mod wishes;
 
 pub use checks::check_images;
 pub use getting::get_files;
 pub use putting::put_files;
 pub use reports::{Report, ReportKind};
 pub use volumes::{list_files, list_places};
-pub use wishes::Wish;

@@ -1,4 +1,4 @@
--- Which files of a volume the words of a command line mean.
+-- Which files of a volume names and first blocks mean.
 use Rattle.std.specs.Prelude.{◌≡◌, Result, Ok, Err, List, ◌++◌, map}
 use Rattle.std.specs.Global.{Vec}
 use Rattle.archive_files.specs.Asking.{Target, OfName, AtBlock, target_of}
@@ -19,7 +19,7 @@ MeansFile form (Err ending) = ending ≡ Fault Memory
 abbrev pub wanted_files : DeleteForm → List Target
 wanted_files form = map (λ name. OfName name.bytes.items) form.names.items ++ map AtBlock form.places.items
 
--- the files that are meant, unless memory is wanted for them
-abbrev pub MeansFiles : DeleteForm → Result (Vec Asked) Ending → Type 0
-MeansFiles form (Ok files) = map target_of files.items ≡ wanted_files form
-MeansFiles form (Err ending) = ending ≡ Fault Memory
+-- these files, unless memory is wanted for them
+abbrev pub AreNamed : DeleteForm → Result (Vec Asked) Ending → Type 0
+AreNamed form (Ok files) = map target_of files.items ≡ wanted_files form
+AreNamed form (Err ending) = ending ≡ Fault Memory

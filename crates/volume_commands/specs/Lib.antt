@@ -2,6 +2,8 @@ pub mod AnswerSteps
 pub mod Answers
 pub mod Asking
 pub mod Changing
+pub mod Choosing
+pub mod ChoiceSteps
 pub mod CopySteps
 pub mod Copying
 pub mod DeleteSteps

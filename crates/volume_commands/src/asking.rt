@@ -1,7 +1,7 @@
-//! Which files of a volume the words of a command line mean.
+//! Which files of a volume names and first blocks mean.
 ghost use Rattle.std.specs.Prelude.{◌≡◌, [], ◌∷◌, ◌++◌, map, OnOk};
 ghost use Rattle.archive_files.specs.Asking.{OfName, AtBlock, target_of};
-ghost use Rattle.volume_commands.specs.Asking.{MeansFile, MeansFiles};
+ghost use Rattle.volume_commands.specs.Asking.{AreNamed, MeansFile};
 ghost use Rattle.volume_commands.specs.Showing.{wanted_file};
 
 use archive_files::Asked;
@@ -33,8 +33,8 @@ pub(crate) fn copy_of_asked(alloc: Global, file: &FileForm) -> Result<Asked, End
 }
 
 /// The files of some names, and then those of some first blocks.
-pub(crate) fn files_meant(alloc: Global, form: &DeleteForm) -> Result<Vec<Asked>, Ending>
-    ensures { MeansFiles form.now result }
+pub(crate) fn files_named(alloc: Global, form: &DeleteForm) -> Result<Vec<Asked>, Ending>
+    ensures { AreNamed form.now result }
 {
     let mut files = Vec::new(alloc);
     add_names(alloc, &form.names, &mut files)?;
@@ -72,7 +72,7 @@ fn add_places(places: &[usize], files: &mut Vec<Asked>) -> Result<(), AllocError
     Ok(())
 }
 
-fn add_place(place: usize, files: &mut Vec<Asked>) -> Result<(), AllocError>
+pub(crate) fn add_place(place: usize, files: &mut Vec<Asked>) -> Result<(), AllocError>
     ensures { OnOk result (map target_of files.new.items ≡ map target_of files.old.items ++ AtBlock place ∷ []) }
 {
     files.push(Asked::At(place))?;

@@ -1,22 +1,23 @@
 //! The command that takes files out of the volume in an image file.
-ghost use Rattle.std.specs.Prelude.{◌≡◌, ◌++◌, map, OnOk, OnErr, IfErr, Some};
+ghost use Rattle.std.specs.Prelude.{◌≡◌, ◌++◌, map, OnOk, OnErr, IfErr};
 ghost use Rattle.archive_files.specs.Asking.{target_of};
 ghost use Rattle.script8.specs.declared.faults.SessionFault.TheVariants.{Memory};
 ghost use Rattle.outcome.specs.declared.endings.Ending.TheVariants.{Fault};
 ghost use Rattle.volume_commands.specs.Answers.{AreLines};
 ghost use Rattle.volume_commands.specs.Deleting as spec;
-ghost use Rattle.volume_commands.specs.Deleting.{Deletes, DeletesAsked, TakesOut, TellsRefused, one_of_several};
+ghost use Rattle.volume_commands.specs.Choosing.{TellsRefused, one_of_several};
+ghost use Rattle.volume_commands.specs.Deleting.{Deletes, TakesMeant, TakesOut};
 ghost use Rattle.volume_commands.specs.DeleteSteps.{IsNotTaken};
 
-use crate::asking::files_meant;
+use crate::choosing::{files_meant, tell_file};
 use crate::images::Image;
-use crate::notes::{refuse_image, tell_note};
+use crate::notes::refuse_image;
 use crate::printing::store;
 use archive_files::{Asked, DeleteFault, DeletedImage, delete};
 use hosts::Host;
 use os8_dir::Name;
-use outcome::{Ending, NameNote, Note};
-use program_tasks::{DeleteForm, ImageForm};
+use outcome::Ending;
+use program_tasks::DeleteForm;
 use script8::{LineReply, Reply, SessionFault, put_reply};
 use std::alloc::{AllocError, Global};
 
@@ -24,23 +25,23 @@ use std::alloc::{AllocError, Global};
 pub fn delete_files<H: Host>(host: &mut H, alloc: Global, form: &DeleteForm) -> Result<(), Ending>
     ensures { Deletes form.now (H.history host.old) result (H.history host.new) }
 {
-    let files = files_meant(alloc, form)?;
-    delete_asked(host, alloc, &form.image, &files)
-}
-
-/// Takes these files out.
-fn delete_asked<H: Host>(
-    host: &mut H,
-    alloc: Global,
-    form: &ImageForm,
-    files: &[Asked],
-) -> Result<(), Ending>
-    ensures { DeletesAsked (map target_of files.now) form.now (H.history host.old) result (H.history host.new) }
-{
-    let image = Image::open(host, alloc, form)?;
-    let new = image_without(host, alloc, &image.bytes, files)?;
+    let image = Image::open(host, alloc, &form.image)?;
+    let new = image_without_meant(host, alloc, form, &image.bytes)?;
     let lines = deleted_lines(alloc, &new.names)?;
     store(host, alloc, image, &new.bytes, &lines)
+}
+
+/// The image without the files that are meant.
+fn image_without_meant<H: Host>(
+    host: &mut H,
+    alloc: Global,
+    form: &DeleteForm,
+    image: &[u8],
+) -> Result<DeletedImage, Ending>
+    ensures { TakesMeant form.now image.now (H.history host.old) result (H.history host.new) }
+{
+    let files = files_meant(host, alloc, form, image)?;
+    image_without(host, alloc, image, &files)
 }
 
 /// The image without these files.
@@ -93,21 +94,6 @@ fn tell_refused<H: Host>(
     match files.get(place) {
         Some(file) => tell_file(host, alloc, file),
         None => Ok(()),
-    }
-}
-
-/// Prints that a file is refused.
-fn tell_file<H: Host>(host: &mut H, alloc: Global, file: &Asked) -> Result<(), AllocError>
-    ensures told { OnOk result (TellsRefused (Some (target_of file.now)) (H.history host.old) (H.history host.new)) }
-    ensures wanted { OnErr result (H.history host.new ≡ H.history host.old) }
-{
-    match file {
-        Asked::Name(name) => tell_note(
-            host,
-            alloc,
-            Note::OnName(NameNote::NotDeleted, name.as_str()),
-        ),
-        Asked::At(block) => tell_note(host, alloc, Note::OnBlock(*block)),
     }
 }
 

@@ -4,6 +4,7 @@
 mod answers;
 mod asking;
 mod changes;
+mod choosing;
 mod copying;
 mod creating;
 mod deleting;
@@ -23,6 +24,7 @@ mod showing_parts;
 
 pub use asking::file_asked;
 pub use changes::{rename_file, squeeze_files};
+pub use choosing::open_volume;
 pub use copying::copy_file;
 pub use creating::{create_image, create_tape};
 pub use deleting::delete_files;

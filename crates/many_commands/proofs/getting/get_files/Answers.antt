@@ -8,4 +8,4 @@ pub returns-in_err-volume : goal.returns-in_err-volume
 returns-in_err-volume g c = inr (record { given = tt; between = g.H.Host.history c.take_lists.new.host; done = search rules; after = inr (record { given = c.in_ok-image.image; between = g.H.Host.history c.look_at.new.host; done = c.in_ok-image.ensures.looks; after = inl (search rules) }) })
 
 pub returns : goal.returns
-returns g c = inr (record { given = tt; between = g.H.Host.history c.take_lists.new.host; done = search rules; after = inr (record { given = c.in_ok-image.image; between = g.H.Host.history c.look_at.new.host; done = c.in_ok-image.ensures.looks; after = inr (record { given = c.in_ok-volume.volume; between = g.H.Host.history c.volume_in.new.host; done = rw c.deref.ensures.value at c.in_ok-volume.ensures; after = c.give_asked.ensures }) }) })
+returns g c = inr (record { given = tt; between = g.H.Host.history c.take_lists.new.host; done = search rules; after = inr (record { given = c.in_ok-image.image; between = g.H.Host.history c.look_at.new.host; done = c.in_ok-image.ensures.looks; after = inr (record { given = c.in_ok-volume.volume; between = g.H.Host.history c.open_volume.new.host; done = rw c.deref.ensures.value at c.in_ok-volume.ensures; after = c.give_asked.ensures }) }) })

@@ -1,6 +1,6 @@
 use Rattle.std.proofs.Common.{subst, sym}
 use Rattle.many_commands.specs.GettingMany.{RefusesWord}
-use Rattle.many_commands.proofs.WishLemmas.{word-at}
+use Rattle.many_commands.proofs.WordLemmas.{word-at}
 use Rattle.many_commands.proofs.getting.refuse_word.Goals as goal
 
 pub returns-in-Some : goal.returns-in-Some

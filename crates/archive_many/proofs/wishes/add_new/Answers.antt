@@ -1,5 +1,5 @@
-use Rattle.many_commands.proofs.WishLemmas.{knows-bad, knows-block, knows-none}
-use Rattle.many_commands.proofs.wishes.add_new.Goals as goal
+use Rattle.archive_many.proofs.WishLemmas.{knows-bad, knows-block, knows-none}
+use Rattle.archive_many.proofs.wishes.add_new.Goals as goal
 
 pub returns-in_ok-add-in-BadWord-clause-places : goal.returns-in_ok-add-in-BadWord-clause-places
 returns-in_ok-add-in-BadWord-clause-places c = λ knows. rw c.in_ok-add-in-BadWord.ensures (knows-bad c.args.places.now c.args.wishes.now.items c.in-BadWord.place knows)

@@ -1,7 +1,7 @@
 use Rattle.std.proofs.Common.{◌≡◌, [], length}
-use Rattle.many_commands.specs.NameSteps.{KnowsPlaces}
-use Rattle.many_commands.specs.Wishing.{once}
-use Rattle.many_commands.proofs.wishes.once_each.Given as goal
+use Rattle.archive_many.specs.WishSteps.{KnowsPlaces}
+use Rattle.archive_many.specs.Wishing.{once}
+use Rattle.archive_many.proofs.wishes.once_each.Given as goal
 
 abbrev pub invariant-loop-rest : goal.invariant-loop-rest
 invariant-loop-rest l = record {

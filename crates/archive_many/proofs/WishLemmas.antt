@@ -1,23 +1,23 @@
 -- What is asked for, each file once.
-use Rattle.std.proofs.Common.{◌≡◌, ◌∙◌, ◌<◌, ◌||◌, ◌++◌, ◌∷◌, ℕ, Bool, true, false, not, nat_eq, List, [], Global, Some, String, ap, arith, if◌then◌else◌, length, map, option_map, refl, slice_get, slice_index_or, subst, sym}
+use Rattle.std.proofs.Common.{◌≡◌, ◌∙◌, ◌<◌, ◌||◌, ◌++◌, ◌∷◌, ℕ, Bool, true, false, not, nat_eq, List, [], ap, arith, if◌then◌else◌, length, map, refl, subst, sym}
 use Rattle.std.proofs.lemmas.Bool.Decides.{nat_tests}
-use Rattle.std.proofs.lemmas.Option.{slice_get-get_or, slice_get-map}
 use Rattle.std.specs.BTreeSet.{BTreeSet}
 use Rattle.archive_many.specs.Patterns.{files_like, is_choice}
 use Rattle.archive_many.specs.declared.opened.VolumeFile.{VolumeFile}
-use Rattle.many_commands.specs.NameSteps.{KnowsPlaces, has_key}
-use Rattle.many_commands.specs.Wishing.{wishes_of_word, wishes_for, has_place, with_wish}
-use Rattle.many_commands.specs.declared.wishes.Wish.{Wish}
-use Rattle.many_commands.specs.declared.wishes.Wish.TheVariants as wish
-use Rattle.many_commands.proofs.NameLemmas.{or-assoc, or-false}
+use Rattle.archive_many.specs.WishSteps.{KnowsPlaces, has_key}
+use Rattle.archive_many.specs.Wishing.{wishes_of_word, wishes_for, has_place, with_wish}
+use Rattle.archive_many.specs.declared.wishes.Wish.{Wish}
+use Rattle.archive_many.specs.declared.wishes.Wish.TheVariants as wish
+
+or-assoc : (a b c : Bool) → (a || (b || c)) ≡ ((a || b) || c)
+or-assoc true b c = refl
+or-assoc false b c = refl
+
+or-false : (a : Bool) → (a || false) ≡ a
+or-false true = refl
+or-false false = refl
 
 -- ## What a word asks for
-
--- the bytes of the word at a place
-pub word-at : (words : List (String Global)) (place : ℕ) (word : String Global) → place < length words → word ≡ slice_index_or words place word → slice_get (map (λ (w : String Global). w.bytes.items) words) place ≡ Some word.bytes.items
-word-at words place word some is =
-    slice_get-map (λ (w : String Global). w.bytes.items) words place ∙ ap (option_map (λ (w : String Global). w.bytes.items)) (slice_get-get_or words place word some)
-    ∙ ap (λ (w : String Global). Some w.bytes.items) (sym is)
 
 pub found-some : (place : ℕ) (files : List VolumeFile) → 0 < length files → wishes_for place files ≡ map wish.File files
 found-some place [] some = absurd (omega (arith, some))

@@ -1,13 +1,12 @@
 //! Which files of a volume the words of a command ask for.
-ghost use Rattle.std.specs.Prelude.{◌≡◌, ◌++◌, ◌∷◌, ◌||◌, ℕ, [], map, nat_eq, not, true, IfOk, OnOk};
-ghost use Rattle.many_commands.specs.NameSteps.{KnowsPlaces, has_key};
-ghost use Rattle.many_commands.specs.declared.wishes.Wish.TheVariants.{File};
-ghost use Rattle.many_commands.specs.Wishing as spec;
-ghost use Rattle.many_commands.specs.Wishing.{AreWishes, wishes_for_all, wish_of_block, wishes_of_word, asked_by_words, with_wish};
+ghost use Rattle.std.specs.Prelude.{◌≡◌, ◌++◌, ◌∷◌, ◌||◌, ℕ, [], map, nat_eq, not, true, false, IfOk, IfSome, OnOk};
+ghost use Rattle.archive_many.specs.WishSteps.{KnowsPlaces, has_key};
+ghost use Rattle.archive_many.specs.declared.wishes.Wish.TheVariants.{File};
+ghost use Rattle.archive_many.specs.Wishing as spec;
+ghost use Rattle.archive_many.specs.Wishing.{asked_by_words, wish_of_block, wishes_for_all, wishes_of_word, with_wish};
 
-use archive_many::{ChoiceFault, VolumeFile, at_place, choose_files};
-use outcome::Ending;
-use program_tasks::GetManyForm;
+use crate::choosing::{at_place, choose_files};
+use crate::{ChoiceFault, VolumeFile};
 use std::alloc::{AllocError, Global};
 use std::collections::BTreeSet;
 
@@ -27,32 +26,62 @@ pub enum Wish {
     Block(usize),
 }
 
-/// What the words of a command ask for of these files, each file once.
-pub(crate) fn wishes_of(
+/// What is asked for of these files, each file once, where it is asked for first. These are all of them, if that is asked for, those that words
+/// choose, and those that begin at blocks.
+pub fn wishes_of(
     alloc: Global,
-    form: &GetManyForm,
     files: &[VolumeFile],
-) -> Result<Vec<Wish>, Ending>
-    ensures { AreWishes form.now files.now result }
+    is_all: bool,
+    words: &[String],
+    places: &[usize],
+) -> Result<Vec<Wish>, AllocError>
+    ensures { IfOk result (λ wishes. wishes.items
+        ≡ spec.wishes_of files.now is_all (map (λ word. word.bytes.items) words.now) places.now) }
 {
-    let asked = all_wishes(alloc, form, files)?;
-    let wishes = once_each(alloc, &asked)?;
+    let asked = all_wishes(alloc, files, is_all, words, places)?;
+    once_each(alloc, &asked)
+}
+
+/// What is asked for, one after another.
+fn all_wishes(
+    alloc: Global,
+    files: &[VolumeFile],
+    is_all: bool,
+    words: &[String],
+    places: &[usize],
+) -> Result<Vec<Wish>, AllocError>
+    ensures { IfOk result (λ wishes. wishes.items
+        ≡ spec.all_wishes files.now is_all (map (λ word. word.bytes.items) words.now) places.now) }
+{
+    let mut wishes = Vec::new(alloc);
+    add_all(is_all, files, &mut wishes)?;
+    add_words(alloc, files, words, &mut wishes)?;
+    add_blocks(files, places, &mut wishes)?;
     Ok(wishes)
 }
 
-/// What the words ask for, one after another.
-fn all_wishes(
-    alloc: Global,
-    form: &GetManyForm,
-    files: &[VolumeFile],
-) -> Result<Vec<Wish>, AllocError>
-    ensures { IfOk result (λ wishes. wishes.items ≡ spec.all_wishes form.now files.now) }
+/// The first of these that asks for no file.
+pub fn first_unfound(wishes: &[Wish]) -> Option<Wish>
+    ensures first { result ≡ spec.first_unfound wishes.now }
+    ensures none { IfSome result (λ wish. spec.is_file wish ≡ false) }
 {
-    let mut wishes = Vec::new(alloc);
-    add_all(form.is_all, files, &mut wishes)?;
-    add_words(alloc, files, &form.names, &mut wishes)?;
-    add_blocks(files, &form.places, &mut wishes)?;
-    Ok(wishes)
+    let mut rest = wishes;
+    while let [wish, others @ ..] = rest {
+        if !is_file(wish) {
+            return Some(*wish);
+        }
+        rest = others;
+    }
+    None
+}
+
+fn is_file(wish: &Wish) -> bool
+    ensures { result ≡ spec.is_file wish.now }
+{
+    match wish {
+        Wish::File(_) => true,
+        Wish::BadWord(_) | Wish::NotFound(_) | Wish::Block(_) => false,
+    }
 }
 
 fn add(wishes: &mut Vec<Wish>, wish: Wish) -> Result<(), AllocError>

@@ -1,6 +1,6 @@
 use Rattle.std.proofs.Common.{◌≡◌, ◌++◌, length, map}
-use Rattle.many_commands.specs.declared.wishes.Wish.TheVariants as wish
-use Rattle.many_commands.proofs.wishes.add_files.Given as goal
+use Rattle.archive_many.specs.declared.wishes.Wish.TheVariants as wish
+use Rattle.archive_many.proofs.wishes.add_files.Given as goal
 
 abbrev pub invariant-loop-rest : goal.invariant-loop-rest
 invariant-loop-rest l = l.wishes.items ++ map wish.File l.rest ≡ l.fn.wishes.items ++ map wish.File l.fn.files

@@ -1,6 +1,6 @@
 use Rattle.std.proofs.Common.{◌≡◌, ◌++◌, ◌+◌, length, map}
-use Rattle.many_commands.specs.Wishing.{asked_by_words}
-use Rattle.many_commands.proofs.wishes.add_words.Given as goal
+use Rattle.archive_many.specs.Wishing.{asked_by_words}
+use Rattle.archive_many.proofs.wishes.add_words.Given as goal
 
 abbrev pub invariant-loop-rest : goal.invariant-loop-rest
 invariant-loop-rest l = record {
