@@ -125,11 +125,12 @@ class Case:
         kind, where = random.choice(["squeeze", "list", "long"]), self.held[image].words()
         if kind == "squeeze":
             return self.differs(["squeeze", image, *where], b"", self.keeper.squeeze(image))
+        asked = [random_pattern(random, self.keeper.volumes[image]) for _ in range(random.choice([0, 0, 1, 2]))]
         if kind == "list":
-            return self.differs(["list", image, *where], b"", self.keeper.list_short(image))
+            return self.differs(["list", image, *asked, *where], b"", self.keeper.list_short(image, asked))
         last = random.choice([None, random.randrange(1977, 10000)])
         year = [] if last is None else ["--year", str(last)]
-        return self.differs(["list", image, "--long", *year, *where], b"", self.keeper.list_long(image, last or 1977))
+        return self.differs(["list", image, *asked, "--long", *year, *where], b"", self.keeper.list_long(image, last or 1977, asked))
 
     def get_many(self) -> str:
         """Gets files to a folder, of which one may hold a file of the name, and looks at them."""
@@ -211,7 +212,7 @@ class Case:
             if is_image and is_all:
                 lines, status = surveyed(part.image)
             elif volume and not is_all:
-                lines, status = Keeper({"X": volume}).list_short("X")
+                lines, status = Keeper({"X": volume}).list_short("X", [])
             wanted += [f"X:{part.number}: {line}" if part.number else line for line in lines]
             refused = refused or status != 0
         done = self.done(words, b"")

@@ -176,19 +176,26 @@ class Keeper:
         self.volumes[image] = volume
         return [f"SQUEEZED {moved}"], 0
 
-    def list_short(self, image: str) -> Answer:
-        volume, places = self.volumes[image], self.volumes[image].places
-        lines = [f"{shown_name(name)} {file.blocks}" + ("" if can_be_typed(name) else f" AT {places[name]}") for name, file in sorted(volume.files.items())]
-        return [*lines, f"FREE {volume.capacity - volume.used}"], 0
+    def listed(self, image: str, words: list[str]) -> tuple[list[Name], list[str]]:
+        """The files that are listed, and the lines of words of no file."""
+        return self.chosen(image, words, not words)
 
-    def list_long(self, image: str, last: int) -> Answer:
-        volume, place, lines = self.volumes[image], self.volumes[image].first, []
+    def list_short(self, image: str, words: list[str]) -> Answer:
+        volume, places = self.volumes[image], self.volumes[image].places
+        names, lines = self.listed(image, words)
+        for name in sorted(names):
+            lines.append(f"{shown_name(name)} {volume.files[name].blocks}" + ("" if can_be_typed(name) else f" AT {places[name]}"))
+        return [*lines, f"FREE {volume.capacity - volume.used}"], 1 if self.listed(image, words)[1] else 0
+
+    def list_long(self, image: str, last: int, words: list[str]) -> Answer:
+        volume, place = self.volumes[image], self.volumes[image].first
+        names, lines = self.listed(image, words)
         for name, blocks in volume.runs:
-            if name is not None:
+            if name is not None and name in names:
                 info = volume.files[name].info
                 lines.append(" ".join([shown_name(name), str(blocks), str(place), *(octal(it, 4) for it in info), *day_of(info, last)]))
             place += blocks
-        return [*lines, f"FREE {volume.capacity - volume.used}"], 0
+        return [*lines, f"FREE {volume.capacity - volume.used}"], 1 if self.listed(image, words)[1] else 0
 
     def get(self, image: str, asked: Asked, is_text: bool) -> tuple[bytes, int]:
         """The file's frames or its text, or on standard error why there is none."""

@@ -11,4 +11,5 @@ pub mod PatternSteps
 pub mod ExtensionSteps
 pub mod Laws
 pub mod Wishing
+pub mod Listing
 pub mod WishSteps

@@ -24,7 +24,7 @@ use Rattle.program_tasks.specs.declared.tasks.RimForm.TheVariants.{Lines, Bin}
 use Rattle.program_tasks.specs.declared.tasks.Saving.{Saving}
 use Rattle.program_tasks.specs.declared.tasks.Saving.TheVariants.{AtEnd, Never, Always}
 use Rattle.program_tasks.specs.declared.tasks.Task.{Task}
-use Rattle.program_tasks.specs.declared.tasks.Task.TheVariants.{Tape, Rim, Source, Run, Create, CreateTape, ListLong, Get, GetBin, GetMany, GetBlocks, Put, PutMany, Delete, Rename, Copy, Squeeze, Check, Dump, Patch, Index, Rescue, Scan, Assemble, Teletype, Trace, Profile}
+use Rattle.program_tasks.specs.declared.tasks.Task.TheVariants.{Tape, Rim, Source, Run, Create, CreateTape, ListLong, ListSome, Get, GetBin, GetMany, GetBlocks, Put, PutMany, Delete, Rename, Copy, Squeeze, Check, Dump, Patch, Index, Rescue, Scan, Assemble, Teletype, Trace, Profile}
 use Rattle.program_tasks.specs.declared.tasks.Task.TheVariants as task
 use Rattle.command_table.specs.declared.faults.TaskFault.{TaskFault}
 use Rattle.command_table.specs.declared.faults.TaskFault.TheVariants.{Words, Memory, Refused}
@@ -159,9 +159,13 @@ AsksFor which values (Create form blocks) = (which ≡ verb.Create) × IsCreateF
     × (is_set (codes "dectape") values ≡ false) × (option_map number_of (one_of (codes "BLOCKS") values) ≡ Some blocks)
 AsksFor which values (CreateTape form) = (which ≡ verb.Create) × IsCreateForm values form
     × (is_set (codes "dectape") values ≡ true)
-AsksFor which values (task.List image) = (which ≡ verb.List) × IsSeen values image × (is_set (codes "long") values ≡ false)
-AsksFor which values (ListLong image year) = (which ≡ verb.List) × IsSeen values image × (is_set (codes "long") values ≡ true)
-    × (year ≡ year_of values)
+AsksFor which values (task.List image) = (which ≡ verb.List) × (has (codes "NAME") values ≡ false) × IsSeen values image
+    × (is_set (codes "long") values ≡ false)
+AsksFor which values (ListLong image year) = (which ≡ verb.List) × (has (codes "NAME") values ≡ false) × IsSeen values image
+    × (is_set (codes "long") values ≡ true) × (year ≡ year_of values)
+AsksFor which values (ListSome form) = (which ≡ verb.List) × (has (codes "NAME") values ≡ true) × IsSeen values form.image
+    × (names_in (codes "NAME") values ≡ map (λ name. name.bytes.items) form.names.items)
+    × (form.is_long ≡ is_set (codes "long") values) × (form.year ≡ year_of values)
 AsksFor which values (Get image file form) = (which ≡ verb.Get) × GetsOne values × IsSeen values image
     × IsFile values file × (form ≡ get_form values) × (is_set (codes "bin") values ≡ false)
 AsksFor which values (GetBin image file) = (which ≡ verb.Get) × GetsOne values × IsSeen values image

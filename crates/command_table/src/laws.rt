@@ -33,7 +33,8 @@ pub fn plain_words()
     ensures create { (image blocks : List ℕ) → IsUnsignedIn 8 MOST_BLOCKS blocks
         → IsTaken (codes "create") (in_place (codes "IMAGE") image ∷ in_place (codes "BLOCKS") blocks ∷ []) }
     ensures list { (image text : List ℕ) → AreTaken (codes "list") (after (in_place (codes "IMAGE") image) ([] ∷
-        (alone (codes "long") ∷ []) ∷ (with_value (codes "volume") text ∷ []) ∷ (alone (codes "dectape") ∷ []) ∷ [])) }
+        (alone (codes "long") ∷ []) ∷ (with_value (codes "volume") text ∷ []) ∷ (alone (codes "dectape") ∷ []) ∷
+        (in_place (codes "NAME") text ∷ []) ∷ (in_place (codes "NAME") text ∷ alone (codes "long") ∷ []) ∷ [])) }
     ensures get { (image file text : List ℕ) → AreTaken (codes "get") (after (in_place (codes "IMAGE") image) (
         (in_place (codes "NAME") file ∷ []) ∷ (in_place (codes "NAME") file ∷ alone (codes "text") ∷ []) ∷
         (in_place (codes "NAME") file ∷ alone (codes "tape") ∷ []) ∷ (in_place (codes "NAME") file ∷ alone (codes "bin") ∷ []) ∷

@@ -187,7 +187,7 @@ pub const COMMANDS: &[Entry] = entries! {
     Verb::Profile, "profile", "Usage: pdp8 profile [OPTIONS] <TAPE> [NAME]";
     Verb::Run, "run", "Usage: pdp8 run [OPTIONS] <IMAGE>";
     Verb::Create, "create", "Usage: pdp8 create [OPTIONS] <IMAGE> [BLOCKS]";
-    Verb::List, "list", "Usage: pdp8 list [OPTIONS] <IMAGE>";
+    Verb::List, "list", "Usage: pdp8 list [OPTIONS] <IMAGE> [NAME]...";
     Verb::Get, "get", "Usage: pdp8 get [OPTIONS] <IMAGE> [NAME]...";
     Verb::Put, "put", "Usage: pdp8 put [OPTIONS] <IMAGE> <FILE>...";
     Verb::Delete, "delete", "Usage: pdp8 delete [OPTIONS] <IMAGE> [NAME]...";
@@ -307,6 +307,7 @@ pub const CREATE: &[Argument] = rows! {
 
 pub const LIST: &[Argument] = rows! {
     "IMAGE" must Kind::Word, "", "The file that holds the volume";
+    "NAME" may Kind::Words(MOST_BLOCKS), "", "The names of the files that are listed, else all";
     "long" 'l' flag Kind::Flag, "", "Show where each file lies, its information words, in octal, and its date";
     "year" option Kind::One(Form::Year), "N", "The last of the eight years that dates mean, 1977 to 9999; else the one that block 0 gives";
     "volume" 'v' option Kind::One(Form::Volume), "N", "The volume of an RK05 disk, 1 or 2, where IMAGE is the file of one";

@@ -137,8 +137,8 @@ pub fn texts_of(verb: Verb) -> Texts {
         },
         Verb::List => Texts {
             about: "List the files of a volume",
-            long_about: "Prints a line NAME n for each file of the OS/8 volume in the file IMAGE, in name order, with its{n}length in blocks, and a line FREE n for the blocks of no file. With --long the files are in the{n}order of the directory, each with its first block, its information words and its date after it. IMAGE{n}may be the file of a disk of two volumes or of a DECtape, as --volume and --dectape say. The image is{n}not written.",
-            examples: "Examples:\n  pdp8 list disk.img\n  pdp8 list disk.rk05 -l -v 2",
+            long_about: "Prints a line NAME n for each file of the OS/8 volume in the file IMAGE, in name order, with its{n}length in blocks, and a line FREE n for the blocks of no file of the whole volume. With --long the{n}files are in the order of the directory, each with its first block, its information words and its{n}date after it. Where NAME is given only such files are listed; a pattern, as '*.PA', stands for{n}each name that it fits. IMAGE may be the file of a disk of two volumes or of a DECtape, as --volume{n}and --dectape say. The image is not written.",
+            examples: "Examples:\n  pdp8 list disk.img '*.pa'\n  pdp8 list disk.rk05 -l -v 2",
         },
         Verb::Get => Texts {
             about: "Write files of a volume to standard output or to a folder",

@@ -7,5 +7,6 @@ pub mod PuttingMany
 pub mod NameSteps
 pub mod PutManySteps
 pub mod Wishing
+pub mod Listing
 pub mod GettingMany
 pub mod Laws

@@ -1,5 +1,5 @@
 -- The report of an image: what its directory says, or a list of its files.
-use Rattle.std.specs.Prelude.{◌≡◌, ◌⊎◌, ℕ, Bool, true, false, nat_eq, Option, None, Some, Result, Ok, Err, List, ◌++◌, codes}
+use Rattle.std.specs.Prelude.{◌≡◌, ◌⊎◌, ℕ, Bool, true, false, nat_eq, Option, None, Some, Result, Ok, Err, List, [], ◌++◌, codes}
 use Rattle.std.specs.Global.{Vec}
 use Rattle.hosts.specs.Event.{Event}
 use Rattle.volume_image.specs.Image.{ReadsImage}
@@ -51,7 +51,7 @@ abbrev pub Reports : ReportKind → List ℕ → Result Report ArchiveFault → 
 Reports kinds.Directory bytes result = IsSoundText (Checks bytes) result
 Reports kinds.Survey bytes result = SurveysAll bytes result
 Reports kinds.Files bytes result = IsSoundText (ListsFiles bytes) result
-Reports (kinds.Places year) bytes result = IsSoundText (ListsDates year bytes) result
+Reports (kinds.Places year) bytes result = IsSoundText (ListsDates year [] bytes) result
 
 -- ## What is printed of it
 

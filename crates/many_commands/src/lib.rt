@@ -3,6 +3,7 @@
 #![tactic(auto)]
 
 mod checks;
+mod choices;
 mod getting;
 mod giving;
 mod host_files;
@@ -14,6 +15,7 @@ mod texts;
 mod volumes;
 
 pub use checks::check_images;
+pub use choices::list_some;
 pub use getting::get_files;
 pub use putting::put_files;
 pub use reports::{Report, ReportKind};

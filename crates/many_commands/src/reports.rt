@@ -1,5 +1,5 @@
 //! The report of an image.
-ghost use Rattle.std.specs.Prelude.{◌≡◌, length};
+ghost use Rattle.std.specs.Prelude.{◌≡◌, [], length};
 ghost use Rattle.archive_files.specs.Checking.{Checks};
 ghost use Rattle.archive_files.specs.Listing.{ListsFiles};
 ghost use Rattle.archive_commands.specs.Dates.{ListsDates};
@@ -135,9 +135,9 @@ fn files_of(alloc: Global, image: &[u8]) -> Result<Report, ArchiveFault>
 }
 
 fn places_of(alloc: Global, image: &[u8], year: Option<usize>) -> Result<Report, ArchiveFault>
-    ensures { IsSoundText (ListsDates year image.now) result }
+    ensures { IsSoundText (ListsDates year [] image.now) result }
 {
-    match list_dated(alloc, image, year) {
+    match list_dated(alloc, image, year, &[]) {
         Ok(text) => Ok(Report {
             text,
             is_sound: true,

@@ -7,7 +7,7 @@ use command_table::{TaskFault, task};
 use host_inputs::{tell_bad_argument, texts_of};
 use hosts::Host;
 use index_commands::index_images;
-use many_commands::{check_images, get_files, list_files, list_places, put_files};
+use many_commands::{check_images, get_files, list_files, list_places, list_some, put_files};
 use outcome::{Content, Ending, ending_of_output, gives_data, no_memory_line};
 use program_commands::{list_tape, write_rim, write_source};
 use program_tasks::{IndexForm, LineForm, ScanForm, Task};
@@ -96,6 +96,7 @@ where
         Task::CreateTape(form) => wait_for_image!(rt, form.wait, create_tape(host, alloc, &form)),
         Task::List(image) => list_files(host, alloc, &image),
         Task::ListLong(image, year) => list_places(host, alloc, &image, year),
+        Task::ListSome(form) => list_some(host, alloc, &form),
         Task::Get(image, file, form) => get_file(host, alloc, &image, file, form),
         Task::GetBin(image, file) => get_bin(host, alloc, &image, file),
         Task::GetMany(form) => get_files(host, alloc, &form),

@@ -28,6 +28,7 @@ gives_data (task.Create form blocks) = false
 gives_data (task.CreateTape form) = false
 gives_data (task.List image) = false
 gives_data (task.ListLong image year) = false
+gives_data (task.ListSome form) = false
 gives_data (task.GetMany form) = false
 gives_data (task.Put form) = false
 gives_data (task.PutMany form) = false

@@ -26,6 +26,7 @@ pub fn gives_data(task: &Task) -> bool
         | Task::CreateTape(_)
         | Task::List(_)
         | Task::ListLong(..)
+        | Task::ListSome(_)
         | Task::GetMany(_)
         | Task::Put(_)
         | Task::PutMany(_)

@@ -2,7 +2,7 @@
 use crate::archives::{BlockSpan, IndexForm, PatchForm, RescueForm, ScanForm};
 use crate::forms::{
     BlocksForm, CheckForm, CopyForm, CreateForm, DeleteForm, FileForm, GetManyForm, ImageForm,
-    PutManyForm, PutOneForm, TapeForm,
+    ListForm, PutManyForm, PutOneForm, TapeForm,
 };
 use char_pack::GetForm;
 use word12::{Cell, Word};
@@ -143,6 +143,9 @@ pub enum Task {
     /// List them in the order of the directory, with their first blocks, their information words and their dates. These dates mean the eight
     /// years up to this last one, 1977 to 9999, if it is given.
     ListLong(ImageForm, Option<usize>),
+
+    /// List those files of a volume whose names fit.
+    ListSome(ListForm),
 
     /// Write what the file has, on this volume.
     Get(ImageForm, FileForm, GetForm),
