@@ -240,9 +240,9 @@ def index(folder: str) -> list[str]:
     places = {tuple(it.start() for it in re.finditer(rb"(?<=  )\S", line)) for line in lines}
     told = [] if len(lines) == 4 and len(places) == 1 and len(places.pop()) == 7 else [f"columns of the index: {lines!r}"]
     os.mkfifo(f"{folder}/slow")
-    with subprocess.Popen(["sh", "-c", "sleep 2.5; cat V >slow"], cwd=folder):
+    with subprocess.Popen(["sh", "-c", "sleep 4; cat V >slow"], cwd=folder):
         said = shown(folder, "index", "slow", "missing", "V", is_output=False)
-    told += [] if said == b"1 of 3\rmissing: ? HOST READ\r\n\x1b[K" else [f"progress of the index: {said!r}"]
+    told += [] if re.fullmatch(rb"1 of 3\rmissing: \? HOST READ\r\n(2 of 3\r)?\x1b\[K", said) else [f"progress of the index: {said!r}"]
     return told + ([] if open(f"{folder}/lines", "rb").read().count(b"\t") == 28 else ["lines of the index with progress"])
 
 
