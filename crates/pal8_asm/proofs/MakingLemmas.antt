@@ -42,7 +42,7 @@ entry_stays own late e fault = by_late e.late
     by_late None = refl
     by_late (Some d) = refl
 
-entries_stay : (own late : Meanings) (entries : List Entry) (fault : Fault) → with_entries own late entries (Err fault) ≡ Err fault
+pub entries_stay : (own late : Meanings) (entries : List Entry) (fault : Fault) → with_entries own late entries (Err fault) ≡ Err fault
 entries_stay own late [] fault = refl
 entries_stay own late (e ∷ others) fault =
     ap (with_entries own (late_after own e late) others) (entry_stays own late e fault) ∙ entries_stay own (late_after own e late) others fault

@@ -4,5 +4,6 @@ pub mod Assembled
 pub mod Tapes
 pub mod Kept
 pub mod Laws
+pub mod Reaching
 pub mod Assembling
 pub mod Steps
