@@ -1,14 +1,13 @@
 -- What is kept of pieces, with one byte more.
-use Rattle.std.proofs.Common.{◌≡◌, ℕ, ◌+◌, ◌-◌, ◌%◌, ◌/◌, nat_eq, nat_lt, Bool, true, false, ◌&&◌, if◌then◌else◌, is_some, Some, None, length, List, [], ◌∷◌, ◌++◌, refl, sym, ap, subst, ◌∙◌, arith}
+use Rattle.std.proofs.Common.{◌≡◌, ℕ, ◌+◌, ◌/◌, nat_eq, Bool, true, false, ◌&&◌, if◌then◌else◌, List, [], ◌∷◌, ◌++◌, refl, sym, ap, subst, ◌∙◌, arith}
 use Rattle.pal_lex.specs.Text.{limit}
 use Rattle.word12.specs.Sixbit.{is_letter}
 use Rattle.pal8_lex.specs.Text.{capital}
 use Rattle.pal8_lex.specs.Runs.{first_kind, longer, run_of, weight_after}
-use Rattle.pal8_lex.specs.Kinds.{head_of_name, head_of_one, head_with, is_comma, takes_blank_after}
+use Rattle.pal8_lex.specs.Kinds.{head_of_one, head_with, is_comma, takes_blank_after}
 use Rattle.pal8_lex.specs.Rules.{effect_of, is_letter_or_digit, shape_of}
-use Rattle.pal8_lex.specs.Pieces.{Piece, but_last, end_after, grown, head_by, head_of, is_blank, kind_by, kind_of, open_by, open_of, after_blank, spelt, string_by, string_of, takes_blank, tokens_of, with_byte, with_effect}
+use Rattle.pal8_lex.specs.Pieces.{Piece, end_after, grown, head_of, is_blank, open_by, open_of, after_blank, string_of, tokens_of, with_byte, with_effect}
 use Rattle.pal8_lex.specs.Drafting.{Present, present_of}
-use Rattle.pal8_lex.specs.Reading.{takes_room_by}
 use Rattle.pal8_lex.specs.Steps.{Fits, IsNewest, head_again}
 use Rattle.pal8_lex.specs.declared.tokens.Token.{Token}
 use Rattle.pal8_lex.specs.declared.tokens.Kind.{Kind}

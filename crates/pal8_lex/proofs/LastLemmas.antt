@@ -1,5 +1,5 @@
 -- The last item of a list.
-use Rattle.std.proofs.Common.{◌≡◌, ℕ, ◌-◌, length, get_or, List, [], ◌∷◌, ◌++◌, refl, ap, ◌∙◌, arith, length-append}
+use Rattle.std.proofs.Common.{◌≡◌, ◌-◌, length, get_or, List, [], ◌∷◌, ◌++◌, refl, ap, ◌∙◌, arith, length-append}
 use Rattle.std.proofs.Math.ListN.{set}
 use Rattle.std.proofs.Math.Seq.{set-append_seam}
 

@@ -1,4 +1,5 @@
 pub mod DraftLemmas
+pub mod FurtherLemmas
 pub mod LastLemmas
 pub mod LawLemmas
 pub mod WorkedSources

@@ -1,5 +1,5 @@
 -- What is kept of a statement that isn't ended yet.
-use Rattle.std.specs.Prelude.{ℕ, ◌≡◌, Bool, true, false, List, [], ◌∷◌}
+use Rattle.std.specs.Prelude.{ℕ, List}
 use Rattle.pal8_lex.specs.Pieces.{Piece, head_of, open_of, string_of, tokens_of}
 use Rattle.pal8_lex.specs.declared.tokens.Token.{Token}
 use Rattle.pal8_lex.specs.declared.rules.Head.{Head}

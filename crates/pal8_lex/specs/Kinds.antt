@@ -1,5 +1,5 @@
 -- How tokens stand to those beside them (PAL8, in this project's profile).
-use Rattle.std.specs.Prelude.{ℕ, nat_eq, Bool, true, false, ◌||◌, if◌then◌else◌, codes}
+use Rattle.std.specs.Prelude.{ℕ, nat_eq, Bool, true, false, if◌then◌else◌, codes}
 use Rattle.word12.specs.Sixbit.{name_number}
 use Rattle.pal8_lex.specs.declared.tokens.Kind.{Kind}
 use Rattle.pal8_lex.specs.declared.tokens.Kind.TheVariants.{Name, Number, Character, Here, Operator, Equals, Comma, Star, Opening, Closing, String, Bad}

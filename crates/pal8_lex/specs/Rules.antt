@@ -1,7 +1,6 @@
 -- What a byte of a statement does, by what it stands after (PAL8, in this project's profile).
 use Rattle.std.specs.Prelude.{ℕ, ◌+◌, nat_eq, nat_lt, nat_le, Bool, ◌&&◌, ◌||◌, if◌then◌else◌}
 use Rattle.word12.specs.Sixbit.{is_letter, is_digit}
-use Rattle.pal8_lex.specs.Text.{capital}
 use Rattle.pal8_lex.specs.declared.tokens.Kind.{Kind}
 use Rattle.pal8_lex.specs.declared.tokens.Kind.TheVariants as kind
 use Rattle.pal8_lex.specs.declared.tokens.Operator.TheVariants as sign

@@ -1,6 +1,6 @@
 -- Letters and digits that stand together: a name, or a number by either radix (PAL8, in this project's profile). A small letter is its
 -- capital. Of a name six characters count. The characters after the first one have the newest first.
-use Rattle.std.specs.Prelude.{ℕ, ◌+◌, ◌-◌, ◌*◌, ◌/◌, nat_lt, nat_le, Bool, ◌||◌, if◌then◌else◌, Option, Some, None, unwrap_or, List, [], ◌∷◌}
+use Rattle.std.specs.Prelude.{ℕ, ◌+◌, ◌-◌, ◌*◌, ◌/◌, nat_lt, nat_le, ◌||◌, if◌then◌else◌, Option, Some, None, unwrap_or, List, [], ◌∷◌}
 use Rattle.word12.specs.Sixbit.{is_letter, sixbit_code}
 use Rattle.pal_lex.specs.Text.{limit}
 use Rattle.pal8_lex.specs.Text.{capital}

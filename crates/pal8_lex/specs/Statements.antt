@@ -2,7 +2,7 @@
 use Rattle.std.specs.Prelude.{ℕ, Bool, true, false, if◌then◌else◌, List, [], ◌∷◌}
 use Rattle.pal8_lex.specs.Text.{line_after, live}
 use Rattle.pal8_lex.specs.Rules.{end_of}
-use Rattle.pal8_lex.specs.Pieces.{Piece, ends, open_of, pieces, string_of, tokens_of}
+use Rattle.pal8_lex.specs.Pieces.{ends, open_of, pieces, string_of, tokens_of}
 use Rattle.pal8_lex.specs.declared.tokens.Token.{Token}
 use Rattle.pal8_lex.specs.declared.rules.End.{End}
 use Rattle.pal8_lex.specs.declared.rules.Open.{Open}

@@ -1,10 +1,13 @@
 -- What the small steps of the lexer give, for private clauses.
-use Rattle.std.specs.Prelude.{ℕ, ◌≡◌, Bool, true, false, List, [], ◌∷◌}
+use Rattle.std.specs.Prelude.{ℕ, ◌≡◌, Bool, true, false, Ok, List, ◌∷◌}
 use Rattle.pal8_lex.specs.Kinds.{head_of_one}
 use Rattle.pal8_lex.specs.Pieces.{Piece}
+use Rattle.pal8_lex.specs.Reading.{Answers, HasRead, Progress}
 use Rattle.pal8_lex.specs.declared.tokens.Kind.{Kind}
 use Rattle.pal8_lex.specs.declared.rules.Head.{Head}
 use Rattle.pal8_lex.specs.declared.rules.Head.TheVariants.{Empty, One, Text, Listing, More}
+use Rattle.pal8_lex.specs.declared.rules.Open.{Open}
+use Rattle.pal8_lex.specs.declared.rules.Open.TheVariants as following
 use Rattle.pal8_lex.specs.declared.rules.Shape.{Shape}
 use Rattle.pal8_lex.specs.declared.rules.Shape.TheVariants as shape
 use Rattle.pal8_lex.specs.declared.rules.Effect.{Effect}
@@ -43,3 +46,19 @@ Fits effect.Lengthens before = IsNewest shape.Run before
 Fits effect.GoesOn before = IsNewest shape.OpenString before
 Fits effect.Closes before = IsNewest shape.OpenString before
 Fits (effect.Completes c) before = IsNewest shape.Quote before
+
+-- a name or a number may go on
+abbrev pub is_run : Open → Bool
+is_run following.Start = false
+is_run following.Blank = false
+is_run (following.Run weight) = true
+is_run following.Term = false
+is_run following.Quote = false
+is_run (following.String delimiter) = false
+is_run following.Comment = false
+is_run following.Title = false
+
+-- A byte goes on with a name, a number or a comment, and ends no statement; or it is left.
+abbrev pub GoesFurther : ℕ → Bool → Progress → Progress → Type 0
+GoesFurther b true old new = (text : List ℕ) → HasRead old text → Answers text b (Ok false) new
+GoesFurther b false old new = new ≡ old

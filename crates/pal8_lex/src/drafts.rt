@@ -288,7 +288,7 @@ impl Draft {
 
     /// Goes on with a name or a number.
     #[inline(always)]
-    fn lengthen(&mut self, byte: u8, place: u64)
+    pub fn lengthen(&mut self, byte: u8, place: u64)
         ensures { (newest : Piece) (older : List Piece) (at : ℕ) → place ≡ limit at
             → self.old ≡ present_of (newest ∷ older) → newest.shape ≡ Shape.Run
             → self.new ≡ present_of (grown Shape.Run (byte, at) newest ∷ older) }

@@ -1,10 +1,14 @@
-ghost use Rattle.std.specs.Prelude.{◌≡◌, ℕ, Some, None, List, []};
+ghost use Rattle.std.specs.Prelude.{◌≡◌, ℕ, true, Some, None, List, []};
 ghost use Rattle.pal8_lex.specs.Statements.{is_string};
 ghost use Rattle.pal8_lex.specs.Reading.{Answers, HasRead, anew};
+ghost use Rattle.pal8_lex.specs.Steps.{GoesFurther, is_run};
+ghost use Rattle.pal8_lex.specs.declared.rules.Open.TheVariants.{Comment};
 
 use crate::Token;
 use crate::drafts::Draft;
-use crate::rules::{End, as_read, end_of, ends_by, is_dropped, is_string};
+use crate::rules::{
+    End, Open, as_read, end_of, ends_by, is_dropped, is_letter_or_digit, is_string,
+};
 use std::alloc::{AllocError, Global};
 use std::marker::Model;
 
@@ -49,6 +53,9 @@ impl Lexer {
     pub fn push(&mut self, byte: u8) -> Result<bool, AllocError>
         ensures { (text : List ℕ) → HasRead self.old text → Answers text byte result self.new }
     {
+        if self.go_further(byte) {
+            return Ok(false);
+        }
         if is_dropped(byte) {
             self.place = self.place.saturating_add(1);
             return Ok(false);
@@ -103,6 +110,52 @@ impl Lexer {
         ensures { result ≡ is_string self.now.draft.state }
     {
         is_string(self.draft.state())
+    }
+
+    /// Takes a byte that goes on with a name, a number or a comment, and answers whether it does. Most bytes of a source do, and are read so in
+    /// the least time.
+    #[inline(always)]
+    fn go_further(&mut self, byte: u8) -> bool
+        ensures { GoesFurther byte result self.old self.new }
+    {
+        if self.end.is_some() {
+            return false;
+        }
+        match self.draft.state() {
+            Open::Comment => self.pass_comment(byte),
+            Open::Run(_) => self.lengthen_run(byte),
+            Open::Start | Open::Blank | Open::Term | Open::Quote => false,
+            Open::String(_) | Open::Title => false,
+        }
+    }
+
+    /// Takes a byte of a comment, unless it ends the line.
+    #[inline(always)]
+    fn pass_comment(&mut self, byte: u8) -> bool
+        requires goes_on { self.old.end ≡ None }
+        requires state { self.old.draft.state ≡ Comment }
+        ensures { GoesFurther byte result self.old self.new }
+    {
+        if byte == b'\n' {
+            return false;
+        }
+        self.place = self.place.saturating_add(1);
+        true
+    }
+
+    /// Takes a letter or a digit after others.
+    #[inline(always)]
+    fn lengthen_run(&mut self, byte: u8) -> bool
+        requires goes_on { self.old.end ≡ None }
+        requires state { is_run self.old.draft.state ≡ true }
+        ensures { GoesFurther byte result self.old self.new }
+    {
+        if !is_letter_or_digit(byte) {
+            return false;
+        }
+        self.draft.lengthen(byte, self.place);
+        self.place = self.place.saturating_add(1);
+        true
     }
 
     /// Begins the next statement, where the newest one is ended.

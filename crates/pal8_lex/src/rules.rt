@@ -114,7 +114,7 @@ pub fn capital(byte: u8) -> u8
 }
 
 #[inline(always)]
-fn is_letter_or_digit(byte: u8) -> bool
+pub fn is_letter_or_digit(byte: u8) -> bool
     ensures { result ≡ is_letter_or_digit byte }
 {
     matches!(byte, b'A'..=b'Z' | b'a'..=b'z' | b'0'..=b'9')

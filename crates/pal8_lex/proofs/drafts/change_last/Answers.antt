@@ -1,4 +1,3 @@
-use Rattle.std.proofs.Common.{length, ◌∙◌}
 use Rattle.pal8_lex.proofs.LastLemmas.{changed_last}
 use Rattle.pal8_lex.proofs.drafts.change_last.Goals as goal
 

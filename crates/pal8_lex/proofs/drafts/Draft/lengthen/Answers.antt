@@ -1,4 +1,4 @@
-use Rattle.std.proofs.Common.{◌∙◌, sym, ap, refl}
+use Rattle.std.proofs.Common.{◌∙◌, refl}
 use Rattle.std.proofs.lemmas.List.{with_items_is}
 use Rattle.pal8_lex.proofs.DraftLemmas.{lengthens, next_limit}
 use Rattle.pal8_lex.proofs.drafts.Draft.lengthen.Goals as goal

@@ -1,4 +1,4 @@
-use Rattle.std.proofs.Common.{◌∙◌, sym, ap}
+use Rattle.std.proofs.Common.{◌∙◌, ap}
 use Rattle.pal8_lex.specs.Drafting.{Present}
 use Rattle.pal8_lex.specs.Rules.{effect_of}
 use Rattle.pal8_lex.proofs.DraftLemmas.{puts_character, puts_close}
