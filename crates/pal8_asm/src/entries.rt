@@ -23,6 +23,9 @@ use std::alloc::{AllocError, Global};
 use std::marker::Model;
 use word12::{Cell, Word};
 
+/// How many steps a word has, as a guess.
+const STEPS: usize = 3;
+
 /// A word that is to be made, or a late definition.
 #[derive(Clone, Copy)]
 pub struct Head {
@@ -169,6 +172,14 @@ impl Entries {
             heads: Vec::new(alloc),
             steps: Vec::new(alloc),
         }
+    }
+
+    /// Makes room for so many words, if there is memory for that; else room is made as they come.
+    pub(crate) fn make_room(&mut self, count: usize)
+        ensures { self.new ≡ self.old }
+    {
+        let _ = self.heads.reserve(count);
+        let _ = self.steps.reserve(count.saturating_mul(STEPS));
     }
 
     /// Puts a word or a late definition after the others, which stays to be made.

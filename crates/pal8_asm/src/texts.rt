@@ -17,6 +17,20 @@ use pal8_values::Frames;
 use std::alloc::Global;
 use word12::{Cell, Word};
 
+/// For how many lines room is made before they are read.
+const MOST_LINES: usize = 100_000;
+
+/// How many lines a text has, as far as LF ends them. It is a guess at its words, and nothing but time rests on it.
+fn line_count(text: &[u8]) -> usize {
+    let mut count: usize = 0;
+    for byte in text {
+        if *byte == b'\n' {
+            count = count.saturating_add(1);
+        }
+    }
+    count
+}
+
 /// The line of what comes next.
 fn next_line(lexer: &Lexer) -> u64
     ensures { result ≡ (anew lexer.now).line }
@@ -120,6 +134,13 @@ impl Assembler {
         }
     }
 
+    /// Makes room for the words of a text, if there is memory for that.
+    fn make_room(&mut self, text: &[u8])
+        ensures { self.new ≡ self.old }
+    {
+        self.entries.make_room(line_count(text).min(MOST_LINES));
+    }
+
     /// Takes the bytes of a text up to the `$` that ends its source, and answers the place of that. It gives what its statements leave. The assembler
     /// has taken no statement yet.
     ///
@@ -130,6 +151,7 @@ impl Assembler {
     {
         let mut lexer = Lexer::new(alloc);
         let mut at = 0;
+        self.make_room(text);
         match self.read_on(&mut lexer, &mut at, text) {
             Ok(()) => {}
             Err(fault) => return Err(fault),

@@ -29,12 +29,12 @@ pub struct Spot {
 #[derive(Clone, Copy)]
 pub struct Sum {
     pub is_reference: bool,
-    /// The word of the reference's operation, else 0.
-    pub operation: Word,
     pub is_indirect: bool,
-    pub total: Word,
     /// The sign before the next term.
     pub sign: Operator,
+    /// The word of the reference's operation, else 0.
+    pub operation: Word,
+    pub total: Word,
 }
 
 /// No term yet.

@@ -179,7 +179,7 @@ fn close(
     }
 }
 
-/// Takes a step.
+/// Takes a step. A number and a sign are most of them, and are taken on a short way.
 fn take(
     frames: &mut Frames,
     pools: &mut Pools,
@@ -202,10 +202,12 @@ fn take(
             Ok(empty())
         }
         Step::Close => close(frames, pools, alloc, spot, sum),
-        Step::Operation(_) | Step::Alone | Step::Indirect | Step::Name(_) | Step::Number(_) => {
+        Step::Number(word) => with_value(word, sum),
+        Step::Sign(sign) => Ok(Sum { sign, ..sum }),
+        Step::Operation(_) | Step::Alone | Step::Indirect | Step::Name(_) => {
             with_plain(names, spot, again, sum)
         }
-        Step::Permanent(_, _) | Step::Here | Step::Sign(_) => with_plain(names, spot, again, sum),
+        Step::Permanent(_, _) | Step::Here => with_plain(names, spot, again, sum),
     }
 }
 
