@@ -8,7 +8,7 @@ use Rattle.pal8_pools.specs.Cells.{IsIn}
 use Rattle.pal8_grammar.specs.declared.steps.Step.{Step}
 use Rattle.pal8_values.specs.Sums.{Meanings, offset_of}
 use Rattle.pal8_values.specs.Words.{Evaluation, page_of, page_start, word_value}
-use Rattle.pal8_values.specs.Laws.{closes_all, evaluated, literal_steps, operation_steps, reached}
+use Rattle.pal8_values.specs.Laws.{closes_all, evaluation_of, literal_steps, operation_steps, reached_address}
 use Rattle.pal8_asm.specs.Assembled.{result_of_text}
 use Rattle.pal8_asm.specs.Assembling.{IsAssembled}
 use Rattle.pal8_asm.specs.Laws.{meaning}
@@ -31,13 +31,13 @@ pub record HasWord (text : List ℕ) (own : Meanings) (e : Entry) (steps : List 
   pub is_punched : e.is_punched ≡ true
   pub is_made : IsMadeAfter own (late_values own left.standing.late left.entries (λ n. None)) left.entries (Ok nothing_made) e steps before
 
--- The word reaches a cell where it runs, and the pairs give that cell the value. By the location it is on the page of the word for `(` and a link, on
--- page zero for `[`; by the place it is reached at the same offset.
+-- The word reaches a cell where it runs, and the pairs give that cell the value. For `(` and a link the cell is on the page of the word's location,
+-- and is reached on the page of the place. For `[` it is on page zero.
 pub record FindsValue (pairs : List (ℕ × ℕ)) (e : Entry) (pool : Pool) (value : ℕ) : Type 0 where
   pub word : ℕ
   pub cell : ℕ
   pub is_word : IsIn e.cell word pairs
-  pub at_offset : reached e.here word ≡ page_start pool e.here + cell % PAGE
+  pub at_offset : reached_address e.here word ≡ page_start pool e.here + cell % PAGE
   pub on_page : cell / PAGE ≡ FIELD / PAGE * (e.cell / FIELD) + page_of pool (e.cell % FIELD)
   pub has_value : meaning pairs cell ≡ Some value
 
@@ -66,5 +66,5 @@ pub record FindsLink (pairs : List (ℕ × ℕ)) (e : Entry) (address : ℕ) : T
 abbrev pub LinkIsFound : Type 0
 LinkIsFound =
     (text : List ℕ) (pairs : List (ℕ × ℕ)) → IsAssembled (result_of_text text) pairs → (own : Meanings) (e : Entry) (steps : List Step) (before : TapeWords)
-    (it : Evaluation) → HasWord text own e steps before → evaluated own (spot_of e) steps before.asks before.punched ≡ Ok it
+    (it : Evaluation) → HasWord text own e steps before → evaluation_of own (spot_of e) steps before.asks before.punched ≡ Ok it
     → it.sum.is_reference ≡ true → it.sum.operation % 0o400 ≡ 0 → offset_of e.here it.sum.total ≡ None → FindsLink pairs e it.sum.total

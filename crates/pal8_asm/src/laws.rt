@@ -41,8 +41,8 @@ pub fn literal_is_found()
     literals_are_reached();
 }
 
-/// In a text without a fault the word of a memory reference to an address on neither page is indirect, and reaches a cell where it runs, which the
-/// pairs give that address. The cell is on the page of the word's location.
+/// In a text without a fault the word of a memory reference to an address on neither page is indirect. Where it runs it reaches a cell that the pairs
+/// give that address. The cell is on the page of the word's location.
 pub fn link_is_found()
     ensures { LinkIsFound }
 {

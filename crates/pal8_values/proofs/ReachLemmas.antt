@@ -14,7 +14,7 @@ use Rattle.pal8_grammar.specs.declared.steps.Step.{Step}
 use Rattle.pal8_grammar.specs.declared.steps.Step.TheVariants as step
 use Rattle.pal8_values.specs.Sums.{Meanings, empty, indirect_bit, offset_of, reference_word, with_plain, with_value}
 use Rattle.pal8_values.specs.Words.{AskResult, Evaluation, ask_of, evaluation, full, is_through, is_torn, page_of, page_start, value_by, value_of, with_ask, with_cell, with_cell_of, with_close, with_link, with_literal, with_step, with_step_if, with_steps, word_in, word_of_reference, word_value}
-use Rattle.pal8_values.specs.Laws.{LinksAreReached, LiteralsAreReached, Reaches, ReachesLink, ReachesLiteral, closes_all, depth_after, evaluated, literal_steps, operation_steps, reached}
+use Rattle.pal8_values.specs.Laws.{LinksAreReached, LiteralsAreReached, Reaches, ReachesLink, ReachesLiteral, closes_all, depth_after, evaluation_of, literal_steps, operation_steps, reached_address}
 use Rattle.pal8_values.specs.declared.sums.Sum.{Sum}
 use Rattle.pal8_values.specs.declared.sums.Spot.{Spot}
 use Rattle.pal8_values.specs.declared.frames.Frame.{Frame}
@@ -42,7 +42,7 @@ page_bits : (word offset : ℕ) → word % 0o400 ≡ offset → word / 0o200 % 2
 page_bits word offset is = omega (arith, is)
 
 -- what a word with this offset reaches
-reached_by : (here word offset : ℕ) → word % 0o400 ≡ offset → reached here word ≡ (if nat_eq (offset / PAGE) 0 then 0 else here / PAGE * PAGE) + offset % PAGE
+reached_by : (here word offset : ℕ) → word % 0o400 ≡ offset → reached_address here word ≡ (if nat_eq (offset / PAGE) 0 then 0 else here / PAGE * PAGE) + offset % PAGE
 reached_by here word offset is =
     ap (λ n. (if nat_eq n 0 then 0 else here / PAGE * PAGE) + word % PAGE) (page_bits word offset is)
     ∙ ap (λ n. (if nat_eq (offset / PAGE) 0 then 0 else here / PAGE * PAGE) + n) (offset_bits word offset is)
@@ -53,10 +53,10 @@ the_offset other (Some offset) = offset
 
 -- the word of a reference reaches its address
 addressed : (here address m : ℕ) (is_indirect : Bool) (offset : ℕ) → m % 0o400 ≡ 0 → offset_of here address ≡ Some offset
-    → reached here (reference_word m is_indirect offset) ≡ address
+    → reached_address here (reference_word m is_indirect offset) ≡ address
 addressed here address m is_indirect offset clear = by_zero (nat_lt address PAGE) refl
   where
-    low : (word : ℕ) → word % 0o400 ≡ offset → address ≡ offset → nat_lt address PAGE ≡ true → reached here word ≡ address
+    low : (word : ℕ) → word % 0o400 ≡ offset → address ≡ offset → nat_lt address PAGE ≡ true → reached_address here word ≡ address
     low word is same small =
         reached_by here word offset is
         ∙ ap (λ n. (if nat_eq n 0 then 0 else here / PAGE * PAGE) + offset % PAGE) (page_zero address offset same small)
@@ -68,7 +68,7 @@ addressed here address m is_indirect offset clear = by_zero (nat_lt address PAGE
         offset_itself : (address offset : ℕ) → address ≡ offset → nat_lt address PAGE ≡ true → 0 + offset % PAGE ≡ address
         offset_itself address offset same small = grind (arith, nat_tests, same, small)
 
-    high : (word : ℕ) → word % 0o400 ≡ offset → address % PAGE + 0o200 ≡ offset → nat_eq (address / PAGE) (here / PAGE) ≡ true → reached here word ≡ address
+    high : (word : ℕ) → word % 0o400 ≡ offset → address % PAGE + 0o200 ≡ offset → nat_eq (address / PAGE) (here / PAGE) ≡ true → reached_address here word ≡ address
     high word is same near =
         reached_by here word offset is
         ∙ ap (λ n. (if nat_eq n 0 then 0 else here / PAGE * PAGE) + offset % PAGE) (one address offset same)
@@ -87,7 +87,7 @@ addressed here address m is_indirect offset clear = by_zero (nat_lt address PAGE
         whole address here offset same near = sum_is address (here / PAGE) offset same (page_is (address / PAGE) (here / PAGE) near)
 
     by_page : (test : Bool) → nat_eq (address / PAGE) (here / PAGE) ≡ test → (if test then Some (address % PAGE + 0o200) else None) ≡ Some offset
-        → reached here (reference_word m is_indirect offset) ≡ address
+        → reached_address here (reference_word m is_indirect offset) ≡ address
     by_page true near is =
         high (reference_word m is_indirect offset) (word_bits m is_indirect offset clear (small address offset is_same)) is_same near
       where
@@ -100,7 +100,7 @@ addressed here address m is_indirect offset clear = by_zero (nat_lt address PAGE
 
     by_zero : (test : Bool) → nat_lt address PAGE ≡ test
         → (if test then Some address else (if nat_eq (address / PAGE) (here / PAGE) then Some (address % PAGE + 0o200) else None)) ≡ Some offset
-        → reached here (reference_word m is_indirect offset) ≡ address
+        → reached_address here (reference_word m is_indirect offset) ≡ address
     by_zero true is_small is =
         low (reference_word m is_indirect offset) (word_bits m is_indirect offset clear (small address offset is_same is_small)) is_same is_small
       where
@@ -370,7 +370,7 @@ module _ (known : Meanings) (spot : Spot) (operation : ℕ) (is_indirect : Bool)
         punched_last = sym answer.punched_are ∙ cell.punched_last;
         reaches = record {
           at_offset =
-              ap (reached spot.here) (sym answer.word_is)
+              ap (reached_address spot.here) (sym answer.word_is)
               ∙ addressed spot.here total operation (is_through record begun { total = total }) offset clear offset_is
               ∙ total_is ∙ cell.address_is ∙ ap (λ l. page_start pool spot.here + cell_in l (ask_of spot pool value) % PAGE) answer.asks_are;
           on_page = ap (λ l. cell_in l (ask_of spot pool value) / PAGE) (sym answer.asks_are) ∙ cell.on_page;
@@ -461,7 +461,7 @@ module _ (spot : Spot) (operation address : ℕ) (asks punched : List Ask) (word
         is_indirect = ap (λ n. n / 0o400 % 2) (sym answer.word_is) ∙ link_bit operation (cell % PAGE + 0o200) clear (above cell) (below cell);
         reaches = record {
           at_offset =
-              ap (reached spot.here) (sym answer.word_is)
+              ap (reached_address spot.here) (sym answer.word_is)
               ∙ reached_by spot.here (reference_word operation true (cell % PAGE + 0o200)) (cell % PAGE + 0o200)
               (word_bits operation true (cell % PAGE + 0o200) clear (below cell))
               ∙ at_offset spot.here cell (cell_in found (ask_of spot Own address)) gets.address_is

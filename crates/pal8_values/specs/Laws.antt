@@ -46,13 +46,13 @@ WordsAskMore =
 -- ## What a reference reaches
 
 -- The address in a word where it runs: with 0200 it is on the page of the place, else on page zero (Small Computer Handbook).
-abbrev pub reached : ℕ → ℕ → ℕ
-reached here word = (if nat_eq (word / PAGE % 2) 0 then 0 else here / PAGE * PAGE) + word % PAGE
+abbrev pub reached_address : ℕ → ℕ → ℕ
+reached_address here word = (if nat_eq (word / PAGE % 2) 0 then 0 else here / PAGE * PAGE) + word % PAGE
 
 -- The cell of an ask is what a word reaches where it runs: at the offset of the cell, on the page of the place or on page zero. The tape lays the
 -- cell on the page that was asked.
 pub record Reaches (spot : Spot) (word : ℕ) (pool : Pool) (asks : List Ask) (a : Ask) : Type 0 where
-  pub at_offset : reached spot.here word ≡ page_start pool spot.here + cell_in asks a % PAGE
+  pub at_offset : reached_address spot.here word ≡ page_start pool spot.here + cell_in asks a % PAGE
   pub on_page : cell_in asks a / PAGE ≡ FIELD / PAGE * a.field + a.page
 
 -- how many literals are open after a step, of so many before it; none is closed that isn't open
@@ -102,8 +102,8 @@ LiteralsAreReached =
     → ReachesLiteral known spot pool inside asks punched word after after_punched
 
 -- what the steps of a word come to, before its reference is made
-abbrev pub evaluated : Meanings → Spot → List Step → List Ask → List Ask → Result Evaluation ValueFault
-evaluated known spot steps asks punched = with_steps known spot steps (Ok record { sum = empty; frames = []; asks = asks; punched = punched })
+abbrev pub evaluation_of : Meanings → Spot → List Step → List Ask → List Ask → Result Evaluation ValueFault
+evaluation_of known spot steps asks punched = with_steps known spot steps (Ok record { sum = empty; frames = []; asks = asks; punched = punched })
 
 -- A word is a link: it has `I`, and reaches a cell that was asked for last, with this address.
 pub record ReachesLink (spot : Spot) (address : ℕ) (asks punched : List Ask) (word : ℕ) (after after_punched : List Ask) : Type 0 where
@@ -116,6 +116,6 @@ pub record ReachesLink (spot : Spot) (address : ℕ) (asks punched : List Ask) (
 abbrev pub LinksAreReached : Type 0
 LinksAreReached =
     (known : Meanings) (spot : Spot) (steps : List Step) (asks punched : List Ask) (e : Evaluation) (word : ℕ) (after after_punched : List Ask)
-    → evaluated known spot steps asks punched ≡ Ok e → e.sum.is_reference ≡ true → e.sum.operation % 0o400 ≡ 0 → offset_of spot.here e.sum.total ≡ None
+    → evaluation_of known spot steps asks punched ≡ Ok e → e.sum.is_reference ≡ true → e.sum.operation % 0o400 ≡ 0 → offset_of spot.here e.sum.total ≡ None
     → word_value known spot steps asks punched ≡ Ok (word, after, after_punched)
     → ReachesLink spot e.sum.total e.asks e.punched word after after_punched
