@@ -1,5 +1,7 @@
 //! Runs of scripts over the volume of an image file.
 
+ghost use Rattle.std.specs.Prelude.{None};
+
 use crate::hints::line_hint;
 use archive_files::ArchiveFault;
 use host_inputs::{CountedInput, Image, Output, refusal, tell};
@@ -7,7 +9,8 @@ use outcome::{Ending, NameNote, Note};
 use program_tasks::{ImageForm, RunForm, Saving};
 use script8::{LineReply, Reply, SessionFault};
 use std::fs::{File, Files};
-use std::io::{BufWriter, Input, IsTerminal};
+use std::io;
+use std::io::{BufWriter, Input, IsTerminal, Write};
 use std::time::Clock;
 use system_session::{Session, Watcher};
 use volume_image::MemoryVolume;
@@ -27,17 +30,17 @@ where
         Saving::AtEnd | Saving::Always => Image::open(rt, named)?,
     };
     let bytes = image.bytes().to_vec(rt.alloc())?;
-    let mut writer = BufWriter::new(rt.alloc(), Output::new(rt))?;
+    let writer = BufWriter::new(rt.alloc(), Output::new(rt))?;
     let mut session = session_over(rt, &bytes)?;
     let reader = rt.reader();
-    let mut run = Run::new(rt, image, bytes, form.saving, reader.is_terminal());
+    let mut run = Run::new(rt, writer, image, bytes, form.saving, reader.is_terminal());
     let mut input = CountedInput::new(reader);
-    let ran = session.run_watched(rt.alloc(), &mut input, &mut writer, &mut run);
+    let ran = session.run_watched(rt.alloc(), &mut input, &mut run);
     input.tell_of_limit(rt);
     run.end(&session.into_store())?;
     match ran {
         Ok(()) if !(form.is_strict && run.is_refused) => Ok(()),
-        Err(SessionFault::Writer) => Err(writer.get_ref().ending()),
+        Err(SessionFault::Writer) => Err(run.writer.get_ref().ending()),
         _ => Err(Ending::Failure),
     }
 }
@@ -57,11 +60,12 @@ fn session_over<R: Eprint + AllocGlobal>(
     }
 }
 
-/// What goes on beside a script. Its image is written when it is to be, refusals are seen, and a person at a terminal is shown the form
-/// of a bad line.
+/// What goes on beside a script. Its lines are printed, its image is written when it is to be, refusals are seen, and a person at a
+/// terminal is shown the form of a bad line.
 #[derive(Drop)]
-struct Run<'a, R> {
+struct Run<'a, R: Print> {
     rt: &'a R,
+    writer: BufWriter<Output<'a, R>>,
     image: Image,
     bytes: Vec<u8>,
     saving: Saving,
@@ -73,10 +77,11 @@ struct Run<'a, R> {
     save_fault: Option<Ending>,
 }
 
-impl<'a, R: Files<File = File> + Eprint> Run<'a, R> {
+impl<'a, R: Files<File = File> + Print + Eprint> Run<'a, R> {
     /// A run over an image, whose bytes are given once more.
     fn new(
         rt: &'a R,
+        writer: BufWriter<Output<'a, R>>,
         image: Image,
         bytes: Vec<u8>,
         saving: Saving,
@@ -84,6 +89,7 @@ impl<'a, R: Files<File = File> + Eprint> Run<'a, R> {
     ) -> Run<'a, R> {
         Run {
             rt,
+            writer,
             image,
             bytes,
             saving,
@@ -112,7 +118,15 @@ impl<'a, R: Files<File = File> + Eprint> Run<'a, R> {
     }
 }
 
-impl<'a, R: Files<File = File> + Eprint> Watcher<MemoryVolume> for Run<'a, R> {
+impl<'a, R: Files<File = File> + Print + Eprint> Watcher<MemoryVolume> for Run<'a, R> {
+    ghost contents = { λ _. None };
+
+    ghost follows = { λ _ _. Unit {0} };
+
+    ghost may_print = { λ _ _. Unit {0} };
+
+    ghost has_ended = { λ _. Unit {0} };
+
     fn begins(&mut self, lines: &[u8]) {
         if self.is_terminal {
             self.hint = line_hint(lines);
@@ -131,6 +145,14 @@ impl<'a, R: Files<File = File> + Eprint> Watcher<MemoryVolume> for Run<'a, R> {
         }
         self.save_fault = self.save(store).err();
         self.save_fault.is_none()
+    }
+
+    fn print_lines(&mut self, lines: &[u8]) -> io::Result<()> {
+        self.writer.write_all(lines)
+    }
+
+    fn flush(&mut self) -> io::Result<()> {
+        self.writer.flush()
     }
 }
 

@@ -1,26 +1,92 @@
-//! Who watches a run of a script.
+//! Who watches a run of a script, and prints what it answers.
+
+ghost use Rattle.std.specs.Prelude.{◌≡◌, ℕ, List, [], Option, OnErr, OnOk, false, true};
+ghost use Rattle.std.specs.Io.KnownBytes.{Appends};
+ghost use Rattle.script8.specs.Replies.{answer_lines};
+ghost use Rattle.script8.specs.declared.entries.Entry.{Entry};
 
 use script8::{Reply, SessionFault};
+use std::io;
+use std::io::Write;
 use volume_image::BlockStore;
 
-/// Who watches a run of a script over a store, and may end it.
+/// Who watches a run of a script over a store, and prints the lines of its answers. It is shown each answer before the lines, and may
+/// end the run there.
 pub trait Watcher<S: BlockStore> {
+    /// The bytes that were printed, where they are known.
+    ghost contents: { Self → Option (List ℕ) };
+
+    /// What holds of a watcher at first and of it now. Each call keeps it.
+    ghost follows: { Self → Self → Type 0 };
+
+    /// These lines may be printed now.
+    ghost may_print: { Self → List ℕ → Type 0 };
+
+    /// It has ended the run, or it could not print.
+    ghost has_ended: { Self → Type 0 };
+
     /// An item of the script comes next, of these lines.
-    fn begins(&mut self, lines: &[u8]);
+    fn begins(&mut self, lines: &[u8])
+        ensures contents { contents self.new ≡ contents self.old }
+        ensures kept { (first : Self) → follows first self.old → follows first self.new };
 
     /// Whether the run goes on. An item, or a turn that a FINISH stands for, got this answer: the store is as it left it, and the
-    /// answer's lines are written next. Where the run doesn't go on they are not written, as where the writer fails.
-    fn goes_on(&mut self, store: &S, answer: &Result<Reply, SessionFault>) -> bool;
+    /// answer's lines are printed next. Where the run doesn't go on they are not printed, as where printing fails.
+    fn goes_on(&mut self, store: &S, answer: &Result<Reply, SessionFault>) -> bool
+        ensures contents { contents self.new ≡ contents self.old }
+        ensures kept { (first : Self) → follows first self.old → follows first self.new }
+        ensures shown { result ≡ true
+            → (entry : Option Entry) → may_print self.new (answer_lines entry answer.now) }
+        ensures stopped { result ≡ false → has_ended self.new };
+
+    /// Prints the lines of the answer that was shown last.
+    fn print_lines(&mut self, lines: &[u8]) -> io::Result<()>
+        requires { may_print self.old lines.now }
+        ensures printed { OnOk result (Appends (contents self.old) (contents self.new) lines.now) }
+        ensures stopped { OnErr result (has_ended self.new) }
+        ensures kept { (first : Self) → follows first self.old → follows first self.new };
+
+    /// Hands on what was printed.
+    fn flush(&mut self) -> io::Result<()>
+        ensures printed { OnOk result (Appends (contents self.old) (contents self.new) []) }
+        ensures stopped { OnErr result (has_ended self.new) }
+        ensures kept { (first : Self) → follows first self.old → follows first self.new };
 }
 
-/// Nobody watches.
-#[derive(Clone, Copy)]
-pub(crate) struct Unwatched;
+/// Nobody watches: a writer gets the lines.
+#[derive(Drop)]
+pub(crate) struct Unwatched<'a, W> {
+    writer: &'a mut W,
+}
 
-impl<S: BlockStore> Watcher<S> for Unwatched {
+impl<'a, W> Unwatched<'a, W> {
+    pub(crate) fn new(writer: &'a mut W) -> Unwatched<'a, W>
+        ensures { result.writer ≡ writer.entry }
+    {
+        Unwatched { writer }
+    }
+}
+
+impl<'a, S: BlockStore, W: Write> Watcher<S> for Unwatched<'a, W> {
+    ghost contents = { λ u. W.contents u.writer.now };
+
+    ghost follows = { λ first u. u.writer.ghost_name ≡ first.writer.ghost_name };
+
+    ghost may_print = { λ _ _. Unit {0} };
+
+    ghost has_ended = { λ _. Unit {0} };
+
     fn begins(&mut self, _lines: &[u8]) {}
 
     fn goes_on(&mut self, _store: &S, _answer: &Result<Reply, SessionFault>) -> bool {
         true
+    }
+
+    fn print_lines(&mut self, lines: &[u8]) -> io::Result<()> {
+        self.writer.write_all(lines)
+    }
+
+    fn flush(&mut self) -> io::Result<()> {
+        self.writer.flush()
     }
 }

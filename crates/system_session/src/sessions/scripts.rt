@@ -48,135 +48,141 @@ impl<S: BlockStore> Session<S> {
             × (count ≡ 16777217 → (result ≡ Err fault.Reader) ⊎ (result ≡ Err fault.Writer)) }
         ensures kind { IfErr result (λ e. (e ≡ fault.Reader) ⊎ (e ≡ fault.Memory) ⊎ (e ≡ fault.Writer)) }
     {
-        self.run_watched(alloc, reader, writer, &mut Unwatched)
+        self.run_watched(alloc, reader, &mut Unwatched::new(writer))
     }
 
-    /// The same, where a watcher gets each item before it is done, and each answer with the store after it, before the answer's
-    /// lines are written. Where the watcher ends the run, the answer is `Writer`, as where the writer fails at these lines.
-    pub fn run_watched<R: Read, W: Write, K: Watcher<S>>(
+    /// The same, where a watcher gets each item before it is done, and prints the lines. It is shown each answer, with the store after
+    /// it, before the answer's lines, and nothing else lets these be printed. Where the watcher ends the run, the answer is `Writer`, as
+    /// where printing fails.
+    pub fn run_watched<R: Read, K: Watcher<S>>(
         &mut self,
         alloc: Global,
         reader: &mut R,
-        writer: &mut W,
         watcher: &mut K,
     ) -> Result<(), SessionFault>
         ensures told { NoCallFailed self.old self.new
             → RunsText 16777216 (state_of self.old) (state_of self.new)
             (R.remaining reader.old) (R.remaining reader.new)
-            (W.contents writer.old) (W.contents writer.new) result }
+            (K.contents watcher.old) (K.contents watcher.new) result }
         ensures later { IsLater self.old self.new }
         ensures running { NoCallFailed self.old self.new → self.new.volume.stopped ≡ false }
         ensures taken { (count : ℕ) × TakesBytes (R.remaining reader.old) (R.remaining reader.new) count
             × (count ≤ 16777217)
             × (count ≡ 16777217 → (result ≡ Err fault.Reader) ⊎ (result ≡ Err fault.Writer)) }
         ensures kind { IfErr result (λ e. (e ≡ fault.Reader) ⊎ (e ≡ fault.Memory) ⊎ (e ≡ fault.Writer)) }
+        ensures stopped { IfErr result (λ e. e ≡ fault.Writer → K.has_ended watcher.new) }
+        ensures kept { (first : K) → K.follows first watcher.old → K.follows first watcher.new }
     {
-        let run = self.run_read(alloc, reader, writer, watcher);
-        self.end_run(run, writer, watcher)
+        let run = self.run_read(alloc, reader, watcher);
+        self.end_run(run, watcher)
     }
 
     /// Reads the script of a reader, and runs it as it comes.
-    fn run_read<R: Read, W: Write, K: Watcher<S>>(
+    fn run_read<R: Read, K: Watcher<S>>(
         &mut self,
         alloc: Global,
         reader: &mut R,
-        writer: &mut W,
         watcher: &mut K,
     ) -> Result<(), Ending>
         ensures told { NoCallFailed self.old self.new
             → RunsRead 16777216 (state_of self.old) (state_of self.new)
             (R.remaining reader.old) (R.remaining reader.new)
-            (W.contents writer.old) (W.contents writer.new) result }
+            (K.contents watcher.old) (K.contents watcher.new) result }
         ensures later { IsLater self.old self.new }
         ensures running { NoCallFailed self.old self.new → self.new.volume.stopped ≡ false }
         ensures taken { (count : ℕ) × TakesBytes (R.remaining reader.old) (R.remaining reader.new) count
             × (count ≤ 16777217)
             × (count ≡ 16777217 → result ≡ Err ending.Reader) }
+        ensures stopped { IfErr result (λ e. e ≡ ending.Writer → K.has_ended watcher.new) }
+        ensures kept { (first : K) → K.follows first watcher.old → K.follows first watcher.new }
     {
         let mut piece = zero_bytes(alloc, PIECE)?;
         let mut pending = Pending::new(alloc);
         for _ in 0..u64::MAX {
             if pending.count == MOST {
                 if ends(reader) {
-                    return self.run_end(alloc, &pending.bytes, writer, watcher);
+                    return self.run_end(alloc, &pending.bytes, watcher);
                 }
                 return Err(Ending::Reader);
             }
             let at_end = pending.read(reader, &mut piece)?;
             if at_end {
-                return self.run_end(alloc, &pending.bytes, writer, watcher);
+                return self.run_end(alloc, &pending.bytes, watcher);
             }
-            self.run_given(alloc, &mut pending, writer, watcher)?;
+            self.run_given(alloc, &mut pending, watcher)?;
         }
         Err(Ending::Reader)
     }
 
     /// Runs the whole items of what a reader gave and may go on from, and hands their lines on.
-    fn run_given<W: Write, K: Watcher<S>>(
+    fn run_given<K: Watcher<S>>(
         &mut self,
         alloc: Global,
         pending: &mut Pending,
-        writer: &mut W,
         watcher: &mut K,
     ) -> Result<(), Ending>
         requires { WaitsForLines pending.old.bytes.items pending.old.lines }
         ensures told { NoCallFailed self.old self.new
             → RunsGiven pending.old.bytes.items pending.new.bytes.items
-            (state_of self.old) (state_of self.new) (W.contents writer.old) (W.contents writer.new) result }
+            (state_of self.old) (state_of self.new) (K.contents watcher.old) (K.contents watcher.new) result }
         ensures waits { OnOk result ((0 < pending.new.lines)
             × WaitsForLines pending.new.bytes.items pending.new.lines) }
         ensures count { pending.new.count ≡ pending.old.count }
         ensures later { IsLater self.old self.new }
         ensures running { NoCallFailed self.old self.new → self.new.volume.stopped ≡ false }
+        ensures stopped { IfErr result (λ e. e ≡ ending.Writer → K.has_ended watcher.new) }
+        ensures kept { (first : K) → K.follows first watcher.old → K.follows first watcher.new }
     {
         if pending.lines > 0 {
             return Ok(());
         }
-        let (bytes, lines) = self.run_items(alloc, &pending.bytes, false, writer, watcher)?;
+        let (bytes, lines) = self.run_items(alloc, &pending.bytes, false, watcher)?;
         pending.consume(bytes, lines);
-        flush(writer)
+        Self::flush(watcher)
     }
 
     /// Runs a text that is the end of a script.
-    fn run_end<W: Write, K: Watcher<S>>(
+    fn run_end<K: Watcher<S>>(
         &mut self,
         alloc: Global,
         text: &[u8],
-        writer: &mut W,
         watcher: &mut K,
     ) -> Result<(), Ending>
         ensures told { NoCallFailed self.old self.new
             → RunsItems (script_of text.now) (state_of self.old) (state_of self.new)
-            (W.contents writer.old) (W.contents writer.new) result }
+            (K.contents watcher.old) (K.contents watcher.new) result }
         ensures later { IsLater self.old self.new }
         ensures running { NoCallFailed self.old self.new → self.new.volume.stopped ≡ false }
+        ensures stopped { IfErr result (λ e. e ≡ ending.Writer → K.has_ended watcher.new) }
+        ensures kept { (first : K) → K.follows first watcher.old → K.follows first watcher.new }
     {
-        let _rest = self.run_items(alloc, text, true, writer, watcher)?;
+        let _rest = self.run_items(alloc, text, true, watcher)?;
         Ok(())
     }
 
     /// Runs the items of a text that is the end of a script, or goes on. It answers how many bytes they have, and how many lines
     /// are wanted after them.
-    fn run_items<W: Write, K: Watcher<S>>(
+    fn run_items<K: Watcher<S>>(
         &mut self,
         alloc: Global,
         text: &[u8],
         is_end: bool,
-        writer: &mut W,
         watcher: &mut K,
     ) -> Result<(usize, u32), Ending>
         ensures told { NoCallFailed self.old self.new
             → RunsPrefix text.now is_end (state_of self.old) (state_of self.new)
-            (W.contents writer.old) (W.contents writer.new) result }
+            (K.contents watcher.old) (K.contents watcher.new) result }
         ensures rest { IfOk result (λ done. (done.0 ≤ length text.now)
             × HasNoItem (drop done.0 text.now) is_end done.1) }
         ensures later { IsLater self.old self.new }
         ensures running { NoCallFailed self.old self.new → self.new.volume.stopped ≡ false }
+        ensures stopped { IfErr result (λ e. e ≡ ending.Writer → K.has_ended watcher.new) }
+        ensures kept { (first : K) → K.follows first watcher.old → K.follows first watcher.new }
     {
         let mut done = 0;
         loop {
             let (_, rest) = text.split_at(done);
-            match self.run_next(alloc, rest, is_end, writer, watcher)? {
+            match self.run_next(alloc, rest, is_end, watcher)? {
                 Begun::Waiting(lines) => return Ok((done, lines)),
                 Begun::Ran(bytes) => done += bytes,
             }
@@ -184,20 +190,21 @@ impl<S: BlockStore> Session<S> {
     }
 
     /// Runs what a text begins with, and answers how many bytes that has, or how many lines are wanted.
-    fn run_next<W: Write, K: Watcher<S>>(
+    fn run_next<K: Watcher<S>>(
         &mut self,
         alloc: Global,
         text: &[u8],
         is_end: bool,
-        writer: &mut W,
         watcher: &mut K,
     ) -> Result<Begun, Ending>
         ensures told { NoCallFailed self.old self.new
             → RunsNext text.now is_end (state_of self.old) (state_of self.new)
-            (W.contents writer.old) (W.contents writer.new) result }
+            (K.contents watcher.old) (K.contents watcher.new) result }
         ensures begun { IfOk result (IsBegun text.now is_end) }
         ensures later { IsLater self.old self.new }
         ensures running { NoCallFailed self.old self.new → self.new.volume.stopped ≡ false }
+        ensures stopped { IfErr result (λ e. e ≡ ending.Writer → K.has_ended watcher.new) }
+        ensures kept { (first : K) → K.follows first watcher.old → K.follows first watcher.new }
     {
         match next_item(alloc, text, is_end)? {
             Next::End(lines) => Ok(Begun::Waiting(lines)),
@@ -205,88 +212,88 @@ impl<S: BlockStore> Session<S> {
             Next::Item { item, bytes } => {
                 let (lines, _) = text.split_at(bytes);
                 watcher.begins(lines);
-                self.run_item(alloc, &item, writer, watcher)?;
+                self.run_item(alloc, &item, watcher)?;
                 Ok(Begun::Ran(bytes))
             }
         }
     }
 
     /// Runs an item.
-    fn run_item<W: Write, K: Watcher<S>>(
+    fn run_item<K: Watcher<S>>(
         &mut self,
         alloc: Global,
         item: &Item,
-        writer: &mut W,
         watcher: &mut K,
     ) -> Result<(), Ending>
         ensures told { NoCallFailed self.old self.new
             → RunsItems (item.now ∷ []) (state_of self.old) (state_of self.new)
-            (W.contents writer.old) (W.contents writer.new) result }
+            (K.contents watcher.old) (K.contents watcher.new) result }
         ensures later { IsLater self.old self.new }
         ensures running { NoCallFailed self.old self.new → self.new.volume.stopped ≡ false }
+        ensures stopped { IfErr result (λ e. e ≡ ending.Writer → K.has_ended watcher.new) }
+        ensures kept { (first : K) → K.follows first watcher.old → K.follows first watcher.new }
     {
         match item {
-            Item::Do(entry) => self.run_entry(alloc, entry, writer, watcher),
-            Item::Finish => self.run_finish(alloc, writer, watcher),
-            Item::Refused(why) => self.refuse(*why, writer, watcher),
+            Item::Do(entry) => self.run_entry(alloc, entry, watcher),
+            Item::Finish => self.run_finish(alloc, watcher),
+            Item::Refused(why) => self.refuse(*why, watcher),
         }
     }
 
     /// Does an entry, and writes the lines of its answer.
-    fn run_entry<W: Write, K: Watcher<S>>(
+    fn run_entry<K: Watcher<S>>(
         &mut self,
         alloc: Global,
         entry: &Entry,
-        writer: &mut W,
         watcher: &mut K,
     ) -> Result<(), Ending>
         ensures told { NoCallFailed self.old self.new
             → RunsItems (Do entry.now ∷ []) (state_of self.old) (state_of self.new)
-            (W.contents writer.old) (W.contents writer.new) result }
+            (K.contents watcher.old) (K.contents watcher.new) result }
         ensures later { IsLater self.old self.new }
         ensures running { NoCallFailed self.old self.new → self.new.volume.stopped ≡ false }
+        ensures stopped { IfErr result (λ e. e ≡ ending.Writer → K.has_ended watcher.new) }
+        ensures kept { (first : K) → K.follows first watcher.old → K.follows first watcher.new }
     {
         let answer = self.step(alloc, entry);
         if is_memory(&answer) {
             return Err(Ending::Memory);
         }
-        self.tell(Some(entry), &answer, writer, watcher)
+        self.tell(Some(entry), &answer, watcher)
     }
 
     /// Lets the lowest job take turns until no job is left, and writes the lines of their ends.
-    fn run_finish<W: Write, K: Watcher<S>>(
-        &mut self,
-        alloc: Global,
-        writer: &mut W,
-        watcher: &mut K,
-    ) -> Result<(), Ending>
+    fn run_finish<K: Watcher<S>>(&mut self, alloc: Global, watcher: &mut K) -> Result<(), Ending>
         ensures told { NoCallFailed self.old self.new
             → RunsItems (Finish ∷ []) (state_of self.old) (state_of self.new)
-            (W.contents writer.old) (W.contents writer.new) result }
+            (K.contents watcher.old) (K.contents watcher.new) result }
         ensures later { IsLater self.old self.new }
         ensures running { NoCallFailed self.old self.new → self.new.volume.stopped ≡ false }
+        ensures stopped { IfErr result (λ e. e ≡ ending.Writer → K.has_ended watcher.new) }
+        ensures kept { (first : K) → K.follows first watcher.old → K.follows first watcher.new }
     {
         while let Some(number) = self.jobs.lowest() {
-            self.run_turn(alloc, number, writer, watcher)?;
+            self.run_turn(alloc, number, watcher)?;
         }
-        self.tell(None, &Ok(Reply::Line(LineReply::Finished)), writer, watcher)
+        self.tell(None, &Ok(Reply::Line(LineReply::Finished)), watcher)
     }
 
     /// Lets the lowest job take a turn, and writes the line of its end.
-    fn run_turn<W: Write, K: Watcher<S>>(
+    fn run_turn<K: Watcher<S>>(
         &mut self,
         alloc: Global,
         number: u32,
-        writer: &mut W,
         watcher: &mut K,
     ) -> Result<(), Ending>
         requires { lowest_job self.old.jobs ≡ Some number }
         ensures told { NoCallFailed self.old self.new
             → RunsTurn number (state_of self.old) (state_of self.new)
-            (W.contents writer.old) (W.contents writer.new) result }
+            (K.contents watcher.old) (K.contents watcher.new) result }
         ensures fewer { OnOk result (turns_left self.new.jobs < turns_left self.old.jobs) }
         ensures later { IsLater self.old self.new }
         ensures running { NoCallFailed self.old self.new → self.new.volume.stopped ≡ false }
+        ensures stopped { IfErr result (λ e. e ≡ ending.Writer → K.has_ended watcher.new) }
+        ensures kept { (first : K) → K.follows first watcher.old → K.follows first watcher.new }
     {
         let answer = self.turn(alloc, number);
         if is_memory(&answer) {
@@ -296,81 +303,115 @@ impl<S: BlockStore> Session<S> {
             return Ok(());
         }
         let turn = Entry::Jobs(JobEntry::Turn(number));
-        self.tell(Some(&turn), &answer, writer, watcher)
+        self.tell(Some(&turn), &answer, watcher)
     }
 
-    /// Gives the watcher an answer, and writes its lines. `Memory` comes only where they are several, and then nothing is written.
-    fn tell<W: Write, K: Watcher<S>>(
+    /// Shows the watcher an answer, and writes its lines. `Memory` comes only where they are several, and then nothing is written.
+    fn tell<K: Watcher<S>>(
         &mut self,
         entry: Option<&Entry>,
         answer: &Result<Reply, SessionFault>,
-        writer: &mut W,
         watcher: &mut K,
     ) -> Result<(), Ending>
         ensures ok { OnOk result
-            (Appends (W.contents writer.old) (W.contents writer.new)
+            (Appends (K.contents watcher.old) (K.contents watcher.new)
             (answer_lines (option_copied entry.entry) answer.now)) }
         ensures err { IfErr result (λ e. (e ≡ ending.Writer)
-            ⊎ ((e ≡ ending.Memory) × Appends (W.contents writer.old) (W.contents writer.new) []
+            ⊎ ((e ≡ ending.Memory) × Appends (K.contents watcher.old) (K.contents watcher.new) []
             × (IsShort answer.now → ⊥))) }
         ensures same { self.new ≡ self.old }
+        ensures stopped { IfErr result (λ e. e ≡ ending.Writer → K.has_ended watcher.new) }
+        ensures kept { (first : K) → K.follows first watcher.old → K.follows first watcher.new }
     {
         if !watcher.goes_on(self.files.store(), answer) {
             return Err(Ending::Writer);
         }
-        write_lines(&mut self.line, entry, answer, writer)
+        Self::write_lines(&mut self.line, entry, answer, watcher)
+    }
+
+    /// Writes the lines of an answer that was shown, which are built in a vector that is borrowed.
+    fn write_lines<K: Watcher<S>>(
+        line: &mut Vec<u8>,
+        entry: Option<&Entry>,
+        answer: &Result<Reply, SessionFault>,
+        watcher: &mut K,
+    ) -> Result<(), Ending>
+        requires room { 80 ≤ vec_capacity line.old }
+        requires shown { K.may_print watcher.old (answer_lines (option_copied entry) answer.now) }
+        ensures ok { OnOk result
+            (Appends (K.contents watcher.old) (K.contents watcher.new)
+            (answer_lines (option_copied entry.entry) answer.now)) }
+        ensures err { IfErr result (λ e. (e ≡ ending.Writer)
+            ⊎ ((e ≡ ending.Memory) × Appends (K.contents watcher.old) (K.contents watcher.new) []
+            × (IsShort answer.now → ⊥))) }
+        ensures room { 80 ≤ vec_capacity line.new }
+        ensures stopped { IfErr result (λ e. e ≡ ending.Writer → K.has_ended watcher.new) }
+        ensures kept { (first : K) → K.follows first watcher.old → K.follows first watcher.new }
+    {
+        line.clear();
+        put_reply(entry, answer, line)?;
+        watcher.print_lines(line)?;
+        Ok(())
+    }
+
+    /// Hands on what was written.
+    fn flush<K: Watcher<S>>(watcher: &mut K) -> Result<(), Ending>
+        ensures ok { OnOk result (Appends (K.contents watcher.old) (K.contents watcher.new) []) }
+        ensures err { IfErr result (λ e. e ≡ ending.Writer) }
+        ensures stopped { IfErr result (λ e. e ≡ ending.Writer → K.has_ended watcher.new) }
+        ensures kept { (first : K) → K.follows first watcher.old → K.follows first watcher.new }
+    {
+        watcher.flush()?;
+        Ok(())
     }
 
     /// Writes the line of a fault that belongs to no entry.
-    fn refuse<W: Write, K: Watcher<S>>(
-        &mut self,
-        why: SessionFault,
-        writer: &mut W,
-        watcher: &mut K,
-    ) -> Result<(), Ending>
-        ensures ok { OnOk result (Appends (W.contents writer.old) (W.contents writer.new) (fault_line why)) }
+    fn refuse<K: Watcher<S>>(&mut self, why: SessionFault, watcher: &mut K) -> Result<(), Ending>
+        ensures ok { OnOk result (Appends (K.contents watcher.old) (K.contents watcher.new) (fault_line why)) }
         ensures same { self.new ≡ self.old }
         ensures kind { IfErr result (λ e. e ≡ ending.Writer) }
+        ensures stopped { IfErr result (λ e. e ≡ ending.Writer → K.has_ended watcher.new) }
+        ensures kept { (first : K) → K.follows first watcher.old → K.follows first watcher.new }
     {
-        self.tell(None, &Err(why), writer, watcher)
+        self.tell(None, &Err(why), watcher)
     }
 
     /// Ends a run: the line of want of memory or of the reader is the last.
-    fn end_run<W: Write, K: Watcher<S>>(
+    fn end_run<K: Watcher<S>>(
         &mut self,
         run: Result<(), Ending>,
-        writer: &mut W,
         watcher: &mut K,
     ) -> Result<(), SessionFault>
-        ensures ended { IsEnded run (W.contents writer.old) (W.contents writer.new) result }
+        requires { run ≡ Err ending.Writer → K.has_ended watcher.old }
+        ensures ended { IsEnded run (K.contents watcher.old) (K.contents watcher.new) result }
         ensures same { self.new ≡ self.old }
+        ensures stopped { IfErr result (λ e. e ≡ fault.Writer → K.has_ended watcher.new) }
+        ensures kept { (first : K) → K.follows first watcher.old → K.follows first watcher.new }
     {
         let Err(ending) = run else {
-            flush(writer)?;
+            Self::flush(watcher)?;
             return Ok(());
         };
         let why = SessionFault::from(ending);
-        self.end_with(ending, writer, watcher)?;
+        self.end_with(ending, watcher)?;
         Err(why)
     }
 
     /// Writes the last line, that of a fault, but for the writer's.
-    fn end_with<W: Write, K: Watcher<S>>(
-        &mut self,
-        why: Ending,
-        writer: &mut W,
-        watcher: &mut K,
-    ) -> Result<(), Ending>
+    fn end_with<K: Watcher<S>>(&mut self, why: Ending, watcher: &mut K) -> Result<(), Ending>
+        requires { why ≡ ending.Writer → K.has_ended watcher.old }
         ensures ok { OnOk result ((why ≢ ending.Writer)
-            × Appends (W.contents writer.old) (W.contents writer.new) (fault_line (fault_of why))) }
+            × Appends (K.contents watcher.old) (K.contents watcher.new) (fault_line (fault_of why))) }
         ensures err { IfErr result (λ e. e ≡ ending.Writer) }
         ensures same { self.new ≡ self.old }
+        ensures stopped { IfErr result (λ e. e ≡ ending.Writer → K.has_ended watcher.new) }
+        ensures kept { (first : K) → K.follows first watcher.old → K.follows first watcher.new }
     {
         match why {
             Ending::Writer => Err(Ending::Writer),
             _ => {
-                self.refuse(SessionFault::from(why), writer, watcher)?;
-                flush(writer)
+                self.refuse(SessionFault::from(why), watcher)?;
+                Self::flush(watcher)
             }
         }
     }
@@ -384,34 +425,4 @@ fn is_working(answer: &Result<Reply, SessionFault>) -> bool
         Ok(Reply::Line(LineReply::Working(_))) => true,
         _ => false,
     }
-}
-
-/// Writes the lines of an answer, which are built in a vector that is borrowed.
-fn write_lines<W: Write>(
-    line: &mut Vec<u8>,
-    entry: Option<&Entry>,
-    answer: &Result<Reply, SessionFault>,
-    writer: &mut W,
-) -> Result<(), Ending>
-    requires { 80 ≤ vec_capacity line.old }
-    ensures ok { OnOk result
-        (Appends (W.contents writer.old) (W.contents writer.new)
-        (answer_lines (option_copied entry.entry) answer.now)) }
-    ensures err { IfErr result (λ e. (e ≡ ending.Writer)
-        ⊎ ((e ≡ ending.Memory) × Appends (W.contents writer.old) (W.contents writer.new) []
-        × (IsShort answer.now → ⊥))) }
-    ensures room { 80 ≤ vec_capacity line.new }
-{
-    line.clear();
-    put_reply(entry, answer, line)?;
-    writer.write_all(line)?;
-    Ok(())
-}
-
-fn flush<W: Write>(writer: &mut W) -> Result<(), Ending>
-    ensures ok { OnOk result (Appends (W.contents writer.old) (W.contents writer.new) []) }
-    ensures err { IfErr result (λ e. e ≡ ending.Writer) }
-{
-    writer.flush()?;
-    Ok(())
 }

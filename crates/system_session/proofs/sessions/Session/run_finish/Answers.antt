@@ -14,9 +14,10 @@ loop-number-preserved g c = record {
       let following = quiet_second _ c.loop-number.self _ quiet c.loop-number.invariant.later c.run_turn.ensures.later (c.loop-number.invariant.running before) in
       let t = c.loop-number.invariant.told before in
       let low : lowest_job c.loop-number.self.jobs ≡ Some c.in-Some.number = ap (λ (s : SessionView). lowest_job s.jobs) (sym c.self.view_is) ∙ sym c.lowest.ensures ∙ c.in-Some.is in
-      let m = turns_more t.0 c.in-Some.number _ (state_of c.loop-number.self) _ _ (g.W.Write.contents c.loop-number.writer) _ t.1 low t.2 (c.in_ok-run_turn.ensures.told following) in
+      let m = turns_more t.0 c.in-Some.number _ (state_of c.loop-number.self) _ _ (g.K.Watcher.contents c.loop-number.watcher) _ t.1 low t.2 (c.in_ok-run_turn.ensures.told following) in
       (_, m.0, m.1);
   later = later_trans _ _ _ c.loop-number.invariant.later c.run_turn.ensures.later;
+  kept = λ first follows. c.run_turn.ensures.kept first (c.loop-number.invariant.kept first follows);
   running = λ quiet.
       let before = quiet_first _ c.loop-number.self _ quiet c.loop-number.invariant.later c.run_turn.ensures.later in
       c.run_turn.ensures.running (quiet_second _ c.loop-number.self _ quiet c.loop-number.invariant.later c.run_turn.ensures.later (c.loop-number.invariant.running before));
@@ -29,13 +30,13 @@ returns-in_err-run_turn-clause-told g c quiet =
     let following = quiet_second _ c.loop-number.self _ quiet c.loop-number.invariant.later c.run_turn.ensures.later (c.loop-number.invariant.running before) in
     let t = c.loop-number.invariant.told before in
     let low : lowest_job c.loop-number.self.jobs ≡ Some c.in-Some.number = ap (λ (s : SessionView). lowest_job s.jobs) (sym c.self.view_is) ∙ sym c.lowest.ensures ∙ c.in-Some.is in
-    rw (p.1, p.2) (finish_ended t.0 c.in-Some.number _ (state_of c.loop-number.self) _ _ (g.W.Write.contents c.loop-number.writer) _ c.in_err-run_turn.field-0.0 t.1 low t.2 (c.in_err-run_turn.ensures.told following))
+    rw (p.1, p.2) (finish_ended t.0 c.in-Some.number _ (state_of c.loop-number.self) _ _ (g.K.Watcher.contents c.loop-number.watcher) _ c.in_err-run_turn.field-0.0 t.1 low t.2 (c.in_err-run_turn.ensures.told following))
 
 pub returns-clause-told : goal.returns-clause-told
 returns-clause-told g c quiet =
     let before = subst (λ (s : SessionView). NoCallFailed c.args.self.now s) c.tell.ensures.same quiet in
     let t = c.loop-number.invariant.told before in
-    finish_told t.0 (state_of c.args.self.now) (state_of c.tell.new.self) (g.W.Write.contents c.args.writer.now) (g.W.Write.contents c.loop-number.writer) _ c.tell.result
+    finish_told t.0 (state_of c.args.self.now) (state_of c.tell.new.self) (g.K.Watcher.contents c.args.watcher.now) (g.K.Watcher.contents c.loop-number.watcher) _ c.tell.result
     (subst (λ (s : SessionView). Turns (state_of c.args.self.now) t.0 (state_of s)) (sym c.tell.ensures.same) t.1)
     (ap (λ (s : SessionView). lowest_job s.jobs) (c.tell.ensures.same ∙ sym c.self.view_is) ∙ sym c.lowest.ensures ∙ c.in_default.is)
     t.2 c.tell.ensures.ok c.tell.ensures.err

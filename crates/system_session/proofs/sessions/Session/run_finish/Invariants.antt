@@ -10,8 +10,9 @@ use Rattle.system_session.proofs.sessions.Session.run_finish.Given as goal
 abbrev pub invariant-loop-number : goal.invariant-loop-number
 invariant-loop-number g l = record {
   told : NoCallFailed l.fn.self l.self → (turns : List (ℕ × Answer)) × Turns (state_of l.fn.self) turns (state_of l.self)
-      × Appends (g.W.Write.contents l.fn.writer) (g.W.Write.contents l.writer) (turn_lines turns);
+      × Appends (g.K.Watcher.contents l.fn.watcher) (g.K.Watcher.contents l.watcher) (turn_lines turns);
   later : IsLater l.fn.self l.self;
+  kept : (first : _) → g.K.Watcher.follows first l.fn.watcher → g.K.Watcher.follows first l.watcher;
   running : NoCallFailed l.fn.self l.self → l.self.volume.stopped ≡ false;
 }
 

@@ -13,7 +13,7 @@ returns-in_err-lines-clause-told g c quiet =
     let before = quiet_first _ c.loop-lines.self _ quiet c.loop-lines.invariant.later c.run_next.ensures.later in
     let following = quiet_second _ c.loop-lines.self _ quiet c.loop-lines.invariant.later c.run_next.ensures.later (c.loop-lines.invariant.running before) in
     rw (p.1, p.2) (up_to_stopped c.args.text.now c.split_at.result.1.now c.args.is_end c.loop-lines.done (state_of c.args.self.now) (state_of c.loop-lines.self) (state_of c.run_next.new.self)
-    (g.W.Write.contents c.args.writer.now) (g.W.Write.contents c.loop-lines.writer) (g.W.Write.contents c.run_next.new.writer) c.in_err-lines.field-0.0
+    (g.K.Watcher.contents c.args.watcher.now) (g.K.Watcher.contents c.loop-lines.watcher) (g.K.Watcher.contents c.run_next.new.watcher) c.in_err-lines.field-0.0
     c.split_at.ensures.back (c.loop-lines.invariant.told before) (c.in_err-lines.ensures.told following))
 
 pub loop-lines-preserved : goal.loop-lines-preserved
@@ -24,11 +24,12 @@ loop-lines-preserved g c =
           let before = quiet_first _ c.loop-lines.self _ quiet c.loop-lines.invariant.later c.run_next.ensures.later in
           let following = quiet_second _ c.loop-lines.self _ quiet c.loop-lines.invariant.later c.run_next.ensures.later (c.loop-lines.invariant.running before) in
           up_to_next c.args.text.now c.split_at.result.1.now c.args.is_end c.loop-lines.done c.in-Ran.bytes (state_of c.args.self.now) (state_of c.loop-lines.self) (state_of c.run_next.new.self)
-          (g.W.Write.contents c.args.writer.now) (g.W.Write.contents c.loop-lines.writer) (g.W.Write.contents c.run_next.new.writer)
+          (g.K.Watcher.contents c.args.watcher.now) (g.K.Watcher.contents c.loop-lines.watcher) (g.K.Watcher.contents c.run_next.new.watcher)
           c.split_at.ensures.back (c.loop-lines.invariant.told before)
-          (subst (λ (o : Begun). RunsNext c.split_at.result.1.now c.args.is_end (state_of c.loop-lines.self) (state_of c.run_next.new.self) (g.W.Write.contents c.loop-lines.writer) (g.W.Write.contents c.run_next.new.writer) (Ok o)) c.in-Ran.is (c.in_ok-lines.ensures.told following));
+          (subst (λ (o : Begun). RunsNext c.split_at.result.1.now c.args.is_end (state_of c.loop-lines.self) (state_of c.run_next.new.self) (g.K.Watcher.contents c.loop-lines.watcher) (g.K.Watcher.contents c.run_next.new.watcher) (Ok o)) c.in-Ran.is (c.in_ok-lines.ensures.told following));
       within = omega (arith, c.loop-lines.invariant.within, c.split_at.ensures.back_len, inside.1);
       later = later_trans _ _ _ c.loop-lines.invariant.later c.run_next.ensures.later;
+      kept = λ first follows. c.run_next.ensures.kept first (c.loop-lines.invariant.kept first follows);
       running = λ quiet.
           let before = quiet_first _ c.loop-lines.self _ quiet c.loop-lines.invariant.later c.run_next.ensures.later in
           c.run_next.ensures.running (quiet_second _ c.loop-lines.self _ quiet c.loop-lines.invariant.later c.run_next.ensures.later (c.loop-lines.invariant.running before));

@@ -9,9 +9,10 @@ use Rattle.system_session.proofs.sessions.Session.run_items.Given as goal
 abbrev pub invariant-loop-lines : goal.invariant-loop-lines
 invariant-loop-lines g l = record {
   told : NoCallFailed l.fn.self l.self → (prefix : List Item) × StartsWithItems l.text l.is_end prefix (drop l.done l.text)
-      × WritesAnswers (state_of l.fn.self) prefix (state_of l.self) (g.W.Write.contents l.fn.writer) (g.W.Write.contents l.writer) [];
+      × WritesAnswers (state_of l.fn.self) prefix (state_of l.self) (g.K.Watcher.contents l.fn.watcher) (g.K.Watcher.contents l.watcher) [];
   within : l.done ≤ length l.text;
   later : IsLater l.fn.self l.self;
+  kept : (first : _) → g.K.Watcher.follows first l.fn.watcher → g.K.Watcher.follows first l.watcher;
   running : NoCallFailed l.fn.self l.self → l.self.volume.stopped ≡ false;
 }
 

@@ -1,4 +1,4 @@
-use Rattle.std.proofs.Common.{ℕ, ◌≡◌, ◌≤◌, ◌+◌, ◌++◌, ◌∙◌, [], List, Option, Err, inl, inr, refl, sym, subst, Bool, true, false, Ok, arith, length}
+use Rattle.std.proofs.Common.{rules, ℕ, ◌≡◌, ◌≤◌, ◌+◌, ◌++◌, ◌∙◌, [], List, Option, Err, inl, inr, refl, sym, subst, Bool, true, false, Ok, arith, length}
 use Rattle.std.proofs.lemmas.Result.{err_from_is_err_and}
 use Rattle.script8.specs.Items.{WaitsForLines}
 use Rattle.std.specs.Io.KnownBytes.{Consumes}
@@ -28,17 +28,18 @@ pub returns-in_err-piece-clause-told : goal.returns-in_err-piece-clause-told
 returns-in_err-piece-clause-told g c quiet =
     let p = err_from_is_err_and c.from_residual.result c.from_residual.ensures.1 in
     rw (p.1, p.2)
-    (run_unread 16777216 _ _ _ _ _ (g.W.Write.contents c.args.writer.now) _ 0 [] [] (none_run (state_of c.args.self.now) _ (g.W.Write.contents c.args.writer.now) [] refl) (consumes_none (g.R.Read.remaining c.args.reader.now)) (omega arith))
+    (run_unread 16777216 _ _ _ _ _ (g.K.Watcher.contents c.args.watcher.now) _ 0 [] [] (none_run (state_of c.args.self.now) _ (g.K.Watcher.contents c.args.watcher.now) [] refl) (consumes_none (g.R.Read.remaining c.args.reader.now)) (omega arith))
 
 pub loop-init : goal.loop-init
 loop-init g c = record {
-  told = λ quiet. subst (λ n. IsRunTo (state_of c.args.self.now) (state_of c.args.self.now) (g.R.Read.remaining c.args.reader.now) (g.R.Read.remaining c.args.reader.now) (g.W.Write.contents c.args.writer.now) (g.W.Write.contents c.args.writer.now) n c.new-pending.result.bytes.items) (sym c.new-pending.ensures.count)
-      (none_run (state_of c.args.self.now) (g.R.Read.remaining c.args.reader.now) (g.W.Write.contents c.args.writer.now) c.new-pending.result.bytes.items c.new-pending.ensures.bytes);
+  told = λ quiet. subst (λ n. IsRunTo (state_of c.args.self.now) (state_of c.args.self.now) (g.R.Read.remaining c.args.reader.now) (g.R.Read.remaining c.args.reader.now) (g.K.Watcher.contents c.args.watcher.now) (g.K.Watcher.contents c.args.watcher.now) n c.new-pending.result.bytes.items) (sym c.new-pending.ensures.count)
+      (none_run (state_of c.args.self.now) (g.R.Read.remaining c.args.reader.now) (g.K.Watcher.contents c.args.watcher.now) c.new-pending.result.bytes.items c.new-pending.ensures.bytes);
   waits = (c.new-pending.ensures.lines.0, subst (λ (l : List ℕ). WaitsForLines l c.new-pending.result.lines) (sym c.new-pending.ensures.bytes) c.new-pending.ensures.lines.1);
   taken = record { bytes = []; taken = consumes_none _; count_is = sym c.new-pending.ensures.count };
   within = omega (arith, c.new-pending.ensures.count);
   piece = omega (arith, c.in_ok-piece.ensures);
   later = record { reads = omega arith; writes = omega arith };
+  kept = λ first follows. follows;
   running = λ quiet. quiet.running;
 }
 
@@ -46,8 +47,12 @@ pub returns-then-ends-clause-told : goal.returns-then-ends-clause-told
 returns-then-ends-clause-told g c quiet =
     let before = quiet_first _ c.loop.self _ quiet c.loop.invariant.later c.run_end.ensures.later in
     let following = quiet_second _ c.loop.self _ quiet c.loop.invariant.later c.run_end.ensures.later (c.loop.invariant.running before) in
-    run_over 16777216 _ (state_of c.loop.self) _ _ (g.R.Read.remaining c.loop.reader) _ _ (g.W.Write.contents c.loop.writer) _ c.loop.pending.count c.loop.pending.bytes.items c.deref.result.now c.run_end.result
+    run_over 16777216 _ (state_of c.loop.self) _ _ (g.R.Read.remaining c.loop.reader) _ _ (g.K.Watcher.contents c.loop.watcher) _ c.loop.pending.count c.loop.pending.bytes.items c.deref.result.now c.run_end.result
     (c.loop.invariant.told before) c.loop.invariant.within c.if-ends.ensures c.deref.ensures.value (c.run_end.ensures.told following)
+
+pub returns-then-ends-clause-taken : goal.returns-then-ends-clause-taken
+returns-then-ends-clause-taken g c =
+    (c.loop.pending.count + 0, takes_more _ (g.R.Read.remaining c.loop.reader) _ c.loop.pending.count [] c.loop.invariant.taken c.if-ends.ensures.taken, omega (arith, c.loop.invariant.within), λ last. absurd (not_past c.loop.pending.count c.loop.invariant.within (omega (arith, last))))
 
 pub returns-then-pending-eq-MOST-clause-told : goal.returns-then-pending-eq-MOST-clause-told
 returns-then-pending-eq-MOST-clause-told g c quiet =
@@ -62,7 +67,7 @@ returns-then-at_end-clause-told g c quiet =
     let read = at_end (g.R.Read.remaining c.loop.reader) (g.R.Read.remaining c.read.new.reader) _ _ _ _ _ c.if-at_end.true c.in_ok-at_end.ensures in
     let before = quiet_first _ c.loop.self _ quiet c.loop.invariant.later c.run_end-then-at_end.ensures.later in
     let following = quiet_second _ c.loop.self _ quiet c.loop.invariant.later c.run_end-then-at_end.ensures.later (c.loop.invariant.running before) in
-    run_over 16777216 _ (state_of c.loop.self) _ _ (g.R.Read.remaining c.loop.reader) _ _ (g.W.Write.contents c.loop.writer) _ c.loop.pending.count c.loop.pending.bytes.items c.deref-then-at_end.result.now c.run_end-then-at_end.result
+    run_over 16777216 _ (state_of c.loop.self) _ _ (g.R.Read.remaining c.loop.reader) _ _ (g.K.Watcher.contents c.loop.watcher) _ c.loop.pending.count c.loop.pending.bytes.items c.deref-then-at_end.result.now c.run_end-then-at_end.result
     (c.loop.invariant.told before) c.loop.invariant.within read.0 (c.deref-then-at_end.ensures.value ∙ read.1) (c.run_end-then-at_end.ensures.told following)
 
 pub returns-then-at_end-clause-taken : goal.returns-then-at_end-clause-taken
@@ -76,10 +81,10 @@ returns-in_err-run_given-clause-told g c quiet =
     let read = more_read (g.R.Read.remaining c.loop.reader) (g.R.Read.remaining c.read.new.reader) _ _ _ _ _ c.if-at_end.false c.in_ok-at_end.ensures in
     let before = quiet_first _ c.loop.self _ quiet c.loop.invariant.later c.run_given.ensures.later in
     let following = quiet_second _ c.loop.self _ quiet c.loop.invariant.later c.run_given.ensures.later (c.loop.invariant.running before) in
-    let fed = run_fed _ (state_of c.loop.self) _ (g.R.Read.remaining c.loop.reader) _ _ (g.W.Write.contents c.loop.writer) c.loop.pending.count c.loop.pending.bytes.items read.0 (c.loop.invariant.told before) read.1 in
-    rw (p.1, p.2) (run_stopped 16777216 _ (state_of c.loop.self) _ _ (g.R.Read.remaining c.read.new.reader) _ (g.W.Write.contents c.loop.writer) _ (c.loop.pending.count + length read.0) (c.loop.pending.bytes.items ++ read.0) c.run_given.new.pending.bytes.items c.in_err-run_given.field-0.0
+    let fed = run_fed _ (state_of c.loop.self) _ (g.R.Read.remaining c.loop.reader) _ _ (g.K.Watcher.contents c.loop.watcher) c.loop.pending.count c.loop.pending.bytes.items read.0 (c.loop.invariant.told before) read.1 in
+    rw (p.1, p.2) (run_stopped 16777216 _ (state_of c.loop.self) _ _ (g.R.Read.remaining c.read.new.reader) _ (g.K.Watcher.contents c.loop.watcher) _ (c.loop.pending.count + length read.0) (c.loop.pending.bytes.items ++ read.0) c.run_given.new.pending.bytes.items c.in_err-run_given.field-0.0
     fed (omega (arith, read.3, read.4))
-    (subst (λ (l : List ℕ). RunsGiven l c.run_given.new.pending.bytes.items (state_of c.loop.self) (state_of c.run_given.new.self) (g.W.Write.contents c.loop.writer) (g.W.Write.contents c.run_given.new.writer) (Err c.in_err-run_given.field-0.0)) read.2 (c.in_err-run_given.ensures.told following)))
+    (subst (λ (l : List ℕ). RunsGiven l c.run_given.new.pending.bytes.items (state_of c.loop.self) (state_of c.run_given.new.self) (g.K.Watcher.contents c.loop.watcher) (g.K.Watcher.contents c.run_given.new.watcher) (Err c.in_err-run_given.field-0.0)) read.2 (c.in_err-run_given.ensures.told following)))
 
 pub returns-in_err-run_given-clause-taken : goal.returns-in_err-run_given-clause-taken
 returns-in_err-run_given-clause-taken g c =
@@ -97,6 +102,11 @@ returns-in_err-at_end g c =
         | inr lack ↦ rw (p.1, p.2.1 lack) (run_unread 16777216 _ _ _ (g.R.Read.remaining c.loop.reader) _ _ _ c.loop.pending.count c.loop.pending.bytes.items lost.0 (c.loop.invariant.told quiet) lost.1 lost.2)
       ];
       later = c.loop.invariant.later;
+      stopped = elim lost.3 [
+        | inl none ↦ rw (p.1, p.2.0 none.0) (search rules)
+        | inr lack ↦ rw (p.1, p.2.1 lack) (search rules)
+      ];
+      kept = c.loop.invariant.kept;
       running = c.loop.invariant.running;
       taken = (c.loop.pending.count + length lost.0, takes_more _ (g.R.Read.remaining c.loop.reader) _ c.loop.pending.count lost.0 c.loop.invariant.taken lost.1, omega (arith, lost.2), λ last. absurd (not_past (c.loop.pending.count + length lost.0) lost.2 last));
     }
@@ -108,16 +118,17 @@ loop-preserved g c =
       told = λ quiet.
           let before = quiet_first _ c.loop.self _ quiet c.loop.invariant.later c.run_given.ensures.later in
           let following = quiet_second _ c.loop.self _ quiet c.loop.invariant.later c.run_given.ensures.later (c.loop.invariant.running before) in
-          let fed = run_fed _ (state_of c.loop.self) _ (g.R.Read.remaining c.loop.reader) _ _ (g.W.Write.contents c.loop.writer) c.loop.pending.count c.loop.pending.bytes.items read.0 (c.loop.invariant.told before) read.1 in
-          subst (λ n. IsRunTo (state_of c.args.self.now) (state_of c.run_given.new.self) (g.R.Read.remaining c.args.reader.now) (g.R.Read.remaining c.read.new.reader) (g.W.Write.contents c.args.writer.now) (g.W.Write.contents c.run_given.new.writer) n c.run_given.new.pending.bytes.items)
+          let fed = run_fed _ (state_of c.loop.self) _ (g.R.Read.remaining c.loop.reader) _ _ (g.K.Watcher.contents c.loop.watcher) c.loop.pending.count c.loop.pending.bytes.items read.0 (c.loop.invariant.told before) read.1 in
+          subst (λ n. IsRunTo (state_of c.args.self.now) (state_of c.run_given.new.self) (g.R.Read.remaining c.args.reader.now) (g.R.Read.remaining c.read.new.reader) (g.K.Watcher.contents c.args.watcher.now) (g.K.Watcher.contents c.run_given.new.watcher) n c.run_given.new.pending.bytes.items)
           (sym (c.run_given.ensures.count ∙ read.3))
-          (run_on _ (state_of c.loop.self) _ _ (g.R.Read.remaining c.read.new.reader) _ (g.W.Write.contents c.loop.writer) _ (c.loop.pending.count + length read.0) (c.loop.pending.bytes.items ++ read.0) c.run_given.new.pending.bytes.items fed
-          (subst (λ (l : List ℕ). RunsGiven l c.run_given.new.pending.bytes.items (state_of c.loop.self) (state_of c.run_given.new.self) (g.W.Write.contents c.loop.writer) (g.W.Write.contents c.run_given.new.writer) (Ok tt)) read.2 (c.in_ok-run_given.ensures.told following)));
+          (run_on _ (state_of c.loop.self) _ _ (g.R.Read.remaining c.read.new.reader) _ (g.K.Watcher.contents c.loop.watcher) _ (c.loop.pending.count + length read.0) (c.loop.pending.bytes.items ++ read.0) c.run_given.new.pending.bytes.items fed
+          (subst (λ (l : List ℕ). RunsGiven l c.run_given.new.pending.bytes.items (state_of c.loop.self) (state_of c.run_given.new.self) (g.K.Watcher.contents c.loop.watcher) (g.K.Watcher.contents c.run_given.new.watcher) (Ok tt)) read.2 (c.in_ok-run_given.ensures.told following)));
       waits = c.in_ok-run_given.ensures.waits;
       taken = subst (λ n. TakesBytes (g.R.Read.remaining c.args.reader.now) (g.R.Read.remaining c.read.new.reader) n) (sym (c.run_given.ensures.count ∙ read.3)) (takes_more _ (g.R.Read.remaining c.loop.reader) _ c.loop.pending.count read.0 c.loop.invariant.taken read.1);
       within = omega (arith, c.run_given.ensures.count, read.4);
       piece = c.loop.invariant.piece;
       later = later_trans _ _ _ c.loop.invariant.later c.run_given.ensures.later;
+      kept = λ first follows. c.run_given.ensures.kept first (c.loop.invariant.kept first follows);
       running = λ quiet.
           let before = quiet_first _ c.loop.self _ quiet c.loop.invariant.later c.run_given.ensures.later in
           c.run_given.ensures.running (quiet_second _ c.loop.self _ quiet c.loop.invariant.later c.run_given.ensures.later (c.loop.invariant.running before));

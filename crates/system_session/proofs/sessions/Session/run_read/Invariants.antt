@@ -9,11 +9,12 @@ use Rattle.system_session.proofs.sessions.Session.run_read.Given as goal
 abbrev pub invariant-loop : goal.invariant-loop
 invariant-loop g l = record {
   told : NoCallFailed l.fn.self l.self → IsRunTo (state_of l.fn.self) (state_of l.self) (g.R.Read.remaining l.fn.reader) (g.R.Read.remaining l.reader)
-      (g.W.Write.contents l.fn.writer) (g.W.Write.contents l.writer) l.pending.count l.pending.bytes.items;
+      (g.K.Watcher.contents l.fn.watcher) (g.K.Watcher.contents l.watcher) l.pending.count l.pending.bytes.items;
   waits : (0 < l.pending.lines) × WaitsForLines l.pending.bytes.items l.pending.lines;
   taken : TakesBytes (g.R.Read.remaining l.fn.reader) (g.R.Read.remaining l.reader) l.pending.count;
   within : l.pending.count ≤ 16777216;
   piece : 0 < vec_len l.piece;
   later : IsLater l.fn.self l.self;
+  kept : (first : _) → g.K.Watcher.follows first l.fn.watcher → g.K.Watcher.follows first l.watcher;
   running : NoCallFailed l.fn.self l.self → l.self.volume.stopped ≡ false;
 }
