@@ -13,6 +13,6 @@ pub use arguments::tell_bad_argument;
 pub use files::refusal;
 pub use images::Image;
 pub use inputs::CountedInput;
-pub use printing::{print_bytes, tell, tell_line};
+pub use printing::tell;
 pub use streams::Output;
 pub use words::texts_of;

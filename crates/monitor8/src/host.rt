@@ -67,15 +67,37 @@ where
         Err(fault) => return refuse_words(rt, &mut host, rooms, fault),
     };
     let is_data = gives_data(&task);
-    let work = do_task(rt, &mut host, task);
+    let (host, work) = do_task(rt, host, task);
+    let mut host = host;
     ExitCode::from(end(&mut host, rooms, is_data, work))
 }
 
-fn do_task<R: Env + Files<File = File> + Input + Print + Eprint + Clock + AllocGlobal>(
+/// Does a task. The host is handed over, since the output of a machine that runs is the host itself, and is given back.
+fn do_task<H: Host, R: Env + Files<File = File> + Input + Print + Eprint + Clock + AllocGlobal>(
     rt: &R,
-    host: &mut System<'_, R>,
+    host: H,
     task: Task,
-) -> Result<(), Ending>
+) -> (H, Result<(), Ending>)
+where
+    R::Reader: IsTerminal,
+{
+    let alloc = rt.alloc();
+    match task {
+        Task::Teletype(form) => run_teletype(host, alloc, &mut rt.reader(), &form),
+        Task::Trace(form) => trace_tape(host, alloc, &form),
+        task => {
+            let mut host = host;
+            let work = do_with_host(rt, &mut host, task);
+            (host, work)
+        }
+    }
+}
+
+/// Does a task that only asks something of the host.
+fn do_with_host<
+    H: Host,
+    R: Env + Files<File = File> + Input + Print + Eprint + Clock + AllocGlobal,
+>(rt: &R, host: &mut H, task: Task) -> Result<(), Ending>
 where
     R::Reader: IsTerminal,
 {
@@ -89,9 +111,7 @@ where
             wait_of(&form),
             assemble_files(host, alloc, &form)
         ),
-        Task::Teletype(form) => run_teletype(rt, host, &form),
-        Task::Trace(form) => trace_tape(rt, host, &form),
-        Task::Profile(form) => profile_tape(rt, host, &form),
+        Task::Profile(form) => profile_tape(host, alloc, &form),
         Task::Run(image, form) => run_image(rt, &image, form),
         Task::Create(form, blocks) => wait_for_image!(
             rt,
@@ -138,6 +158,8 @@ where
                 patch_word(host, alloc, &form.image, &wanted)
             )
         }
+        // These have the host itself: `do_task` does them.
+        Task::Teletype(_) | Task::Trace(_) => Ok(()),
     }
 }
 

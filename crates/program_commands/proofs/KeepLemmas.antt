@@ -57,7 +57,7 @@ refused-if : (is : Bool) (path frames : List ℕ) (why : Ending) (old : List Eve
 refused-if true path frames why old ending new p = tape-refused path frames why old ending new p
 refused-if false path frames why old ending new p = same path p.1
 
-frames-refused : (path frames : List ℕ) (why : Ending) (old : List Event) (ending : Ending) (new : List Event) → RefusesFrames frames why old ending new → about path new ≡ about path old
+pub frames-refused : (path frames : List ℕ) (why : Ending) (old : List Event) (ending : Ending) (new : List Event) → RefusesFrames frames why old ending new → about path new ≡ about path old
 frames-refused path frames why old ending new p = refused-if (is_no_tape why) path frames why old ending new p
 
 -- what volume_commands knows of its steps is handed in

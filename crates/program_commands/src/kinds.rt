@@ -11,12 +11,7 @@ use std::alloc::Global;
 
 /// How a command ends whose frames are refused, by the ending of their fault. Where they are no BIN tape, what they are is printed on standard
 /// error, if a command takes that.
-pub(crate) fn refuse_frames<H: Host>(
-    host: &mut H,
-    alloc: Global,
-    frames: &[u8],
-    ending: Ending,
-) -> Ending
+pub fn refuse_frames<H: Host>(host: &mut H, alloc: Global, frames: &[u8], ending: Ending) -> Ending
     ensures { RefusesFrames frames.now ending (H.history host.old) result (H.history host.new) }
 {
     if is_no_tape(&ending) {

@@ -1,9 +1,13 @@
 //! What the commands on tapes leave as it was.
-ghost use Rattle.std.specs.Prelude.{Option};
+ghost use Rattle.std.specs.Prelude.{◌≡◌, ℕ, Option, List};
+ghost use Rattle.hosts.specs.Event.{Event};
+ghost use Rattle.hosts.specs.Place.{about};
+ghost use Rattle.outcome.specs.declared.endings.Ending.{Ending};
 ghost use Rattle.program_tasks.specs.declared.forms.TapeForm.{TapeForm};
 ghost use Rattle.program_tasks.specs.declared.tasks.RimForm.{RimForm};
 ghost use Rattle.program_tasks.specs.declared.tasks.SourceForm.{SourceForm};
 ghost use Rattle.volume_commands.specs.Laws.{KeepsFiles};
+ghost use Rattle.program_commands.specs.Kinds.{RefusesFrames};
 ghost use Rattle.program_commands.specs.Programs.{ReadsProgram};
 ghost use Rattle.program_commands.specs.Rims.{WritesRim};
 ghost use Rattle.program_commands.specs.Sources.{WritesSource};
@@ -11,11 +15,14 @@ ghost use Rattle.program_commands.specs.Tapes.{ListsTape};
 
 use volume_commands::laws::kept_files;
 
-/// A law: none of these commands changes a file of the host, in whichever way it ends, nor does the reading of a program for another.
+/// A law: none of these commands changes a file of the host, in whichever way it ends. Nor does the reading of a program for another, or the
+/// refusal of frames.
 pub fn unchanged_files()
     ensures program { (form : TapeForm) → KeepsFiles (ReadsProgram form) }
     ensures tape { (form : Option TapeForm) → KeepsFiles (ListsTape form) }
     ensures rim { (form : RimForm) (tape : Option TapeForm) → KeepsFiles (WritesRim form tape) }
+    ensures frames { (frames : List ℕ) (fault : Ending) (old : List Event) (ending : Ending) (new : List Event) → RefusesFrames frames fault old ending new
+        → (path : List ℕ) → about path new ≡ about path old }
     ensures source { (form : SourceForm) → KeepsFiles (WritesSource form) }
 {
     kept_files();

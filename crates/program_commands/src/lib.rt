@@ -8,6 +8,7 @@ mod rims;
 mod sources;
 mod tapes;
 
+pub use kinds::refuse_frames;
 pub use programs::{Program, program_of};
 pub use rims::write_rim;
 pub use sources::write_source;

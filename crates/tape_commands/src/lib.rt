@@ -1,10 +1,14 @@
-//! The commands on machines, over the files and the streams of the host: what they do with bytes is in the functions
-//! that they call.
+//! The commands that run the program of a tape, over any host: what is read, which machine runs, and what each stream gets.
 #![tactic(auto)]
 
-mod kinds;
+pub mod laws;
+mod lines;
+mod machines;
+mod profiles;
+mod runs;
 mod teletypes;
 mod traces;
 
+pub use profiles::profile_tape;
 pub use teletypes::run_teletype;
-pub use traces::{profile_tape, trace_tape};
+pub use traces::trace_tape;

@@ -1,108 +1,152 @@
-//! A program of a tape at the Teletype: standard input is the keyboard, and standard output the paper.
+//! A program of a tape at the Teletype: the keys of a reader, and standard output as the paper.
+ghost use Rattle.std.specs.Prelude.{◌≡◌, ◌-◌, ◌^◌, Some, unwrap_or};
+ghost use Rattle.terminal8.specs.Run.{RunsProgram};
+ghost use Rattle.hosts.specs.Streams.{output_text};
+ghost use Rattle.host_output.specs.Printing.{HasPrinted};
+ghost use Rattle.tape_commands.specs.Teletypes as spec;
+ghost use Rattle.tape_commands.specs.Teletypes.{EndsRun, IsEndOf, ReadsMachine, RunsMachine, RunsTeletype};
 
-use crate::kinds::tell_kind;
-use core_load::{Core, load};
+use crate::lines::{ending_of_output, tell_program};
+use crate::machines::machine_of;
+use crate::runs::start_or;
 use cpu8::Machine;
-use host_inputs::{Output, tell, tell_line};
-use hosts::Host;
-use outcome::{Ending, Note, PlainNote, start_note};
-use program_commands::{Program, program_of};
-use program_reports::{ProgramLine, first_cell, start_cell};
+use host_output::{Before, Printer};
+use hosts::{Host, PrintFault};
+use outcome::Ending;
+use program_commands::program_of;
+use program_reports::ProgramLine;
 use program_tasks::TeletypeForm;
 use script8::SessionFault;
-use std::io::Input;
-use terminal8::{Form, Input as Keys, TerminalEnd, TerminalFault, run};
-use word12::{Cell, Word};
+use std::alloc::Global;
+use std::io::Read;
+use std::marker::Brand;
+use terminal8::{Ended, Form, Input, TerminalEnd, TerminalFault, run};
 
-/// Loads a tape or a core image into a new machine, and runs it at the Teletype.
-pub fn run_teletype<R: Input + Print + Eprint + AllocGlobal, H: Host>(
-    rt: &R,
-    host: &mut H,
+/// Loads a tape or a core image into a new machine, and runs it at the Teletype, whose keys a reader gives. The line of its end is printed
+/// on standard error. No file changes. The host is given back.
+pub fn run_teletype<H: Host, I: Read>(
+    host: H,
+    alloc: Global,
+    keys: &mut I,
     form: &TeletypeForm,
-) -> Result<(), Ending> {
-    let Program { frames, start } = program_of(host, rt.alloc(), &form.tape)?;
-    let mut machine = machine_of(rt, &frames, form.start.or(start), form.switches)?;
-    let struck = if form.is_raw { Form::Raw } else { Form::Text };
-    let keys = if form.is_live {
-        Keys::Live
-    } else {
-        Keys::Ending
-    };
+) -> (H, Result<(), Ending>)
+    ensures { RunsTeletype form.now (I.remaining keys.old) (I.remaining keys.new) (H.history host) result.1 (H.history result.0) }
+{
+    let mut host = host;
+    match read_machine(&mut host, alloc, form) {
+        Ok(machine) => run_machine(host, alloc, keys, form, machine),
+        Err(ending) => (host, Err(ending)),
+    }
+}
+
+/// Reads a program, and starts its machine.
+fn read_machine<H: Host>(
+    host: &mut H,
+    alloc: Global,
+    form: &TeletypeForm,
+) -> Result<Machine, Ending>
+    ensures { ReadsMachine form.now (H.history host.old) result (H.history host.new) }
+{
+    let program = program_of(host, alloc, &form.tape)?;
+    let start = start_or(form.start, program.start);
+    machine_of(host, alloc, &program.frames, start, form.switches)
+}
+
+/// Runs a machine, and prints the line of its end.
+fn run_machine<H: Host, I: Read>(
+    host: H,
+    alloc: Global,
+    keys: &mut I,
+    form: &TeletypeForm,
+    machine: Machine,
+) -> (H, Result<(), Ending>)
+    ensures { RunsMachine form.now machine (I.remaining keys.old) (I.remaining keys.new) (H.history host) result.1 (H.history result.0) }
+{
+    let mut machine = machine;
+    let (host, fault, done) = run_onto::<H, I, Brand>(host, keys, form, &mut machine);
+    let mut host = host;
+    let work = end_run(&mut host, alloc, &machine, fault, done);
+    (host, work)
+}
+
+/// Runs a machine whose paper is standard output.
+fn run_onto<H: Host, I: Read, B: Before>(
+    host: H,
+    keys: &mut I,
+    form: &TeletypeForm,
+    machine: &mut Machine,
+) -> (H, Option<PrintFault>, Result<Ended, TerminalFault>)
+    requires { H.history host ≡ B.calls }
+    ensures runs { RunsProgram (spec.form_of form.now.is_raw) (spec.input_of form.now.is_live) (unwrap_or form.now.steps (2 ^ 64 - 1))
+        machine.old machine.new (I.remaining keys.old) (I.remaining keys.new)
+        (Some (output_text (H.history host))) (Some (output_text (H.history result.0))) result.2 }
+    ensures prints { HasPrinted (H.history host) (H.history result.0) result.1 }
+{
     let steps = form.steps.unwrap_or(u64::MAX);
-    let mut output = Output::new(rt);
-    match run(
-        &mut machine,
+    let mut printer: Printer<H, B> = Printer::new(host);
+    let done = run(
+        machine,
         steps,
-        struck,
+        form_of(form.is_raw),
+        input_of(form.is_live),
         keys,
-        &mut rt.reader(),
-        &mut output,
-    ) {
-        Ok(stopped) => tell_end(rt, &machine, stopped.why),
-        Err(TerminalFault::Reader) => Err(Ending::Fault(SessionFault::Reader)),
-        Err(TerminalFault::Writer) => Err(output.ending()),
-    }
+        &mut printer,
+    );
+    let (host, fault) = printer.finish();
+    (host, fault, done)
 }
 
-/// A machine that stands where the program of a tape is to begin: where it has none, at 00200 or else at the tape's first word, which is
-/// printed.
-pub fn machine_of<R: Eprint + AllocGlobal>(
-    rt: &R,
-    frames: &[u8],
-    start: Option<Cell>,
-    switches: Option<Word>,
-) -> Result<Machine, Ending> {
-    let mut core = Core::new(rt.alloc()).map_err(SessionFault::from)?;
-    if let Err(fault) = load(rt.alloc(), frames, &mut core) {
-        tell_kind(rt, frames);
-        return Err(Ending::Fault(SessionFault::from(fault)));
-    }
-    let Some(usual) = usual_start(rt, frames, start.is_some())? else {
-        return Err(Ending::Line(ProgramLine::NothingToRun));
-    };
-    let mut machine = Machine::new(core);
-    if let Some(word) = switches {
-        machine.switches(word);
-    }
-    machine.start(start.unwrap_or(usual));
-    Ok(machine)
+/// How keys are struck.
+fn form_of(is_raw: bool) -> Form
+    ensures { result ≡ spec.form_of is_raw }
+{
+    if is_raw { Form::Raw } else { Form::Text }
 }
 
-/// Where a tape's program starts if nothing else is said. That is printed where it is needed, and isn't the tape's first word at 00200.
-fn usual_start<R: Eprint + AllocGlobal>(
-    rt: &R,
-    frames: &[u8],
-    is_given: bool,
-) -> Result<Option<Cell>, Ending> {
-    let (Some(first), Some(start)) = (first_cell(frames), start_cell(frames)) else {
-        return Ok(None);
-    };
-    if is_given {
-        return Ok(Some(start));
-    }
-    if let Some(note) = start_note(first, start) {
-        tell(rt, Note::Plain(note));
-        if let PlainNote::StartAtFirst = note {
-            tell_line(rt, &ProgramLine::Start(start))?;
-        }
-    }
-    Ok(Some(start))
+/// Where keys come from.
+fn input_of(is_live: bool) -> Input
+    ensures { result ≡ spec.input_of is_live }
+{
+    if is_live { Input::Live } else { Input::Ending }
 }
 
-/// Prints on standard error why a machine goes no further: a HLT and the end of the keys are ends of a program's own.
-fn tell_end<R: Eprint + AllocGlobal>(
-    rt: &R,
+/// Prints on standard error why a machine goes no further.
+fn end_run<H: Host>(
+    host: &mut H,
+    alloc: Global,
     machine: &Machine,
-    why: TerminalEnd,
-) -> Result<(), Ending> {
+    fault: Option<PrintFault>,
+    done: Result<Ended, TerminalFault>,
+) -> Result<(), Ending>
+    ensures { EndsRun machine.now fault done (H.history host.old) result (H.history host.new) }
+{
+    match done {
+        Ok(ended) => {
+            tell_program(host, alloc, &line_of_end(machine, ended.why))?;
+            end_of(ended.why)
+        }
+        Err(TerminalFault::Reader) => Err(Ending::Fault(SessionFault::Reader)),
+        Err(TerminalFault::Writer) => Err(ending_of_output(fault)),
+    }
+}
+
+/// The line of a machine that goes no further.
+fn line_of_end(machine: &Machine, why: TerminalEnd) -> ProgramLine
+    ensures { result ≡ spec.line_of_end machine.now why }
+{
     let cell = machine.next_cell();
-    let line = match why {
+    match why {
         TerminalEnd::Halt => ProgramLine::Halted(cell, machine.ac(), machine.l()),
         TerminalEnd::Keys => ProgramLine::KeysEnd(cell),
         TerminalEnd::Unassigned => ProgramLine::Unassigned(cell, machine.core().get(cell)),
         TerminalEnd::Limit => ProgramLine::Limit(cell),
-    };
-    tell_line(rt, &line)?;
+    }
+}
+
+/// How a command ends whose machine goes no further: a HLT and the end of the keys are ends of a program's own.
+fn end_of(why: TerminalEnd) -> Result<(), Ending>
+    ensures { IsEndOf why result }
+{
     match why {
         TerminalEnd::Halt | TerminalEnd::Keys => Ok(()),
         TerminalEnd::Unassigned | TerminalEnd::Limit => Err(Ending::Failure),

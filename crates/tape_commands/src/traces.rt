@@ -1,95 +1,111 @@
-//! A program of a tape whose steps are printed or counted.
+//! A program of a tape whose steps are printed.
+ghost use Rattle.std.specs.Prelude.{◌≡◌, ◌+◌, ◌^◌, ◌<◌, Some, length};
+ghost use Rattle.word12.specs.declared.sizes.TheConstants.{CORE};
+ghost use Rattle.tape_source.specs.Tags.{is_flagged};
+ghost use Rattle.trace8.specs.Tracing.{Traces};
+ghost use Rattle.hosts.specs.Streams.{output_text};
+ghost use Rattle.host_output.specs.Printing.{HasPrinted};
+ghost use Rattle.tape_commands.specs.Runs.{terminal_of};
+ghost use Rattle.tape_commands.specs.Traces.{EndsTrace, TracesSteps, TracesTape};
 
-use crate::teletypes::machine_of;
-use cpu8::Machine;
-use host_inputs::{Output, print_bytes};
-use hosts::Host;
+use crate::lines::{ending_of_output, text_of};
+use crate::runs::{Run, read_run};
+use host_output::{Before, Printer};
+use hosts::{Host, PrintFault};
 use outcome::Ending;
-use profile8::{count_fetches, no_counts, profile_text};
-use program_commands::{Program, program_of};
-use program_reports::{ProgramLine, given_cells, put_program};
+use program_reports::ProgramLine;
 use program_tasks::TraceForm;
 use script8::SessionFault;
-use std::io::Write;
-use terminal8::{Form, Terminal, keys_of};
+use std::alloc::Global;
+use std::marker::Brand;
+use terminal8::{Ended, Terminal};
 use trace8::{TraceFault, trace};
+use volume_commands::print;
 
 /// How many steps are printed where nothing else is said.
 const TRACE_STEPS: u64 = 1_000;
 
-/// How many are counted: some three seconds of the machine.
-const PROFILE_STEPS: u64 = 1_000_000;
-
-/// The frames of a program, a machine that stands at its start, and its keys.
-#[derive(Drop)]
-struct Start {
-    frames: Vec<u8>,
-    machine: Machine,
-    keys: Vec<u8>,
-}
-
-/// Prints a line for each step of a program, and how far it went.
-pub fn trace_tape<R: Print + Eprint + AllocGlobal, H: Host>(
-    rt: &R,
-    host: &mut H,
-    form: &TraceForm,
-) -> Result<(), Ending> {
-    let start = start_of(rt, host, form)?;
-    let given = given_cells(rt.alloc(), &start.frames)?;
-    let mut terminal = Terminal::new(start.machine, &start.keys);
-    let most = form.steps.unwrap_or(TRACE_STEPS);
-    let mut output = Output::new(rt);
-    match trace(rt.alloc(), &mut terminal, most, &given, &mut output) {
-        Ok(ended) => print_bytes(rt, &end_of(rt, &terminal, ended)?),
-        Err(TraceFault::Memory) => Err(Ending::Fault(SessionFault::Memory)),
-        Err(TraceFault::Writer) => Err(output.ending()),
+/// Prints a line for each step of a program, and how far it went. No file changes. The host is given back.
+pub fn trace_tape<H: Host>(host: H, alloc: Global, form: &TraceForm) -> (H, Result<(), Ending>)
+    ensures { TracesTape form.now (H.history host) result.1 (H.history result.0) }
+{
+    let mut host = host;
+    match read_run(&mut host, alloc, form) {
+        Ok(run) => trace_run(host, alloc, run, form.steps.unwrap_or(TRACE_STEPS)),
+        Err(ending) => (host, Err(ending)),
     }
 }
 
-/// Prints how often each cell was fetched, which cells of the tape never were, and how far the program went.
-pub fn profile_tape<R: Print + Eprint + AllocGlobal, H: Host>(
-    rt: &R,
-    host: &mut H,
-    form: &TraceForm,
-) -> Result<(), Ending> {
-    let start = start_of(rt, host, form)?;
-    let given = given_cells(rt.alloc(), &start.frames)?;
-    let mut terminal = Terminal::new(start.machine, &start.keys);
-    let mut counts = no_counts(rt.alloc())?;
-    let most = form.steps.unwrap_or(PROFILE_STEPS);
-    let ended = count_fetches(&mut terminal, most, &mut counts);
-    print_bytes(rt, &profile_text(rt.alloc(), &counts, &given)?)?;
-    print_bytes(rt, &end_of(rt, &terminal, ended)?)
-}
-
-/// The line of a run's end.
-fn end_of<R: AllocGlobal>(
-    rt: &R,
-    terminal: &Terminal<'_>,
-    ended: terminal8::Ended,
-) -> Result<Vec<u8>, Ending> {
-    let mut line = Vec::new(rt.alloc());
-    let cell = terminal.machine().next_cell();
-    put_program(&ProgramLine::Steps(ended, cell), &mut line)?;
-    Ok(line)
-}
-
-/// Loads the program, and starts the machine.
-fn start_of<R: Eprint + AllocGlobal, H: Host>(
-    rt: &R,
-    host: &mut H,
-    form: &TraceForm,
-) -> Result<Start, Ending> {
-    let Program { frames, start } = program_of(host, rt.alloc(), &form.tape)?;
-    let machine = machine_of(rt, &frames, form.start.or(start), form.switches)?;
-    let text: &[u8] = match &form.keys {
-        Some(keys) => keys.as_bytes(),
-        None => b"",
-    };
-    let keys = keys_of(rt.alloc(), Form::Text, text)?;
-    Ok(Start {
-        frames,
+/// Prints a line for each of at most so many steps.
+fn trace_run<H: Host>(host: H, alloc: Global, run: Run, most: u64) -> (H, Result<(), Ending>)
+    requires { length run.flags.items ≡ CORE }
+    ensures { TracesSteps most (terminal_of run) run.flags.items (H.history host) result.1 (H.history result.0) }
+{
+    let Run {
         machine,
         keys,
-    })
+        flags,
+    } = run;
+    let mut terminal = Terminal::new(machine, &keys);
+    trace_steps(host, alloc, &mut terminal, &flags, most)
+}
+
+/// The same of a terminal, with the flagged cells tagged.
+fn trace_steps<H: Host>(
+    host: H,
+    alloc: Global,
+    terminal: &mut Terminal<'_>,
+    flags: &[bool],
+    most: u64,
+) -> (H, Result<(), Ending>)
+    requires flags { length flags.now ≡ CORE }
+    requires room { terminal.old.since + most < 2 ^ 64 }
+    ensures { TracesSteps most terminal.old flags.now (H.history host) result.1 (H.history result.0) }
+{
+    let (host, fault, done) = trace_onto::<H, Brand>(host, alloc, terminal, most, flags);
+    let mut host = host;
+    let work = end_trace(&mut host, alloc, terminal, fault, done);
+    (host, work)
+}
+
+/// Prints a line for each step on standard output.
+fn trace_onto<H: Host, B: Before>(
+    host: H,
+    alloc: Global,
+    terminal: &mut Terminal<'_>,
+    most: u64,
+    flags: &[bool],
+) -> (H, Option<PrintFault>, Result<Ended, TraceFault>)
+    requires calls { H.history host ≡ B.calls }
+    requires tags { length flags.now ≡ CORE }
+    requires room { terminal.old.since + most < 2 ^ 64 }
+    ensures traces { Traces (is_flagged flags.now) most terminal.old terminal.new
+        (Some (output_text (H.history host))) (Some (output_text (H.history result.0))) result.2 }
+    ensures prints { HasPrinted (H.history host) (H.history result.0) result.1 }
+{
+    let mut printer: Printer<H, B> = Printer::new(host);
+    let done = trace(alloc, terminal, most, flags, &mut printer);
+    let (host, fault) = printer.finish();
+    (host, fault, done)
+}
+
+/// Prints the line of the end.
+fn end_trace<H: Host>(
+    host: &mut H,
+    alloc: Global,
+    terminal: &Terminal<'_>,
+    fault: Option<PrintFault>,
+    done: Result<Ended, TraceFault>,
+) -> Result<(), Ending>
+    ensures { EndsTrace terminal.now fault done (H.history host.old) result (H.history host.new) }
+{
+    match done {
+        Ok(ended) => {
+            let cell = terminal.machine().next_cell();
+            let line = text_of(alloc, &ProgramLine::Steps(ended, cell))?;
+            print(host, &line)
+        }
+        Err(TraceFault::Memory) => Err(Ending::Fault(SessionFault::Memory)),
+        Err(TraceFault::Writer) => Err(ending_of_output(fault)),
+    }
 }

@@ -1,4 +1,4 @@
-use Rattle.program_commands.proofs.KeepLemmas.{program-keeps, tape-keeps, rim-keeps, source-keeps}
+use Rattle.program_commands.proofs.KeepLemmas.{frames-refused, program-keeps, tape-keeps, rim-keeps, source-keeps}
 use Rattle.program_commands.proofs.laws.unchanged_files.Goals as goal
 
 pub returns-clause-program : goal.returns-clause-program
@@ -12,3 +12,6 @@ returns-clause-rim c = rim-keeps c.kept_files.ensures.looks c.kept_files.ensures
 
 pub returns-clause-source : goal.returns-clause-source
 returns-clause-source c = source-keeps c.kept_files.ensures.looks c.kept_files.ensures.looks_at c.kept_files.ensures.input c.kept_files.ensures.prints c.kept_files.ensures.refuses
+
+pub returns-clause-frames : goal.returns-clause-frames
+returns-clause-frames c = λ frames why old ending new p path. frames-refused path frames why old ending new p

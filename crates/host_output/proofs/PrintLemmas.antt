@@ -1,0 +1,58 @@
+-- Prints, one after another.
+use Rattle.std.proofs.Common.{◌≡◌, ◌∙◌, ℕ, true, false, Option, None, Some, List, [], ◌∷◌, ◌++◌, ap, refl}
+use Rattle.hosts.specs.Event.{Event, Call, print_call}
+use Rattle.hosts.specs.Faults.{pipe_number}
+use Rattle.hosts.specs.Place.{about, with_step}
+use Rattle.hosts.specs.Streams.{errors, read, with_told, with_read}
+use Rattle.hosts.specs.declared.faults.PrintFault.{PrintFault}
+use Rattle.hosts.specs.declared.faults.PrintFault.TheVariants.{Abandoned, Failed}
+use Rattle.host_output.specs.Printing.{ArePrints, HasPrinted, last_fault}
+
+-- ## How they grow
+
+pub printed_none : (old new : List Event) → new ≡ old → HasPrinted old new None
+printed_none old new is = record { prints = []; all = tt; calls = is; last = refl }
+
+pub printed_one : (old between new : List Event) (fault : Option PrintFault) (bytes : List ℕ) → HasPrinted old between fault → new ≡ print_call true 0 bytes ∷ between → HasPrinted old new fault
+printed_one old between new fault bytes p is = record {
+  prints = print_call true 0 bytes ∷ p.prints;
+  all = (refl, p.all);
+  calls = is ∙ ap (λ (events : List Event). print_call true 0 bytes ∷ events) p.calls;
+  last = p.last;
+}
+
+last_one : (fault : PrintFault) (bytes : List ℕ) (prints : List Event) → Some fault ≡ last_fault (print_call false (pipe_number fault) bytes ∷ prints)
+last_one Abandoned bytes prints = refl
+last_one Failed bytes prints = refl
+
+pub printed_fault : (old between new : List Event) (fault : Option PrintFault) (why : PrintFault) (bytes : List ℕ) → HasPrinted old between fault → new ≡ print_call false (pipe_number why) bytes ∷ between
+    → HasPrinted old new (Some why)
+printed_fault old between new fault why bytes p is = record {
+  prints = print_call false (pipe_number why) bytes ∷ p.prints;
+  all = (refl, p.all);
+  calls = is ∙ ap (λ (events : List Event). print_call false (pipe_number why) bytes ∷ events) p.calls;
+  last = last_one why bytes p.prints;
+}
+
+-- ## What they leave
+
+about_prints : (path : List ℕ) (prints old : List Event) → ArePrints prints → about path (prints ++ old) ≡ about path old
+about_prints path [] old all = refl
+about_prints path (e ∷ earlier) old all = ap (λ (call : Call). with_step call e path (about path (earlier ++ old))) all.0 ∙ about_prints path earlier old all.1
+
+errors_prints : (prints old : List Event) → ArePrints prints → errors (prints ++ old) ≡ errors old
+errors_prints [] old all = refl
+errors_prints (e ∷ earlier) old all = ap (λ (call : Call). with_told call e (errors (earlier ++ old))) all.0 ∙ errors_prints earlier old all.1
+
+read_prints : (prints old : List Event) → ArePrints prints → read (prints ++ old) ≡ read old
+read_prints [] old all = refl
+read_prints (e ∷ earlier) old all = ap (λ (call : Call). with_read call e (read (earlier ++ old))) all.0 ∙ read_prints earlier old all.1
+
+pub same_files : (old new : List Event) (fault : Option PrintFault) (path : List ℕ) → HasPrinted old new fault → about path new ≡ about path old
+same_files old new fault path p = ap (λ (events : List Event). about path events) p.calls ∙ about_prints path p.prints old p.all
+
+pub same_errors : (old new : List Event) (fault : Option PrintFault) → HasPrinted old new fault → errors new ≡ errors old
+same_errors old new fault p = ap (λ (events : List Event). errors events) p.calls ∙ errors_prints p.prints old p.all
+
+pub same_reads : (old new : List Event) (fault : Option PrintFault) → HasPrinted old new fault → read new ≡ read old
+same_reads old new fault p = ap (λ (events : List Event). read events) p.calls ∙ read_prints p.prints old p.all

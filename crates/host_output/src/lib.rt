@@ -1,0 +1,7 @@
+//! Standard output of a host as a writer, for functions that write to any.
+#![tactic(auto)]
+
+pub mod laws;
+mod printer;
+
+pub use printer::{Before, Printer};

@@ -1,0 +1,3 @@
+mod KeepLemmas
+mod RunLemmas
+mod WorkLemmas

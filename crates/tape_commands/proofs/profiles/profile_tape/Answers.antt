@@ -1,0 +1,27 @@
+use Rattle.std.proofs.Common.{inl, inr, refl, unwrap_or}
+use Rattle.volume_commands.specs.Work.{Purely}
+use Rattle.tape_commands.specs.Profiles.{GivesProfile}
+use Rattle.tape_commands.specs.Runs.{terminal_of}
+use Rattle.tape_commands.proofs.WorkLemmas.{ends_with}
+use Rattle.tape_commands.proofs.profiles.profile_tape.Goals as goal
+
+pub returns-in_err-text : goal.returns-in_err-text
+returns-in_err-text g c = inr (record {
+  given = c.in_ok-run.run';
+  between = g.H.Host.history c.read_run.new.host;
+  done = c.in_ok-run.ensures;
+  after = inl (ends_with (Purely (GivesProfile (unwrap_or c.args.form.now.steps 1000000) (terminal_of c.in_ok-run.run') c.in_ok-run.run'.flags.items)) _ _ _ _ (c.in_err-text.ensures, refl) c.from_residual-in_err-text.ensures);
+})
+
+pub returns : goal.returns
+returns g c = inr (record {
+  given = c.in_ok-run.run';
+  between = g.H.Host.history c.read_run.new.host;
+  done = c.in_ok-run.ensures;
+  after = inr (record {
+    given = c.in_ok-text.text;
+    between = g.H.Host.history c.read_run.new.host;
+    done = (rw c.unwrap_or.ensures at c.in_ok-text.ensures, refl);
+    after = rw c.deref.ensures.value at c.print.ensures;
+  });
+})

@@ -1,0 +1,70 @@
+-- A machine that stands where the program of a tape starts (this project's profile).
+use Rattle.std.specs.Prelude.{◌≡◌, ◌⊎◌, ℕ, nat_eq, Bool, true, false, Option, None, Some, Result, Ok, Err, List}
+use Rattle.word12.specs.declared.sizes.TheConstants.{CORE}
+use Rattle.bin_tape.specs.Items.{Item, words_of}
+use Rattle.bin_tape.specs.Tape.{IsTape}
+use Rattle.bin_tape.specs.declared.faults.TapeFault.{TapeFault}
+use Rattle.core_load.specs.Core.{zeros}
+use Rattle.core_load.specs.Load.{IsLoaded, LoadsTape}
+use Rattle.cpu8.specs.State.{State, new_machine, switches_set, after_start}
+use Rattle.hosts.specs.Event.{Event}
+use Rattle.script8.specs.declared.faults.SessionFault.TheVariants.{Memory}
+use Rattle.program_reports.specs.Starts.{first_cell, start_cell}
+use Rattle.program_reports.specs.declared.programs.ProgramLine.TheVariants.{NothingToRun, Start}
+use Rattle.outcome.specs.Endings.{ending_of_tape}
+use Rattle.outcome.specs.Hints.{start_note}
+use Rattle.outcome.specs.declared.endings.Ending.{Ending}
+use Rattle.outcome.specs.declared.endings.Ending.TheVariants.{Line, Fault}
+use Rattle.volume_commands.specs.Notes.{Tells}
+use Rattle.volume_commands.specs.Saving.{IsDone}
+use Rattle.volume_commands.specs.Work.{Then, Purely}
+use Rattle.program_commands.specs.Kinds.{RefusesFrames}
+use Rattle.tape_commands.specs.Lines.{TellsProgram, IsEnding, IsJust}
+
+-- ## Core
+
+-- The tape is laid over core whose words are 0. Frames that are none are refused, and standard error gets what they are.
+abbrev pub LoadsCore : List ℕ → List Event → Result (List ℕ) Ending → List Event → Type 0
+LoadsCore frames old (Ok core) new = IsLoaded frames (zeros CORE) core × (new ≡ old)
+LoadsCore frames old (Err ending) new = ((ending ≡ Fault Memory) × (new ≡ old))
+    ⊎ ((fault : TapeFault) × LoadsTape frames (zeros CORE) (zeros CORE) (Err fault) × RefusesFrames frames (ending_of_tape fault) old ending new)
+
+-- ## Where the program starts
+
+-- at 00200 nothing more is said; else the line of the cell is printed on standard error
+abbrev pub TellsCell : Bool → ℕ → List Event → Result (Unit {0}) Ending → List Event → Type 0
+TellsCell true start old result new = IsDone result × (new ≡ old)
+TellsCell false start old result new = TellsProgram (Start start) old result new
+
+-- of a start that isn't given standard error gets a note, unless the first word goes to 00200 and the program starts there
+abbrev pub TellsStart : ℕ → ℕ → List Event → Result (Unit {0}) Ending → List Event → Type 0
+TellsStart first start old result new = (between : List Event) × Tells (start_note first start) old between × TellsCell (nat_eq start 0o200) start between result new
+
+-- a program starts at the cell that is given, or else where its tape alone says
+abbrev pub StartsAt : Option ℕ → ℕ → ℕ → List Event → Result ℕ Ending → List Event → Type 0
+StartsAt (Some cell) first usual = Purely (IsJust cell)
+StartsAt None first usual = Then (TellsStart first usual) (λ it. Purely (IsJust usual))
+
+-- a tape that gives no word has nothing to run
+abbrev pub StartsIf : Option ℕ → Option ℕ → Option ℕ → List Event → Result ℕ Ending → List Event → Type 0
+StartsIf given (Some first) (Some usual) old result new = StartsAt given first usual old result new
+StartsIf given (Some first) None old result new = Purely (IsEnding (Line NothingToRun)) old result new
+StartsIf given None usual old result new = Purely (IsEnding (Line NothingToRun)) old result new
+
+-- where the program of a tape starts: if it isn't given at 00200, where that has a word, and else at the cell of the first word
+abbrev pub FindsStart : List ℕ → Option ℕ → List Event → Result ℕ Ending → List Event → Type 0
+FindsStart frames given old result new = (items : List Item) → IsTape frames items → StartsIf given (first_cell (words_of items)) (start_cell (words_of items)) old result new
+
+-- ## The machine
+
+-- the switches are set, if that is asked for
+abbrev pub with_switches : Option ℕ → State → State
+with_switches None s = s
+with_switches (Some word) s = switches_set s word
+
+abbrev pub machine_at : List ℕ → Option ℕ → ℕ → State
+machine_at core switches start = after_start (with_switches switches (new_machine core)) start
+
+-- a new machine with the core of a tape stands at the start of its program
+abbrev pub Stands : List ℕ → Option ℕ → Option ℕ → List Event → Result State Ending → List Event → Type 0
+Stands frames given switches = Then (LoadsCore frames) (λ core. Then (FindsStart frames given) (λ start. Purely (IsJust (machine_at core switches start))))

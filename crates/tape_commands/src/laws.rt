@@ -1,0 +1,23 @@
+//! What the commands on machines leave as it was.
+ghost use Rattle.std.specs.Prelude.{ℕ, Option, List};
+ghost use Rattle.program_tasks.specs.declared.tasks.TeletypeForm.{TeletypeForm};
+ghost use Rattle.program_tasks.specs.declared.tasks.TraceForm.{TraceForm};
+ghost use Rattle.volume_commands.specs.Laws.{KeepsFiles};
+ghost use Rattle.tape_commands.specs.Profiles.{ProfilesTape};
+ghost use Rattle.tape_commands.specs.Teletypes.{RunsTeletype};
+ghost use Rattle.tape_commands.specs.Traces.{TracesTape};
+
+use host_output::laws::prints_alone;
+use program_commands::laws::unchanged_files as unchanged_programs;
+use volume_commands::laws::kept_files;
+
+/// A law: none of these commands changes a file of the host, in whichever way it ends.
+pub fn unchanged_files()
+    ensures profile { (form : TraceForm) → KeepsFiles (ProfilesTape form) }
+    ensures trace { (form : TraceForm) → KeepsFiles (TracesTape form) }
+    ensures teletype { (form : TeletypeForm) (keys left : Option (List ℕ)) → KeepsFiles (RunsTeletype form keys left) }
+{
+    kept_files();
+    unchanged_programs();
+    prints_alone();
+}

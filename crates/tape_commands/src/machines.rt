@@ -1,0 +1,118 @@
+//! A machine that stands where the program of a tape starts.
+ghost use Rattle.std.specs.Prelude.{◌≡◌, nat_eq};
+ghost use Rattle.volume_commands.specs.Notes.{Tells};
+ghost use Rattle.tape_commands.specs.Machines as spec;
+ghost use Rattle.tape_commands.specs.Machines.{FindsStart, LoadsCore, Stands, StartsAt, TellsCell, TellsStart};
+
+use crate::lines::tell_program;
+use core_load::{Core, load};
+use cpu8::Machine;
+use hosts::Host;
+use outcome::{Ending, PlainNote, start_note};
+use program_commands::refuse_frames;
+use program_reports::{ProgramLine, first_cell, start_cell};
+use std::alloc::Global;
+use word12::{Cell, Word};
+
+/// A machine that stands where the program of a tape is to begin: where that isn't given, at 00200 or else at the tape's first word, which is
+/// printed.
+pub(crate) fn machine_of<H: Host>(
+    host: &mut H,
+    alloc: Global,
+    frames: &[u8],
+    start: Option<Cell>,
+    switches: Option<Word>,
+) -> Result<Machine, Ending>
+    ensures { Stands frames.now start switches (H.history host.old) result (H.history host.new) }
+{
+    let core = core_of(host, alloc, frames)?;
+    let start = find_start(host, alloc, frames, start)?;
+    Ok(machine_at(core, switches, start))
+}
+
+/// Core with a tape laid over it. What frames are is printed where they are none.
+fn core_of<H: Host>(host: &mut H, alloc: Global, frames: &[u8]) -> Result<Core, Ending>
+    ensures { LoadsCore frames.now (H.history host.old) result (H.history host.new) }
+{
+    let mut core = Core::new(alloc)?;
+    match load(alloc, frames, &mut core) {
+        Ok(()) => Ok(core),
+        Err(fault) => Err(refuse_frames(host, alloc, frames, Ending::from(fault))),
+    }
+}
+
+/// Where the program of a tape starts.
+fn find_start<H: Host>(
+    host: &mut H,
+    alloc: Global,
+    frames: &[u8],
+    given: Option<Cell>,
+) -> Result<Cell, Ending>
+    ensures { FindsStart frames.now given (H.history host.old) result (H.history host.new) }
+{
+    let Some(first) = first_cell(frames) else {
+        return Err(Ending::Line(ProgramLine::NothingToRun));
+    };
+    let Some(usual) = start_cell(frames) else {
+        return Err(Ending::Line(ProgramLine::NothingToRun));
+    };
+    start_at(host, alloc, given, first, usual)
+}
+
+/// The start that is given, or else the usual one, which is printed.
+fn start_at<H: Host>(
+    host: &mut H,
+    alloc: Global,
+    given: Option<Cell>,
+    first: Cell,
+    usual: Cell,
+) -> Result<Cell, Ending>
+    ensures { StartsAt given first usual (H.history host.old) result (H.history host.new) }
+{
+    match given {
+        Some(cell) => Ok(cell),
+        None => {
+            tell_start(host, alloc, first, usual)?;
+            Ok(usual)
+        }
+    }
+}
+
+/// Prints where a program starts whose first word has this cell.
+fn tell_start<H: Host>(host: &mut H, alloc: Global, first: Cell, start: Cell) -> Result<(), Ending>
+    ensures { TellsStart first start (H.history host.old) result (H.history host.new) }
+{
+    tell_if(host, start_note(first, start));
+    tell_cell(host, alloc, start)
+}
+
+/// Prints a note, if there is one.
+fn tell_if<H: Host>(host: &mut H, note: Option<PlainNote>)
+    ensures { Tells note (H.history host.old) (H.history host.new) }
+{
+    if let Some(note) = note {
+        let _ = host.tell(note.text());
+    }
+}
+
+/// Prints a cell where a program starts, unless that is 00200.
+fn tell_cell<H: Host>(host: &mut H, alloc: Global, start: Cell) -> Result<(), Ending>
+    ensures { TellsCell (nat_eq start 0o200) start (H.history host.old) result (H.history host.new) }
+{
+    if start.index() == 0o200 {
+        return Ok(());
+    }
+    tell_program(host, alloc, &ProgramLine::Start(start))
+}
+
+/// A machine with this core that stands at a cell.
+fn machine_at(core: Core, switches: Option<Word>, start: Cell) -> Machine
+    ensures { result ≡ spec.machine_at core switches start }
+{
+    let mut machine = Machine::new(core);
+    if let Some(word) = switches {
+        machine.switches(word);
+    }
+    machine.start(start);
+    machine
+}
