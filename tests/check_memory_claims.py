@@ -33,6 +33,9 @@ PLACES: dict[str, dict[str, tuple[int, str]]] = {
     "archive_many/src/wishes.rt": {
         "add_word": (1, "`choose_files`'s own, in the arm of its pattern"),
     },
+    "choice_commands/src/listing.rt": {
+        "fault_text": (1, "`put_reply`'s own, in the arm of its pattern"),
+    },
     "pal8_asm/src/late.rt": {
         "put": (1, "`late_value`'s own, in the arm of its pattern"),
     },

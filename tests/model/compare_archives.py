@@ -24,7 +24,7 @@ from tests.model.compare import outside
 from tests.model.compare_indexes import random_file
 from tests.model.disks import Held, held_image, wrong_size
 from tests.model.index import parts_of, volume_of
-from tests.model.keeper import TEXTS, Asked, Keeper, can_be_typed, extension, given_of
+from tests.model.keeper import TEXTS, Asked, Keeper, extension, given_of, host_name
 from tests.model.survey import damaged, surveyed
 from tests.model.volume import Unsound, Volume, made_image, read_volume, words_of_image
 from tests.model.words import octal, parsed_name, shown_name
@@ -81,7 +81,7 @@ class Case:
 
     def command(self) -> str:
         """Does a random command. Says how the program differs from the keeper, and nothing where it doesn't."""
-        kinds = [self.put, self.get, self.delete, self.rename, self.copy, self.told, self.get_many, self.put_many, self.others, self.reports]
+        kinds = [self.put, self.get, self.delete, self.rename, self.copy, self.copy_many, self.told, self.get_many, self.put_many, self.others, self.reports]
         return self.random.choice(kinds)()
 
     def put(self) -> str:
@@ -120,16 +120,25 @@ class Case:
         words += [*self.held[image].words(), *self.held[other].words("to-")]
         return self.differs(words, b"", self.keeper.copy(image, asked, other, new))
 
+    def copy_many(self) -> str:
+        random, image, other = self.random, self.random.choice(IMAGES), self.random.choice(IMAGES)
+        asked = [random_pattern(random, self.keeper.volumes[image]) for _ in range(random.choice([1, 1, 2, 3, 4, 5]))]
+        is_forced = random.random() < 0.5
+        words = ["copy", image, *asked, "--to", other, *(["--force"] if is_forced else [])]
+        words += [*self.held[image].words(), *self.held[other].words("to-")]
+        return self.differs(words, b"", self.keeper.copy_many(image, asked, other, is_forced))
+
     def told(self) -> str:
         random, image = self.random, self.random.choice(IMAGES)
         kind, where = random.choice(["squeeze", "list", "long"]), self.held[image].words()
         if kind == "squeeze":
             return self.differs(["squeeze", image, *where], b"", self.keeper.squeeze(image))
+        asked = [random_pattern(random, self.keeper.volumes[image]) for _ in range(random.choice([0, 0, 1, 2]))]
         if kind == "list":
-            return self.differs(["list", image, *where], b"", self.keeper.list_short(image))
+            return self.differs(["list", image, *asked, *where], b"", self.keeper.list_short(image, asked))
         last = random.choice([None, random.randrange(1977, 10000)])
         year = [] if last is None else ["--year", str(last)]
-        return self.differs(["list", image, "--long", *year, *where], b"", self.keeper.list_long(image, last or 1977))
+        return self.differs(["list", image, *asked, "--long", *year, *where], b"", self.keeper.list_long(image, last or 1977, asked))
 
     def get_many(self) -> str:
         """Gets files to a folder, of which one may hold a file of the name, and looks at them."""
@@ -144,12 +153,12 @@ class Case:
         words = ["get", image, *asked, *(word for it in places for word in it.split()), *(["--all"] if is_all else []), *options]
         names, refused = self.keeper.chosen(image, [*asked, *places], is_all)
         folder = tempfile.mkdtemp(dir=self.folder)
-        files = {self.host_name(image, it): given_of(volume.files[it].words, extension(it) in texts) for it in names}
+        files = {host_name(volume, it): given_of(volume.files[it].words, extension(it) in texts) for it in names}
         there = random.choice(sorted(files)) if files and random.random() < 0.3 else ""
         is_forced = random.random() < 0.3
         if there:
             write(f"{folder}/{there}", b"older")
-        lines = {self.host_name(image, it): f"GOT {shown_name(it)} {volume.files[it].blocks}" for it in names}
+        lines = {host_name(volume, it): f"GOT {shown_name(it)} {volume.files[it].blocks}" for it in names}
         if there and not is_forced:
             lines[there], files[there] = f"{there}: ? HOST EXISTS", b"older"
         words += ["--into", folder, *self.held[image].words(), *(["--force"] if is_forced else [])]
@@ -159,9 +168,6 @@ class Case:
             return f"{' '.join(words)}\n    wanted {[*lines.values(), *refused]} {status}\n    got    {done.stdout!r} {done.returncode}"
         got = {it: read(f"{folder}/{it}") for it in os.listdir(folder)}
         return "" if got == files else f"{' '.join(words)}: the folder's files differ: {sorted(got)} in place of {sorted(files)}"
-
-    def host_name(self, image: str, name: tuple[int, int, int, int]) -> str:
-        return shown_name(name) if can_be_typed(name) else f"at-{self.keeper.volumes[image].places[name]}"
 
     def put_many(self) -> str:
         """Puts files of the host, mostly of good names, some of which are no texts."""
@@ -211,7 +217,7 @@ class Case:
             if is_image and is_all:
                 lines, status = surveyed(part.image)
             elif volume and not is_all:
-                lines, status = Keeper({"X": volume}).list_short("X")
+                lines, status = Keeper({"X": volume}).list_short("X", [])
             wanted += [f"X:{part.number}: {line}" if part.number else line for line in lines]
             refused = refused or status != 0
         done = self.done(words, b"")

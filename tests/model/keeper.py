@@ -46,6 +46,11 @@ def can_be_typed(name: Name) -> bool:
     return parsed_name(shown_name(name).encode("latin-1")) == name
 
 
+def host_name(volume: Volume, name: Name) -> str:
+    """The name of the host's file for a file of a volume."""
+    return shown_name(name) if can_be_typed(name) else f"at-{volume.places[name]}"
+
+
 def found(volume: Volume, asked: Asked) -> tuple[Optional[Name], str]:
     """The name of the file that is asked for, and why there is none."""
     name = volume.name_at(asked) if isinstance(asked, int) else typed_name(asked)
@@ -166,6 +171,24 @@ class Keeper:
         lines, status = self.put(to, name if wanted is None else typed_name(wanted), file.words, file.info)
         return [*([f"note: {to} is the image that refuses"] if status else []), *lines], status
 
+    def copy_many(self, image: str, words: list[str], to: str, is_forced: bool) -> Answer:
+        """Copies files that words choose, all or none; older ones of their names go only where that is asked for."""
+        source, before, lines = self.volumes[image], self.volumes[to], []
+        names, refused_lines = self.chosen(image, words, False)
+        if refused_lines:
+            word, _, why = refused_lines[0].rpartition(": ")
+            return [f"note: {word} is refused, and no file is copied", why], 1
+        for name in names:
+            if name in before.files and not is_forced:
+                return [f"note: {host_name(source, name)} is refused, and no file is copied", "? COPY 1 FILE EXISTS"], 1
+        for name in names:
+            told, status = self.put(to, name, source.files[name].words, source.files[name].info)
+            if status:
+                self.volumes[to] = before
+                return [f"note: {host_name(source, name)} is refused, and no file is copied", f"note: {to} is the image that refuses", *told], 1
+            lines += told
+        return lines, 0
+
     def squeeze(self, image: str) -> Answer:
         """Moves files down, the lowest with free blocks below it first, until there is none."""
         volume, moved = self.volumes[image], 0
@@ -176,19 +199,26 @@ class Keeper:
         self.volumes[image] = volume
         return [f"SQUEEZED {moved}"], 0
 
-    def list_short(self, image: str) -> Answer:
-        volume, places = self.volumes[image], self.volumes[image].places
-        lines = [f"{shown_name(name)} {file.blocks}" + ("" if can_be_typed(name) else f" AT {places[name]}") for name, file in sorted(volume.files.items())]
-        return [*lines, f"FREE {volume.capacity - volume.used}"], 0
+    def listed(self, image: str, words: list[str]) -> tuple[list[Name], list[str]]:
+        """The files that are listed, and the lines of words of no file."""
+        return self.chosen(image, words, not words)
 
-    def list_long(self, image: str, last: int) -> Answer:
-        volume, place, lines = self.volumes[image], self.volumes[image].first, []
+    def list_short(self, image: str, words: list[str]) -> Answer:
+        volume, places = self.volumes[image], self.volumes[image].places
+        names, lines = self.listed(image, words)
+        for name in sorted(names):
+            lines.append(f"{shown_name(name)} {volume.files[name].blocks}" + ("" if can_be_typed(name) else f" AT {places[name]}"))
+        return [*lines, f"FREE {volume.capacity - volume.used}"], 1 if self.listed(image, words)[1] else 0
+
+    def list_long(self, image: str, last: int, words: list[str]) -> Answer:
+        volume, place = self.volumes[image], self.volumes[image].first
+        names, lines = self.listed(image, words)
         for name, blocks in volume.runs:
-            if name is not None:
+            if name is not None and name in names:
                 info = volume.files[name].info
                 lines.append(" ".join([shown_name(name), str(blocks), str(place), *(octal(it, 4) for it in info), *day_of(info, last)]))
             place += blocks
-        return [*lines, f"FREE {volume.capacity - volume.used}"], 0
+        return [*lines, f"FREE {volume.capacity - volume.used}"], 1 if self.listed(image, words)[1] else 0
 
     def get(self, image: str, asked: Asked, is_text: bool) -> tuple[bytes, int]:
         """The file's frames or its text, or on standard error why there is none."""

@@ -1,17 +1,19 @@
 //! The list of the files of a volume with where they lie, their information words and their dates.
-ghost use Rattle.std.specs.Prelude.{◌≡◌, ◌+◌, ◌≤◌, ◌<◌, ◌∷◌, [], ◌++◌, decimal, length, OnOk};
+ghost use Rattle.std.specs.Prelude.{◌≡◌, ◌+◌, ◌≤◌, ◌<◌, ◌∷◌, [], ◌++◌, decimal, length, map, OnOk};
 ghost use Rattle.word12.specs.declared.sizes.TheConstants.{MOST_BLOCKS};
 ghost use Rattle.os8_dates.specs.declared.years.TheConstants.{LAST_YEAR, LEAST_LAST};
 ghost use Rattle.os8_dir.specs.Entries.{total};
 ghost use Rattle.script8.specs.Replies.{free_line};
 ghost use Rattle.script8.specs.Shown.{name_text};
 ghost use Rattle.archive_files.specs.LongListing.{information_text};
-ghost use Rattle.archive_commands.specs.Dates.{ListsDates, date_of_word, date_text, dated_lines};
+ghost use Rattle.archive_commands.specs.Dates as spec;
+ghost use Rattle.archive_commands.specs.Dates.{ListsChosen, ListsDates, date_of_word, date_text, dated_lines};
 ghost use Rattle.archive_commands.specs.DateSteps.{line_of_entry, lines_of_entries};
 
 use crate::lines::{put_number, put_shown};
 use archive_files::ArchiveFault;
 use archive_files::parts::volume_of;
+use archive_many::is_chosen_by;
 use os8_dates::{date_of, put_date};
 use os8_dir::{DirEntry, DirFault, Directory, Name};
 use script8::SessionFault;
@@ -25,6 +27,18 @@ use word12::Word;
 pub fn list_dated(alloc: Global, image: &[u8], year: Option<usize>) -> Result<Vec<u8>, ArchiveFault>
     ensures { ListsDates year image.now result }
 {
+    list_chosen(alloc, image, year, &[])
+}
+
+/// The same of those files that one of some words chooses, where there are words, and the free blocks of the whole volume.
+pub fn list_chosen(
+    alloc: Global,
+    image: &[u8],
+    year: Option<usize>,
+    words: &[String],
+) -> Result<Vec<u8>, ArchiveFault>
+    ensures { ListsChosen year (map (λ word. word.bytes.items) words.now) image.now result }
+{
     let mut volume = volume_of(alloc, image)?;
     let last = last_in(year, &volume);
     match Directory::read(alloc, &mut volume) {
@@ -32,21 +46,26 @@ pub fn list_dated(alloc: Global, image: &[u8], year: Option<usize>) -> Result<Ve
         Err(fault) => Err(ArchiveFault::Directory(fault)),
         Ok(directory) => {
             let mut text = Vec::new(alloc);
-            put_list(&directory, last, &mut text)?;
+            put_list(&directory, last, words, &mut text)?;
             Ok(text)
         }
     }
 }
 
 /// Appends the lines of a directory.
-fn put_list(directory: &Directory, last: u16, out: &mut Vec<u8>) -> Result<(), AllocError>
+fn put_list(
+    directory: &Directory,
+    last: u16,
+    words: &[String],
+    out: &mut Vec<u8>,
+) -> Result<(), AllocError>
     requires least { LEAST_LAST ≤ last }
     requires most { last ≤ LAST_YEAR }
-    ensures { OnOk result (out.new.items ≡ out.old.items ++ dated_lines last directory.now) }
+    ensures { OnOk result (out.new.items ≡ out.old.items ++ dated_lines last (map (λ word. word.bytes.items) words.now) directory.now) }
 {
     let first = directory.first_block();
     let info = directory.information_words();
-    put_files(last, info, first, directory.entries(), out)?;
+    put_files(last, info, first, directory.entries(), words, out)?;
     put_free(directory.free(), out)?;
     Ok(())
 }
@@ -67,18 +86,19 @@ fn put_files(
     info: usize,
     first: usize,
     entries: &[DirEntry],
+    words: &[String],
     out: &mut Vec<u8>,
 ) -> Result<(), AllocError>
     requires least { LEAST_LAST ≤ last }
     requires most { last ≤ LAST_YEAR }
     requires few { info ≤ 10 }
     requires inside { first + total entries.now ≤ MOST_BLOCKS }
-    ensures { OnOk result (out.new.items ≡ out.old.items ++ lines_of_entries last info first entries.now) }
+    ensures { OnOk result (out.new.items ≡ out.old.items ++ lines_of_entries last info (map (λ word. word.bytes.items) words.now) first entries.now) }
 {
     let mut place = first;
     let mut rest = entries;
     while let [entry, others @ ..] = rest {
-        put_entry(last, info, place, entry, out)?;
+        put_entry(last, info, place, entry, words, out)?;
         place += entry.length();
         rest = others;
     }
@@ -91,21 +111,25 @@ fn put_entry(
     info: usize,
     place: usize,
     entry: &DirEntry,
+    words: &[String],
     out: &mut Vec<u8>,
 ) -> Result<(), AllocError>
     requires least { LEAST_LAST ≤ last }
     requires most { last ≤ LAST_YEAR }
     requires few { info ≤ 10 }
-    ensures { OnOk result (out.new.items ≡ out.old.items ++ line_of_entry last info place entry.now) }
+    ensures { OnOk result (out.new.items ≡ out.old.items ++ line_of_entry last info (map (λ word. word.bytes.items) words.now) place entry.now) }
 {
     match entry {
         DirEntry::File {
             name,
-            info: words,
+            info: given,
             length,
         } => {
+            if !is_listed(words, *name) {
+                return Ok(());
+            }
             put_extent(*name, *length, place, out)?;
-            let (given, _zeros) = words.split_at(info);
+            let (given, _zeros) = given.split_at(info);
             put_words(given, out)?;
             put_first_date(last, given, out)?;
             out.push(b'\n')?;
@@ -113,6 +137,13 @@ fn put_entry(
         }
         DirEntry::Empty { .. } => Ok(()),
     }
+}
+
+/// Whether a file is listed: one of some words chooses it, or there are none.
+fn is_listed(words: &[String], name: Name) -> bool
+    ensures { result ≡ spec.is_listed (map (λ word. word.bytes.items) words.now) name }
+{
+    words.is_empty() || is_chosen_by(words, name)
 }
 
 /// Appends a name, how many blocks its file has, and the first of them.

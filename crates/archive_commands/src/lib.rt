@@ -10,6 +10,6 @@ mod owners;
 mod patches;
 mod refusals;
 
-pub use dated_lists::list_dated;
+pub use dated_lists::{list_chosen, list_dated};
 pub use dumps::dump_blocks;
 pub use patches::{WordPatch, patch_word};

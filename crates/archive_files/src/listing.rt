@@ -45,8 +45,8 @@ fn put_files(
     Ok(())
 }
 
-/// Appends the line of a file of so many blocks.
-fn put_file(
+/// Appends the line of a file of so many blocks of a directory, as `list` has it.
+pub fn put_file(
     directory: &Directory,
     name: Name,
     size: usize,

@@ -274,12 +274,25 @@ if-none true false o none = sym none
 if-none false true o none = none
 if-none false false o none = refl
 
-read-so : (read : Result DirectoryState DirFault) → is_ok read ≡ true → (d : DirectoryState) × (read ≡ Ok d)
+pub read-so : (read : Result DirectoryState DirFault) → is_ok read ≡ true → (d : DirectoryState) × (read ≡ Ok d)
 read-so (Ok d) is = (d, refl)
 read-so (Err fault) is = absurd (true≢false (sym is))
 
-none-there : (blocks : List (List ℕ)) (info : ℕ) (o : Option FilePlace) → o ≡ None → data_if_there blocks info o ≡ None
+pub none-there : (blocks : List (List ℕ)) (info : ℕ) (o : Option FilePlace) → o ≡ None → data_if_there blocks info o ≡ None
 none-there blocks info o is = ap (data_if_there blocks info) is
+
+-- a file that is there is asked for just where its name is like a word
+pub chosen-there : SoundSo → (old : List (List ℕ)) (d : DirectoryState) (words : List (List ℕ)) (numbers : List ℕ) (q : ℕ) (g : FilePlace) → directory_of old ≡ Ok d → find q (files_at d.first d.entries) ≡ Some g
+    → first_unfound (once [] (asked_by_words (files_in d) 0 words)) ≡ None
+    → AreAsked old (map by_place (found_files (once [] (asked_by_words (files_in d) 0 words)))) numbers → contains numbers q ≡ is_like_one words q
+chosen-there sound old d words numbers q g read is none asked =
+    let directory = sound old d read in
+    let fs = files_at d.first d.entries in
+    let single = subst AreDistinct (sym (names-at d.first d.entries)) directory.single in
+    let wishes = asked_by_words (map file_at fs) 0 words in
+    let good = (unfound-once [] wishes none).1 in
+    named d.first (length old) fs q g old (once [] wishes) numbers directory.apart single is (λ x n named. sym (ap (name_at x) read) ∙ named) asked
+    ∙ once-place [] wishes g.place ∙ by-words d.first (length old) fs q g 0 words directory.apart is good
 
 -- of a volume that is read as a directory
 left : FoundSo → SoundSo → (old : List (List ℕ)) (d : DirectoryState) (words : List (List ℕ)) (numbers : List ℕ) (q : ℕ) (o : Option FilePlace) → directory_of old ≡ Ok d → find q (files_at d.first d.entries) ≡ o
@@ -289,14 +302,7 @@ left : FoundSo → SoundSo → (old : List (List ℕ)) (d : DirectoryState) (wor
 left law sound old d words numbers q None read is none asked =
     if-none (contains numbers q) (is_like_one words q) (get (files_of old) q) (law old d q read ∙ none-there old d.info (find q (files_at d.first d.entries)) is)
 left law sound old d words numbers q (Some g) read is none asked =
-    let directory = sound old d read in
-    let fs = files_at d.first d.entries in
-    let single = subst AreDistinct (sym (names-at d.first d.entries)) directory.single in
-    let wishes = asked_by_words (map file_at fs) 0 words in
-    let good = (unfound-once [] wishes none).1 in
-    ap (λ b. if b then None else get (files_of old) q)
-    (named d.first (length old) fs q g old (once [] wishes) numbers directory.apart single is (λ x n named. sym (ap (name_at x) read) ∙ named) asked
-    ∙ once-place [] wishes g.place ∙ by-words d.first (length old) fs q g 0 words directory.apart is good)
+    ap (λ b. if b then None else get (files_of old) q) (chosen-there sound old d words numbers q g read is none asked)
 
 pub like-are-gone : WrittenIsReadBack → FoundSo → SoundSo → (image : List ℕ) (old : List (List ℕ)) (words : List (List ℕ)) (new : DeletedImage) → IsOpened image old → first_unfound (wishes_of (files_on old) false words []) ≡ None
     → DeletesFiles image (map by_place (found_files (wishes_of (files_on old) false words []))) (Ok new)

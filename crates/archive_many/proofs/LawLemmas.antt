@@ -43,7 +43,7 @@ one-volume law bytes one two is also = law bytes one (Ok (record { blocks = two;
 tied : (a b : ℕ) → eq_by_cmp nat_cmp b a ≡ eqb a b
 tied a b = grind (arith, nat_tests)
 
-get-with : (m : Files) (name : ℕ) (h : FileData) (q : ℕ) → get (insert m name h) q ≡ cond (eqb name q) (Some h) (get m q)
+pub get-with : (m : Files) (name : ℕ) (h : FileData) (q : ℕ) → get (insert m name h) q ≡ cond (eqb name q) (Some h) (get m q)
 get-with m name h q = get-insert nat_cmp_total m name h q ∙ ap (λ b. cond b (Some h) (get m q)) (tied name q)
 
 get-here : (m : Files) (name : ℕ) (h : FileData) → get (insert m name h) name ≡ Some h

@@ -9,3 +9,4 @@ pub mod SpelledLemmas
 pub mod VolumeLemmas
 pub mod WishLemmas
 pub mod GoneLemmas
+pub mod CopyLemmas

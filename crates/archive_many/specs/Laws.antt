@@ -7,13 +7,15 @@ use Rattle.volume_image.specs.Volume.{IsVolume}
 use Rattle.char_pack.specs.declared.forms.GetForm.{GetForm}
 use Rattle.char_pack.specs.declared.forms.GetForm.TheVariants as get_as
 use Rattle.char_pack.specs.declared.forms.PutForm.TheVariants as put_as
-use Rattle.os8_dir.specs.Names.{parsed_name}
+use Rattle.os8_dir.specs.Names.{parsed_name, with_end_zeros}
 use Rattle.os8_dir.specs.Files.{FileData, files_of}
+use Rattle.os8_files.specs.Calls.{info_of}
 use Rattle.archive_files.specs.Opening.{IsOpened}
 use Rattle.archive_files.specs.Deleting.{DeletesFiles}
 use Rattle.archive_files.specs.declared.deleting.DeletedImage.{DeletedImage}
 use Rattle.archive_files.specs.Getting.{IsGiven}
 use Rattle.archive_files.specs.Laws.{whole_blocks}
+use Rattle.archive_many.specs.Copying.{AreCopied}
 use Rattle.archive_many.specs.Opened.{GetsFile, LiesOn, OpensVolume, files_on}
 use Rattle.archive_many.specs.Putting.{PutsAll, words_in}
 use Rattle.archive_many.specs.Patterns.{is_choice, is_like_one, matches}
@@ -82,6 +84,24 @@ abbrev pub LikeAreGone : Type 0
 LikeAreGone = (image : List ℕ) (old : List (List ℕ)) (words : List (List ℕ)) (new : DeletedImage) → IsOpened image old → first_unfound (wishes_of (files_on old) false words []) ≡ None
     → DeletesFiles image (map by_place (found_files (wishes_of (files_on old) false words []))) (Ok new)
     → (blocks : List (List ℕ)) × IsImageOf new.bytes.items blocks × ((name : ℕ) → get (files_of blocks) name ≡ (if is_like_one words name then None else get (files_of old) name))
+
+-- ## Files that are copied
+
+-- a file on a volume with so many information words for each
+abbrev pub copy_with : ℕ → FileData → FileData
+copy_with info held = (with_end_zeros info (with_end_zeros 10 held.0), held.1)
+
+-- the copy of a file that is there, else the older file
+abbrev pub copy_or : ℕ → Option FileData → Option FileData → Option FileData
+copy_or info None older = older
+copy_or info (Some held) older = Some (copy_with info held)
+
+-- After the files that words choose are copied, where each word chooses one, the volume has copies of just those whose names are like a word. A copy
+-- has the words of its file, and its information words as far as there is room. Where no copy has the name of an older file, that stays.
+abbrev pub LikeAreCopied : Type 0
+LikeAreCopied = (from to : List ℕ) (source old words : List (List ℕ)) (new : List ℕ) → IsOpened from source → IsOpened to old → first_unfound (wishes_of (files_on source) false words []) ≡ None
+    → AreCopied from to (found_files (wishes_of (files_on source) false words [])) new → (blocks : List (List ℕ)) × IsImageOf new blocks
+    × ((name : ℕ) → get (files_of blocks) name ≡ (if is_like_one words name then copy_or (info_of old) (get (files_of source) name) (get (files_of old) name) else get (files_of old) name))
 
 -- ## Files of a volume
 

@@ -11,4 +11,7 @@ pub mod PatternSteps
 pub mod ExtensionSteps
 pub mod Laws
 pub mod Wishing
+pub mod Listing
+pub mod Copying
+pub mod CopySteps
 pub mod WishSteps

@@ -127,6 +127,11 @@ is_pattern word = are_within 12 (before_dot word) && is_extension_pattern (after
 abbrev pub is_choice : List ℕ → Bool
 is_choice word = if has_sign word then is_pattern word else is_some (parsed_name word)
 
+-- one of some words chooses the file of a name
+abbrev pub is_chosen_by : List (List ℕ) → ℕ → Bool
+is_chosen_by [] name = false
+is_chosen_by (word ∷ words) name = (is_choice word && matches word name) || is_chosen_by words name
+
 -- ## Files that are chosen
 
 -- the files whose names are like a word

@@ -14,7 +14,7 @@ pub fn empties(files: &[VolumeFile], name: Name, bytes: &[u8]) -> bool
 }
 
 /// Whether one of these files has a name.
-fn is_among(files: &[VolumeFile], name: Name) -> bool
+pub(crate) fn is_among(files: &[VolumeFile], name: Name) -> bool
     ensures { result ≡ spec.is_among name files.now }
 {
     let mut rest = files;

@@ -3,9 +3,11 @@ ghost use Rattle.archive_files.specs.declared.faults.ArchiveFault.TheVariants.{R
 ghost use Rattle.script8.specs.declared.faults.SessionFault.TheVariants.{Memory};
 ghost use Rattle.archive_many.specs.declared.faults.BlocksFault.TheVariants as blocks;
 ghost use Rattle.archive_many.specs.declared.faults.ChoiceFault.TheVariants as choice;
+ghost use Rattle.archive_many.specs.declared.faults.CopyAllFault.TheVariants as copying;
 ghost use Rattle.archive_many.specs.declared.faults.ManyFault.TheVariants as many;
 
-use archive_files::ArchiveFault;
+use crate::VolumeFile;
+use archive_files::{ArchiveFault, CopyFault};
 use script8::SessionFault;
 use std::alloc::AllocError;
 use thiserror::Error;
@@ -59,6 +61,42 @@ impl From<AllocError> for ManyFault {
 
     fn from(_error: AllocError) -> ManyFault {
         ManyFault::Archive(ArchiveFault::Refused(SessionFault::Memory))
+    }
+}
+
+/// Why no file is copied from one image into another.
+#[derive(Clone, Copy, PartialEq, Eq, Debug, Error)]
+pub enum CopyAllFault {
+    /// The image that gets them is refused.
+    #[error("{0}")]
+    To(ArchiveFault),
+
+    /// A file of the name of this one is there.
+    #[error("a file of its name is there")]
+    Exists(VolumeFile),
+
+    /// This file is the first that can't be put.
+    #[error("{1}")]
+    File(VolumeFile, CopyFault),
+
+    /// Memory ran out.
+    #[error("out of memory")]
+    Memory,
+}
+
+impl From<ArchiveFault> for CopyAllFault {
+    ghost from_gives = { λ archive fault. fault ≡ copying.To archive };
+
+    fn from(fault: ArchiveFault) -> CopyAllFault {
+        CopyAllFault::To(fault)
+    }
+}
+
+impl From<AllocError> for CopyAllFault {
+    ghost from_gives = { λ _ fault. fault ≡ copying.Memory };
+
+    fn from(_error: AllocError) -> CopyAllFault {
+        CopyAllFault::Memory
     }
 }
 

@@ -1,5 +1,5 @@
 //! What holds of many files that are got and put. Each function does nothing: its contract is the law.
-ghost use Rattle.archive_many.specs.Laws.{AllAreLike, EachLies, LikeAreGone, NamesDiffer, OthersLie, OthersStay, PutAreGot, PutAreThere, PutFramesAreGot, SpelledAlone};
+ghost use Rattle.archive_many.specs.Laws.{AllAreLike, EachLies, LikeAreCopied, LikeAreGone, NamesDiffer, OthersLie, OthersStay, PutAreGot, PutAreThere, PutFramesAreGot, SpelledAlone};
 
 use char_pack::laws::packed_bytes;
 use os8_dir::laws::{files_found, sound_directory};
@@ -29,6 +29,16 @@ pub fn words_choose()
 /// A law: after the files that words choose are taken out, the volume has just those whose names are like no word, each as it was.
 pub fn chosen_are_gone()
     ensures { LikeAreGone }
+{
+    image_round_trip();
+    files_found();
+    sound_directory();
+}
+
+/// A law: after the files that words choose are copied to a volume, it has copies of just those whose names are like a word. Each has the words of
+/// its file. An older file stays as it is where no copy has its name.
+pub fn chosen_are_copied()
+    ensures { LikeAreCopied }
 {
     image_round_trip();
     files_found();

@@ -4,12 +4,14 @@
 #![tactic(auto)]
 
 mod choosing;
+mod copying;
 mod emptying;
 mod extensions;
 mod faults;
 mod host_names;
 mod images;
 pub mod laws;
+mod listing;
 mod opened;
 mod patterns;
 mod putting;
@@ -17,12 +19,14 @@ mod raw;
 mod wishes;
 
 pub use choosing::{at_place, choose_files};
+pub use copying::copy_all;
 pub use emptying::empties;
 pub use extensions::{bad_extensions, is_text};
-pub use faults::{BlocksFault, ChoiceFault, ManyFault};
+pub use faults::{BlocksFault, ChoiceFault, CopyAllFault, ManyFault};
 pub use host_names::{host_name, volume_name};
+pub use listing::list_like;
 pub use opened::{OpenVolume, VolumeFile, open};
-pub use patterns::has_pattern;
+pub use patterns::{has_pattern, is_chosen_by};
 pub use putting::{ManyImage, NewFile, put_all};
 pub use raw::blocks_of;
 pub use wishes::{Wish, first_unfound, wishes_of};

@@ -24,6 +24,18 @@ pub fn matches(word: &[u8], name: Name) -> bool
     is_stem_like(stem, a, b, c) && is_extension_like(rest, extension)
 }
 
+/// Whether one of some words chooses the file of a name.
+pub fn is_chosen_by(words: &[String], name: Name) -> bool
+    ensures { result ≡ spec.is_chosen_by (map (λ word. word.bytes.items) words.now) name }
+{
+    for word in words {
+        if is_choice(word.as_bytes()) && matches(word.as_bytes(), name) {
+            return true;
+        }
+    }
+    false
+}
+
 /// Whether a word chooses files.
 pub fn is_choice(word: &[u8]) -> bool
     ensures { result ≡ spec.is_choice word.now }

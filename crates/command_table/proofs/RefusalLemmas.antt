@@ -110,6 +110,16 @@ moved_after id one both values none = go (has (codes "at") values) (met _ _ part
     go true is = parts.0
     go false is = is
 
+-- of a file that is copied alone nothing is missing either
+pub copied_alone : (values : List Row) → missing_of verb.Copy values ≡ None → has (codes "to") values ≡ false
+    → moved_missing (codes "TO") what.To what.NameAndTo values ≡ None
+copied_alone values none one = go (has (codes "to") values) one none
+  where
+    go : (to : Bool) → to ≡ false → (if to then (if has (codes "NAME") values then None else Some what.Name) else moved_missing (codes "TO") what.To what.NameAndTo values) ≡ None
+        → moved_missing (codes "TO") what.To what.NameAndTo values ≡ None
+    go true is none = absurd (true≢false is)
+    go false is none = none
+
 -- the first value of an argument is the first of its values
 pub some_values : (id : Text) (values : List Row) → has id values ≡ true → 1 ≤ length (values_of id values)
 some_values id values is = go (find (λ r. bytes_eq r.id id) values) is

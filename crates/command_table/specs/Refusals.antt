@@ -105,6 +105,12 @@ moved_missing id one both values =
     if not (has (codes "NAME") values) then (if has (codes "at") values then Some one else Some both)
     else if has (codes "at") values || has id values then None else Some one
 
+-- of files that are copied, several where it is said which volume gets them
+abbrev pub copy_missing : List Row → Option What
+copy_missing values =
+    if has (codes "to") values then (if has (codes "NAME") values then None else Some what.Name)
+    else moved_missing (codes "TO") what.To what.NameAndTo values
+
 -- of a file of a volume, where it is said where the volume lies
 abbrev pub tape_missing : List Row → Option What
 tape_missing values =
@@ -140,7 +146,7 @@ missing_of verb.Get values =
 missing_of verb.Put values = if puts_many values && names_input (values_of (codes "FILE") values) then Some what.As else None
 missing_of verb.Delete values = if has (codes "NAME") values || has (codes "at") values then None else Some what.Name
 missing_of verb.Rename values = moved_missing (codes "NEW") what.New what.NameAndNew values
-missing_of verb.Copy values = moved_missing (codes "TO") what.To what.NameAndTo values
+missing_of verb.Copy values = copy_missing values
 missing_of which values = None
 
 -- ## Standard input named twice
@@ -150,13 +156,15 @@ names_input_twice values = nat_lt 1 (input_count (values_of (codes "FILE") value
 
 -- ## An argument too many
 
--- the third after an image whose blocks are got, the last where `--at` stands for a name, or the second file where one is given a name or is PAL8
+-- The third after an image whose blocks are got, the last where `--at` stands for a name, or the second file where one is given a name or is
+-- PAL8. It is the fourth after an image of which one file is copied.
 abbrev pub extra_argument : List Row → Option Text
 extra_argument values =
     if is_set (codes "blocks") values then word_at (codes "NAME") 2 values
     else if has (codes "at") values then first_of (codes "NEW") values
     else if has (codes "as") values || is_set (codes "pal8") values then word_at (codes "FILE") 1 values
-    else None
+    else if has (codes "to") values then None
+    else first_of (codes "MORE") values
 
 -- ## Values that are none
 

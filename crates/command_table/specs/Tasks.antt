@@ -1,6 +1,6 @@
 -- What a command line asks of the program. The words are read as the library `clap` reads them: its own definitions say which words a command
 -- takes, what they mean, and the kinds of error that others meet.
-use Rattle.std.specs.Prelude.{◌≡◌, ◌≢◌, ◌≤◌, ◌<◌, ◌+◌, ⊤, true, false, if◌then◌else◌, ℕ, codes, List, [], ◌∷◌, Option, None, Some, Result, Ok, Err, is_some, length, map, IfSome, option_and_then, option_map}
+use Rattle.std.specs.Prelude.{◌≡◌, ◌≢◌, ◌≤◌, ◌<◌, ◌+◌, ⊤, true, false, if◌then◌else◌, ℕ, codes, List, [], ◌∷◌, ◌++◌, Option, None, Some, Result, Ok, Err, is_some, length, map, IfSome, option_and_then, option_map}
 use Rattle.clap.specs.Words.{Row, Text, all_of, first_of, fault_of, kind_of, one_of, subcommand_of, IsAmong}
 use Rattle.clap.specs.declared.error.Error.{Error}
 use Rattle.clap.specs.declared.error.kind.ErrorKind.TheVariants.{OutOfMemory}
@@ -24,7 +24,7 @@ use Rattle.program_tasks.specs.declared.tasks.RimForm.TheVariants.{Lines, Bin}
 use Rattle.program_tasks.specs.declared.tasks.Saving.{Saving}
 use Rattle.program_tasks.specs.declared.tasks.Saving.TheVariants.{AtEnd, Never, Always}
 use Rattle.program_tasks.specs.declared.tasks.Task.{Task}
-use Rattle.program_tasks.specs.declared.tasks.Task.TheVariants.{Tape, Rim, Source, Run, Create, CreateTape, ListLong, Get, GetBin, GetMany, GetBlocks, Put, PutMany, Delete, Rename, Copy, Squeeze, Check, Dump, Patch, Index, Rescue, Scan, Assemble, Teletype, Trace, Profile}
+use Rattle.program_tasks.specs.declared.tasks.Task.TheVariants.{Tape, Rim, Source, Run, Create, CreateTape, ListLong, ListSome, Get, GetBin, GetMany, GetBlocks, Put, PutMany, Delete, Rename, Copy, CopyMany, Squeeze, Check, Dump, Patch, Index, Rescue, Scan, Assemble, Teletype, Trace, Profile}
 use Rattle.program_tasks.specs.declared.tasks.Task.TheVariants as task
 use Rattle.command_table.specs.declared.faults.TaskFault.{TaskFault}
 use Rattle.command_table.specs.declared.faults.TaskFault.TheVariants.{Words, Memory, Refused}
@@ -110,6 +110,16 @@ ArePlaces values places = map place_of (values_of (codes "at") values) ≡ map (
 abbrev pub after : Text → Text → List Row → Text
 after moved own values = if has (codes "at") values then moved else own
 
+-- a name, if there is one
+abbrev pub name_or_none : Option Text → List Text
+name_or_none None = []
+name_or_none (Some name) = name ∷ []
+
+-- the names of files that are copied at once: all arguments after the image
+abbrev pub names_given : List Row → List Text
+names_given values = name_or_none (name_in (codes "NAME") values) ++ name_or_none (name_in (codes "TO") values)
+    ++ name_or_none (name_in (codes "NEW") values) ++ names_in (codes "MORE") values
+
 -- which files are texts
 abbrev pub AreTexts : List Row → TextsForm → Type 0
 AreTexts values texts = (texts.is_usual ≡ is_set (codes "text") values)
@@ -159,9 +169,13 @@ AsksFor which values (Create form blocks) = (which ≡ verb.Create) × IsCreateF
     × (is_set (codes "dectape") values ≡ false) × (option_map number_of (one_of (codes "BLOCKS") values) ≡ Some blocks)
 AsksFor which values (CreateTape form) = (which ≡ verb.Create) × IsCreateForm values form
     × (is_set (codes "dectape") values ≡ true)
-AsksFor which values (task.List image) = (which ≡ verb.List) × IsSeen values image × (is_set (codes "long") values ≡ false)
-AsksFor which values (ListLong image year) = (which ≡ verb.List) × IsSeen values image × (is_set (codes "long") values ≡ true)
-    × (year ≡ year_of values)
+AsksFor which values (task.List image) = (which ≡ verb.List) × (has (codes "NAME") values ≡ false) × IsSeen values image
+    × (is_set (codes "long") values ≡ false)
+AsksFor which values (ListLong image year) = (which ≡ verb.List) × (has (codes "NAME") values ≡ false) × IsSeen values image
+    × (is_set (codes "long") values ≡ true) × (year ≡ year_of values)
+AsksFor which values (ListSome form) = (which ≡ verb.List) × (has (codes "NAME") values ≡ true) × IsSeen values form.image
+    × (names_in (codes "NAME") values ≡ map (λ name. name.bytes.items) form.names.items)
+    × (form.is_long ≡ is_set (codes "long") values) × (form.year ≡ year_of values)
 AsksFor which values (Get image file form) = (which ≡ verb.Get) × GetsOne values × IsSeen values image
     × IsFile values file × (form ≡ get_form values) × (is_set (codes "bin") values ≡ false)
 AsksFor which values (GetBin image file) = (which ≡ verb.Get) × GetsOne values × IsSeen values image
@@ -188,10 +202,14 @@ AsksFor which values (Delete form) = (which ≡ verb.Delete) × IsChanged values
     × ArePlaces values form.places.items
 AsksFor which values (Rename image file new) = (which ≡ verb.Rename) × IsChanged values image × IsFile values file
     × (name_in (after (codes "NAME") (codes "NEW") values) values ≡ Some new.bytes.items)
-AsksFor which values (Copy form) = (which ≡ verb.Copy) × IsSeen values form.image × IsFile values form.file
+AsksFor which values (Copy form) = (which ≡ verb.Copy) × (has (codes "to") values ≡ false) × IsSeen values form.image × IsFile values form.file
     × (first_of (after (codes "NAME") (codes "TO") values) values ≡ Some form.to.file.bytes.items)
     × (layout_of (codes "to-volume") (codes "to-dectape") values ≡ form.to.layout) × (form.to.wait ≡ wait_of values)
     × (name_in (after (codes "TO") (codes "NEW") values) values ≡ option_map (λ name. name.bytes.items) form.new)
+AsksFor which values (CopyMany form) = (which ≡ verb.Copy) × IsSeen values form.image
+    × (names_given values ≡ map (λ name. name.bytes.items) form.names.items) × (first_of (codes "to") values ≡ Some form.to.file.bytes.items)
+    × (layout_of (codes "to-volume") (codes "to-dectape") values ≡ form.to.layout) × (form.to.wait ≡ wait_of values)
+    × (form.is_forced ≡ is_set (codes "force") values)
 AsksFor which values (Squeeze image) = (which ≡ verb.Squeeze) × IsChanged values image
 AsksFor which values (Check form) = (which ≡ verb.Check) × (values_of (codes "IMAGE") values ≡ map (λ image. image.bytes.items) form.images.items)
     × (layout_of (codes "volume") (codes "dectape") values ≡ form.layout) × (form.is_all ≡ is_set (codes "all") values)

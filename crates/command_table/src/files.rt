@@ -1,18 +1,18 @@
 //! What is asked of the files of volumes.
-ghost use Rattle.std.specs.Prelude.{◌≡◌, ◌≤◌, codes, false, true, if◌then◌else◌, is_some, IfOk, Some};
-ghost use Rattle.command_table.specs.Found.{has, is_set, number_in};
+ghost use Rattle.std.specs.Prelude.{◌≡◌, ◌≤◌, ◌∷◌, ◌++◌, [], codes, false, true, if◌then◌else◌, is_some, map, option_map, IfOk, OnOk, Some};
+ghost use Rattle.command_table.specs.Found.{capitals, has, is_set, number_in};
 ghost use Rattle.command_table.specs.Steps.{Has, IsFirst, has_text, kind_at, takes_block, takes_texts, IsAskedBy, Needs, values_in};
 ghost use Rattle.command_table.specs.Refusals as refusals;
 ghost use Rattle.command_table.specs.Tables.{rows_for};
-ghost use Rattle.command_table.specs.Tasks.{AreTexts, IsFile};
+ghost use Rattle.command_table.specs.Tasks.{AreTexts, IsFile, name_or_none};
 ghost use Rattle.command_table.specs.Tasks as spec;
 ghost use Rattle.command_table.specs.declared.table.Form.TheVariants as form;
 ghost use Rattle.command_table.specs.declared.table.Kind.TheVariants as kind;
 ghost use Rattle.command_table.specs.declared.table.Verb.TheVariants as verb;
 
 use crate::found::{
-    Read, block_of, flag, has, layout_of, name_if_given, name_of, names_of, value_of, values_of,
-    wait_of,
+    Read, block_of, flag, has, layout_of, name_if_given, name_of, names_of, text_of, texts_in,
+    value_of, values_of, wait_of,
 };
 use crate::judging::blocks_word;
 use crate::lists::{blocks_of, info_of};
@@ -23,8 +23,8 @@ use crate::volumes::{changed_image, image_of};
 use char_pack::{GetForm, PutForm};
 use clap::ArgMatches;
 use program_tasks::{
-    BlocksForm, CopyForm, DeleteForm, FileForm, GetManyForm, ImageForm, PutManyForm, PutOneForm,
-    Task, TextsForm,
+    BlocksForm, CopyForm, CopyManyForm, DeleteForm, FileForm, GetManyForm, ImageForm, PutManyForm,
+    PutOneForm, Task, TextsForm,
 };
 use std::alloc::Global;
 use word12::MOST_BLOCKS;
@@ -203,9 +203,84 @@ pub fn rename(alloc: Global, found: &ArgMatches<'_>) -> Read<Task>
     Ok(Task::Rename(image, file, new))
 }
 
-/// The file that is to be copied.
+/// The files that are to be copied.
 pub fn copy(alloc: Global, found: &ArgMatches<'_>) -> Read<Task>
     requires { Needs verb.Copy (values_in found.now) }
+    ensures { IfOk result (IsAskedBy verb.Copy (values_in found.now)) }
+{
+    if has(found, "to") {
+        return copy_many(alloc, found);
+    }
+    copy_one(alloc, found)
+}
+
+/// The files that are to be copied at once.
+fn copy_many(alloc: Global, found: &ArgMatches<'_>) -> Read<Task>
+    requires needs { Needs verb.Copy (values_in found.now) }
+    requires many { has (codes "to") (values_in found.now) ≡ true }
+    ensures { IfOk result (IsAskedBy verb.Copy (values_in found.now)) }
+{
+    let image = image_of(alloc, found, Verb::Copy, "IMAGE")?;
+    let names = names_given(alloc, found)?;
+    let file = value_of(alloc, found, Verb::Copy, "to")?;
+    let layout = layout_of(found, Verb::Copy, "to-volume", "to-dectape");
+    let wait = wait_of(found, Verb::Copy);
+    let to = ImageForm { file, layout, wait };
+    Ok(Task::CopyMany(CopyManyForm {
+        image,
+        names,
+        to,
+        is_forced: flag(found, Verb::Copy, "force"),
+    }))
+}
+
+/// The names of files that are copied at once.
+fn names_given(alloc: Global, found: &ArgMatches<'_>) -> Read<Vec<String>>
+    ensures { IfOk result (λ names. map (λ name. name.bytes.items) names.items ≡ spec.names_given (values_in found.now)) }
+{
+    let mut names = Vec::new(alloc);
+    add_name(alloc, text_of(found, "NAME"), &mut names)?;
+    add_name(alloc, text_of(found, "TO"), &mut names)?;
+    add_name(alloc, text_of(found, "NEW"), &mut names)?;
+    add_names(alloc, texts_in(found, "MORE"), &mut names)?;
+    Ok(names)
+}
+
+/// Appends a name in capital letters, if it was given.
+fn add_name(alloc: Global, given: Option<&str>, names: &mut Vec<String>) -> Read<()>
+    ensures { OnOk result (map (λ name. name.bytes.items) names.new.items
+        ≡ map (λ name. name.bytes.items) names.old.items ++ name_or_none (option_map capitals (option_map (λ text. text.now) given.entry))) }
+{
+    match given {
+        Some(text) => add_capitals(alloc, text, names),
+        None => Ok(()),
+    }
+}
+
+fn add_capitals(alloc: Global, text: &str, names: &mut Vec<String>) -> Read<()>
+    ensures { OnOk result (map (λ name. name.bytes.items) names.new.items
+        ≡ map (λ name. name.bytes.items) names.old.items ++ capitals text.now ∷ []) }
+{
+    let name = text.to_ascii_uppercase(alloc)?;
+    names.push(name)?;
+    Ok(())
+}
+
+/// Appends names in capital letters.
+fn add_names(alloc: Global, given: &[&str], names: &mut Vec<String>) -> Read<()>
+    ensures { OnOk result (map (λ name. name.bytes.items) names.new.items
+        ≡ map (λ name. name.bytes.items) names.old.items ++ map capitals (map (λ text. text.now) given.now)) }
+{
+    for text in given {
+        add_capitals(alloc, text, names)?;
+    }
+    Ok(())
+}
+
+/// The file that is to be copied.
+fn copy_one(alloc: Global, found: &ArgMatches<'_>) -> Read<Task>
+    requires needs { Needs verb.Copy (values_in found.now) }
+    requires one { has (codes "to") (values_in found.now) ≡ false }
     ensures { IfOk result (IsAskedBy verb.Copy (values_in found.now)) }
 {
     let image = image_of(alloc, found, Verb::Copy, "IMAGE")?;

@@ -238,7 +238,7 @@ pub fn blocks_word<'a>(found: &ArgMatches<'a>, index: usize) -> &'a str
 }
 
 /// An argument too many. It is the third after an image whose blocks are got, the last where `--at` stands for a name, or the second file
-/// where one is given a name.
+/// where one is given a name. It is the fourth after an image of which one file is copied.
 fn extra_argument<'a>(found: &ArgMatches<'a>) -> Option<&'a str>
     ensures { option_map (λ text. text.now) result ≡ spec.extra_argument (values_in found.now) }
 {
@@ -251,7 +251,10 @@ fn extra_argument<'a>(found: &ArgMatches<'a>) -> Option<&'a str>
     if has(found, "as") || is_set(found, "pal8") {
         return word_at(found, "FILE", 1);
     }
-    None
+    if has(found, "to") {
+        return None;
+    }
+    text_of(found, "MORE")
 }
 
 /// Whether standard input is named twice among files.

@@ -33,7 +33,8 @@ pub fn plain_words()
     ensures create { (image blocks : List ℕ) → IsUnsignedIn 8 MOST_BLOCKS blocks
         → IsTaken (codes "create") (in_place (codes "IMAGE") image ∷ in_place (codes "BLOCKS") blocks ∷ []) }
     ensures list { (image text : List ℕ) → AreTaken (codes "list") (after (in_place (codes "IMAGE") image) ([] ∷
-        (alone (codes "long") ∷ []) ∷ (with_value (codes "volume") text ∷ []) ∷ (alone (codes "dectape") ∷ []) ∷ [])) }
+        (alone (codes "long") ∷ []) ∷ (with_value (codes "volume") text ∷ []) ∷ (alone (codes "dectape") ∷ []) ∷
+        (in_place (codes "NAME") text ∷ []) ∷ (in_place (codes "NAME") text ∷ alone (codes "long") ∷ []) ∷ [])) }
     ensures get { (image file text : List ℕ) → AreTaken (codes "get") (after (in_place (codes "IMAGE") image) (
         (in_place (codes "NAME") file ∷ []) ∷ (in_place (codes "NAME") file ∷ alone (codes "text") ∷ []) ∷
         (in_place (codes "NAME") file ∷ alone (codes "tape") ∷ []) ∷ (in_place (codes "NAME") file ∷ alone (codes "bin") ∷ []) ∷
@@ -56,7 +57,12 @@ pub fn plain_words()
         (in_place (codes "NAME") file ∷ in_place (codes "TO") to ∷ []) ∷
         (in_place (codes "NAME") file ∷ in_place (codes "TO") to ∷ in_place (codes "NEW") new ∷ []) ∷
         (with_value (codes "at") file ∷ in_place (codes "NAME") to ∷ []) ∷
-        (in_place (codes "NAME") file ∷ in_place (codes "TO") to ∷ alone (codes "to-dectape") ∷ []) ∷ [])) }
+        (in_place (codes "NAME") file ∷ in_place (codes "TO") to ∷ alone (codes "to-dectape") ∷ []) ∷
+        (in_place (codes "NAME") file ∷ with_value (codes "to") to ∷ []) ∷
+        (in_place (codes "NAME") file ∷ in_place (codes "TO") new ∷ with_value (codes "to") to ∷ []) ∷ [])) }
+    ensures copy_more { (image one other third fourth to : List ℕ) → AreTaken (codes "copy") ((in_place (codes "IMAGE") image ∷
+        in_place (codes "NAME") one ∷ in_place (codes "TO") other ∷ in_place (codes "NEW") third ∷ in_place (codes "MORE") fourth ∷
+        with_value (codes "to") to ∷ alone (codes "force") ∷ []) ∷ []) }
     ensures squeeze { (image text : List ℕ) → AreTaken (codes "squeeze") (after (in_place (codes "IMAGE") image) ([] ∷
         (with_value (codes "wait") text ∷ []) ∷ [])) }
     ensures assemble { (file other text : List ℕ) → AreTaken (codes "assemble") ((in_place (codes "FILE") file ∷ []) ∷
@@ -128,7 +134,7 @@ pub fn letters()
 pub fn excluded_arguments()
     ensures words { are_distinct (map (λ entry. entry.word) table) ≡ true }
     ensures pairs { pairs ≡ (codes "volume", codes "dectape") ∷ (codes "to-volume", codes "to-dectape")
-        ∷ (codes "BLOCKS", codes "dectape") ∷ (codes "blocks", codes "at") ∷ (codes "blocks", codes "into")
+        ∷ (codes "BLOCKS", codes "dectape") ∷ (codes "blocks", codes "at") ∷ (codes "at", codes "to") ∷ (codes "blocks", codes "into")
         ∷ (codes "blocks", codes "all") ∷ (codes "blocks", codes "force") ∷ (codes "blocks", codes "text-of")
         ∷ (codes "blocks", codes "tape") ∷ (codes "blocks", codes "bin") ∷ (codes "tape", codes "into")
         ∷ (codes "bin", codes "into") ∷ (codes "as", codes "text-of") ∷ (codes "list", codes "pal8")

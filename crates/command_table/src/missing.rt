@@ -24,7 +24,7 @@ pub fn missing_of(found: &ArgMatches<'_>, which: Verb) -> Option<What>
         Verb::Put => lack(!(puts_many(found) && puts_input(found)), What::As),
         Verb::Delete => lack(has(found, "NAME") || has(found, "at"), What::Name),
         Verb::Rename => moved_missing(found, "NEW", What::New, What::NameAndNew),
-        Verb::Copy => moved_missing(found, "TO", What::To, What::NameAndTo),
+        Verb::Copy => copy_missing(found),
         Verb::Tape | Verb::Rim | Verb::Source => tape_missing(found),
         Verb::Teletype | Verb::Trace | Verb::Profile => tape_missing(found),
         Verb::Run | Verb::List | Verb::Squeeze | Verb::Check => None,
@@ -147,6 +147,16 @@ pub fn input_count(names: &[&str]) -> usize
         }
     }
     count
+}
+
+/// What is missing where files are copied.
+fn copy_missing(found: &ArgMatches<'_>) -> Option<What>
+    ensures { result ≡ spec.copy_missing (values_in found.now) }
+{
+    if has(found, "to") {
+        return lack(has(found, "NAME"), What::Name);
+    }
+    moved_missing(found, "TO", What::To, What::NameAndTo)
 }
 
 /// What is missing of a file and the argument after it, which stands in the place of the name where `--at` gives the file.

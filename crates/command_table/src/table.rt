@@ -187,12 +187,12 @@ pub const COMMANDS: &[Entry] = entries! {
     Verb::Profile, "profile", "Usage: pdp8 profile [OPTIONS] <TAPE> [NAME]";
     Verb::Run, "run", "Usage: pdp8 run [OPTIONS] <IMAGE>";
     Verb::Create, "create", "Usage: pdp8 create [OPTIONS] <IMAGE> [BLOCKS]";
-    Verb::List, "list", "Usage: pdp8 list [OPTIONS] <IMAGE>";
+    Verb::List, "list", "Usage: pdp8 list [OPTIONS] <IMAGE> [NAME]...";
     Verb::Get, "get", "Usage: pdp8 get [OPTIONS] <IMAGE> [NAME]...";
     Verb::Put, "put", "Usage: pdp8 put [OPTIONS] <IMAGE> <FILE>...";
     Verb::Delete, "delete", "Usage: pdp8 delete [OPTIONS] <IMAGE> [NAME]...";
     Verb::Rename, "rename", "Usage: pdp8 rename [OPTIONS] <IMAGE> [NAME] [NEW]";
-    Verb::Copy, "copy", "Usage: pdp8 copy [OPTIONS] <IMAGE> [NAME] [TO] [NEW]";
+    Verb::Copy, "copy", "Usage: pdp8 copy [OPTIONS] <IMAGE> [NAME] [TO] [NEW] [MORE]...";
     Verb::Squeeze, "squeeze", "Usage: pdp8 squeeze [OPTIONS] <IMAGE>";
     Verb::Check, "check", "Usage: pdp8 check [OPTIONS] <IMAGE>...";
     Verb::Index, "index", "Usage: pdp8 index [OPTIONS] <IMAGE>...";
@@ -208,6 +208,7 @@ pub const PAIRS: &[Pair] = &[
     ("to-volume", "to-dectape"),
     ("BLOCKS", "dectape"),
     ("blocks", "at"),
+    ("at", "to"),
     ("blocks", "into"),
     ("blocks", "all"),
     ("blocks", "force"),
@@ -307,6 +308,7 @@ pub const CREATE: &[Argument] = rows! {
 
 pub const LIST: &[Argument] = rows! {
     "IMAGE" must Kind::Word, "", "The file that holds the volume";
+    "NAME" may Kind::Words(MOST_BLOCKS), "", "The names of the files that are listed, else all";
     "long" 'l' flag Kind::Flag, "", "Show where each file lies, its information words, in octal, and its date";
     "year" option Kind::One(Form::Year), "N", "The last of the eight years that dates mean, 1977 to 9999; else the one that block 0 gives";
     "volume" 'v' option Kind::One(Form::Volume), "N", "The volume of an RK05 disk, 1 or 2, where IMAGE is the file of one";
@@ -368,7 +370,10 @@ pub const COPY: &[Argument] = rows! {
     "NAME" may Kind::Word, "", "The name of the file on the volume, where --at does not give its block";
     "TO" may Kind::Word, "", "The file that holds the volume that gets it";
     "NEW" may Kind::Word, "", "The name of the file on that volume, if it is another";
+    "MORE" may Kind::Words(MOST_BLOCKS), "", "With --to NAME, TO, NEW and MORE are the names of the files";
     "at" option Kind::One(Form::Block), "BLOCK", "The first block of the file, 0 to 4095, in place of NAME";
+    "to" option Kind::One(Form::Text), "IMAGE", "The file that holds the volume that gets several files";
+    "force" 'f' flag Kind::Flag, "", "Write over older files of that volume; one that is copied alone does so anyway";
     "to-volume" option Kind::One(Form::Volume), "N", "The volume of an RK05 disk, 1 or 2, where TO is the file of one";
     "to-dectape" flag Kind::Flag, "", "TO is the file of a DECtape, of 129 words a block";
     "volume" 'v' option Kind::One(Form::Volume), "N", "The volume of an RK05 disk, 1 or 2, where IMAGE is the file of one";

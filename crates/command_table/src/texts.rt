@@ -26,7 +26,7 @@ Volumes:
   put       Make files of this system, or standard input, files of a volume
   delete    Take files out of a volume
   rename    Give a file of a volume another name
-  copy      Copy a file from volume to volume
+  copy      Copy files from volume to volume
 
 Whole archives:
   squeeze   Move the files of a volume together
@@ -137,8 +137,8 @@ pub fn texts_of(verb: Verb) -> Texts {
         },
         Verb::List => Texts {
             about: "List the files of a volume",
-            long_about: "Prints a line NAME n for each file of the OS/8 volume in the file IMAGE, in name order, with its{n}length in blocks, and a line FREE n for the blocks of no file. With --long the files are in the{n}order of the directory, each with its first block, its information words and its date after it. IMAGE{n}may be the file of a disk of two volumes or of a DECtape, as --volume and --dectape say. The image is{n}not written.",
-            examples: "Examples:\n  pdp8 list disk.img\n  pdp8 list disk.rk05 -l -v 2",
+            long_about: "Prints a line NAME n for each file of the OS/8 volume in the file IMAGE, in name order, with its{n}length in blocks, and a line FREE n for the blocks of no file of the whole volume. With --long the{n}files are in the order of the directory, each with its first block, its information words and its{n}date after it. Where NAME is given only such files are listed; a pattern, as '*.PA', stands for{n}each name that it fits. IMAGE may be the file of a disk of two volumes or of a DECtape, as --volume{n}and --dectape say. The image is not written.",
+            examples: "Examples:\n  pdp8 list disk.img '*.pa'\n  pdp8 list disk.rk05 -l -v 2",
         },
         Verb::Get => Texts {
             about: "Write files of a volume to standard output or to a folder",
@@ -161,9 +161,9 @@ pub fn texts_of(verb: Verb) -> Texts {
             examples: "Examples:\n  pdp8 rename disk.img old.pa new.pa\n  pdp8 rename disk.img --at 70 new.pa",
         },
         Verb::Copy => Texts {
-            about: "Copy a file from volume to volume",
-            long_about: "Copies the file NAME of the OS/8 volume in the file IMAGE, with its information words, to the volume{n}in the file TO, under the name NEW if one is given, in place of an older file there, and prints{n}STORED, the name and the number of blocks. With --at the file is the one at that block, and the{n}arguments after IMAGE are TO and NEW. After a fault both images are as they were.",
-            examples: "Examples:\n  pdp8 copy disk.img add.pa other.img\n  pdp8 copy disk.img add.pa tape.dt8 sum.pa --to-dectape",
+            about: "Copy files from volume to volume",
+            long_about: "Copies the file NAME of the OS/8 volume in the file IMAGE, with its information words, to the volume{n}in the file TO, under the name NEW if one is given, in place of an older file there, and prints{n}STORED, the name and the number of blocks. With --at the file is the one at that block, and the{n}arguments after IMAGE are TO and NEW. With --to all arguments after IMAGE are names of files; a{n}pattern, as '*.PA', stands for each name that it fits. They go to the volume in that file, all or{n}none, and none of them may be there, unless --force is given. After a fault both images are as they{n}were.",
+            examples: "Examples:\n  pdp8 copy disk.img add.pa other.img\n  pdp8 copy disk.img '*.pa' x.tx --to tape.dt8 --to-dectape",
         },
         Verb::Squeeze => Texts {
             about: "Move the files of a volume together",

@@ -1,18 +1,20 @@
 //! What is asked of volumes as a whole.
 ghost use Rattle.std.specs.Prelude.{◌≡◌, codes, true, IfOk, Some};
-ghost use Rattle.command_table.specs.Found.{wait_of};
+ghost use Rattle.command_table.specs.Found.{has, wait_of};
 ghost use Rattle.command_table.specs.Steps.{Has, has_text, kind_at, IsAskedBy, Needs, values_in};
 ghost use Rattle.command_table.specs.Tables.{rows_for};
-ghost use Rattle.command_table.specs.Tasks.{IsImage};
+ghost use Rattle.command_table.specs.Tasks.{IsImage, IsSeen};
 ghost use Rattle.command_table.specs.Tasks as spec;
 ghost use Rattle.command_table.specs.declared.table.Form.TheVariants as form;
 ghost use Rattle.command_table.specs.declared.table.Kind.TheVariants as kind;
 ghost use Rattle.command_table.specs.declared.table.Verb.TheVariants as verb;
 
-use crate::found::{Read, flag, layout_of, size_of, value_of, values_of, wait_of, year_of};
+use crate::found::{
+    Read, flag, has, layout_of, names_of, size_of, value_of, values_of, wait_of, year_of,
+};
 use crate::table::Verb;
 use clap::ArgMatches;
-use program_tasks::{CheckForm, CreateForm, ImageForm, RunForm, Saving, Task};
+use program_tasks::{CheckForm, CreateForm, ImageForm, ListForm, RunForm, Saving, Task};
 use std::alloc::Global;
 
 /// The volume in the file that an argument names, which is not waited for.
@@ -99,10 +101,28 @@ pub fn list(alloc: Global, found: &ArgMatches<'_>) -> Read<Task>
     ensures { IfOk result (IsAskedBy verb.List (values_in found.now)) }
 {
     let image = image_of(alloc, found, Verb::List, "IMAGE")?;
+    if has(found, "NAME") {
+        return list_some(alloc, found, image);
+    }
     if flag(found, Verb::List, "long") {
         return Ok(Task::ListLong(image, year_of(found, Verb::List)));
     }
     Ok(Task::List(image))
+}
+
+/// The files of a volume that are to be listed.
+fn list_some(alloc: Global, found: &ArgMatches<'_>, image: ImageForm) -> Read<Task>
+    requires given { has (codes "NAME") (values_in found.now) ≡ true }
+    requires image { IsSeen (values_in found.now) image }
+    ensures { IfOk result (IsAskedBy verb.List (values_in found.now)) }
+{
+    let names = names_of(alloc, found, Verb::List, "NAME")?;
+    Ok(Task::ListSome(ListForm {
+        image,
+        names,
+        is_long: flag(found, Verb::List, "long"),
+        year: year_of(found, Verb::List),
+    }))
 }
 
 /// The volumes that are to be checked.

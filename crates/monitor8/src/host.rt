@@ -3,6 +3,7 @@
 
 use crate::runs::run_image;
 use archive_commands::{WordPatch, dump_blocks, patch_word};
+use choice_commands::{copy_files, list_some};
 use command_table::{TaskFault, task};
 use host_inputs::{tell_bad_argument, texts_of};
 use hosts::Host;
@@ -121,6 +122,7 @@ where
         Task::CreateTape(form) => wait_for_image!(rt, form.wait, create_tape(host, alloc, &form)),
         Task::List(image) => list_files(host, alloc, &image),
         Task::ListLong(image, year) => list_places(host, alloc, &image, year),
+        Task::ListSome(form) => list_some(host, alloc, &form),
         Task::Get(image, file, form) => get_file(host, alloc, &image, file, form),
         Task::GetBin(image, file) => get_bin(host, alloc, &image, file),
         Task::GetMany(form) => get_files(host, alloc, &form),
@@ -139,6 +141,7 @@ where
             )
         }
         Task::Copy(form) => wait_for_image!(rt, form.to.wait, copy_file(host, alloc, &form)),
+        Task::CopyMany(form) => wait_for_image!(rt, form.to.wait, copy_files(host, alloc, &form)),
         Task::Squeeze(image) => wait_for_image!(rt, image.wait, squeeze_files(host, alloc, &image)),
         Task::Check(form) => check_images(host, alloc, &form),
         Task::Rescue(form) => rescue_image(host, alloc, &form.image, form.new.as_str()),

@@ -40,6 +40,7 @@ abbrev pub name_text : NameNote → List ℕ → List ℕ
 name_text named.TooLong name = codes "note: " ++ name ++ codes " has more than " ++ decimal MOST ++ codes " bytes, and no more are read\n"
 name_text named.NotPut name = codes "note: " ++ name ++ codes " is refused, and no file is put\n"
 name_text named.NotDeleted name = codes "note: " ++ name ++ codes " is refused, and no file is taken out\n"
+name_text named.NotCopied name = codes "note: " ++ name ++ codes " is refused, and no file is copied\n"
 name_text named.Empty name = codes "note: " ++ name ++ codes " is empty, and the volume has a file of its name: --empty puts it all the same\n"
 name_text named.Refuses name = codes "note: " ++ name ++ codes " is the image that refuses\n"
 name_text named.NoSource name = codes "error: the source " ++ name ++ codes " can't be read\n"

@@ -81,6 +81,9 @@ pub enum NameNote {
     /// A file of a volume is refused, so none is taken out.
     NotDeleted,
 
+    /// A file of a volume is refused, so none is copied.
+    NotCopied,
+
     /// An empty file is not put in place of one that has words.
     Empty,
 
@@ -251,6 +254,7 @@ fn write_on_name<W: fmt::Write>(
         ),
         NameNote::NotPut => write!(f, "note: {name} is refused, and no file is put\n"),
         NameNote::NotDeleted => write!(f, "note: {name} is refused, and no file is taken out\n"),
+        NameNote::NotCopied => write!(f, "note: {name} is refused, and no file is copied\n"),
         NameNote::Empty => write!(
             f,
             "note: {name} is empty, and the volume has a file of its name: --empty puts it all the same\n"

@@ -87,6 +87,7 @@ program_text (line.NoStart cell) = codes "? SOURCE 2 NO WORD AT " ++ octal5 cell
 program_text (line.Names number why) = names_text number why
 program_text (line.Renamed old new) = codes "RENAMED " ++ name_text old ++ codes " " ++ name_text new
 program_text line.Exists = codes "? RENAME 1 FILE EXISTS"
+program_text line.CopyExists = codes "? COPY 1 FILE EXISTS"
 program_text (line.Squeezed moved) = codes "SQUEEZED " ++ decimal moved
 program_text (line.Got name blocks) = codes "GOT " ++ name_text name ++ codes " " ++ decimal blocks
 program_text line.HostExists = codes "? HOST EXISTS"

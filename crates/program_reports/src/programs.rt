@@ -46,6 +46,9 @@ pub enum ProgramLine {
     /// A file has the name that another is to get.
     Exists,
 
+    /// A file has the name of one that is to be copied.
+    CopyExists,
+
     /// So many files were moved together.
     Squeezed(usize),
 
@@ -142,6 +145,7 @@ fn put_line(text: &mut TextLine, line: ProgramLine)
             put_name(text, new);
         }
         ProgramLine::Exists => put(text, b"? RENAME 1 FILE EXISTS"),
+        ProgramLine::CopyExists => put(text, b"? COPY 1 FILE EXISTS"),
         ProgramLine::Squeezed(moved) => {
             put(text, b"SQUEEZED ");
             put_number(text, moved as u64);

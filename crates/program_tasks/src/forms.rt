@@ -143,6 +143,21 @@ pub struct DeleteForm {
     pub places: Vec<usize>,
 }
 
+/// Which files are listed, by their names.
+#[derive(Drop)]
+pub struct ListForm {
+    pub image: ImageForm,
+
+    /// Their names on the volume, or patterns, at least one.
+    pub names: Vec<String>,
+
+    /// Whether they are listed in the order of the directory, with where they lie, their information words and their dates.
+    pub is_long: bool,
+
+    /// The last of the eight years that dates mean, 1977 to 9999, if it is given.
+    pub year: Option<usize>,
+}
+
 /// Which file is copied, and where to.
 #[derive(Drop)]
 pub struct CopyForm {
@@ -154,6 +169,21 @@ pub struct CopyForm {
 
     /// Its name there, if it is another.
     pub new: Option<String>,
+}
+
+/// Which files are copied at once, and where to.
+#[derive(Drop)]
+pub struct CopyManyForm {
+    pub image: ImageForm,
+
+    /// Their names on the volume, or patterns, at least one.
+    pub names: Vec<String>,
+
+    /// The volume that gets them.
+    pub to: ImageForm,
+
+    /// Whether older files of their names there may go.
+    pub is_forced: bool,
 }
 
 /// Which volumes are reported.

@@ -1,8 +1,8 @@
 //! The tasks, and the forms of those that run scripts, sources and tapes.
 use crate::archives::{BlockSpan, IndexForm, PatchForm, RescueForm, ScanForm};
 use crate::forms::{
-    BlocksForm, CheckForm, CopyForm, CreateForm, DeleteForm, FileForm, GetManyForm, ImageForm,
-    PutManyForm, PutOneForm, TapeForm,
+    BlocksForm, CheckForm, CopyForm, CopyManyForm, CreateForm, DeleteForm, FileForm, GetManyForm,
+    ImageForm, ListForm, PutManyForm, PutOneForm, TapeForm,
 };
 use char_pack::GetForm;
 use word12::{Cell, Word};
@@ -144,6 +144,9 @@ pub enum Task {
     /// years up to this last one, 1977 to 9999, if it is given.
     ListLong(ImageForm, Option<usize>),
 
+    /// List those files of a volume whose names fit.
+    ListSome(ListForm),
+
     /// Write what the file has, on this volume.
     Get(ImageForm, FileForm, GetForm),
 
@@ -170,6 +173,9 @@ pub enum Task {
 
     /// Copy a file from volume to volume.
     Copy(CopyForm),
+
+    /// Copy files to another volume, all or none.
+    CopyMany(CopyManyForm),
 
     /// Move the files together on this volume.
     Squeeze(ImageForm),

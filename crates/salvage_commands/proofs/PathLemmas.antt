@@ -86,6 +86,7 @@ looks-stays path name shown old (Err (Line (line.NoStart n))) new p = absurd p
 looks-stays path name shown old (Err (Line (line.Names n why))) new p = absurd p
 looks-stays path name shown old (Err (Line (line.Renamed one other))) new p = absurd p
 looks-stays path name shown old (Err (Line line.Exists)) new p = absurd p
+looks-stays path name shown old (Err (Line line.CopyExists)) new p = absurd p
 looks-stays path name shown old (Err (Line (line.Squeezed n))) new p = absurd p
 looks-stays path name shown old (Err (Line (line.Got got n))) new p = absurd p
 looks-stays path name shown old (Err (Line line.HostExists)) new p = absurd p

@@ -70,6 +70,7 @@ looks-keeps name shown old (Err (Line (line.NoStart n))) new p path = absurd p
 looks-keeps name shown old (Err (Line (line.Names n why))) new p path = absurd p
 looks-keeps name shown old (Err (Line (line.Renamed one other))) new p path = absurd p
 looks-keeps name shown old (Err (Line line.Exists)) new p path = absurd p
+looks-keeps name shown old (Err (Line line.CopyExists)) new p path = absurd p
 looks-keeps name shown old (Err (Line (line.Squeezed n))) new p path = absurd p
 looks-keeps name shown old (Err (Line (line.Got got n))) new p path = absurd p
 looks-keeps name shown old (Err (Line line.HostExists)) new p path = absurd p

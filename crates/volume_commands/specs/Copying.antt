@@ -77,6 +77,10 @@ RefusesIf false name fault size old ending new = (ok : Bool) × Refuses fault si
 abbrev pub RefusesOne : List ℕ → ArchiveFault → ℕ → List Event → Ending → List Event → Type 0
 RefusesOne name fault size old ending new = RefusesIf (is_want_of fault) name fault size old ending new
 
+-- where memory is wanted for the note, that
+abbrev pub IsOneRefused : List ℕ → ArchiveFault → ℕ → List Event → Ending → List Event → Type 0
+IsOneRefused name fault size old ending new = RefusesOne name fault size old ending new ⊎ ((ending ≡ Fault Memory) × (new ≡ old))
+
 -- why no file is copied, from an image of so many bytes to one of so many
 abbrev pub RefusesCopy : CopyForm → CopyFault → ℕ → ℕ → List Event → Ending → List Event → Type 0
 RefusesCopy form (From fault) from to old ending new = RefusesOne form.image.file.bytes.items fault from old ending new

@@ -2,8 +2,8 @@
 ghost use Rattle.std.specs.Prelude.{◌≡◌, false, option_copied};
 ghost use Rattle.archive_files.specs.Asking.{target_of};
 ghost use Rattle.volume_commands.specs.Copying as spec;
-ghost use Rattle.volume_commands.specs.Copying.{Copies, CopiesFrom, CopiesInto, MakesCopy};
-ghost use Rattle.volume_commands.specs.CopySteps.{IsNotCopied, IsOneRefused};
+ghost use Rattle.volume_commands.specs.Copying.{Copies, CopiesFrom, CopiesInto, IsOneRefused, MakesCopy};
+ghost use Rattle.volume_commands.specs.CopySteps.{IsNotCopied};
 
 use crate::asking::copy_of_asked;
 use crate::images::Image;
@@ -110,8 +110,8 @@ fn refuse_copy<H: Host>(
     }
 }
 
-/// How the command ends if the image in this file, or a file of it, is refused.
-fn refuse_one<H: Host>(
+/// How the command ends if the image in this file, or a file of it, is refused. Which it is, is printed.
+pub fn refuse_one<H: Host>(
     host: &mut H,
     alloc: Global,
     name: &str,
@@ -149,7 +149,7 @@ fn is_want(why: SessionFault) -> bool
 }
 
 /// Whether two images are one: their files have one name, and they lie in the same place.
-fn is_one_image(one: &ImageForm, other: &ImageForm) -> bool
+pub fn is_one_image(one: &ImageForm, other: &ImageForm) -> bool
     ensures { result ≡ spec.is_one_image one.now other.now }
 {
     one.file == other.file && is_one_layout(one.layout, other.layout)

@@ -25,7 +25,7 @@ mod showing_parts;
 pub use asking::file_asked;
 pub use changes::{rename_file, squeeze_files};
 pub use choosing::open_volume;
-pub use copying::copy_file;
+pub use copying::{copy_file, is_one_image, refuse_one};
 pub use creating::{create_image, create_tape};
 pub use deleting::delete_files;
 pub use ending::{Rooms, end, tell_line};

@@ -20,6 +20,7 @@ returns c = record {
   delete = λ image file text. all_taken _ _ refl;
   rename = λ image file new. all_taken _ _ refl;
   copy = λ image file to new. all_taken _ _ refl;
+  copy_more = λ image one other third fourth to. all_taken _ _ refl;
   squeeze = λ image text. all_taken _ _ refl;
   assemble = λ file other text. all_taken _ _ refl;
   teletype = λ tape text. all_taken _ _ refl;

@@ -3,11 +3,11 @@ use Rattle.command_table.specs.declared.refusals.What.TheVariants as what
 use Rattle.command_table.specs.declared.table.Verb.TheVariants as verb
 use Rattle.command_table.specs.Steps.{Has, has_text, kind_at, takes_text, values_in}
 use Rattle.command_table.specs.Tables.{rows_for}
-use Rattle.command_table.proofs.RefusalLemmas.{after_takes, moved_after, moved_named}
-use Rattle.command_table.proofs.files.copy.Goals as goal
+use Rattle.command_table.proofs.RefusalLemmas.{after_takes, copied_alone, moved_after, moved_named}
+use Rattle.command_table.proofs.files.copy_one.Goals as goal
 
 pub file_of-requires-clause-given : goal.file_of-requires-clause-given
-file_of-requires-clause-given c = λ free. moved_named (codes "TO") what.To what.NameAndTo (values_in c.args.found.now) c.requires.2
+file_of-requires-clause-given c = λ free. moved_named (codes "TO") what.To what.NameAndTo (values_in c.args.found.now) (copied_alone (values_in c.args.found.now) c.requires.needs.2 c.requires.one)
 
 pub value_of-requires-clause-kind : goal.value_of-requires-clause-kind
 value_of-requires-clause-kind c =
@@ -17,7 +17,7 @@ value_of-requires-clause-kind c =
 pub value_of-requires-clause-given : goal.value_of-requires-clause-given
 value_of-requires-clause-given c =
     let rows = values_in c.args.found.now in
-    subst (λ (id : Text). Has id rows) (sym c.after.ensures) (moved_after (codes "TO") what.To what.NameAndTo rows c.requires.2)
+    subst (λ (id : Text). Has id rows) (sym c.after.ensures) (moved_after (codes "TO") what.To what.NameAndTo rows (copied_alone rows c.requires.needs.2 c.requires.one))
 
 pub name_if_given-requires : goal.name_if_given-requires
 name_if_given-requires c =

@@ -1,0 +1,76 @@
+-- The command that copies those files of the volume in an image file that words choose to the volume in another, all or none.
+use Rattle.std.specs.Prelude.{◌≡◌, ◌⊎◌, ℕ, Bool, true, false, None, Some, Result, Ok, Err, List, [], ◌∷◌, ◌++◌, length, map}
+use Rattle.std.specs.Global.{Vec}
+use Rattle.hosts.specs.Event.{Event}
+use Rattle.script8.specs.Replies.{line_of, line_reply_text}
+use Rattle.script8.specs.declared.faults.SessionFault.TheVariants.{Memory}
+use Rattle.script8.specs.declared.replies.LineReply.TheVariants.{Stored}
+use Rattle.archive_files.specs.declared.faults.ArchiveFault.{ArchiveFault}
+use Rattle.archive_many.specs.Copying.{CopiesAll}
+use Rattle.archive_many.specs.Opened.{OpensVolume}
+use Rattle.archive_many.specs.Wishing.{first_unfound, found_files}
+use Rattle.archive_many.specs.declared.faults.CopyAllFault.{CopyAllFault}
+use Rattle.archive_many.specs.declared.opened.VolumeFile.{VolumeFile}
+use Rattle.archive_many.specs.declared.wishes.Wish.{Wish}
+use Rattle.outcome.specs.declared.endings.Ending.{Ending}
+use Rattle.outcome.specs.declared.endings.Ending.TheVariants.{Fault}
+use Rattle.program_tasks.specs.declared.forms.CopyManyForm.{CopyManyForm}
+use Rattle.volume_commands.specs.Work.{Then, Purely}
+use Rattle.volume_commands.specs.Reading.{Opens, LooksAt}
+use Rattle.volume_commands.specs.Answers.{AreLines}
+use Rattle.volume_commands.specs.Copying.{IsOneRefused, is_one_image}
+use Rattle.volume_commands.specs.Saving.{Stores}
+use Rattle.volume_commands.specs.declared.images.Image.{Image}
+use Rattle.choice_commands.specs.Refusing.{RefusesCopies, RefusesWish}
+use Rattle.choice_commands.specs.Wishing.{AreWished}
+
+abbrev pub words_in : CopyManyForm → List (List ℕ)
+words_in form = map (λ word. word.bytes.items) form.names.items
+
+-- ## The files
+
+-- the volume in the image that has them, which must be sound; else that image is printed as the one that refuses
+abbrev pub OpensFrom : CopyManyForm → List ℕ → List Event → Result (List (List ℕ)) Ending → List Event → Type 0
+OpensFrom form from old (Ok blocks) new = OpensVolume from (Ok blocks) × (new ≡ old)
+OpensFrom form from old (Err ending) new = (fault : ArchiveFault) × OpensVolume from (Err fault) × IsOneRefused form.image.file.bytes.items fault (length from) old ending new
+
+-- the files that are asked for, where each word asks for one; else the first word that asks for none is refused, unless memory is wanted
+abbrev pub FindsAll : List (List ℕ) → List Wish → List Event → Result (Vec VolumeFile) Ending → List Event → Type 0
+FindsAll words wishes old (Ok files) new = (first_unfound wishes ≡ None) × (files.items ≡ found_files wishes) × (new ≡ old)
+FindsAll words wishes old (Err ending) new = ((one : Wish) × (first_unfound wishes ≡ Some one) × RefusesWish words one old ending new) ⊎ ((ending ≡ Fault Memory) × (new ≡ old))
+
+-- those that the words choose, each once
+abbrev pub FindsFiles : CopyManyForm → List ℕ → List Event → Result (Vec VolumeFile) Ending → List Event → Type 0
+FindsFiles form from = Then (OpensFrom form from) (λ blocks. Then (Purely (AreWished (words_in form) blocks)) (λ wishes. FindsAll (words_in form) wishes.items))
+
+-- ## The image with them
+
+-- all of them are put into an image, or none, and it is printed what is refused
+abbrev pub PutsFiles : CopyManyForm → List ℕ → List VolumeFile → List ℕ → List Event → Result (Vec ℕ) Ending → List Event → Type 0
+PutsFiles form from files to old (Ok new_image) new = CopiesAll from to files form.is_forced (Ok new_image) × (new ≡ old)
+PutsFiles form from files to old (Err ending) new = (fault : CopyAllFault) × CopiesAll from to files form.is_forced (Err fault) × RefusesCopies form fault (length from) (length to) old ending new
+
+-- the line of each
+abbrev pub stored_lines : List VolumeFile → List ℕ
+stored_lines [] = []
+stored_lines (file ∷ files) = line_of (line_reply_text (Stored file.name file.blocks)) ++ stored_lines files
+
+-- an image is saved, and only then the lines of the files are printed
+abbrev pub StoresCopies : Image → List ℕ → List VolumeFile → List Event → Result (Unit {0}) Ending → List Event → Type 0
+StoresCopies image new files = Then (Purely (AreLines (stored_lines files))) (λ lines. Stores image new lines.items)
+
+-- ## The command
+
+-- the files of an image are put on the volume in the one that is held, and that is saved
+abbrev pub CopiesInto : CopyManyForm → Image → List ℕ → List Event → Result (Unit {0}) Ending → List Event → Type 0
+CopiesInto form image from = Then (FindsFiles form from) (λ files. Then (PutsFiles form from files.items image.bytes.items) (λ made. StoresCopies image made.items files.items))
+
+-- where both images are one, it is not read again; else the other one is only looked at
+abbrev pub CopiesFrom : Bool → CopyManyForm → Image → List Event → Result (Unit {0}) Ending → List Event → Type 0
+CopiesFrom true form image = CopiesInto form image image.bytes.items
+CopiesFrom false form image = Then (LooksAt form.image) (λ from. CopiesInto form image from.items)
+
+-- The image file that gets the files is held and read, and then the other one is read. The image with all files is saved once, and only then the
+-- lines of the files are printed.
+abbrev pub CopiesMany : CopyManyForm → List Event → Result (Unit {0}) Ending → List Event → Type 0
+CopiesMany form = Then (Opens form.to) (λ image. CopiesFrom (is_one_image form.image form.to) form image)

@@ -1,0 +1,5 @@
+pub mod Wishing
+pub mod Listing
+pub mod Refusing
+pub mod RefusalSteps
+pub mod Copying
