@@ -1,0 +1,5 @@
+pub mod TextLemmas
+pub mod ByteLemmas
+pub mod PauseLemmas
+pub mod PassLemmas
+pub mod JoinLemmas
