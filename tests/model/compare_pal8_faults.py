@@ -58,7 +58,7 @@ def several_texts(seed: int) -> list[bytes]:
     if random.random() < 0.3:
         return ["".join(random.choices(PAUSE_PIECES, k=random.randint(0, 12))).encode("latin1") for _ in range(random.randint(2, 5))] + [nearly_bytes(seed)]
     maker = Faulty(seed) if random.random() < 0.6 else Maker(seed)
-    lines = maker.source().decode("latin1").split("\n")
+    lines = maker.source().decode("latin1").replace("\r", "").split("\n")
     cuts = sorted(random.choices(range(len(lines) + 1), k=random.choice((1, 1, 2, 3, 7))))
     texts = []
     for start, end in zip([0, *cuts], [*cuts, len(lines)]):
@@ -68,9 +68,9 @@ def several_texts(seed: int) -> list[bytes]:
             text += random.choice(([], [], ["8", "#", "$"], ["A, >"], lines[:2]))
         if random.random() < 0.1:
             text.insert(random.randint(0, len(text)), random.choice(PAUSES))
-        texts.append(("\n".join(text) + random.choice(("", "\n", "\n", "\n", "\r\n", "\n\f"))).encode("latin1"))
+        texts.append(("\n".join(text) + random.choice(("", "\n", "\n", "\n", "\n\f"))).encode("latin1"))
     texts[-1] = "\n".join([*lines[cuts[-1] :], *([random.choice(PAUSES)] if random.random() < 0.05 else [])]).encode("latin1")
-    return texts
+    return [text.replace(b"\n", b"\r\n") for text in texts] if random.random() < 0.1 else texts
 
 
 def printed(program: str, texts: list[bytes]) -> tuple[list[str], str]:

@@ -76,10 +76,10 @@ pub(crate) fn at_token(
     at: Place,
 ) -> Result<Fault, SourceFault>
     ensures fault { IfOk result (λ fault. fault ≡ record {
-        code = code;
-        line = at.line;
-        place = places.place_by sources.now (place_in join.now.counts.items (marks.fault_mark join.now.text.items code at.start));
-        byte = get_or join.now.text.items (marks.fault_mark join.now.text.items code at.start) 0
+      code = code;
+      line = at.line;
+      place = places.place_by sources.now (place_in join.now.counts.items (marks.fault_mark join.now.text.items code at.start));
+      byte = get_or join.now.text.items (marks.fault_mark join.now.text.items code at.start) 0;
     }) }
     ensures memory { IfErr result (λ fault. fault ≡ Memory) }
 {
