@@ -20,7 +20,7 @@ from tests.model.pal8 import answer, headlines
 SHOWN = 3
 MOST = 20
 BAD = ("#", "8", "5,", "#,", "A 10000", "(5]", "TAD (XX", "TAD YY+1", "1%0", "TAD I 1234", "TAD (1%0", "TAD (7)+ZZ", "CLA(5", "B=8", "B=QQ", "DECIMAL;9", "5 <")
-PAUSES = ("PAUSE", "PAUSE", " pause /on", "PAUSE;8;#", "PAUSE$8", "IFZERO 0 <PAUSE>", "IFZERO 0 <;PAUSE;>8", "IFNZRO 0 <PAUSE>", "IFDEF A <PAUSE", "PAUSE>", "PAUSE<", "Q1, PAUSE")
+PAUSES: tuple[str, ...] = ("PAUSE", "PAUSE", " pause /on", "PAUSE;8;#", "PAUSE$8", "IFZERO 0 <PAUSE>", "IFZERO 0 <;PAUSE;>8", "IFNZRO 0 <PAUSE>", "IFDEF A <PAUSE", "PAUSE>", "PAUSE<", "Q1, PAUSE")
 PAUSES += ("PAUSE 1", "TEXT /PAUSE", "/PAUSE", "\fPAUSE\0;", ";;PAUSE", "PAUSEX", "TEXT PAUSEP", "XLIST PAUSE")
 PAUSE_PIECES = (*PIECES, *"PAUSE PAUSE\n PAUSE> PAUSE; PAUSE$".split(" "), "\nPAUSE\n", "<PAUSE>", "PAUSE\f")
 FULL = "".join(f"TAD [{k:o};*200\n" for k in range(0o176))
@@ -65,7 +65,7 @@ def several_texts(seed: int) -> list[bytes]:
         text = lines[start:end]
         if random.random() < 0.8:
             text.append(random.choice(PAUSES))
-            text += random.choice(([], [], ["8", "#", "$"], ["A, >"], lines[:2]))
+            text += random.choice((list[str](), list[str](), ["8", "#", "$"], ["A, >"], lines[:2]))
         if random.random() < 0.1:
             text.insert(random.randint(0, len(text)), random.choice(PAUSES))
         texts.append(("\n".join(text) + random.choice(("", "\n", "\n", "\n", "\n\f"))).encode("latin1"))

@@ -14,7 +14,7 @@ use Rattle.pal8_asm.specs.Sources as asm
 use Rattle.pal8_asm.specs.Sources.{PassResult, Source, Statement, statement_at, statements, with_next}
 use Rattle.pal8_join.specs.declared.faults.JoinFault.{JoinFault}
 use Rattle.pal8_join.specs.Joins.{empty_statement, ends_statement, is_pause, is_read, pass_on, pauses, tokens_after}
-use Rattle.pal8_join.specs.Passing.{Follows, Meets, MeetsByte, MeetsStatement, Passed}
+use Rattle.pal8_join.specs.Passing.{Follows, Meets, MeetsByte, MeetsStatement, PassState}
 
 self_longer : {A : Type 0} (x : A) (l : List A) → l ≡ x ∷ l → ⊥
 self_longer x l is =
@@ -77,7 +77,7 @@ some_same a b is = cc
 abbrev pub shown : lex.Progress → End → ℕ → Statement
 shown l e at = record { line = l.line; at = at; tokens = l.draft.tokens; string = l.draft.string; is_cut = is_string l.draft.state; end = e }
 
-module _ (left : PassResult) (here : List ℕ) (b : ℕ) (new : lex.Progress) (pass : Passed) where
+module _ (left : PassResult) (here : List ℕ) (b : ℕ) (new : lex.Progress) (pass : PassState) where
   abbrev before : PassResult
   before = pass_on left (statements here)
 
@@ -109,7 +109,7 @@ module _ (left : PassResult) (here : List ℕ) (b : ℕ) (new : lex.Progress) (p
     ends_statement_there (Err fault) met = tt
 
 -- a statement that is passed as it is shown
-pub shown_meets : (left : PassResult) (pass : Passed) (l : lex.Progress) (e : End) (line at : ℕ) (tokens : List Token) (string : List ℕ) (cut paused wanted : Bool)
+pub shown_meets : (left : PassResult) (pass : PassState) (l : lex.Progress) (e : End) (line at : ℕ) (tokens : List Token) (string : List ℕ) (cut paused wanted : Bool)
     → tokens ≡ l.draft.tokens → string ≡ l.draft.string → cut ≡ is_string l.draft.state → paused ≡ wanted
     → Meets left record { line = line; at = at; tokens = tokens; string = string; is_cut = cut; end = e } paused pass
     → Meets left record { line = line; at = at; tokens = l.draft.tokens; string = l.draft.string; is_cut = is_string l.draft.state; end = e } wanted pass

@@ -8,13 +8,13 @@ use Rattle.pal8_lex.specs.Text.{live}
 use Rattle.pal8_lex.specs.declared.rules.End.{End}
 use Rattle.pal8_lex.specs.declared.rules.End.TheVariants as end
 use Rattle.pal8_asm.specs.Sources.{PassResult, first_left}
-use Rattle.pal8_join.specs.Joins.{bytes_in, closing_bytes, counts_from, counts_of, is_line_open, join_from, join_of, joined, left_after, part, texts_of}
-use Rattle.pal8_join.specs.Passing.{Finds, Follows, Passed, Puts, part_bytes, part_with}
+use Rattle.pal8_join.specs.Joins.{bytes_in, closing_bytes, counts_from, counts_of, is_line_open, join_from, join_of, joined_bytes, remainder_after, part, texts_of}
+use Rattle.pal8_join.specs.Passing.{Finds, Follows, PassState, Puts, part_bytes, part_with}
 use Rattle.pal8_join.specs.declared.pauses.Pause.{Pause}
 use Rattle.pal8_join.proofs.TextLemmas.{text_again, text_joined, text_length}
 
 -- These sources are still to be joined, and so much stands in the join.
-pub record IsJoining (sources rest : List (Bor (List ℕ))) (join counts : List ℕ) (pass : Passed) : Type 0 where
+pub record IsJoining (sources rest : List (Bor (List ℕ))) (join counts : List ℕ) (pass : PassState) : Type 0 where
   pub left : PassResult
   pub follows : (length rest ≡ 0 → ⊥) → Follows pass left
   pub text : join_of (bytes_in sources) ≡ join_from left (texts_of (bytes_in rest)) ++ text_of join
@@ -40,7 +40,7 @@ part_text bytes (Some pause) =
     ∙ ap (λ l. 0o12 ∷ l) (text_joined (take pause.count bytes) (closing_bytes pause.end) ∙ ap (λ l. l ++ text_of (take pause.count bytes)) (closing_text pause.end))
 
 -- a part was put after a join
-pub part_put : (left : PassResult) (bytes old new counts counts_then : List ℕ) (found : Option Pause) (pass : Passed) (count : ℕ) → Finds left bytes found pass
+pub part_put : (left : PassResult) (bytes old new counts counts_then : List ℕ) (found : Option Pause) (pass : PassState) (count : ℕ) → Finds left bytes found pass
     → new ≡ old ++ part_bytes bytes found → count ≡ length new - length old → counts_then ≡ counts ++ count ∷ [] → Puts false left bytes old new counts counts_then pass
 part_put left bytes old new counts counts_then found pass count finds put counted added =
     let is : part left (text_of bytes) ≡ text_of (part_bytes bytes found) = finds.0 ∙ sym (part_text bytes found) in
@@ -65,7 +65,7 @@ first_of_rest (x ∷ others) none long = ap (λ l. x ∷ l) (sym (ap (λ n. take
 some_more : (next : Bor (List ℕ)) (later : List (Bor (List ℕ))) → nat_eq (length (next ∷ later)) 0 ≡ false
 some_more next later = grind (arith, nat_tests)
 
-module _ (sources : List (Bor (List ℕ))) (source : Bor (List ℕ)) (join join' counts counts' : List ℕ) (pass pass' : Passed) (last : Bool) where
+module _ (sources : List (Bor (List ℕ))) (source : Bor (List ℕ)) (join join' counts counts' : List ℕ) (pass pass' : PassState) (last : Bool) where
   put_on : (others : List (Bor (List ℕ))) → IsJoining sources (source ∷ others) join counts pass → last ≡ nat_eq (length others) 0
       → ((left : PassResult) → Follows pass left → Puts last left source.now join join' counts counts' pass') → IsJoining sources others join' counts' pass'
   put_on [] stands is puts =
@@ -81,15 +81,15 @@ module _ (sources : List (Bor (List ℕ))) (source : Bor (List ℕ)) (join join'
       let text = text_of source.now in
       let others = texts_of (bytes_in (next ∷ later)) in
       record {
-        left = left_after stands.left text;
+        left = remainder_after stands.left text;
         follows = λ none. put.2;
-        text = stands.text ∙ append_assoc (join_from (left_after stands.left text) others) (part stands.left text) (text_of join)
-            ∙ ap (λ l. join_from (left_after stands.left text) others ++ l) (sym put.0);
-        counts_are = stands.counts_are ∙ sym (append_assoc counts (length (part stands.left text) ∷ []) (counts_from (left_after stands.left text) others))
-            ∙ ap (λ l. l ++ counts_from (left_after stands.left text) others) (sym put.1);
+        text = stands.text ∙ append_assoc (join_from (remainder_after stands.left text) others) (part stands.left text) (text_of join)
+            ∙ ap (λ l. join_from (remainder_after stands.left text) others ++ l) (sym put.0);
+        counts_are = stands.counts_are ∙ sym (append_assoc counts (length (part stands.left text) ∷ []) (counts_from (remainder_after stands.left text) others))
+            ∙ ap (λ l. l ++ counts_from (remainder_after stands.left text) others) (sym put.1);
       }
 
-pub joins_on : (sources rest : List (Bor (List ℕ))) (none : Bor (List ℕ)) (join join' counts counts' : List ℕ) (pass pass' : Passed) (last : Bool) → 1 ≤ length rest
+pub joins_on : (sources rest : List (Bor (List ℕ))) (none : Bor (List ℕ)) (join join' counts counts' : List ℕ) (pass pass' : PassState) (last : Bool) → 1 ≤ length rest
     → IsJoining sources rest join counts pass → last ≡ nat_eq (length (following_one rest)) 0
     → ((left : PassResult) → Follows pass left → Puts last left (get_or rest 0 none).now join join' counts counts' pass') → IsJoining sources (following_one rest) join' counts' pass'
 joins_on sources rest none join join' counts counts' pass pass' last long stands is puts =
@@ -97,15 +97,15 @@ joins_on sources rest none join join' counts counts' pass pass' last long stands
     (subst (λ l. IsJoining sources l join counts pass) (first_of_rest rest none long) stands) is puts
 
 -- nothing is joined yet
-pub begins : (sources : List (Bor (List ℕ))) (pass : Passed) → Follows pass (Ok first_left) → IsJoining sources sources [] [] pass
+pub begins : (sources : List (Bor (List ℕ))) (pass : PassState) → Follows pass (Ok first_left) → IsJoining sources sources [] [] pass
 begins sources pass follows = record { left = Ok first_left; follows = λ none. follows; text = sym (append-nil (join_of (bytes_in sources))); counts_are = refl }
 
 none_left : (rest : List (Bor (List ℕ))) → length rest ≡ 0 → rest ≡ []
 none_left [] none = refl
 none_left (source ∷ rest) none = absurd (omega (arith, none))
 
-module _ (sources rest : List (Bor (List ℕ))) (join counts : List ℕ) (pass : Passed) (none : length rest ≡ 0) (stands : IsJoining sources rest join counts pass) where
-  pub joined_text : join ≡ joined (bytes_in sources)
+module _ (sources rest : List (Bor (List ℕ))) (join counts : List ℕ) (pass : PassState) (none : length rest ≡ 0) (stands : IsJoining sources rest join counts pass) where
+  pub joined_text : join ≡ joined_bytes (bytes_in sources)
   joined_text =
       let is : join_of (bytes_in sources) ≡ text_of join = stands.text ∙ ap (λ l. join_from stands.left (texts_of (bytes_in l)) ++ text_of join) (none_left rest none) in
       sym (ap text_of is ∙ text_again join)

@@ -14,11 +14,11 @@ use Rattle.pal8_asm.specs.declared.faults.Stop.TheVariants.{At}
 use Rattle.pal8_asm.specs.declared.faults.Fault.{Fault}
 use Rattle.pal8_asm.specs.declared.names.KnownNames.{KnownNames}
 use Rattle.pal8_asm.specs.declared.places.Position.{Position}
-use Rattle.pal8_join.specs.Passing.{Follows, FollowsBy, Leaves, Passed, is_dollar, is_settled, left_at}
+use Rattle.pal8_join.specs.Passing.{Follows, FollowsBy, Leaves, PassState, is_dollar, is_settled, remainder_at}
 
 module _ (s : Statement) (names : KnownNames) (position : Position) (entries : List Entry) (brackets : List Bool) where
   abbrev left : Remainder
-  left = left_at names position entries brackets None
+  left = remainder_at names position entries brackets None
 
   module _ (phrase : Phrase) (said : phrase_of (standing names position) s.tokens s.is_cut s.end ≡ Ok phrase) (names' : KnownNames) (next : Position)
       (passed : with_statement s.tokens phrase.0 phrase.1 (length s.string) (standing names position) ≡ Ok (standing names' next)) (holds : Bool)
@@ -53,12 +53,12 @@ settled_stays s (Err fault) settled = refl
 settled_stays s (Ok left) settled =
     ap (λ t. is_settled (if t then Ok left else (if is_selected left.brackets then with_selected s left else Ok (with_skipped s left)))) settled ∙ settled
 
-module _ (s : Statement) (p : Passed) (left : PassResult) where
+module _ (s : Statement) (p : PassState) (left : PassResult) where
   pub over_stays : p.is_over ≡ true → Follows p left → Follows p (with_next s left)
   over_stays over follows =
       subst (λ o. FollowsBy o p (with_next s left)) (sym over) (settled_stays s left (subst (λ o. FollowsBy o p left) over follows))
 
-  pub going : p.is_over ≡ false → Follows p left → (entries : List Entry) × (left ≡ Ok (left_at p.names p.position entries p.brackets None))
+  pub going : p.is_over ≡ false → Follows p left → (entries : List Entry) × (left ≡ Ok (remainder_at p.names p.position entries p.brackets None))
   going over follows = subst (λ o. FollowsBy o p left) over follows
 
   -- a statement that isn't selected
@@ -67,34 +67,34 @@ module _ (s : Statement) (p : Passed) (left : PassResult) where
   skipped new over out is follows =
       let it = going over follows in (
         it.0,
-        ap (with_next s) it.1 ∙ ap (λ t. if t then with_selected s (left_at p.names p.position it.0 p.brackets None) else Ok (with_skipped s (left_at p.names p.position it.0 p.brackets None))) out
-            ∙ ap (λ b. Ok (left_at p.names p.position it.0 b None)) (sym is),
+        ap (with_next s) it.1 ∙ ap (λ t. if t then with_selected s (remainder_at p.names p.position it.0 p.brackets None) else Ok (with_skipped s (remainder_at p.names p.position it.0 p.brackets None))) out
+            ∙ ap (λ b. Ok (remainder_at p.names p.position it.0 b None)) (sym is),
       )
 
   module _ (over : p.is_over ≡ false) (in_it : is_selected p.brackets ≡ true) (follows : Follows p left) where
-    next_is : with_next s left ≡ with_selected s (left_at p.names p.position (going over follows).0 p.brackets None)
+    next_is : with_next s left ≡ with_selected s (remainder_at p.names p.position (going over follows).0 p.brackets None)
     next_is =
         let it = going over follows in
-        ap (with_next s) it.1 ∙ ap (λ t. if t then with_selected s (left_at p.names p.position it.0 p.brackets None) else Ok (with_skipped s (left_at p.names p.position it.0 p.brackets None))) in_it
+        ap (with_next s) it.1 ∙ ap (λ t. if t then with_selected s (remainder_at p.names p.position it.0 p.brackets None) else Ok (with_skipped s (remainder_at p.names p.position it.0 p.brackets None))) in_it
 
     -- one that is selected, with a fault
-    pub fails : is_settled (with_selected s (left_at p.names p.position (going over follows).0 p.brackets None)) ≡ true → is_settled (with_next s left) ≡ true
+    pub fails : is_settled (with_selected s (remainder_at p.names p.position (going over follows).0 p.brackets None)) ≡ true → is_settled (with_next s left) ≡ true
     fails settled = ap is_settled next_is ∙ settled
 
-    ends_by : (e : End) (new : Passed) → s.end ≡ e → new.is_over ≡ is_dollar e
-        → Leaves (with_selected s (left_at p.names p.position (going over follows).0 p.brackets None)) s (Ok new.position) new.names new.brackets → Follows new (with_next s left)
+    ends_by : (e : End) (new : PassState) → s.end ≡ e → new.is_over ≡ is_dollar e
+        → Leaves (with_selected s (remainder_at p.names p.position (going over follows).0 p.brackets None)) s (Ok new.position) new.names new.brackets → Follows new (with_next s left)
     ends_by end.Dollar new is done leaves =
         subst (λ o. FollowsBy o new (with_next s left)) (sym done) (ap is_settled (next_is ∙ leaves.1) ∙ ap (λ e. is_some (asm.dollar_at e record { line = s.line; start = s.at })) is)
     ends_by end.Semicolon new is done leaves = subst (λ o. FollowsBy o new (with_next s left)) (sym done)
-        (leaves.0, next_is ∙ leaves.1 ∙ ap (λ e. Ok (left_at new.names new.position leaves.0 new.brackets (asm.dollar_at e record { line = s.line; start = s.at }))) is)
+        (leaves.0, next_is ∙ leaves.1 ∙ ap (λ e. Ok (remainder_at new.names new.position leaves.0 new.brackets (asm.dollar_at e record { line = s.line; start = s.at }))) is)
     ends_by end.Line new is done leaves = subst (λ o. FollowsBy o new (with_next s left)) (sym done)
-        (leaves.0, next_is ∙ leaves.1 ∙ ap (λ e. Ok (left_at new.names new.position leaves.0 new.brackets (asm.dollar_at e record { line = s.line; start = s.at }))) is)
+        (leaves.0, next_is ∙ leaves.1 ∙ ap (λ e. Ok (remainder_at new.names new.position leaves.0 new.brackets (asm.dollar_at e record { line = s.line; start = s.at }))) is)
     ends_by end.Open new is done leaves = subst (λ o. FollowsBy o new (with_next s left)) (sym done)
-        (leaves.0, next_is ∙ leaves.1 ∙ ap (λ e. Ok (left_at new.names new.position leaves.0 new.brackets (asm.dollar_at e record { line = s.line; start = s.at }))) is)
+        (leaves.0, next_is ∙ leaves.1 ∙ ap (λ e. Ok (remainder_at new.names new.position leaves.0 new.brackets (asm.dollar_at e record { line = s.line; start = s.at }))) is)
     ends_by end.Close new is done leaves = subst (λ o. FollowsBy o new (with_next s left)) (sym done)
-        (leaves.0, next_is ∙ leaves.1 ∙ ap (λ e. Ok (left_at new.names new.position leaves.0 new.brackets (asm.dollar_at e record { line = s.line; start = s.at }))) is)
+        (leaves.0, next_is ∙ leaves.1 ∙ ap (λ e. Ok (remainder_at new.names new.position leaves.0 new.brackets (asm.dollar_at e record { line = s.line; start = s.at }))) is)
 
     -- one that is selected
-    pub taken : (new : Passed) → new.is_over ≡ is_dollar s.end
-        → Leaves (with_selected s (left_at p.names p.position (going over follows).0 p.brackets None)) s (Ok new.position) new.names new.brackets → Follows new (with_next s left)
+    pub taken : (new : PassState) → new.is_over ≡ is_dollar s.end
+        → Leaves (with_selected s (remainder_at p.names p.position (going over follows).0 p.brackets None)) s (Ok new.position) new.names new.brackets → Follows new (with_next s left)
     taken new done leaves = ends_by s.end new refl done leaves

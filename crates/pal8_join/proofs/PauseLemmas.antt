@@ -10,8 +10,8 @@ use Rattle.pal8_lex.specs.Reading.{HasRead, anew}
 use Rattle.pal8_lex.specs.declared.rules.End.{End}
 use Rattle.pal8_asm.specs.Sources.{PassResult, statements, with_next}
 use Rattle.pal8_join.specs.Laws.{OneIsItself, RestIsNotRead}
-use Rattle.pal8_join.specs.Joins.{before_tokens, closing_bytes, empty_statement, first_pause, has_none, is_line_open, left_after, left_by, part, part_by, pass_on, pauses, tokens_after, whole_lines}
-use Rattle.pal8_join.specs.Passing.{Finds, FindsAtEnd, Follows, IsPassing, MeetsByte, Passed, part_with}
+use Rattle.pal8_join.specs.Joins.{before_tokens, closing_bytes, empty_statement, first_pause, has_none, is_line_open, remainder_after, remainder_by, part, part_by, pass_on, pauses, tokens_after, whole_lines}
+use Rattle.pal8_join.specs.Passing.{Finds, FindsAtEnd, Follows, IsPassing, MeetsByte, PassState, part_with}
 use Rattle.pal8_join.specs.declared.faults.JoinFault.{JoinFault}
 use Rattle.pal8_join.specs.declared.pauses.Pause.{Pause}
 use Rattle.pal8_join.proofs.TextLemmas.{next_byte, text_again, text_more, text_whole}
@@ -55,8 +55,8 @@ module _ (left : PassResult) (text : List ℕ) (at : At) where
   part_is : first_pause left (whole_lines text) ≡ Some at → part left text ≡ 0o12 ∷ closing_bytes at.1 ++ before_tokens at.0
   part_is is = ap (part_by (whole_lines text)) is
 
-  left_is : first_pause left (whole_lines text) ≡ Some at → left_after left text ≡ with_next (empty_statement at.1) (pass_on left (statements at.0))
-  left_is is = ap (left_by left (whole_lines text)) is
+  left_is : first_pause left (whole_lines text) ≡ Some at → remainder_after left text ≡ with_next (empty_statement at.1) (pass_on left (statements at.0))
+  left_is is = ap (remainder_by left (whole_lines text)) is
 
 pub rest_not_read : RestIsNotRead
 rest_not_read left text later others at is =
@@ -75,7 +75,7 @@ read_tokens : (l : lex.Progress) (text : List ℕ) → HasRead l text → (anew 
 unfolding HasRead
 read_tokens l text read = ap (λ (p : lex.Progress). p.draft.tokens) read
 
-module _ (left : PassResult) (bytes : List ℕ) (taken count : ℕ) (b : ℕ) (old new : lex.Progress) (before after : Passed) (inside : taken < length bytes) (is : b ≡ get_or bytes taken 0)
+module _ (left : PassResult) (bytes : List ℕ) (taken count : ℕ) (b : ℕ) (old new : lex.Progress) (before after : PassState) (inside : taken < length bytes) (is : b ≡ get_or bytes taken 0)
     (stands : IsPassing left (text_of (take taken bytes)) (text_of (take count bytes)) old before) where
   abbrev here : List ℕ
   here = text_of (take taken bytes)
@@ -116,18 +116,18 @@ module _ (left : PassResult) (bytes : List ℕ) (taken count : ℕ) (b : ℕ) (o
       )
 
 -- no byte yet
-pub starts : (left : PassResult) (lexer : lex.Progress) (pass : Passed) → HasRead lexer [] → Follows pass left → IsPassing left [] [] lexer pass
+pub starts : (left : PassResult) (lexer : lex.Progress) (pass : PassState) → HasRead lexer [] → Follows pass left → IsPassing left [] [] lexer pass
 starts left lexer pass read follows = record { has_read = read; follows = follows; goes_on = refl; is_before = refl }
 
 -- ## The end of a text
 
-module _ (left : PassResult) (bytes before : List ℕ) (count : ℕ) (old new : lex.Progress) (passed after : Passed)
+module _ (left : PassResult) (bytes before : List ℕ) (count : ℕ) (old new : lex.Progress) (passed after : PassState)
     (stands : IsPassing left (text_of bytes) before old passed) where
   pub closed_end : is_line_open (live (text_of bytes)) ≡ false → FindsAtEnd left bytes before count None passed
   closed_end closed =
       let same : whole_lines (text_of bytes) ≡ text_of bytes = ap (λ t. if t then 0o12 ∷ text_of bytes else text_of bytes) closed in
       let none : first_pause left (whole_lines (text_of bytes)) ≡ None = ap (first_pause left) same ∙ stands.goes_on in
-      (none, subst (Follows passed) (sym (ap (left_by left (whole_lines (text_of bytes))) none ∙ ap (λ t. pass_on left (statements t)) same)) stands.follows)
+      (none, subst (Follows passed) (sym (ap (remainder_by left (whole_lines (text_of bytes))) none ∙ ap (λ t. pass_on left (statements t)) same)) stands.follows)
 
   module _ (is_open : is_line_open (live (text_of bytes)) ≡ true) where
     ended : whole_lines (text_of bytes) ≡ 0o12 ∷ text_of bytes
@@ -148,15 +148,15 @@ module _ (left : PassResult) (bytes before : List ℕ) (count : ℕ) (old new : 
     pub ends_there : MeetsByte left (text_of bytes) 0o12 None new after → FindsAtEnd left bytes before count None after
     ends_there met =
         let none : first_pause left (whole_lines (text_of bytes)) ≡ None = ap (first_pause left) ended ∙ no_pause_here left (text_of bytes) 0o12 stands.goes_on met.0 in
-        (none, subst (Follows after) (sym (ap (left_by left (whole_lines (text_of bytes))) none ∙ ap (λ t. pass_on left (statements t)) ended)) met.2)
+        (none, subst (Follows after) (sym (ap (remainder_by left (whole_lines (text_of bytes))) none ∙ ap (λ t. pass_on left (statements t)) ended)) met.2)
 
 -- what is found at the end is found in the text
-pub found_at_end : (left : PassResult) (bytes : List ℕ) (count : ℕ) (found : Option Pause) (pass : Passed) → FindsAtEnd left bytes (text_of (take count bytes)) count found pass → Finds left bytes found pass
+pub found_at_end : (left : PassResult) (bytes : List ℕ) (count : ℕ) (found : Option Pause) (pass : PassState) → FindsAtEnd left bytes (text_of (take count bytes)) count found pass → Finds left bytes found pass
 found_at_end left bytes count None pass finds = (ap (part_by (whole_lines (text_of bytes))) finds.0, finds.1)
 found_at_end left bytes count (Some pause) pass finds =
     (finds.0 ∙ ap (λ n. 0o12 ∷ closing_bytes pause.end ++ text_of (take n bytes)) (sym finds.1), finds.2)
 
-pub result_at_end : (left : PassResult) (bytes : List ℕ) (count : ℕ) (pass : Passed) (result : Result (Option Pause) JoinFault)
+pub result_at_end : (left : PassResult) (bytes : List ℕ) (count : ℕ) (pass : PassState) (result : Result (Option Pause) JoinFault)
     → IfOk result (λ found. FindsAtEnd left bytes (text_of (take count bytes)) count found pass) → IfOk result (λ found. Finds left bytes found pass)
 result_at_end left bytes count pass (Ok found) finds = found_at_end left bytes count found pass finds
 result_at_end left bytes count pass (Err fault) finds = tt

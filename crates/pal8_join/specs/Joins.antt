@@ -106,13 +106,13 @@ line_end end.Dollar = end.Line
 abbrev pub empty_statement : End → Statement
 empty_statement end = record { line = 1; at = 0; tokens = []; string = []; is_cut = false; end = line_end end }
 
-abbrev pub left_by : PassResult → List ℕ → Option (List ℕ × End) → PassResult
-left_by left text None = pass_on left (statements text)
-left_by left text (Some at) = with_next (empty_statement at.1) (pass_on left (statements at.0))
+abbrev pub remainder_by : PassResult → List ℕ → Option (List ℕ × End) → PassResult
+remainder_by left text None = pass_on left (statements text)
+remainder_by left text (Some at) = with_next (empty_statement at.1) (pass_on left (statements at.0))
 
 -- what the statements of a text leave up to its PAUSE, after those of the texts before it
-abbrev pub left_after : PassResult → List ℕ → PassResult
-left_after left text = left_by left (whole_lines text) (first_pause left (whole_lines text))
+abbrev pub remainder_after : PassResult → List ℕ → PassResult
+remainder_after left text = remainder_by left (whole_lines text) (first_pause left (whole_lines text))
 
 -- ## Joins
 
@@ -120,13 +120,13 @@ left_after left text = left_by left (whole_lines text) (first_pause left (whole_
 abbrev pub join_from : PassResult → List (List ℕ) → List ℕ
 join_from left [] = []
 join_from left (text ∷ []) = text
-join_from left (text ∷ next ∷ others) = join_from (left_after left text) (next ∷ others) ++ part left text
+join_from left (text ∷ next ∷ others) = join_from (remainder_after left text) (next ∷ others) ++ part left text
 
 -- how many bytes of it are of each text that another follows
 abbrev pub counts_from : PassResult → List (List ℕ) → List ℕ
 counts_from left [] = []
 counts_from left (text ∷ []) = []
-counts_from left (text ∷ next ∷ others) = length (part left text) ∷ counts_from (left_after left text) (next ∷ others)
+counts_from left (text ∷ next ∷ others) = length (part left text) ∷ counts_from (remainder_after left text) (next ∷ others)
 
 abbrev pub texts_of : List (List ℕ) → List (List ℕ)
 texts_of [] = []
@@ -141,8 +141,8 @@ abbrev pub counts_of : List (List ℕ) → List ℕ
 counts_of sources = counts_from (Ok first_left) (texts_of sources)
 
 -- the bytes of the join in their order
-abbrev pub joined : List (List ℕ) → List ℕ
-joined sources = text_of (join_of sources)
+abbrev pub joined_bytes : List (List ℕ) → List ℕ
+joined_bytes sources = text_of (join_of sources)
 
 -- the bytes of sources that are lent
 abbrev pub bytes_in : List (Bor (List ℕ)) → List (List ℕ)

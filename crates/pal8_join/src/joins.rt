@@ -2,7 +2,7 @@
 ghost use Rattle.std.specs.Prelude.{◌≡◌, ◌++◌, ◌∷◌, [], take, IfOk, OnOk};
 ghost use Rattle.pal_lex.specs.Text.{text_of};
 ghost use Rattle.pal8_asm.specs.Sources.{PassResult};
-ghost use Rattle.pal8_join.specs.Joins.{bytes_in, closing_bytes, counts_of, joined};
+ghost use Rattle.pal8_join.specs.Joins.{bytes_in, closing_bytes, counts_of, joined_bytes};
 ghost use Rattle.pal8_join.specs.Passing.{Follows, Puts, part_bytes};
 
 use crate::JoinFault;
@@ -27,7 +27,7 @@ pub struct Join {
 /// After a statement with a fault, and after the `$` that ends the source, no PAUSE counts, and each text is joined whole. It takes time in proportion
 /// to the bytes, except that a name is found by halving. The only fault is `Memory`.
 pub fn join_all(alloc: Global, sources: &[&[u8]]) -> Result<Join, JoinFault>
-    ensures text { IfOk result (λ join. join.text.items ≡ joined (bytes_in sources.now)) }
+    ensures text { IfOk result (λ join. join.text.items ≡ joined_bytes (bytes_in sources.now)) }
     ensures counts { IfOk result (λ join. join.counts.items ≡ counts_of (bytes_in sources.now)) }
 {
     let mut join = Join {
@@ -72,8 +72,7 @@ fn put_part(join: &mut Vec<u8>, text: &[u8], found: Option<Pause>) -> Result<(),
     match found {
         Some(pause) => {
             join.extend_from_slice(first_bytes(text, pause.count))?;
-            put_closing(join, pause.end)?;
-            join.extend_from_slice(b"\n")?;
+            join.extend_from_slice(line_end(pause.end))?;
             Ok(())
         }
         None => {
@@ -86,16 +85,13 @@ fn put_part(join: &mut Vec<u8>, text: &[u8], found: Option<Pause>) -> Result<(),
     }
 }
 
-/// Puts the `>` that ends PAUSE, if one does.
-fn put_closing(join: &mut Vec<u8>, end: End) -> Result<(), AllocError>
-    ensures { OnOk result (join.new.items ≡ join.old.items ++ closing_bytes end) }
+/// What stands for PAUSE in a join: the end of a line, and before that the `>` that ends PAUSE, if one does.
+fn line_end(end: End) -> &'static [u8]
+    ensures { result.now ≡ closing_bytes end ++ 0o12 ∷ [] }
 {
     match end {
-        End::Close => {
-            join.extend_from_slice(b">")?;
-            Ok(())
-        }
-        End::Semicolon | End::Line | End::Open | End::Dollar => Ok(()),
+        End::Close => b">\n",
+        End::Semicolon | End::Line | End::Open | End::Dollar => b"\n",
     }
 }
 

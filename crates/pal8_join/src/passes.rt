@@ -3,7 +3,7 @@ ghost use Rattle.std.specs.Prelude.{◌≡◌, ◌<◌, ℕ, IfOk, List, None, O
 ghost use Rattle.pal8_asm.specs.Sources.{Entry, PassResult, first_left, with_next, with_selected};
 ghost use Rattle.pal8_grammar.specs.Bodies as grammar;
 ghost use Rattle.pal8_join.specs.Joins.{is_lone_pause, is_pause, is_pause_name, is_read, line_end};
-ghost use Rattle.pal8_join.specs.Passing.{Follows, Leaves, Meets, is_dollar, left_at};
+ghost use Rattle.pal8_join.specs.Passing.{Follows, Leaves, Meets, is_dollar, remainder_at};
 
 use crate::JoinFault;
 use crate::brackets::Brackets;
@@ -32,9 +32,9 @@ impl Model for Pass {
     ghost use Rattle.std.specs.Coded.{codes};
     ghost use Rattle.pal8_asm.specs.contracts.names.KnownNames as known_names;
     ghost use Rattle.pal8_sym.specs.contracts.source_names.SourceNames as source_names;
-    ghost use Rattle.pal8_join.specs.Passing.{Passed};
+    ghost use Rattle.pal8_join.specs.Passing.{PassState};
 
-    ghost Value = { Passed };
+    ghost Value = { PassState };
 
     ghost coded = { Prim.hlevel (codes, known_names.the_row.coded, source_names.the_row.coded) };
 
@@ -111,7 +111,7 @@ fn pass_selected(
     requires shift { position.shift < 0o10000 }
     ensures leaves { (line at : ℕ) (entries : List Entry) → Leaves
         (with_selected (record { line = line; at = at; tokens = tokens.now; string = string.now; is_cut = is_cut; end = end })
-        (left_at names.old position entries brackets.old None))
+        (remainder_at names.old position entries brackets.old None))
         (record { line = line; at = at; tokens = tokens.now; string = string.now; is_cut = is_cut; end = end })
         result names.new brackets.new }
     ensures range { IfOk result (λ p. (p.location < 0o20000) × (p.field < 8) × (p.shift < 0o10000)) }

@@ -8,7 +8,7 @@ use Rattle.pal8_asm.specs.Assembling.{IsAssembled}
 use Rattle.pal8_asm.specs.Tapes.{TapeWords}
 use Rattle.pal8_asm.specs.declared.faults.Fault as asm
 use Rattle.host_sources.specs.Places.{place_in}
-use Rattle.pal8_join.specs.Joins.{bytes_in, counts_of, joined}
+use Rattle.pal8_join.specs.Joins.{bytes_in, counts_of, joined_bytes}
 use Rattle.pal8_tape.specs.Marks.{fault_mark}
 use Rattle.pal8_tape.specs.Places.{place_by}
 use Rattle.pal8_tape.specs.declared.faults.Fault.{Fault}
@@ -17,7 +17,7 @@ use Rattle.pal8_tape.specs.declared.faults.SourceFault.TheVariants.{At, Memory}
 
 -- what sources make, or their first fault: it is that of the text that they join to
 abbrev pub result_of : List (List ℕ) → Result TapeWords asm.Fault
-result_of texts = result_of_text (text_of (joined texts))
+result_of texts = result_of_text (text_of (joined_bytes texts))
 
 -- The sources have no fault. These are the frames of the tape of their words with their cells, in their order, and then of the cells of their
 -- pools with their values, by rising cell.
@@ -32,12 +32,12 @@ at_mark sources texts fault at = record {
   code = fault.code;
   line = fault.place.line;
   place = place_by sources (place_in (counts_of texts) at);
-  byte = get_or (joined texts) at 0;
+  byte = get_or (joined_bytes texts) at 0;
 }
 
 -- a fault of sources with these texts, where each statement has its line and its first byte in the join
 abbrev pub with_place : List (Bor (List ℕ)) → List (List ℕ) → asm.Fault → Fault
-with_place sources texts fault = at_mark sources texts fault (fault_mark (joined texts) fault.code fault.place.start)
+with_place sources texts fault = at_mark sources texts fault (fault_mark (joined_bytes texts) fault.code fault.place.start)
 
 -- the first fault of the sources, with its place; or memory ran out
 abbrev pub IsTold : List (Bor (List ℕ)) → SourceFault → Type 0

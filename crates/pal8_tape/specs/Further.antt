@@ -9,7 +9,7 @@ use Rattle.pal8_asm.specs.declared.faults.Code.{Code}
 use Rattle.pal8_asm.specs.declared.faults.Code.TheVariants.{IC, SY, NU, UA, DT, RD, IR, II, FD, PG, PF, DZ, PE, ZE, PageClash, ZeroClash, RL, PH, NE, NW}
 use Rattle.host_sources.specs.Places.{place_in}
 use Rattle.pal8_lex.specs.Text.{live}
-use Rattle.pal8_join.specs.Joins.{bytes_in, counts_of, is_line_open, joined}
+use Rattle.pal8_join.specs.Joins.{bytes_in, counts_of, is_line_open, joined_bytes}
 use Rattle.pal8_tape.specs.Mending.{harmless}
 use Rattle.pal8_tape.specs.Answers.{result_of, with_place}
 use Rattle.pal8_tape.specs.declared.faults.Fault.{Fault}
@@ -90,7 +90,7 @@ is_ok (Err fault) = false
 
 -- no statement has a fault but for words, and the source ends
 abbrev pub is_passed : List (List ℕ) → Bool
-is_passed texts = is_ok (remainder_of_text (text_of (joined texts)))
+is_passed texts = is_ok (remainder_of_text (text_of (joined_bytes texts)))
 
 -- further faults are looked for after it
 abbrev pub is_followed : Bool → Code → Bool

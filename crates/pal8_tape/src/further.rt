@@ -2,7 +2,7 @@
 ghost use Rattle.std.specs.Prelude.{◌≡◌, ◌++◌, ◌∷◌, [], Err, IfOk, IfErr, OnOk, map};
 ghost use Rattle.pal_lex.specs.Text.{text_of};
 ghost use Rattle.pal8_asm.specs.Assembling.{Assembles};
-ghost use Rattle.pal8_join.specs.Joins.{counts_of, joined};
+ghost use Rattle.pal8_join.specs.Joins.{counts_of, joined_bytes};
 ghost use Rattle.pal8_tape.specs.Further as spec;
 ghost use Rattle.pal8_tape.specs.Further.{further_faults};
 ghost use Rattle.pal8_tape.specs.MendSteps.{Mends};
@@ -101,7 +101,7 @@ fn mend_after(
     passed: bool,
     fault: AsmFault,
 ) -> Result<bool, SourceFault>
-    requires text { join.now.text.items ≡ joined (map (λ text. text.items) texts.old.items) }
+    requires text { join.now.text.items ≡ joined_bytes (map (λ text. text.items) texts.old.items) }
     requires counts { join.now.counts.items ≡ counts_of (map (λ text. text.items) texts.old.items) }
     requires fault { Assembles (text_of join.now.text.items) (Err fault) }
     ensures mends { IfOk result (λ is. Mends (spec.next_texts passed (map (λ text. text.items) texts.old.items)) is texts.new.items) }
@@ -161,7 +161,7 @@ fn fault_with_place(
     passed: bool,
     fault: AsmFault,
 ) -> Result<Option<Fault>, SourceFault>
-    requires text { join.now.text.items ≡ joined (map (λ text. text.items) texts.now) }
+    requires text { join.now.text.items ≡ joined_bytes (map (λ text. text.items) texts.now) }
     requires counts { join.now.counts.items ≡ counts_of (map (λ text. text.items) texts.now) }
     requires fault { Assembles (text_of join.now.text.items) (Err fault) }
     ensures found { IfOk result (λ found. found ≡ spec.further_fault passed sources.now (map (λ text. text.items) texts.now)) }
@@ -183,7 +183,7 @@ fn further_by(
     code: Code,
     place: Place,
 ) -> Result<Option<Fault>, SourceFault>
-    requires text { join.now.text.items ≡ joined (map (λ text. text.items) texts.now) }
+    requires text { join.now.text.items ≡ joined_bytes (map (λ text. text.items) texts.now) }
     requires counts { join.now.counts.items ≡ counts_of (map (λ text. text.items) texts.now) }
     ensures found { IfOk result (λ found. found ≡ spec.further_by passed sources.now (map (λ text. text.items) texts.now)
         (Err (record { code = code; place = place }))) }

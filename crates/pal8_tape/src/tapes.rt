@@ -3,7 +3,7 @@ ghost use Rattle.std.specs.Prelude.{◌≡◌, get_or, IfOk, IfErr};
 ghost use Rattle.pal_lex.specs.Text.{text_of};
 ghost use Rattle.host_sources.specs.Places.{place_in};
 ghost use Rattle.pal8_asm.specs.Assembling.{Assembles, IsAssembled};
-ghost use Rattle.pal8_join.specs.Joins.{bytes_in, counts_of, joined};
+ghost use Rattle.pal8_join.specs.Joins.{bytes_in, counts_of, joined_bytes};
 ghost use Rattle.pal8_tape.specs.Answers.{IsTape, IsTold, result_of};
 ghost use Rattle.pal8_tape.specs.Marks as marks;
 ghost use Rattle.pal8_tape.specs.Places as places;
@@ -53,7 +53,7 @@ fn frames_of(
 
 /// A fault of sources with its place.
 fn with_place(alloc: Global, sources: &[&[u8]], join: &Join, fault: AsmFault) -> SourceFault
-    requires text { join.now.text.items ≡ joined (bytes_in sources.now) }
+    requires text { join.now.text.items ≡ joined_bytes (bytes_in sources.now) }
     requires counts { join.now.counts.items ≡ counts_of (bytes_in sources.now) }
     requires fault { Assembles (text_of join.now.text.items) (Err fault) }
     ensures { IsTold sources.now result }

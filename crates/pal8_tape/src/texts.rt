@@ -1,6 +1,6 @@
 //! The texts of sources, in which statements are made harmless.
 ghost use Rattle.std.specs.Prelude.{◌≡◌, ◌++◌, ◌∷◌, [], IfOk, IfErr, OnOk, map};
-ghost use Rattle.pal8_join.specs.Joins.{bytes_in, counts_of, joined};
+ghost use Rattle.pal8_join.specs.Joins.{bytes_in, counts_of, joined_bytes};
 ghost use Rattle.pal8_tape.specs.Further.{ended_text, ended_texts, harmless_at};
 ghost use Rattle.pal8_tape.specs.MendSteps.{Mends, text_if_last};
 ghost use Rattle.pal8_tape.specs.declared.faults.SourceFault.TheVariants.{Memory};
@@ -45,7 +45,7 @@ fn put_text(texts: &mut Vec<Vec<u8>>, text: Vec<u8>) -> Result<(), AllocError>
 
 /// The join of texts. The only fault is `Memory`.
 pub(crate) fn join_texts(alloc: Global, texts: &[Vec<u8>]) -> Result<Join, SourceFault>
-    ensures text { IfOk result (λ join. join.text.items ≡ joined (map (λ text. text.items) texts.now)) }
+    ensures text { IfOk result (λ join. join.text.items ≡ joined_bytes (map (λ text. text.items) texts.now)) }
     ensures counts { IfOk result (λ join. join.counts.items ≡ counts_of (map (λ text. text.items) texts.now)) }
     ensures fault { IfErr result (λ fault. fault ≡ Memory) }
 {

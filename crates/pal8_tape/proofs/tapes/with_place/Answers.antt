@@ -4,7 +4,7 @@ use Rattle.host_sources.specs.Places.{place_in}
 use Rattle.pal8_asm.specs.Assembled.{result_of_text}
 use Rattle.pal8_asm.specs.Assembling.{Assembles}
 use Rattle.pal8_asm.specs.declared.faults.AsmFault.{AsmFault}
-use Rattle.pal8_join.specs.Joins.{bytes_in, counts_of, joined}
+use Rattle.pal8_join.specs.Joins.{bytes_in, counts_of, joined_bytes}
 use Rattle.pal8_tape.specs.Marks.{fault_mark}
 use Rattle.pal8_tape.specs.Places.{place_by}
 use Rattle.pal8_tape.specs.declared.faults.Fault.{Fault}
@@ -26,5 +26,5 @@ returns-in-Ok c =
       ap (λ t. result_of_text (text_of t)) (sym c.requires.text)
           ∙ subst (λ (f : AsmFault). Assembles (text_of c.args.join.now.text.items) (Err f)) c.in-At.is c.requires.fault,
       (c.in-Ok.ensures {u = tt}).fault ∙ ap (λ t. marked t c.args.join.now.counts.items) c.requires.text
-          ∙ ap (λ l. marked (joined (bytes_in sources)) l) c.requires.counts,
+          ∙ ap (λ l. marked (joined_bytes (bytes_in sources)) l) c.requires.counts,
     )
