@@ -41,7 +41,7 @@ asm_dropped true b text = refl
 asm_dropped false b text = refl
 
 -- the statement that a byte ends
-abbrev ended_one : ℕ → List ℕ → Statement
+abbrev pub ended_one : ℕ → List ℕ → Statement
 ended_one b text = statement_at (limit (length text)) (statement_of (as_read b) (live text))
 
 ended_by : (dropped ended : Bool) (b : ℕ) (text : List ℕ) → lex_by dropped ended b text ≡ statement_of (as_read b) (live text) ∷ of_lex.statements text
@@ -57,7 +57,7 @@ goes_by false true b text is = absurd (self_longer (statement_of (as_read b) (li
 goes_by false false b text is = (refl, refl)
 
 module _ (here : List ℕ) (b : ℕ) where
-  ends_one : of_lex.statements (b ∷ here) ≡ statement_of (as_read b) (live here) ∷ of_lex.statements here
+  pub ends_one : of_lex.statements (b ∷ here) ≡ statement_of (as_read b) (live here) ∷ of_lex.statements here
       → (ends_statement here b ≡ true) × (statements (b ∷ here) ≡ ended_one b here ∷ statements here)
   ends_one is =
       let both = ended_by (is_dropped b) (ends (pieces (live here)) (as_read b)) b here (sym (lex_dropped (is_dropped b) b here) ∙ is) in

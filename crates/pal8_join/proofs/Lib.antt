@@ -3,3 +3,4 @@ pub mod ByteLemmas
 pub mod PauseLemmas
 pub mod PassLemmas
 pub mod JoinLemmas
+pub mod PartLemmas
