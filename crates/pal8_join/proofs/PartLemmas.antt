@@ -1,5 +1,5 @@
 -- What a part of a text leaves.
-use Rattle.std.proofs.Common.{◌≡◌, ℕ, Bool, true, false, ◌&&◌, not, if◌then◌else◌, is_some, Option, Some, None, Ok, Err, length, List, [], ◌∷◌, ◌++◌, refl, sym, ap, subst, ◌∙◌}
+use Rattle.std.proofs.Common.{◌≡◌, ℕ, Bool, true, false, ◌&&◌, not, if◌then◌else◌, Option, Some, None, Ok, Err, length, List, [], ◌∷◌, ◌++◌, refl, sym, ap, subst, ◌∙◌}
 use Rattle.std.specs.Option.{option_or}
 use Rattle.pal_lex.specs.Text.{limit}
 use Rattle.pal8_lex.specs.Text.{as_read, is_dropped, line_after, live}
@@ -20,7 +20,7 @@ use Rattle.pal8_asm.specs.Places.{Standing}
 use Rattle.pal8_asm.specs.declared.faults.Place.{Place}
 use Rattle.pal8_asm.specs.Sources.{Entry, PassResult, Remainder, Statement, is_selected, statement_at, statements, with_next, with_selected, with_skipped}
 use Rattle.pal8_join.specs.Laws.{PartIsRead, if_fine}
-use Rattle.pal8_join.specs.Joins.{before_tokens, closing_bytes, empty_statement, first_pause, has_none, is_pause, part_by, pass_on, pauses, remainder_after, remainder_by, tokens_after, whole_lines}
+use Rattle.pal8_join.specs.Joins.{before_tokens, closing_bytes, empty_statement, first_pause, has_none, is_pause, part_by, pass_on, pauses, remainder_by, tokens_after, whole_lines}
 use Rattle.pal8_join.proofs.ByteLemmas.{ended_one, ends_one}
 
 -- ## Before the tokens of a statement

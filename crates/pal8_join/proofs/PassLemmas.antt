@@ -1,5 +1,5 @@
 -- Statements, one at a time.
-use Rattle.std.proofs.Common.{◌≡◌, ℕ, ◌-◌, Bool, true, false, if◌then◌else◌, is_some, Option, Some, None, Result, Ok, Err, length, List, [], refl, sym, ap, subst, ◌∙◌}
+use Rattle.std.proofs.Common.{◌≡◌, ◌-◌, Bool, true, false, if◌then◌else◌, is_some, None, Result, Ok, Err, length, List, refl, sym, ap, subst, ◌∙◌}
 use Rattle.pal8_lex.specs.declared.rules.End.{End}
 use Rattle.pal8_lex.specs.declared.rules.End.TheVariants as end
 use Rattle.pal8_grammar.specs.Bodies.{Phrase}

@@ -1,8 +1,4 @@
-use Rattle.std.proofs.Common.{◌≡◌, ◌++◌, Ok, length}
-use Rattle.pal_lex.specs.Text.{text_of}
-use Rattle.pal8_asm.specs.Sources.{PassResult}
-use Rattle.pal8_join.specs.Joins.{bytes_in, counts_from, counts_of, join_from, join_of, texts_of}
-use Rattle.pal8_join.specs.Passing.{Follows}
+use Rattle.std.proofs.Common.{length}
 use Rattle.pal8_join.proofs.JoinLemmas.{IsJoining}
 use Rattle.pal8_join.proofs.joins.join_all.Given as goal
 

@@ -1,4 +1,4 @@
-use Rattle.std.proofs.Common.{◌≡◌, ◌-◌, length, take}
+use Rattle.std.proofs.Common.{◌-◌, length, take}
 use Rattle.pal_lex.specs.Text.{text_of}
 use Rattle.pal8_asm.specs.Sources.{PassResult}
 use Rattle.pal8_join.specs.Passing.{Follows, IsPassing}

@@ -1,5 +1,5 @@
-use Rattle.std.proofs.Common.{◌≡◌, sym, subst, ◌∙◌}
-use Rattle.pal8_asm.specs.Sources.{PassResult, Statement, with_next}
+use Rattle.std.proofs.Common.{sym, subst, ◌∙◌}
+use Rattle.pal8_asm.specs.Sources.{Statement}
 use Rattle.pal8_join.specs.Passing.{Follows, PassState}
 use Rattle.pal8_join.proofs.PassLemmas.{fails, fault_settles, going, taken}
 use Rattle.pal8_join.proofs.passes.Pass.take.Goals as goal
