@@ -16,33 +16,42 @@ sys.path.insert(0, TOP)
 from tests.model.pal8 import answer
 
 
-def rows() -> Iterator[tuple[str, str, str]]:
-    """Each worked source: its name, its text and what it gives."""
-    name, source, wanted = "", "", ""
+def all_rows() -> Iterator[tuple[str, list[str], str]]:
+    """Each worked source: its name, its texts and what it gives. A line `>>` begins the next text."""
+    name, texts, wanted = "", [""], ""
     for line in open(f"{HERE}/pal8_rows.txt", encoding="ascii"):
         if line.startswith("= "):
-            name, source, wanted = line[2:].strip(), "", ""
+            name, texts, wanted = line[2:].strip(), [""], ""
+        elif line.startswith(">>"):
+            texts.append("")
         elif line.startswith(">"):
-            source += line[1:].removeprefix(" ")
+            texts[-1] += line[1:].removeprefix(" ")
         elif line.strip() and not line.startswith("#"):
             wanted += line
         elif name and not line.strip():
-            yield name, source, wanted
+            yield name, texts, wanted
             name = ""
     if name:
-        yield name, source, wanted
+        yield name, texts, wanted
+
+
+def rows() -> Iterator[tuple[str, str, str]]:
+    """Each worked source of one text."""
+    return ((name, texts[0], wanted) for name, texts, wanted in all_rows() if len(texts) == 1)
 
 
 def run(words: list[str], given: bytes) -> subprocess.CompletedProcess[bytes]:
     return subprocess.run(words, input=given, capture_output=True, timeout=120)
 
 
-def program_answer(program: str, source: bytes) -> str:
+def program_answer(program: str, texts: list[bytes]) -> str:
     """What the program says of a source: the lines of its tape, or the numbered line of its first fault, which has four lines; or what is wrong."""
     with tempfile.TemporaryDirectory() as folder:
-        with open(f"{folder}/s.pa", "wb") as file:
-            file.write(source)
-        ran = run([program, "assemble", "--pal8", f"{folder}/s.pa"], b"")
+        names = [f"{folder}/{number}.pa" for number in range(len(texts))]
+        for name, text in zip(names, texts):
+            with open(name, "wb") as file:
+                file.write(text)
+        ran = run([program, "assemble", "--pal8", *names], b"")
     told = ran.stderr.decode("latin1").splitlines(keepends=True)
     if ran.returncode == 0 and not told:
         return run([program, "tape"], ran.stdout).stdout.decode("latin1")
@@ -57,11 +66,11 @@ def main() -> int:
     parser.add_argument("--program")
     program: Optional[str] = parser.parse_args().program
     passed = failed = 0
-    for name, text, wanted in rows():
-        source = text.encode("latin1")
-        answers = {"the model": answer(source)}
+    for name, written, wanted in all_rows():
+        texts = [text.encode("latin1") for text in written]
+        answers = {"the model": answer(*texts)}
         if program:
-            answers["the program"] = program_answer(os.path.abspath(program), source)
+            answers["the program"] = program_answer(os.path.abspath(program), texts)
         for who, came in answers.items():
             if came == wanted:
                 passed += 1

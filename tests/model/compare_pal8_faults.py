@@ -1,7 +1,8 @@
 #!/usr/bin/env python3
 """compare_pal8_faults.py [--program FILE] [--sources N] [--seed S]: assembles sources of PAL8 with faults by the program `pdp8`. There are N random
-ones, 2000 where nothing is said, and N that are random bytes nearly. It compares the first fault that is printed and the further ones, each with its
-line and column, with the plain model's. The same number is the same sources each time. The last line is 'N passed, M failed'.
+ones, 2000 where nothing is said, N that are random bytes nearly, and N that are several texts with PAUSE in all places. It compares the first fault
+that is printed and the further ones, each with its text, its line and its column, with the plain model's. Of several texts it compares the tape or
+the numbered line, too. The same number is the same sources each time. The last line is 'N passed, M failed'.
 """
 import os
 import subprocess
@@ -13,12 +14,15 @@ sys.dont_write_bytecode = True
 TOP = os.path.dirname(os.path.dirname(os.path.dirname(os.path.abspath(__file__))))
 sys.path.insert(0, TOP)
 from tests.model.compare_indexes import program_and_seeds
-from tests.model.compare_pal8_sources import Maker, nearly_bytes
-from tests.model.pal8 import headlines
+from tests.model.compare_pal8_sources import PIECES, Maker, nearly_bytes
+from tests.model.pal8 import answer, headlines
 
 SHOWN = 3
 MOST = 20
 BAD = ("#", "8", "5,", "#,", "A 10000", "(5]", "TAD (XX", "TAD YY+1", "1%0", "TAD I 1234", "TAD (1%0", "TAD (7)+ZZ", "CLA(5", "B=8", "B=QQ", "DECIMAL;9", "5 <")
+PAUSES: tuple[str, ...] = ("PAUSE", "PAUSE", " pause /on", "PAUSE;8;#", "PAUSE$8", "IFZERO 0 <PAUSE>", "IFZERO 0 <;PAUSE;>8", "IFNZRO 0 <PAUSE>", "IFDEF A <PAUSE", "PAUSE>", "PAUSE<", "Q1, PAUSE")
+PAUSES += ("PAUSE 1", "TEXT /PAUSE", "/PAUSE", "\fPAUSE\0;", ";;PAUSE", "PAUSEX", "TEXT PAUSEP", "XLIST PAUSE")
+PAUSE_PIECES = (*PIECES, *"PAUSE PAUSE\n PAUSE> PAUSE; PAUSE$".split(" "), "\nPAUSE\n", "<PAUSE>", "PAUSE\f")
 FULL = "".join(f"TAD [{k:o};*200\n" for k in range(0o176))
 
 
@@ -48,31 +52,60 @@ class Faulty(Maker):
         return text
 
 
-def printed(program: str, text: bytes) -> list[str]:
-    """The line, the column and the code of each fault that the program prints."""
+def several_texts(seed: int) -> list[bytes]:
+    """Texts that are one source, mostly."""
+    random = Random(seed)
+    if random.random() < 0.3:
+        return ["".join(random.choices(PAUSE_PIECES, k=random.randint(0, 12))).encode("latin1") for _ in range(random.randint(2, 5))] + [nearly_bytes(seed)]
+    maker = Faulty(seed) if random.random() < 0.6 else Maker(seed)
+    lines = maker.source().decode("latin1").replace("\r", "").split("\n")
+    cuts = sorted(random.choices(range(len(lines) + 1), k=random.choice((1, 1, 2, 3, 7))))
+    texts = []
+    for start, end in zip([0, *cuts], [*cuts, len(lines)]):
+        text = lines[start:end]
+        if random.random() < 0.8:
+            text.append(random.choice(PAUSES))
+            text += random.choice((list[str](), list[str](), ["8", "#", "$"], ["A, >"], lines[:2]))
+        if random.random() < 0.1:
+            text.insert(random.randint(0, len(text)), random.choice(PAUSES))
+        texts.append(("\n".join(text) + random.choice(("", "\n", "\n", "\n", "\n\f"))).encode("latin1"))
+    texts[-1] = "\n".join([*lines[cuts[-1] :], *([random.choice(PAUSES)] if random.random() < 0.05 else [])]).encode("latin1")
+    return [text.replace(b"\n", b"\r\n") for text in texts] if random.random() < 0.1 else texts
+
+
+def printed(program: str, texts: list[bytes]) -> tuple[list[str], str]:
+    """The text, where there are several, the line, the column and the code of each fault that the program prints, and the lines of the tape or the
+    numbered line."""
+    names = [f"S{k}" for k in range(len(texts))]
     with tempfile.TemporaryDirectory(prefix="pdp8-faults-") as folder:
-        with open(f"{folder}/S", "wb") as file:
-            file.write(text)
-        done = subprocess.run([program, "assemble", "--pal8", "S", "--output", "T"], cwd=folder, capture_output=True, timeout=300)
-    lines = [it for it in done.stderr.decode("latin1").splitlines() if not it.startswith("note: S:")]
+        for name, text in zip(names, texts):
+            with open(f"{folder}/{name}", "wb") as file:
+                file.write(text)
+        done = subprocess.run([program, "assemble", "--pal8", *names, "--output", "T"], cwd=folder, capture_output=True, timeout=300)
+        if done.returncode == 0 and not done.stderr and len(texts) > 1:
+            return [], subprocess.run([program, "tape", "T"], cwd=folder, capture_output=True, timeout=300).stdout.decode("latin1")
+    lines = [it for it in done.stderr.decode("latin1").splitlines() if not it.startswith("note: S")]
     if not lines:
-        return []
+        return [], ""
     rest = lines[5:] if len(lines) > 4 else []
-    return [":".join(line.split(":")[1:4]) for line in [lines[0], *rest[::3]]]
+    first = 0 if len(texts) > 1 else 1
+    return [":".join(line[1:].split(":")[first:4]) for line in [lines[0], *rest[::3]]], lines[3] + "\n"
 
 
 def main() -> int:
     program, seeds = program_and_seeds(__doc__, "sources", 2000)
     passed = failed = 0
     for seed in seeds:
-        for text in (Faulty(seed).source(), nearly_bytes(seed)):
-            wanted, came = headlines(text, MOST), printed(program, text)
-            if came == wanted:
+        for texts in ([Faulty(seed).source()], [nearly_bytes(seed)], several_texts(seed)):
+            came, last = printed(program, texts)
+            wanted = headlines(texts, MOST)
+            is_same = came == wanted and (len(texts) == 1 or last == answer(*texts))
+            if is_same:
                 passed += 1
                 continue
             failed += 1
             if failed <= SHOWN:
-                print(f"seed {seed}: {text!r}:\n    wanted {wanted}\n    came {came}")
+                print(f"seed {seed}: {texts!r}:\n    wanted {wanted} {answer(*texts)}\n    came {came} {last}")
     print(f"{passed} passed, {failed} failed")
     return 1 if failed or not passed else 0
 

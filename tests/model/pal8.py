@@ -1,5 +1,5 @@
 """PAL8, the assembler of OS/8, by its definitions: what a source means, or its first fault. So far it knows the language with literals,
-links, conditions, punching, relocation, the names of files and devices, EXPUNGE, FIXTAB and FIXMRI, and late definitions; it doesn't take PAUSE.
+links, conditions, punching, relocation, the names of files and devices, EXPUNGE, FIXTAB and FIXMRI, late definitions, and several texts with PAUSE.
 
 A place, a name and a condition rest on the statements before alone. So each statement is judged after those before it. Literals and links rest on all
 names, and so come last. It is slow, and keeps no table. A name is looked for among the statements before, the newest first. A pool is the list of all
@@ -8,7 +8,7 @@ that was asked of its page.
 from __future__ import annotations
 
 from dataclasses import dataclass, field, replace
-from typing import Callable, Optional, TypeVar, Union
+from typing import Callable, NoReturn, Optional, Sequence, TypeVar, Union
 
 from tests.model.assembler import PERMANENT
 
@@ -32,14 +32,17 @@ OPERATORS = "+-!&^%"
 ENDS = ";\r<>$"
 CORE_END = 0o10000
 
+Texts = Sequence[bytes]
+"""Texts that are one source, in their order."""
+
 
 class Fault(Exception):
-    """A code, with the line of its statement, and where that begins among the characters that are there. It has the number of the name or the cell
-    that it is about, too, and the radix of its statement."""
+    """A code, with the line of its statement over all texts, and where that begins among the characters that are there in its own text. It has the
+    number of the name or the cell that it is about, too, the radix of its statement, and the number of its text."""
 
-    def __init__(self, code: str, line: int = 0, start: int = 0, about: Optional[int] = None, radix: int = 8) -> None:
+    def __init__(self, code: str, line: int = 0, start: int = 0, about: Optional[int] = None, radix: int = 8, number: int = 0) -> None:
         super().__init__(code, line, start, about)
-        self.code, self.line, self.start, self.about, self.radix = code, line, start, about, radix
+        self.code, self.line, self.start, self.about, self.radix, self.number = code, line, start, about, radix, number
 
 
 @dataclass(frozen=True)
@@ -61,6 +64,7 @@ class Statement:
     is_cut: bool = False
     start: int = field(default=0, compare=False)
     at: int = field(default=0, compare=False)
+    number: int = 0
 
 
 # Terms and values
@@ -207,6 +211,11 @@ def statements(text: str) -> list[Statement]:
         if statement:
             found.append(statement)
     return found
+
+
+def is_pause(statement: Statement) -> bool:
+    """Whether a statement is PAUSE alone. After another statement than a condition a `<` is refused."""
+    return statement.tokens == [Token("run", "PAUSE")] and statement.end != "<"
 
 
 # What a statement says
@@ -417,6 +426,7 @@ class Judged:
     definitions: list[tuple[str, int]] = field(default_factory=list)
     is_late: bool = False
     fixed: Optional[int] = None
+    number: int = 0
 
 
 def permanent(name: str, now: Judged) -> Optional[int]:
@@ -435,12 +445,16 @@ def firm(name: str, now: Judged) -> Optional[int]:
     return None if now.is_expunged else PERMANENT.get(name)
 
 
+Place = tuple[int, int]
+"""The number of a text, and a place among the characters that are there in it."""
+
+
 class Source:
-    """A source's selected statements, each judged after those before it, up to the first selected `$`. Those that begin at certain places are
+    """The selected statements of texts, each judged after those before it, up to the first selected `$`. Those that begin at certain places are
     harmless."""
 
-    def __init__(self, text: bytes, harmless: frozenset[int] = frozenset()) -> None:
-        self.text, self.harmless = live_text(text), harmless
+    def __init__(self, texts: Texts, harmless: frozenset[Place] = frozenset()) -> None:
+        self.texts, self.harmless = [live_text(text) for text in texts], harmless
         self.judged: list[Judged] = []
         self.brackets: list[bool] = []
         self.before = Before(8, {name: PERMANENT[name] for name in OPERATIONS})
@@ -448,27 +462,52 @@ class Source:
         self.last_fixed: list[str] = []
         self.last_line, self.last_place = self.first_faults()
 
-    def first_faults(self) -> tuple[int, int]:
-        """Judges the statements up to the first selected `$`, and gives the line and the place of that."""
-        for statement in statements(self.text):
-            is_selected = all(self.brackets)
-            holds = False
-            try:
-                if is_selected:
-                    holds = self.judge(statement)
-                if statement.end == ">" and not self.brackets:
-                    raise Fault("PH")
-            except Fault as fault:
-                raise Fault(fault.code, statement.line, statement.start, fault.about, self.before.radix)
-            if statement.end == ">":
-                self.brackets.pop()
-            elif statement.end == "<":
-                self.brackets.append(is_selected and holds)
-            elif statement.end == "$" and is_selected:
-                if self.brackets:
-                    raise Fault("PH", statement.line, statement.at)
-                return statement.line, statement.at
-        raise Fault("PH" if self.brackets else "NE", 1 + self.text.count("\r"), len(self.text))
+    def first_faults(self) -> tuple[int, Place]:
+        """Judges the statements up to the first selected `$`, and gives the line and the place of that. Each text but the last ends at its first
+        selected PAUSE, or at its own end, which ends a last line. The lines that are read in the texts before count."""
+        lines = 0
+        for number, text in enumerate(self.texts):
+            is_last = number == len(self.texts) - 1
+            whole = text if is_last or not text or text.endswith("\r") else text + "\r"
+            read = whole.count("\r")
+            for statement in statements(whole):
+                own_line, statement.line, statement.number = statement.line, lines + statement.line, number
+                if all(self.brackets) and not is_last and is_pause(statement):
+                    if statement.end == ">":
+                        self.close_bracket(statement)
+                    read = own_line
+                    break
+                if self.pass_over(statement):
+                    return statement.line, (number, statement.at)
+            lines += read
+        self.fail_at_end("NE", 1 + lines, (len(self.texts) - 1, len(self.texts[-1])))
+
+    def fail_at_end(self, code: str, line: int, place: Place) -> NoReturn:
+        raise Fault("PH" if self.brackets else code, line, place[1], number=place[0])
+
+    def close_bracket(self, statement: Statement) -> None:
+        if not self.brackets:
+            raise Fault("PH", statement.line, statement.start, None, self.before.radix, statement.number)
+        self.brackets.pop()
+
+    def pass_over(self, statement: Statement) -> bool:
+        """Judges a statement, if it is selected, and answers whether it ends the source."""
+        is_selected = all(self.brackets)
+        holds = False
+        try:
+            if is_selected:
+                holds = self.judge(statement)
+        except Fault as fault:
+            raise Fault(fault.code, statement.line, statement.start, fault.about, self.before.radix, statement.number)
+        if statement.end == ">":
+            self.close_bracket(statement)
+        elif statement.end == "<":
+            self.brackets.append(is_selected and holds)
+        elif statement.end == "$" and is_selected:
+            if self.brackets:
+                self.fail_at_end("PH", statement.line, (statement.number, statement.at))
+            return True
+        return False
 
     def place(self) -> int:
         """The place, what `.` and a tag are: the location, shifted by RELOC."""
@@ -491,9 +530,10 @@ class Source:
 
     def judge(self, statement: Statement) -> bool:
         """Judges a selected statement, and answers whether its condition holds."""
-        is_harmless = statement.start in self.harmless
+        is_harmless = (statement.number, statement.start) in self.harmless
         tags, body = harmless_reading(statement) if is_harmless else said(statement, self.before)
         now = Judged(statement.line, tags, body, self.location, self.place(), self.field, self.is_punched, 0, statement.start, self.is_expunged)
+        now.number = statement.number
         for tag in tags:
             if now.location >= CORE_END:
                 raise Fault("PF")
@@ -677,7 +717,7 @@ class Words:
             try:
                 words = self.words_of(now, k)
             except Fault as fault:
-                self.faults.append(Fault(fault.code, now.line, now.start, fault.about))
+                self.faults.append(Fault(fault.code, now.line, now.start, fault.about, number=now.number))
                 if not goes_on:
                     raise self.faults[0]
                 del self.asks[counts[0] :], self.punched_asks[counts[1] :]
@@ -691,7 +731,7 @@ class Words:
         if self.clashes:
             raise self.clashes
         if not self.words:
-            raise Fault("NW", source.last_line, source.last_place)
+            raise Fault("NW", source.last_line, source.last_place[1], number=source.last_place[0])
 
     def cell(self, ask: Ask) -> int:
         return 0o10000 * ask[0] + 0o200 * ask[1] + 0o177 - rank(self.asks, ask)
@@ -701,7 +741,7 @@ class Words:
         both = {cell for cell, _ in self.words} & {self.cell(ask) for ask in self.asks}
         if not both:
             return None
-        return Fault("ZE" if min(both) % 0o10000 < 0o200 else "PE", now.line, now.start, min(both))
+        return Fault("ZE" if min(both) % 0o10000 < 0o200 else "PE", now.line, now.start, min(both), number=now.number)
 
     def words_of(self, now: Judged, k: int) -> list[int]:
         if now.is_late:
@@ -781,29 +821,29 @@ class Words:
         return sorted({(self.cell(ask), ask[2]) for ask in self.punched_asks})
 
 
-def pairs(text: bytes) -> list[tuple[int, int]]:
+def pairs(texts: Texts) -> list[tuple[int, int]]:
     """The pairs of a source's tape: its words, and then its pools by rising cell; or its first fault."""
-    words = Words(Source(text))
+    words = Words(Source(texts))
     return words.words + words.pool()
 
 
 # Further faults
 
 
-def concerns_others(text: bytes, start: int) -> bool:
-    """Whether the statement that begins there is ended by `<`, or a reserved name begins its body."""
-    statement = next(it for it in statements(live_text(text)) if it.start == start)
+def concerns_others(texts: Texts, fault: Fault) -> bool:
+    """Whether the statement with a fault is ended by `<`, or a reserved name begins its body."""
+    statement = statement_with(texts, fault)
     rest = behind_tags(statement.tokens)
     return statement.end == "<" or bool(rest) and name_in(rest[0]) in RESERVED
 
 
-def lexical_faults(text: bytes, first: Fault, most: int) -> list[Fault]:
+def lexical_faults(texts: Texts, first: Fault, most: int) -> list[Fault]:
     """The faults after one of a statement's characters, numbers and form, as long as they are such."""
-    found, harmless = [first], list[int]()
-    while len(found) <= most and not concerns_others(text, found[-1].start):
-        harmless.append(found[-1].start)
+    found, harmless = [first], list[Place]()
+    while len(found) <= most and not concerns_others(texts, found[-1]):
+        harmless.append((found[-1].number, found[-1].start))
         try:
-            Source(text, frozenset(harmless))
+            Source(texts, frozenset(harmless))
             break
         except Fault as fault:
             if fault.code not in ("IC", "NU", "SY"):
@@ -812,14 +852,20 @@ def lexical_faults(text: bytes, first: Fault, most: int) -> list[Fault]:
     return found[1:]
 
 
-def further_faults(text: bytes, most: int) -> list[Fault]:
+def further_faults(texts: Texts, most: int) -> list[Fault]:
     """So many faults after the first."""
     try:
-        source = Source(text)
+        source = Source(texts)
     except Fault as fault:
-        return lexical_faults(text, fault, most) if fault.code in ("IC", "NU", "SY") else []
+        return lexical_faults(texts, fault, most) if fault.code in ("IC", "NU", "SY") else []
     faults = Words(source, True).faults
     return [fault for fault in faults[1:] if fault.code in ("UA", "DZ", "RL", "II")][:most]
+
+
+def statement_with(texts: Texts, fault: Fault) -> Statement:
+    """The statement that begins where a fault is, or one of no token there."""
+    text = live_text(texts[fault.number]) + "\r"
+    return next((it for it in statements(text) if it.start == fault.start), Statement(0, [], "", False, fault.start))
 
 
 def mark_of(statement: Statement, fault: Fault) -> int:
@@ -835,21 +881,21 @@ def mark_of(statement: Statement, fault: Fault) -> int:
     return next((token.start for token in marks.get(fault.code, [])), statement.start)
 
 
-def headline(text: bytes, fault: Fault) -> str:
-    """A fault with its line and its column, as they are printed."""
-    statement = next((it for it in statements(live_text(text)) if it.start == fault.start), Statement(0, [], "", False, fault.start))
-    before = text[: place_in(text, mark_of(statement, fault))]
+def headline(texts: Texts, fault: Fault) -> str:
+    """A fault with the number of its text, where there are several, and its line and its column there, as they are printed."""
+    text = texts[fault.number]
+    before = text[: place_in(text, mark_of(statement_with(texts, fault), fault))]
     column = 1 + len(before.rpartition(b"\n")[2].replace(b"\r", b""))
-    return f"{1 + before.count(10)}:{column}: {fault.code}"
+    return f"{f'{fault.number}:' if len(texts) > 1 else ''}{1 + before.count(10)}:{column}: {fault.code}"
 
 
-def headlines(text: bytes, most: int) -> list[str]:
+def headlines(texts: Texts, most: int) -> list[str]:
     """The first fault of a source, and so many after it."""
     try:
-        pairs(text)
+        pairs(texts)
         return []
     except Fault as first:
-        return [headline(text, fault) for fault in (first, *further_faults(text, most))]
+        return [headline(texts, fault) for fault in (first, *further_faults(texts, most))]
 
 
 def lines_of(meaning: dict[int, int]) -> str:
@@ -859,16 +905,16 @@ def lines_of(meaning: dict[int, int]) -> str:
 def placed_answer(text: bytes) -> str:
     """The answer, and of a fault the byte at which its statement begins, and the name or the cell that it is about."""
     try:
-        return lines_of(dict(pairs(text)))
+        return lines_of(dict(pairs([text])))
     except Fault as fault:
         about = "" if fault.about is None else f" {fault.about:o}"
         return f"? 5 {fault.code} {fault.line} {place_in(text, fault.start)}{about}\n"
 
 
-def answer(text: bytes) -> str:
+def answer(*texts: bytes) -> str:
     """The cells that have words, each with the last one, a line each, or the line of the first fault."""
     try:
-        meaning = dict(pairs(text))
+        meaning = dict(pairs(texts))
     except Fault as fault:
         return f"? 5 {fault.code} {fault.line}\n"
     return lines_of(meaning)

@@ -156,13 +156,13 @@ names_input_twice values = nat_lt 1 (input_count (values_of (codes "FILE") value
 
 -- ## An argument too many
 
--- The third after an image whose blocks are got, the last where `--at` stands for a name, or the second file where one is given a name or is
--- PAL8. It is the fourth after an image of which one file is copied.
+-- The third after an image whose blocks are got, the last where `--at` stands for a name, or the second file where one is given a name. It is the
+-- fourth after an image of which one file is copied.
 abbrev pub extra_argument : List Row → Option Text
 extra_argument values =
     if is_set (codes "blocks") values then word_at (codes "NAME") 2 values
     else if has (codes "at") values then first_of (codes "NEW") values
-    else if has (codes "as") values || is_set (codes "pal8") values then word_at (codes "FILE") 1 values
+    else if has (codes "as") values then word_at (codes "FILE") 1 values
     else if has (codes "to") values then None
     else first_of (codes "MORE") values
 

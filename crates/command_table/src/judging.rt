@@ -248,7 +248,7 @@ fn extra_argument<'a>(found: &ArgMatches<'a>) -> Option<&'a str>
     if has(found, "at") {
         return text_of(found, "NEW");
     }
-    if has(found, "as") || is_set(found, "pal8") {
+    if has(found, "as") {
         return word_at(found, "FILE", 1);
     }
     if has(found, "to") {

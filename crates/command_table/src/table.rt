@@ -256,7 +256,7 @@ pub const ASSEMBLE: &[Argument] = rows! {
     "output" 'o' option Kind::One(Form::Text), "TAPE", "The file that gets the tape, in place of standard output";
     "list" 'l' option Kind::One(Form::Text), "LISTING", "Write a listing to the file LISTING too";
     "cross" flag Kind::Flag, "", "Put a table of cross references after the listing; it needs --list";
-    "pal8" flag Kind::Flag, "", "Take the one source FILE as PAL8, the language of OS/8's assembler";
+    "pal8" flag Kind::Flag, "", "Take the sources as PAL8, the language of OS/8's assembler";
     "from" option Kind::One(Form::Text), "IMAGE", "Take the sources from the volume that the file IMAGE holds";
     "onto" option Kind::One(Form::Text), "NAME", "Put the tape on that volume as the file NAME, in place of standard output";
     "volume" 'v' option Kind::One(Form::Volume), "N", "The volume of an RK05 disk, 1 or 2, where IMAGE is the file of one";

@@ -107,7 +107,7 @@ pub fn texts_of(verb: Verb) -> Texts {
         },
         Verb::Assemble => Texts {
             about: "Assemble PAL III sources to a BIN paper tape",
-            long_about: "Assembles the PAL III sources in the files FILE, one after the other as one program, to a BIN paper{n}tape, which goes to standard output, or to the file TAPE. With --from the sources are files of the{n}OS/8 volume in the file IMAGE, and with --onto the tape is put there. With --pal8 the one source FILE{n}is PAL8, the language of OS/8's assembler. The line of a fault goes to standard error. The exit{n}status is 1 after a fault of a source or of a file.",
+            long_about: "Assembles the PAL III sources in the files FILE, one after the other as one program, to a BIN paper{n}tape, which goes to standard output, or to the file TAPE. With --from the sources are files of the{n}OS/8 volume in the file IMAGE, and with --onto the tape is put there. With --pal8 the sources are{n}PAL8, the language of OS/8's assembler. The line of a fault goes to standard error. The exit{n}status is 1 after a fault of a source or of a file.",
             examples: "Examples:\n  pdp8 assemble main.pa tables.pa -o main.bin -l main.ls --cross\n  pdp8 assemble --from disk.img add.pa --onto add.bn",
         },
         Verb::Teletype => Texts {

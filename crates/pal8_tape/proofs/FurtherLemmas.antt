@@ -1,21 +1,22 @@
 -- Faults after the first, one step at a time.
 use Rattle.std.proofs.Common.{◌≡◌, ℕ, ◌-◌, ◌≤◌, ◌<◌, Bool, Option, Some, None, length, take, suc, List, [], ◌∷◌, ◌++◌, refl, sym, ap, ◌∙◌, arith, append_assoc, append-nil, length-append}
 use Rattle.std.proofs.lemmas.List.{take_all}
-use Rattle.pal8_tape.specs.Further.{faults_after, faults_from, further_fault, items_of, next_text}
+use Rattle.pal8_tape.specs.Further.{faults_after, faults_from, further_fault, items_of, next_texts}
+use Rattle.std.specs.Borrow.{Bor}
 use Rattle.pal8_tape.specs.declared.faults.Fault.{Fault}
 
-module _ (passed : Bool) (source text : List ℕ) where
-  whole_step : (left : ℕ) → faults_after passed source (suc left) text ≡ faults_from passed source (faults_after passed source left) (next_text passed text)
+module _ (passed : Bool) (sources : List (Bor (List ℕ))) (texts : List (List ℕ)) where
+  whole_step : (left : ℕ) → faults_after passed sources (suc left) texts ≡ faults_from passed sources (faults_after passed sources left) (next_texts passed texts)
   unfolding faults_after
   whole_step left = refl
 
   pub one_step : (left : ℕ) → 0 < left
-      → faults_after passed source left text ≡ faults_from passed source (faults_after passed source (left - 1)) (next_text passed text)
+      → faults_after passed sources left texts ≡ faults_from passed sources (faults_after passed sources (left - 1)) (next_texts passed texts)
   one_step left more =
       let same : left ≡ suc (left - 1) = omega (arith, more) in
-      ap (λ n. faults_after passed source n text) same ∙ whole_step (left - 1)
+      ap (λ n. faults_after passed sources n texts) same ∙ whole_step (left - 1)
 
-  pub no_step : faults_after passed source 0 text ≡ []
+  pub no_step : faults_after passed sources 0 texts ≡ []
   unfolding faults_after
   no_step = refl
 
@@ -30,20 +31,20 @@ pub few_more : (most : ℕ) (faults : List Fault) (found : Option Fault) → len
 few_more most faults None more = omega (arith, length-append faults [], more)
 few_more most faults (Some fault) more = omega (arith, length-append faults (fault ∷ []), more)
 
-module _ (passed : Bool) (source text : List ℕ) (left : ℕ) (more : 0 < left) where
+module _ (passed : Bool) (sources : List (Bor (List ℕ))) (texts : List (List ℕ)) (left : ℕ) (more : 0 < left) where
   -- nothing is looked for any more
-  pub ends_here : (next : Option (List ℕ)) → next ≡ next_text passed text → next ≡ None → faults_after passed source left text ≡ []
+  pub ends_here : (next : Option (List (List ℕ))) → next ≡ next_texts passed texts → next ≡ None → faults_after passed sources left texts ≡ []
   ends_here next is none =
-      one_step passed source text left more ∙ ap (faults_from passed source (faults_after passed source (left - 1))) (sym is ∙ none)
+      one_step passed sources texts left more ∙ ap (faults_from passed sources (faults_after passed sources (left - 1))) (sym is ∙ none)
 
-  -- one text more
-  pub goes_on : (later : List ℕ) (found : Option Fault) (faults new whole : List Fault) → Some later ≡ next_text passed text
-      → found ≡ further_fault passed source later → new ≡ faults ++ items_of found → faults ++ faults_after passed source left text ≡ whole
-      → new ++ faults_after passed source (left - 1) later ≡ whole
+  -- one texts more
+  pub goes_on : (later : List (List ℕ)) (found : Option Fault) (faults new whole : List Fault) → Some later ≡ next_texts passed texts
+      → found ≡ further_fault passed sources later → new ≡ faults ++ items_of found → faults ++ faults_after passed sources left texts ≡ whole
+      → new ++ faults_after passed sources (left - 1) later ≡ whole
   goes_on later found faults new whole is fault put same =
-      ap (λ l. l ++ faults_after passed source (left - 1) later) put
-      ∙ append_assoc faults (items_of found) (faults_after passed source (left - 1) later)
-      ∙ ap (λ f. faults ++ (items_of f ++ faults_after passed source (left - 1) later)) fault
-      ∙ sym (ap (λ l. faults ++ l) (one_step passed source text left more
-      ∙ ap (faults_from passed source (faults_after passed source (left - 1))) (sym is)))
+      ap (λ l. l ++ faults_after passed sources (left - 1) later) put
+      ∙ append_assoc faults (items_of found) (faults_after passed sources (left - 1) later)
+      ∙ ap (λ f. faults ++ (items_of f ++ faults_after passed sources (left - 1) later)) fault
+      ∙ sym (ap (λ l. faults ++ l) (one_step passed sources texts left more
+      ∙ ap (faults_from passed sources (faults_after passed sources (left - 1))) (sym is)))
       ∙ same

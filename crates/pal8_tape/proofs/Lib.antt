@@ -1,3 +1,4 @@
+pub mod TextLemmas
 pub mod PlaceLemmas
 pub mod WordLemmas
 pub mod MarkLemmas

@@ -3,6 +3,8 @@ use Rattle.std.specs.Prelude.{ℕ, codes, decimal, List, [], ◌++◌}
 use Rattle.word12.specs.Octal.{octal5}
 use Rattle.pal8_asm.specs.declared.faults.Code.{Code}
 use Rattle.pal8_asm.specs.declared.faults.Code.TheVariants.{IC, SY, NU, UA, DT, RD, IR, II, FD, PG, PF, DZ, PE, ZE, PageClash, ZeroClash, RL, PH, NE, NW}
+use Rattle.std.specs.Borrow.{Bor}
+use Rattle.host_sources.specs.Places.{bytes_of}
 use Rattle.host_sources.specs.Spelling.{spelling}
 use Rattle.host_sources.specs.FaultLines.{character_text, place_text, marked_line}
 use Rattle.pal8_tape.specs.declared.faults.Fault.{Fault}
@@ -84,7 +86,9 @@ fault_words code byte = letters_of code ++ codes ": " ++ words_of code ++ about 
 abbrev pub script_text : Fault → List ℕ
 script_text fault = codes "? 5 " ++ letters_of fault.code ++ codes " " ++ decimal fault.line ++ codes "\n"
 
--- The text of a fault of a source with this name. It is the fault with its place, its line with a caret below its place,
--- and the line that scripts get.
-abbrev pub fault_text : List ℕ → List ℕ → Fault → List ℕ
-fault_text source name fault = place_text name fault.place ++ fault_words fault.code fault.byte ++ marked_line source fault.place ++ script_text fault
+-- The text of a fault of sources with these names. It is the fault with the name of its source and its place there, its line with a caret
+-- below its place, and the line that scripts get.
+abbrev pub fault_text : List (Bor (List ℕ)) → List (Bor (List ℕ)) → Fault → List ℕ
+fault_text sources names fault =
+    place_text (bytes_of names fault.place.source) fault.place ++ fault_words fault.code fault.byte
+    ++ marked_line (bytes_of sources fault.place.source) fault.place ++ script_text fault

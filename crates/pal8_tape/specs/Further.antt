@@ -1,15 +1,17 @@
 -- The faults after the first (this project's profile of PAL8).
 use Rattle.std.specs.Prelude.{ℕ, Bool, true, false, if◌then◌else◌, Option, Some, None, Result, Ok, Err, zero, suc, take, List, [], ◌∷◌, ◌++◌}
+use Rattle.std.specs.Borrow.{Bor}
 use Rattle.pal_lex.specs.Text.{text_of}
 use Rattle.pal8_asm.specs.Sources.{PassResult, remainder_of_text}
-use Rattle.pal8_asm.specs.Assembled.{result_of_text}
 use Rattle.pal8_asm.specs.Tapes.{TapeWords}
 use Rattle.pal8_asm.specs.declared.faults.Fault as asm
 use Rattle.pal8_asm.specs.declared.faults.Code.{Code}
 use Rattle.pal8_asm.specs.declared.faults.Code.TheVariants.{IC, SY, NU, UA, DT, RD, IR, II, FD, PG, PF, DZ, PE, ZE, PageClash, ZeroClash, RL, PH, NE, NW}
-use Rattle.pal8_tape.specs.Marks.{fault_mark}
+use Rattle.host_sources.specs.Places.{place_in}
+use Rattle.pal8_lex.specs.Text.{live}
+use Rattle.pal8_join.specs.Joins.{bytes_in, counts_of, is_line_open, joined_bytes}
 use Rattle.pal8_tape.specs.Mending.{harmless}
-use Rattle.pal8_tape.specs.Answers.{at_mark}
+use Rattle.pal8_tape.specs.Answers.{result_of, with_place}
 use Rattle.pal8_tape.specs.declared.faults.Fault.{Fault}
 use Rattle.pal8_tape.specs.declared.further.TheConstants.{MOST_HARMLESS}
 
@@ -87,8 +89,8 @@ is_ok (Ok left) = true
 is_ok (Err fault) = false
 
 -- no statement has a fault but for words, and the source ends
-abbrev pub is_passed : List ℕ → Bool
-is_passed text = is_ok (remainder_of_text (text_of text))
+abbrev pub is_passed : List (List ℕ) → Bool
+is_passed texts = is_ok (remainder_of_text (text_of (joined_bytes texts)))
 
 -- further faults are looked for after it
 abbrev pub is_followed : Bool → Code → Bool
@@ -102,45 +104,71 @@ abbrev pub fault_by : Bool → Result TapeWords asm.Fault → Option asm.Fault
 fault_by passed (Ok made) = None
 fault_by passed (Err fault) = if is_followed passed fault.code then Some fault else None
 
--- the first fault of a text, if further ones are looked for after it
-abbrev pub followed_fault : Bool → List ℕ → Option asm.Fault
-followed_fault passed text = fault_by passed (result_of_text (text_of text))
+-- the first fault of sources, if further ones are looked for after it
+abbrev pub followed_fault : Bool → List (List ℕ) → Option asm.Fault
+followed_fault passed texts = fault_by passed (result_of texts)
 
-abbrev pub next_by : Bool → List ℕ → Option asm.Fault → Option (List ℕ)
-next_by passed text None = None
-next_by passed text (Some fault) = harmless passed fault.place.start text
+-- ## The sources in which the next fault is looked for
 
--- the text in which the next fault is looked for, if it is: the statement with the first one is harmless in it
-abbrev pub next_text : Bool → List ℕ → Option (List ℕ)
-next_text passed text = next_by passed text (followed_fault passed text)
+abbrev pub with_first : Option (List ℕ) → List (List ℕ) → Option (List (List ℕ))
+with_first None others = None
+with_first (Some text) others = Some (text ∷ others)
 
--- a fault of a text with harmless statements, at its place in the source
-abbrev pub with_place : List ℕ → List ℕ → asm.Fault → Fault
-with_place source text fault = at_mark source fault (fault_mark text fault.code fault.place.start)
+abbrev pub with_others : List ℕ → Option (List (List ℕ)) → Option (List (List ℕ))
+with_others text None = None
+with_others text (Some others) = Some (text ∷ others)
 
-abbrev pub further_by : Bool → List ℕ → List ℕ → Result TapeWords asm.Fault → Option Fault
-further_by passed source text (Ok made) = None
-further_by passed source text (Err fault) = if is_further passed fault.code then Some (with_place source text fault) else None
+-- texts in one of which, by its number from 0, the statement that begins at a place is harmless
+abbrev pub harmless_at : Bool → List (List ℕ) → ℕ → ℕ → Option (List (List ℕ))
+harmless_at passed [] number start = None
+harmless_at passed (text ∷ others) zero start = with_first (harmless passed start text) others
+harmless_at passed (text ∷ others) (suc number) start = with_others text (harmless_at passed others number start)
 
--- the first fault of such a text, if it is one of the further faults
-abbrev pub further_fault : Bool → List ℕ → List ℕ → Option Fault
-further_fault passed source text = further_by passed source text (result_of_text (text_of text))
+abbrev pub harmless_by_place : Bool → List (List ℕ) → ℕ × ℕ → Option (List (List ℕ))
+harmless_by_place passed texts at = harmless_at passed texts at.0 at.1
+
+abbrev pub next_by : Bool → List (List ℕ) → Option asm.Fault → Option (List (List ℕ))
+next_by passed texts None = None
+next_by passed texts (Some fault) = harmless_by_place passed texts (place_in (counts_of texts) fault.place.start)
+
+-- the texts in which the next fault is looked for, if it is: the statement with the first one is harmless in them
+abbrev pub next_texts : Bool → List (List ℕ) → Option (List (List ℕ))
+next_texts passed texts = next_by passed texts (followed_fault passed texts)
+
+abbrev pub further_by : Bool → List (Bor (List ℕ)) → List (List ℕ) → Result TapeWords asm.Fault → Option Fault
+further_by passed sources texts (Ok made) = None
+further_by passed sources texts (Err fault) = if is_further passed fault.code then Some (with_place sources texts fault) else None
+
+-- the first fault of such texts, at its place in the sources, if it is one of the further faults
+abbrev pub further_fault : Bool → List (Bor (List ℕ)) → List (List ℕ) → Option Fault
+further_fault passed sources texts = further_by passed sources texts (result_of texts)
 
 abbrev pub items_of : {A : Type 0} → Option A → List A
 items_of None = []
 items_of (Some a) = a ∷ []
 
--- the fault of the text with one statement made harmless, and those after it
-abbrev pub faults_from : Bool → List ℕ → (List ℕ → List Fault) → Option (List ℕ) → List Fault
-faults_from passed source others None = []
-faults_from passed source others (Some text) = items_of (further_fault passed source text) ++ others text
+-- the fault of the texts with one statement made harmless, and those after it
+abbrev pub faults_from : Bool → List (Bor (List ℕ)) → (List (List ℕ) → List Fault) → Option (List (List ℕ)) → List Fault
+faults_from passed sources others None = []
+faults_from passed sources others (Some texts) = items_of (further_fault passed sources texts) ++ others texts
 
--- The faults after the first of a text, where so many statements at most are made harmless, one after the other. The first of these has the
--- first fault of the text; each other one has the first fault of the text with those before it.
-unfoldable pub faults_after : Bool → List ℕ → ℕ → List ℕ → List Fault
-faults_after passed source zero text = []
-faults_after passed source (suc n) text = faults_from passed source (faults_after passed source n) (next_text passed text)
+-- The faults after the first of texts, where so many statements at most are made harmless, one after the other. The first of these has the
+-- first fault of the texts; each other one has the first fault of the texts with those before it.
+unfoldable pub faults_after : Bool → List (Bor (List ℕ)) → ℕ → List (List ℕ) → List Fault
+faults_after passed sources zero texts = []
+faults_after passed sources (suc n) texts = faults_from passed sources (faults_after passed sources n) (next_texts passed texts)
 
--- So many faults of a source after the first. They are those of statements that are bad by themselves, or those of words that are so.
-abbrev pub further_faults : List ℕ → ℕ → List Fault
-further_faults source most = take most (faults_after (is_passed source) source MOST_HARMLESS source)
+-- a text whose last line is ended
+abbrev pub ended_text : List ℕ → List ℕ
+ended_text text = text ++ (if is_line_open (live (text_of text)) then 0o12 ∷ [] else [])
+
+-- texts of which each but the last has its last line ended, so that what stands there is a statement
+abbrev pub ended_texts : List (List ℕ) → List (List ℕ)
+ended_texts [] = []
+ended_texts (text ∷ []) = text ∷ []
+ended_texts (text ∷ next ∷ others) = ended_text text ∷ ended_texts (next ∷ others)
+
+-- So many faults of sources after the first. They are those of statements that are bad by themselves, or those of words that are so.
+abbrev pub further_faults : List (Bor (List ℕ)) → ℕ → List Fault
+further_faults sources most =
+    take most (faults_after (is_passed (ended_texts (bytes_in sources))) sources MOST_HARMLESS (ended_texts (bytes_in sources)))

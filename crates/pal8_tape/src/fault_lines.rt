@@ -6,12 +6,13 @@ ghost use Rattle.std.specs.Prelude.{codes};
 
 use crate::Fault;
 use crate::codes::{letters_of, words_of};
+use crate::places::{bytes_of, name_of};
 use host_sources::{put_character, put_marked_line, put_number, put_place, put_spelling};
 use pal8_asm::Code;
 use std::alloc::{AllocError, Global};
 use word12::Cell;
 
-/// The text of a fault of a source with this name, four lines that LF ends. The first is the fault, after the name of the source and its place there.
+/// The text of a fault of sources with these names, four lines that LF ends. The first is the fault, after the name of its source and its place there.
 /// UA has the undefined name by the six characters that count, IC the character, and a word on a pool's cell the cell. Then come the line of the
 /// source, a caret below the column, and the fault as it is reported to scripts.
 ///
@@ -19,16 +20,17 @@ use word12::Cell;
 /// profile).
 pub fn fault_text(
     alloc: Global,
-    source: &[u8],
-    name: &str,
+    sources: &[&[u8]],
+    names: &[&str],
     fault: Fault,
 ) -> Result<Vec<u8>, AllocError>
-    ensures { IfOk result (λ text. text.items ≡ fault_text source.now name.now fault) }
+    ensures { IfOk result (λ text. text.items ≡ fault_text sources.now names.now fault) }
 {
+    let place = fault.place;
     let mut text = Vec::new(alloc);
-    put_place(&mut text, name, fault.place)?;
+    put_place(&mut text, name_of(names, place.source), place)?;
     put_fault(&mut text, fault.code, fault.byte)?;
-    put_marked_line(alloc, &mut text, source, fault.place)?;
+    put_marked_line(alloc, &mut text, bytes_of(sources, place.source), place)?;
     put_numbered(&mut text, fault)?;
     Ok(text)
 }

@@ -1,48 +1,53 @@
 //! Faults after the first.
-ghost use Rattle.std.specs.Prelude.{◌≡◌, ◌++◌, Err, IfOk, IfErr, OnOk};
+ghost use Rattle.std.specs.Prelude.{◌≡◌, ◌++◌, ◌∷◌, [], Err, IfOk, IfErr, OnOk, map};
 ghost use Rattle.pal_lex.specs.Text.{text_of};
 ghost use Rattle.pal8_asm.specs.Assembling.{Assembles};
+ghost use Rattle.pal8_join.specs.Joins.{counts_of, joined_bytes};
 ghost use Rattle.pal8_tape.specs.Further as spec;
 ghost use Rattle.pal8_tape.specs.Further.{further_faults};
-ghost use Rattle.pal8_tape.specs.MendSteps.{text_in};
+ghost use Rattle.pal8_tape.specs.MendSteps.{Mends};
 ghost use Rattle.pal8_tape.specs.declared.faults.SourceFault.TheVariants.{Memory};
 
-use crate::marks::fault_mark;
-use crate::mending::harmless;
-use crate::tapes::at_mark;
+use crate::places::place_in;
+use crate::tapes::at_token;
+use crate::texts::{ended_texts, join_texts, mend};
 use crate::{Fault, SourceFault};
 use pal8_asm::{AsmFault, Assembler, Code, Place, assemble};
+use pal8_join::Join;
 use std::alloc::{AllocError, Global};
 
 /// How many statements at most are made harmless to find further faults.
 const MOST_HARMLESS: usize = 100;
 
-/// So many of the faults of a source after the first, in its order. A statement with a fault is read as its tags that are free names, and the word 0.
-/// The next fault is the first of that text, and so on, of at most 100 texts.
+/// So many of the faults of sources after the first, in their order. A statement with a fault is read as its tags that are free names, and the word 0.
+/// The next fault is the first of those texts, and so on, of at most 100 times.
 ///
 /// Where the first fault is IC, SY or NU, so is each further one. There is no next one where the statement opens a bracket, or a reserved name begins
 /// its body: what it says may concern those after it. Where the first fault is one of a word, further ones are UA, DZ, RL and II of words. PE and ZE
 /// aren't among them, and a word with a fault asks for nothing. A late definition is judged with the words, and one with a fault is its tags
-/// alone. There are none where the source has another first fault, or none at all (PAL8, in this project's profile). The only fault of the call is
+/// alone. There are none where the sources have another first fault, or none at all (PAL8, in this project's profile). The only fault of the call is
 /// `Memory`.
-pub fn further_faults(alloc: Global, source: &[u8], most: usize) -> Result<Vec<Fault>, SourceFault>
-    ensures faults { IfOk result (λ faults. faults.items ≡ further_faults source.now most) }
+pub fn further_faults(
+    alloc: Global,
+    sources: &[&[u8]],
+    most: usize,
+) -> Result<Vec<Fault>, SourceFault>
+    ensures faults { IfOk result (λ faults. faults.items ≡ further_faults sources.now most) }
     ensures fault { IfErr result (λ fault. fault ≡ Memory) }
 {
-    let passed = is_passed(alloc, source)?;
+    let mut texts = ended_texts(alloc, sources)?;
+    let passed = is_passed(alloc, &texts)?;
     let mut faults = Vec::new(alloc);
-    let mut text = Vec::new(alloc);
-    text.extend_from_slice(source)?;
     let mut left = MOST_HARMLESS;
     while left > 0 {
         if faults.len() >= most {
             return Ok(faults);
         }
-        match next_text(alloc, &text, passed)? {
-            Some(next) => text = next,
-            None => return Ok(faults),
+        let is_mended = mend_first(alloc, &mut texts, passed)?;
+        if !is_mended {
+            return Ok(faults);
         }
-        let fault = further_fault(alloc, source, &text, passed)?;
+        let fault = further_fault(alloc, sources, &texts, passed)?;
         put(&mut faults, fault)?;
         left -= 1;
     }
@@ -62,118 +67,133 @@ fn put<T: Drop>(items: &mut Vec<T>, item: Option<T>) -> Result<(), AllocError>
     }
 }
 
-/// Whether no statement of a text has a fault but for words, and its source ends.
-fn is_passed(alloc: Global, text: &[u8]) -> Result<bool, SourceFault>
-    ensures passed { IfOk result (λ is. is ≡ spec.is_passed text.now) }
+/// Whether no statement of texts has a fault but for words, and their source ends.
+fn is_passed(alloc: Global, texts: &[Vec<u8>]) -> Result<bool, SourceFault>
+    ensures passed { IfOk result (λ is. is ≡ spec.is_passed (map (λ text. text.items) texts.now)) }
     ensures fault { IfErr result (λ fault. fault ≡ Memory) }
 {
+    let join = join_texts(alloc, texts)?;
     let mut assembler = Assembler::new(alloc);
-    match assembler.read(alloc, text) {
+    match assembler.read(alloc, &join.text) {
         Ok(_) => Ok(true),
         Err(AsmFault::At(_, _)) => Ok(false),
         Err(AsmFault::Memory) => Err(SourceFault::Memory),
     }
 }
 
-/// The text in which the next fault is looked for, if it is: the statement with the first fault of a text is harmless in it.
-fn next_text(alloc: Global, text: &[u8], passed: bool) -> Result<Option<Vec<u8>>, SourceFault>
-    ensures next { IfOk result (λ next. text_in next ≡ spec.next_text passed text.now) }
+/// Makes the statement with the first fault of texts harmless, if the next one is looked for, and answers whether it is.
+fn mend_first(alloc: Global, texts: &mut Vec<Vec<u8>>, passed: bool) -> Result<bool, SourceFault>
+    ensures mends { IfOk result (λ is. Mends (spec.next_texts passed (map (λ text. text.items) texts.old.items)) is texts.new.items) }
     ensures fault { IfErr result (λ fault. fault ≡ Memory) }
 {
-    match assemble(alloc, text) {
-        Ok(_pairs) => Ok(None),
-        Err(fault) => text_after(alloc, text, passed, fault),
+    let join = join_texts(alloc, texts)?;
+    match assemble(alloc, &join.text) {
+        Ok(_pairs) => Ok(false),
+        Err(fault) => mend_after(alloc, texts, &join, passed, fault),
     }
 }
 
-/// The same by the fault of a text.
-fn text_after(
+/// The same by the fault of their join.
+fn mend_after(
     alloc: Global,
-    text: &[u8],
+    texts: &mut Vec<Vec<u8>>,
+    join: &Join,
     passed: bool,
     fault: AsmFault,
-) -> Result<Option<Vec<u8>>, SourceFault>
-    requires { Assembles (text_of text.now) (Err fault) }
-    ensures next { IfOk result (λ next. text_in next ≡ spec.next_text passed text.now) }
+) -> Result<bool, SourceFault>
+    requires text { join.now.text.items ≡ joined_bytes (map (λ text. text.items) texts.old.items) }
+    requires counts { join.now.counts.items ≡ counts_of (map (λ text. text.items) texts.old.items) }
+    requires fault { Assembles (text_of join.now.text.items) (Err fault) }
+    ensures mends { IfOk result (λ is. Mends (spec.next_texts passed (map (λ text. text.items) texts.old.items)) is texts.new.items) }
     ensures fault { IfErr result (λ fault. fault ≡ Memory) }
 {
     match fault {
         AsmFault::Memory => Err(SourceFault::Memory),
-        AsmFault::At(code, place) => next_by(alloc, text, passed, code, place),
+        AsmFault::At(code, place) => mend_by(alloc, texts, join, passed, code, place),
     }
 }
 
-/// The text in which the next fault is looked for after this first fault of a text, if it is.
-fn next_by(
+/// Makes the statement of texts harmless that has this first fault of their join, if the next one is looked for.
+fn mend_by(
     alloc: Global,
-    text: &[u8],
+    texts: &mut Vec<Vec<u8>>,
+    join: &Join,
     passed: bool,
     code: Code,
     place: Place,
-) -> Result<Option<Vec<u8>>, SourceFault>
-    ensures next { IfOk result (λ next. text_in next ≡ spec.next_by passed text.now
-        (spec.fault_by passed (Err (record { code = code; place = place })))) }
+) -> Result<bool, SourceFault>
+    requires counts { join.now.counts.items ≡ counts_of (map (λ text. text.items) texts.old.items) }
+    ensures mends { IfOk result (λ is. Mends (spec.next_by passed (map (λ text. text.items) texts.old.items)
+        (spec.fault_by passed (Err (record { code = code; place = place })))) is texts.new.items) }
     ensures fault { IfErr result (λ fault. fault ≡ Memory) }
 {
     if !is_followed(passed, &code) {
-        return Ok(None);
+        return Ok(false);
     }
-    let next = harmless(alloc, text, passed, place.start)?;
-    Ok(next)
+    let (number, start) = place_in(&join.counts, place.start as usize);
+    let is_mended = mend(alloc, texts, passed, number, start as u64)?;
+    Ok(is_mended)
 }
 
-/// The first fault of a text at its place in a source, if it is one of the further faults.
+/// The first fault of texts at its place in the sources, if it is one of the further faults.
 fn further_fault(
     alloc: Global,
-    source: &[u8],
-    text: &[u8],
+    sources: &[&[u8]],
+    texts: &[Vec<u8>],
     passed: bool,
 ) -> Result<Option<Fault>, SourceFault>
-    ensures found { IfOk result (λ found. found ≡ spec.further_fault passed source.now text.now) }
+    ensures found { IfOk result (λ found. found ≡ spec.further_fault passed sources.now (map (λ text. text.items) texts.now)) }
     ensures fault { IfErr result (λ fault. fault ≡ Memory) }
 {
-    match assemble(alloc, text) {
+    let join = join_texts(alloc, texts)?;
+    match assemble(alloc, &join.text) {
         Ok(_pairs) => Ok(None),
-        Err(fault) => fault_with_place(alloc, source, text, passed, fault),
+        Err(fault) => fault_with_place(alloc, sources, texts, &join, passed, fault),
     }
 }
 
-/// The same by the fault of a text.
+/// The same by the fault of their join.
 fn fault_with_place(
     alloc: Global,
-    source: &[u8],
-    text: &[u8],
+    sources: &[&[u8]],
+    texts: &[Vec<u8>],
+    join: &Join,
     passed: bool,
     fault: AsmFault,
 ) -> Result<Option<Fault>, SourceFault>
-    requires { Assembles (text_of text.now) (Err fault) }
-    ensures found { IfOk result (λ found. found ≡ spec.further_fault passed source.now text.now) }
+    requires text { join.now.text.items ≡ joined_bytes (map (λ text. text.items) texts.now) }
+    requires counts { join.now.counts.items ≡ counts_of (map (λ text. text.items) texts.now) }
+    requires fault { Assembles (text_of join.now.text.items) (Err fault) }
+    ensures found { IfOk result (λ found. found ≡ spec.further_fault passed sources.now (map (λ text. text.items) texts.now)) }
     ensures fault { IfErr result (λ fault. fault ≡ Memory) }
 {
     match fault {
         AsmFault::Memory => Err(SourceFault::Memory),
-        AsmFault::At(code, place) => further_by(alloc, source, text, passed, code, place),
+        AsmFault::At(code, place) => further_by(alloc, sources, texts, join, passed, code, place),
     }
 }
 
-/// This first fault of a text at its place in a source, if it is one of the further faults.
+/// This first fault of a join at its place in the sources, if it is one of the further faults.
 fn further_by(
     alloc: Global,
-    source: &[u8],
-    text: &[u8],
+    sources: &[&[u8]],
+    texts: &[Vec<u8>],
+    join: &Join,
     passed: bool,
     code: Code,
     place: Place,
 ) -> Result<Option<Fault>, SourceFault>
-    ensures found { IfOk result (λ found. found ≡ spec.further_by passed source.now text.now
+    requires text { join.now.text.items ≡ joined_bytes (map (λ text. text.items) texts.now) }
+    requires counts { join.now.counts.items ≡ counts_of (map (λ text. text.items) texts.now) }
+    ensures found { IfOk result (λ found. found ≡ spec.further_by passed sources.now (map (λ text. text.items) texts.now)
         (Err (record { code = code; place = place }))) }
     ensures fault { IfErr result (λ fault. fault ≡ Memory) }
 {
     if !is_further(passed, &code) {
         return Ok(None);
     }
-    let mark = fault_mark(alloc, text, &code, place.start)?;
-    Ok(Some(at_mark(source, code, place.line, mark as usize)))
+    let fault = at_token(alloc, sources, join, code, place)?;
+    Ok(Some(fault))
 }
 
 /// Whether further faults are looked for after one.

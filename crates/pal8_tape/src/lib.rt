@@ -1,5 +1,5 @@
-//! A PAL8 source of the host to a BIN tape. It gives the frames of the tape that it is assembled to, or its first fault with its place, as a compiler
-//! reports it. It also gives the word of PAL8 at which a source has a fault that was taken as PAL III.
+//! PAL8 sources of the host to a BIN tape. It gives the frames of the tape that they are assembled to as one, or their first fault with its place, as
+//! a compiler reports it. It also gives the word of PAL8 at which a source has a fault that was taken as PAL III.
 //!
 //! A source is the bytes of a text of the host. LF ends a line of it, and CR, form feed, NUL and rubout are as if they weren't there (PAL8, the
 //! assembler of OS/8, in this project's profile of it).
@@ -15,6 +15,7 @@ mod mending;
 mod places;
 mod signs;
 mod tapes;
+mod texts;
 
 pub use fault_lines::fault_text;
 pub use faults::{Fault, SourceFault};

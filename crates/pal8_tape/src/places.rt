@@ -1,21 +1,78 @@
-//! Where a byte of a source stands.
+//! Where a byte of sources stands.
 ghost use Rattle.std.specs.Prelude.{◌≡◌, ◌<◌, take};
 ghost use Rattle.pal_lex.specs.Text.{text_of};
-ghost use Rattle.pal8_tape.specs.Places.{column_after, column_with, place_of};
+ghost use Rattle.host_sources.specs.Places as hosts;
+ghost use Rattle.pal8_tape.specs.Places.{column_after, column_with, place_by, place_of};
 
 use host_sources::{Place, first_bytes, next_line};
 
-/// The place of a byte of a source, by its number from 0. Where there is none of this number, it is the place after the
+/// The place of a byte of a source with this number, by the byte's number from 0. Where there is none of this number, it is the place after the
 /// last one.
-pub(crate) fn place_of(source: &[u8], at: usize) -> Place
-    ensures { result ≡ place_of source.now at }
+fn place_of(number: usize, source: &[u8], at: usize) -> Place
+    ensures { result ≡ place_of number source.now at }
 {
     let before = first_bytes(source, at);
     Place {
-        source: 0,
+        source: number,
         line: next_line(before),
         column: column_after(before),
     }
+}
+
+/// The place of a byte of the join of sources, of each of which that another follows so many bytes are in the join.
+pub(crate) fn place_by(sources: &[&[u8]], counts: &[usize], at: usize) -> Place
+    ensures { result ≡ place_by sources.now (hosts.place_in counts.now at) }
+{
+    let (number, left) = place_in(counts, at);
+    place_of(number, bytes_of(sources, number), left)
+}
+
+/// The source of a place in a join, and the place in this source.
+pub(crate) fn place_in(counts: &[usize], place: usize) -> (usize, usize)
+    ensures { result ≡ hosts.place_in counts.now place }
+{
+    let mut source = 0;
+    let mut left = place;
+    for count in counts {
+        if left < *count {
+            return (source, left);
+        }
+        left -= *count;
+        source += 1;
+    }
+    (source, left)
+}
+
+/// The bytes of a source, of which the first is number 0; none where there is none of this number.
+pub(crate) fn bytes_of<'a>(sources: &[&'a [u8]], number: usize) -> &'a [u8]
+    ensures { result.now ≡ hosts.bytes_of sources.now number }
+{
+    let mut left = number;
+    let mut rest = sources;
+    while let [source, others @ ..] = rest {
+        if left == 0 {
+            return source;
+        }
+        left -= 1;
+        rest = others;
+    }
+    &[]
+}
+
+/// The name of a source; an empty one where there is none of this number.
+pub(crate) fn name_of<'a>(names: &[&'a str], number: usize) -> &'a str
+    ensures { result.now ≡ hosts.bytes_of names.now number }
+{
+    let mut left = number;
+    let mut rest = names;
+    while let [name, others @ ..] = rest {
+        if left == 0 {
+            return name;
+        }
+        left -= 1;
+        rest = others;
+    }
+    ""
 }
 
 /// The column after a text, from 1.

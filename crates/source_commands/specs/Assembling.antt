@@ -14,7 +14,7 @@ use Rattle.pal8_tape.specs.declared.faults.SourceFault as pal8_fault
 use Rattle.pal8_tape.specs.declared.faults.SourceFault.TheVariants as pal8_is
 use Rattle.script8.specs.declared.faults.SessionFault.TheVariants.{Memory}
 use Rattle.outcome.specs.declared.endings.Ending.{Ending}
-use Rattle.outcome.specs.declared.endings.Ending.TheVariants.{Fault, Failure, Misuse}
+use Rattle.outcome.specs.declared.endings.Ending.TheVariants.{Fault, Failure}
 use Rattle.program_tasks.specs.declared.forms.ImageForm.{ImageForm}
 use Rattle.program_tasks.specs.declared.tasks.AssembleForm.{AssembleForm}
 use Rattle.volume_commands.specs.Work.{Then, Purely}
@@ -53,29 +53,18 @@ abbrev pub MakesPal3 : Bool → Bool → List (Bor (List ℕ)) → List (Bor (Li
 MakesPal3 is_listed is_cross sources names old (Ok made) new = pal3.IsAssembled sources made.tape.items × IsListing is_listed is_cross sources made.listing × (new ≡ old)
 MakesPal3 is_listed is_cross sources names old (Err ending) new = (fault : pal3_fault.SourceFault) × pal3.IsTold sources fault × RefusesSources sources names fault old ending new
 
--- why a source of PAL8 is not assembled
-abbrev pub RefusesPal8 : List ℕ → List ℕ → pal8_fault.SourceFault → List Event → Ending → List Event → Type 0
-RefusesPal8 source name (pal8_is.At fault) old ending new = PrintsFaults (pal8_faults_text source name fault) old ending new
-RefusesPal8 source name pal8_is.Memory old ending new = (ending ≡ Fault Memory) × (new ≡ old)
+-- why sources of PAL8 are not assembled
+abbrev pub RefusesPal8 : List (Bor (List ℕ)) → List (Bor (List ℕ)) → pal8_fault.SourceFault → List Event → Ending → List Event → Type 0
+RefusesPal8 sources names (pal8_is.At fault) old ending new = PrintsFaults (pal8_faults_text sources names fault) old ending new
+RefusesPal8 sources names pal8_is.Memory old ending new = (ending ≡ Fault Memory) × (new ≡ old)
 
--- a PAL8 source is assembled, or its faults are printed
-abbrev pub MakesPal8 : List ℕ → List ℕ → List Event → Result Assembled Ending → List Event → Type 0
-MakesPal8 source name old (Ok made) new = pal8.IsTape source made.tape.items × (made.listing ≡ None) × (new ≡ old)
-MakesPal8 source name old (Err ending) new = (fault : pal8_fault.SourceFault) × pal8.IsTold source fault × RefusesPal8 source name fault old ending new
-
--- a command without a source
-abbrev pub HasNone : List Event → Result Assembled Ending → List Event → Type 0
-HasNone old (Ok made) new = ⊥
-HasNone old (Err ending) new = (ending ≡ Misuse) × (new ≡ old)
-
--- of PAL8 there is one source
-abbrev pub MakesFirst : List (Bor (List ℕ)) → List (Bor (List ℕ)) → List Event → Result Assembled Ending → List Event → Type 0
-MakesFirst [] names old result new = HasNone old result new
-MakesFirst (source ∷ sources) [] old result new = HasNone old result new
-MakesFirst (source ∷ sources) (name ∷ names) old result new = MakesPal8 source.now name.now old result new
+-- PAL8 sources are assembled as one, or their faults are printed
+abbrev pub MakesPal8 : List (Bor (List ℕ)) → List (Bor (List ℕ)) → List Event → Result Assembled Ending → List Event → Type 0
+MakesPal8 sources names old (Ok made) new = pal8.IsTape sources made.tape.items × (made.listing ≡ None) × (new ≡ old)
+MakesPal8 sources names old (Err ending) new = (fault : pal8_fault.SourceFault) × pal8.IsTold sources fault × RefusesPal8 sources names fault old ending new
 
 abbrev pub MakesIf : Bool → AssembleForm → List (Bor (List ℕ)) → List (Bor (List ℕ)) → List Event → Result Assembled Ending → List Event → Type 0
-MakesIf true form sources names old result new = MakesFirst sources names old result new
+MakesIf true form sources names old result new = MakesPal8 sources names old result new
 MakesIf false form sources names old result new = MakesPal3 (is_some form.list) form.is_cross sources names old result new
 
 -- what texts come to in the language that is asked for

@@ -58,8 +58,8 @@ faults_text sources names fault =
     top_bits_notes sources names ++ pal3.fault_text sources names fault ++ sign_note (sign_text fault.about)
     ++ further_text (map (pal3.fault_text sources names) (further_faults sources MOST_FURTHER))
 
--- what is printed of the faults of a PAL8 source: the first one, and then the further ones
-abbrev pub pal8_faults_text : List ℕ → List ℕ → pal8_fault.Fault → List ℕ
-pal8_faults_text source name fault =
-    top_bits_note source name ++ pal8.fault_text source name fault
-    ++ further_text (map (pal8.fault_text source name) (pal8_further.further_faults source MOST_FURTHER))
+-- what is printed of the faults of PAL8 sources: the first one, and then the further ones
+abbrev pub pal8_faults_text : List (Bor (List ℕ)) → List (Bor (List ℕ)) → pal8_fault.Fault → List ℕ
+pal8_faults_text sources names fault =
+    top_bits_notes sources names ++ pal8.fault_text sources names fault
+    ++ further_text (map (pal8.fault_text sources names) (pal8_further.further_faults sources MOST_FURTHER))

@@ -1,6 +1,6 @@
 //! The command that assembles sources.
 ghost use Rattle.std.specs.Prelude.{◌≡◌, true, map, option_copied};
-ghost use Rattle.source_commands.specs.Assembling.{Assembles, AssemblesFrom, AssemblesTo, ListsTape, Makes, MakesFirst, MakesIf, MakesPal3, MakesPal8, PrintsFaults, RefusesPal8, RefusesSources};
+ghost use Rattle.source_commands.specs.Assembling.{Assembles, AssemblesFrom, AssemblesTo, ListsTape, Makes, MakesIf, MakesPal3, MakesPal8, PrintsFaults, RefusesPal8, RefusesSources};
 ghost use Rattle.source_commands.specs.Assembling as spec;
 
 use crate::clashes::refuse_clash;
@@ -138,7 +138,7 @@ fn assembled_sources<H: Host>(
     ensures { MakesIf form.now.is_pal8 form.now sources.now names.now (H.history host.old) result (H.history host.new) }
 {
     if form.is_pal8 {
-        return first_assembled(host, alloc, sources, names);
+        return pal8_assembled(host, alloc, sources, names);
     }
     if form.list.is_some() {
         return listed_sources(host, alloc, form.is_cross, sources, names);
@@ -207,55 +207,37 @@ fn print_faults<H: Host>(host: &mut H, text: &[u8]) -> Ending
     Ending::Failure
 }
 
-/// What the first source, of PAL8, is assembled to.
-fn first_assembled<H: Host>(
+/// What PAL8 sources are assembled to.
+fn pal8_assembled<H: Host>(
     host: &mut H,
     alloc: Global,
     sources: &[&[u8]],
     names: &[&str],
 ) -> Result<Assembled, Ending>
-    ensures { MakesFirst sources.now names.now (H.history host.old) result (H.history host.new) }
+    ensures { MakesPal8 sources.now names.now (H.history host.old) result (H.history host.new) }
 {
-    let [source, ..] = sources else {
-        return Err(Ending::Misuse);
-    };
-    let [name, ..] = names else {
-        return Err(Ending::Misuse);
-    };
-    pal8_assembled(host, alloc, source, name)
-}
-
-/// What a PAL8 source is assembled to.
-fn pal8_assembled<H: Host>(
-    host: &mut H,
-    alloc: Global,
-    source: &[u8],
-    name: &str,
-) -> Result<Assembled, Ending>
-    ensures { MakesPal8 source.now name.now (H.history host.old) result (H.history host.new) }
-{
-    match tape_of(alloc, source) {
+    match tape_of(alloc, sources) {
         Ok(tape) => Ok(Assembled {
             tape,
             listing: None,
         }),
-        Err(fault) => Err(refuse_pal8(host, alloc, source, name, fault)),
+        Err(fault) => Err(refuse_pal8(host, alloc, sources, names, fault)),
     }
 }
 
-/// How the command ends where a PAL8 source has this fault, which is printed.
+/// How the command ends where PAL8 sources have this fault, which is printed with the further ones.
 fn refuse_pal8<H: Host>(
     host: &mut H,
     alloc: Global,
-    source: &[u8],
-    name: &str,
+    sources: &[&[u8]],
+    names: &[&str],
     fault: Pal8Fault,
 ) -> Ending
-    ensures { RefusesPal8 source.now name.now fault (H.history host.old) result (H.history host.new) }
+    ensures { RefusesPal8 sources.now names.now fault (H.history host.old) result (H.history host.new) }
 {
     match fault {
         Pal8Fault::Memory => Ending::Fault(SessionFault::Memory),
-        Pal8Fault::At(first) => match pal8_faults_text(alloc, source, name, first) {
+        Pal8Fault::At(first) => match pal8_faults_text(alloc, sources, names, first) {
             Ok(text) => print_faults(host, &text),
             Err(ending) => ending,
         },

@@ -39,19 +39,19 @@ pub(crate) fn faults_text(
     Ok(text)
 }
 
-/// What is printed of the faults of a PAL8 source with this name, by the first one.
+/// What is printed of the faults of PAL8 sources with these names, by the first one.
 pub(crate) fn pal8_faults_text(
     alloc: Global,
-    source: &[u8],
-    name: &str,
+    sources: &[&[u8]],
+    names: &[&str],
     fault: pal8_tape::Fault,
 ) -> Result<Vec<u8>, Ending>
-    ensures { AreLines (spec.pal8_faults_text source.now name.now fault) result }
+    ensures { AreLines (spec.pal8_faults_text sources.now names.now fault) result }
 {
-    let further = pal8_further_texts(alloc, source, name)?;
-    let first = pal8_tape::fault_text(alloc, source, name, fault)?;
+    let further = pal8_further_texts(alloc, sources, names)?;
+    let first = pal8_tape::fault_text(alloc, sources, names, fault)?;
     let mut text = Vec::new(alloc);
-    put_top_bits_note(alloc, source, name, &mut text)?;
+    put_top_bits_notes(alloc, sources, names, &mut text)?;
     text.extend_from_slice(&first)?;
     put_further(&further, &mut text)?;
     Ok(text)
@@ -86,29 +86,33 @@ fn texts_of(
     Ok(texts)
 }
 
-/// The texts of the faults of a PAL8 source after the first, so many of them as are printed.
-fn pal8_further_texts(alloc: Global, source: &[u8], name: &str) -> Result<Vec<Vec<u8>>, Ending>
-    ensures { AreFurther (map (pal8.fault_text source.now name.now) (pal8_further.further_faults source.now MOST_FURTHER)) result }
+/// The texts of the faults of PAL8 sources after the first, so many of them as are printed.
+fn pal8_further_texts(
+    alloc: Global,
+    sources: &[&[u8]],
+    names: &[&str],
+) -> Result<Vec<Vec<u8>>, Ending>
+    ensures { AreFurther (map (pal8.fault_text sources.now names.now) (pal8_further.further_faults sources.now MOST_FURTHER)) result }
 {
-    match pal8_tape::further_faults(alloc, source, MOST_FURTHER) {
-        Ok(faults) => pal8_texts_of(alloc, source, name, &faults),
+    match pal8_tape::further_faults(alloc, sources, MOST_FURTHER) {
+        Ok(faults) => pal8_texts_of(alloc, sources, names, &faults),
         Err(_) => Err(Ending::Fault(SessionFault::Memory)),
     }
 }
 
-/// The texts of faults of a PAL8 source.
+/// The texts of faults of PAL8 sources.
 fn pal8_texts_of(
     alloc: Global,
-    source: &[u8],
-    name: &str,
+    sources: &[&[u8]],
+    names: &[&str],
     faults: &[pal8_tape::Fault],
 ) -> Result<Vec<Vec<u8>>, Ending>
-    ensures { AreFurther (map (pal8.fault_text source.now name.now) faults.now) result }
+    ensures { AreFurther (map (pal8.fault_text sources.now names.now) faults.now) result }
 {
     let mut texts = Vec::new(alloc);
     let mut rest = faults;
     while let [fault, others @ ..] = rest {
-        let text = pal8_tape::fault_text(alloc, source, name, *fault)?;
+        let text = pal8_tape::fault_text(alloc, sources, names, *fault)?;
         add(&mut texts, text)?;
         rest = others;
     }
