@@ -61,7 +61,7 @@ pub struct AssembleForm {
     /// Whether a table of cross references goes after the listing; there is a listing then.
     pub is_cross: bool,
 
-    /// Whether the source is PAL8; there is one source then, and no listing.
+    /// Whether the sources are PAL8; there is no listing then.
     pub is_pal8: bool,
 }
 
