@@ -7,11 +7,17 @@ use Rattle.hosts.specs.Saving.{KeepsFile, SavesFile, AnyMomentOf}
 use Rattle.hosts.specs.Streams.{output, read, may_replace}
 use Rattle.hosts.specs.declared.faults.Durability.{Durability}
 use Rattle.hosts.specs.declared.faults.Unwritten.{Unwritten}
+use Rattle.program_tasks.specs.declared.tasks.Saving.{Saving}
+use Rattle.program_tasks.specs.declared.tasks.Saving.TheVariants.{Never}
 use Rattle.script8.specs.declared.faults.SessionFault.{SessionFault}
 use Rattle.script8.specs.declared.replies.Reply.{Reply}
 use Rattle.script8.specs.declared.replies.Reply.TheVariants as reply
 use Rattle.script8.specs.declared.replies.LineReply.{LineReply}
 use Rattle.script8.specs.declared.replies.LineReply.TheVariants as line
+use Rattle.volume_image.specs.Image.{IsImageOf}
+use Rattle.system_session.specs.Script.{RunsText}
+use Rattle.system_session.specs.Session.{SessionView, state_of, NoCallFailed}
+use Rattle.script_commands.specs.declared.runs.Ended.{Ended}
 
 -- the text that standard output was given, by the calls that succeeded
 abbrev pub text_of : List (Bool × List ℕ) → List ℕ
@@ -84,3 +90,13 @@ abbrev pub changes : Result Reply SessionFault → Bool
 changes (Ok (reply.Report it)) = false
 changes (Ok (reply.Line it)) = line_changes it
 changes (Err why) = true
+
+-- A run of a script over a session, whose image file is at a path. The replies are printed, but for some that wait where standard output
+-- takes no more. The file has the image of the volume at the end, unless it is never to be saved or a save failed.
+pub record RunsOver (saving : Saving) (path was : List ℕ) (session : SessionView) (r r' : Option (List ℕ)) (old : List Event) (ended : Ended) (new : List Event) : Type 0 where
+  pub end : SessionView
+  pub waiting : List ℕ
+  pub told : NoCallFailed session end → RunsText 16777216 (state_of session) (state_of end) r r' (Some (text_of (output old))) (Some (text_of (output new) ++ waiting)) ended.answer
+  pub is : List ℕ
+  pub runs : Runs path was is ended.unsaved old new
+  pub saved : (saving ≡ Never → ⊥) → ended.unsaved ≡ None → IsImageOf is end.volume.blocks

@@ -2,21 +2,21 @@
 ghost use Rattle.std.specs.Prelude.{◌≡◌, ◌++◌, ℕ, List, [], Some, None, Option, OnOk, Result, true, false};
 ghost use Rattle.std.specs.Io.KnownBytes.{Appends};
 ghost use Rattle.std.specs.Str.{bytes_eq};
+ghost use Rattle.hosts.specs.Event.{Event};
 ghost use Rattle.hosts.specs.Place.{about};
+ghost use Rattle.program_tasks.specs.declared.tasks.Saving.TheVariants as saving;
 ghost use Rattle.hosts.specs.Streams.{output, read};
 ghost use Rattle.hosts.specs.declared.faults.Unwritten.{Unwritten};
 ghost use Rattle.script8.specs.Replies.{answer_lines};
 ghost use Rattle.script8.specs.declared.entries.Entry.{Entry};
 ghost use Rattle.script8.specs.declared.faults.SessionFault.{SessionFault};
-ghost use Rattle.script8.specs.declared.faults.SessionFault.TheVariants as fault;
 ghost use Rattle.script8.specs.declared.replies.Reply.{Reply};
 ghost use Rattle.volume_image.specs.Image.{IsImageOf};
-ghost use Rattle.system_session.specs.Script.{RunsText};
-ghost use Rattle.system_session.specs.Session.{state_of, NoCallFailed};
-ghost use Rattle.script_commands.specs.Runs.{Gets, Runs, changes, text_of};
+ghost use Rattle.script_commands.specs.Runs.{Gets, Runs, RunsOver, changes, text_of};
 
 use crate::changes::may_have_changed;
 use hosts::{Host, PrintFault, Unwritten, save_file};
+use program_tasks::Saving;
 use script8::{Reply, SessionFault};
 use std::alloc::Global;
 use std::io::{self, ErrorKind, Read};
@@ -41,7 +41,7 @@ struct Run<'a, H> {
     /// Where the next image is put.
     spare: Vec<u8>,
 
-    keeps: bool,
+    saving: Saving,
 
     /// Lines that wait to be printed.
     lines: Vec<u8>,
@@ -61,12 +61,12 @@ impl<'a, H: Host> Run<'a, H> {
         path: String,
         image: Vec<u8>,
         spare: Vec<u8>,
-        keeps: bool,
+        saving: Saving,
     ) -> Run<'a, H>
         ensures host { result.host ≡ host.entry }
         ensures path { result.path ≡ path }
         ensures image { result.image ≡ image }
-        ensures keeps { result.keeps ≡ keeps }
+        ensures saving { result.saving ≡ saving }
         ensures lines { result.lines.items ≡ [] }
         ensures unsaved { result.unsaved ≡ None }
     {
@@ -76,7 +76,7 @@ impl<'a, H: Host> Run<'a, H> {
             path,
             image,
             spare,
-            keeps,
+            saving,
             lines: Vec::new(alloc),
             unsaved: None,
             fault: PrintFault::Failed,
@@ -97,7 +97,7 @@ impl<'a, H: Host> Run<'a, H> {
         ensures host { self.new.host.ghost_name ≡ self.old.host.ghost_name }
         ensures path { self.new.path ≡ self.old.path }
         ensures lines { self.new.lines ≡ self.old.lines }
-        ensures keeps { self.new.keeps ≡ self.old.keeps }
+        ensures saving { self.new.saving ≡ self.old.saving }
         ensures unsaved { self.new.unsaved ≡ self.old.unsaved }
     {
         if store.put_bytes(&mut self.spare).is_err() {
@@ -121,6 +121,45 @@ impl<'a, H: Host> Run<'a, H> {
         }
     }
 
+    /// Has the file hold the image of a store, and answers whether it does. Where a save failed, none is tried again.
+    fn keep(&mut self, store: &MemoryVolume) -> bool
+        ensures runs { (was : List ℕ) (start : List Event)
+            → Runs self.old.path.bytes.items was self.old.image.items self.old.unsaved start (H.history self.old.host.now)
+            → Runs self.old.path.bytes.items was self.new.image.items self.new.unsaved start (H.history self.new.host.now) }
+        ensures image { result ≡ true → IsImageOf self.new.image.items store.now.blocks }
+        ensures failed { result ≡ false → self.new.unsaved ≡ None → ⊥ }
+        ensures output { output (H.history self.new.host.now) ≡ output (H.history self.old.host.now) }
+        ensures host { self.new.host.ghost_name ≡ self.old.host.ghost_name }
+        ensures path { self.new.path ≡ self.old.path }
+        ensures lines { self.new.lines ≡ self.old.lines }
+        ensures saving { self.new.saving ≡ self.old.saving }
+    {
+        if self.unsaved.is_some() {
+            return false;
+        }
+        match self.save(store) {
+            Ok(()) => true,
+            Err(left) => {
+                self.unsaved = Some(left);
+                false
+            }
+        }
+    }
+
+    /// Ends a run with the store that it leaves.
+    fn end(&mut self, store: &MemoryVolume)
+        ensures runs { (was : List ℕ) (start : List Event)
+            → Runs self.old.path.bytes.items was self.old.image.items self.old.unsaved start (H.history self.old.host.now)
+            → Runs self.old.path.bytes.items was self.new.image.items self.new.unsaved start (H.history self.new.host.now) }
+        ensures image { (self.old.saving ≡ saving.Never → ⊥) → self.new.unsaved ≡ None → IsImageOf self.new.image.items store.now.blocks }
+        ensures output { output (H.history self.new.host.now) ≡ output (H.history self.old.host.now) }
+        ensures host { self.new.host.ghost_name ≡ self.old.host.ghost_name }
+    {
+        if self.saving != Saving::Never {
+            let _ = self.keep(store);
+        }
+    }
+
     /// Prints the lines that wait.
     fn print(&mut self) -> io::Result<()>
         ensures text { OnOk result (text_of (output (H.history self.new.host.now))
@@ -131,7 +170,7 @@ impl<'a, H: Host> Run<'a, H> {
         ensures host { self.new.host.ghost_name ≡ self.old.host.ghost_name }
         ensures path { self.new.path ≡ self.old.path }
         ensures image { self.new.image ≡ self.old.image }
-        ensures keeps { self.new.keeps ≡ self.old.keeps }
+        ensures saving { self.new.saving ≡ self.old.saving }
         ensures unsaved { self.new.unsaved ≡ self.old.unsaved }
     {
         match self.host.print(&self.lines) {
@@ -151,13 +190,13 @@ impl<'a, H: Host> Watcher<MemoryVolume> for Run<'a, H> {
     ghost contents = { λ r. Some (text_of (output (H.history r.host.now)) ++ r.lines.items) };
 
     ghost follows = { λ first r. (r.host.ghost_name ≡ first.host.ghost_name) × (r.path ≡ first.path)
-        × (r.keeps ≡ first.keeps)
+        × (r.saving ≡ first.saving)
         × Runs first.path.bytes.items first.image.items r.image.items r.unsaved
         (H.history first.host.now) (H.history r.host.now) };
 
     ghost may_print = { λ r lines. (entry : Option Entry) × (answer : Result Reply SessionFault)
         × (lines ≡ answer_lines entry answer)
-        × (r.keeps ≡ true → changes answer ≡ true
+        × (r.saving ≡ saving.Always → changes answer ≡ true
         → (blocks : List (List ℕ)) × IsImageOf r.image.items blocks) };
 
     ghost has_ended = { λ _. Unit {0} };
@@ -165,19 +204,10 @@ impl<'a, H: Host> Watcher<MemoryVolume> for Run<'a, H> {
     fn begins(&mut self, _lines: &[u8]) {}
 
     fn goes_on(&mut self, store: &MemoryVolume, answer: &Result<Reply, SessionFault>) -> bool {
-        if self.unsaved.is_some() {
-            return false;
-        }
-        if !self.keeps || !may_have_changed(answer) {
+        if self.saving != Saving::Always || !may_have_changed(answer) {
             return true;
         }
-        match self.save(store) {
-            Ok(()) => true,
-            Err(left) => {
-                self.unsaved = Some(left);
-                false
-            }
-        }
+        self.keep(store)
     }
 
     fn print_lines(&mut self, lines: &[u8]) -> io::Result<()> {
@@ -192,37 +222,43 @@ impl<'a, H: Host> Watcher<MemoryVolume> for Run<'a, H> {
     }
 }
 
+/// How a run of a script ended: the session's answer, and why the image file could not be written.
+#[derive(Drop)]
+pub struct Ended {
+    pub answer: Result<(), SessionFault>,
+    pub unsaved: Option<Unwritten>,
+}
+
 /// Runs the script of a reader over a session, whose image file is held at a path and has these bytes. Where each change is to be kept,
-/// the file has the image of the volume before the reply to it is printed.
+/// the file has the image of the volume before the reply to it is printed. At the end it has the image of the volume as it is then, unless
+/// it is never to be saved, or a save failed.
 pub fn run_over<H: Host, I: Read>(
     host: &mut H,
     alloc: Global,
     input: &mut I,
-    session: &mut Session<MemoryVolume>,
+    session: Session<MemoryVolume>,
     path: String,
     image: Vec<u8>,
     spare: Vec<u8>,
-    keeps: bool,
-) -> Result<(), SessionFault>
-    ensures told { NoCallFailed session.old session.new
-        → (waiting : List ℕ) × RunsText 16777216 (state_of session.old) (state_of session.new)
-        (I.remaining input.old) (I.remaining input.new)
-        (Some (text_of (output (H.history host.old))))
-        (Some (text_of (output (H.history host.new)) ++ waiting)) result }
-    ensures runs { (is : List ℕ) × (fault : Option Unwritten)
-        × Runs path.bytes.items image.items is fault (H.history host.old) (H.history host.new) }
+    saving: Saving,
+) -> Ended
+    ensures { RunsOver saving path.bytes.items image.items session (I.remaining input.old) (I.remaining input.new)
+        (H.history host.old) result (H.history host.new) }
 {
-    let mut run = Run::new(host, alloc, path, image, spare, keeps);
-    let ran = session.run_watched(alloc, input, &mut run);
+    let mut session = session;
+    let mut run = Run::new(host, alloc, path, image, spare, saving);
+    let answer = session.run_watched(alloc, input, &mut run);
+    let store = session.into_store();
+    run.end(&store);
     let Run {
         host,
         alloc: _,
         path,
         image,
         spare,
-        keeps: _,
+        saving: _,
         lines,
-        unsaved: _,
+        unsaved,
         fault: _,
     } = run;
     let _ = &*host;
@@ -230,5 +266,5 @@ pub fn run_over<H: Host, I: Read>(
     drop(image);
     drop(spare);
     drop(lines);
-    ran
+    Ended { answer, unsaved }
 }
