@@ -279,8 +279,12 @@ def end_with_this() -> None:
 
 
 def main(words: list[str]) -> int:
+    options = [it for it in words if it.startswith("-")]
+    if not set(options) <= {"--gate", "--anew"}:
+        print(__doc__)
+        return 0 if set(options) <= {"-h", "--help"} else 2
     folder = "gate/" if "--gate" in words else "**/"
-    names = [it for it in words if not it.startswith("--")] or sorted(os.listdir(f"{TOP}/tests/edits"))
+    names = [it for it in words if it not in options] or sorted(os.listdir(f"{TOP}/tests/edits"))
     unknown = [it for it in names if it not in CRATES.names or not os.path.isdir(f"{TOP}/tests/edits/{it}")]
     if unknown:
         print(f"try_edits: no folder tests/edits/{unknown[0]}", file=sys.stderr)

@@ -3,7 +3,7 @@ use Rattle.std.specs.Prelude.{◌≡◌, ℕ, ◌<◌, true, false, List, ◌∷
 use Rattle.std.specs.Str.{bytes_eq}
 use Rattle.hosts.specs.Event.{Event, make_call, own_call, lock_call, write_call, sync_call}
 use Rattle.hosts.specs.Place.{Place, Step, about, replay, ever}
-use Rattle.hosts.specs.Streams.{output, errors, read, failures, may_replace, path_of_name, has_links}
+use Rattle.hosts.specs.Streams.{output, errors, read, failures, may_replace, path_of_name, asked_name, has_links}
 use Rattle.hosts.specs.Saving.{IsAsItWas, IsUnmade, replacements}
 use Rattle.hosts.specs.declared.faults.HostFault.{HostFault}
 
@@ -28,6 +28,7 @@ pub record IsQuiet (path : List ℕ) (old new : List Event) : Type 0 where
   pub reads : read new ≡ read old
   pub answers : may_replace new ≡ may_replace old
   pub paths : path_of_name new ≡ path_of_name old
+  pub names : asked_name new ≡ asked_name old
   pub links : has_links new ≡ has_links old
 
 -- a new file of these bytes stands beside the path, on the disk

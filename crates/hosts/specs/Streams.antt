@@ -61,6 +61,15 @@ abbrev pub path_of_name : List Event → List ℕ
 path_of_name [] = []
 path_of_name (e ∷ earlier) = with_freed e.call e.bytes (path_of_name earlier)
 
+abbrev pub with_asked : Call → List ℕ → List ℕ → List ℕ
+with_asked Free name before = name
+with_asked _ name before = before
+
+-- the name of which the host was asked last for such a path
+abbrev pub asked_name : List Event → List ℕ
+asked_name [] = []
+asked_name (e ∷ earlier) = with_asked e.call e.name (asked_name earlier)
+
 -- an answer stands until it is asked again, or a rename shows that the path is a mount's; where the host doesn't know, nothing is written
 abbrev pub with_alone : Call → Bool → ℕ → Bool → Bool
 with_alone Alone true (suc zero) before = true

@@ -3,21 +3,22 @@ ghost use Rattle.std.specs.Str.{bytes_eq};
 ghost use Rattle.hosts.specs.Place.{about};
 ghost use Rattle.hosts.specs.Saving.{Makes, AnyMomentOf, replacements};
 ghost use Rattle.hosts.specs.SavingSteps.{Takes, IsQuiet, new_calls};
-ghost use Rattle.hosts.specs.Streams.{output, errors, read, failures, path_of_name, has_links};
+ghost use Rattle.hosts.specs.Streams.{output, errors, read, failures, path_of_name, asked_name, has_links};
 
 use crate::saving::give_up;
 use crate::{Durability, Host, HostFault, LinkFault};
 use std::alloc::Global;
 
 /// Makes a file of these bytes, where there is none of this name, or of the one that a link of this name leads to. The answer is `Busy`
-/// where another program has made one meanwhile. The file is there whole or not at all. Its path is the one that the host gives for the
-/// name.
+/// where another program has made one meanwhile. The file is there whole or not at all. Its path is the one that the host gives for
+/// this name.
 pub fn make<H: Host>(
     host: &mut H,
     alloc: Global,
     name: &str,
     bytes: &[u8],
 ) -> Result<Durability, HostFault>
+    ensures asked { asked_name (H.history host.new) ≡ name.now }
     ensures replaced { replacements (about (path_of_name (H.history host.new)) (H.history host.new)) ≡ replacements (about (path_of_name (H.history host.new)) (H.history host.old)) }
     ensures makes { Makes result bytes.now (about (path_of_name (H.history host.new)) (H.history host.old)) (about (path_of_name (H.history host.new)) (H.history host.new)) }
     ensures any_moment { AnyMomentOf (has_links (H.history host.new)) bytes.now (about (path_of_name (H.history host.new)) (H.history host.old)) (about (path_of_name (H.history host.new)) (H.history host.new)) }
@@ -53,6 +54,7 @@ pub fn make_at<H: Host>(
     ensures errors { errors (H.history host.new) ≡ errors (H.history host.old) }
     ensures read { read (H.history host.new) ≡ read (H.history host.old) }
     ensures path { path_of_name (H.history host.new) ≡ path_of_name (H.history host.old) }
+    ensures asked { asked_name (H.history host.new) ≡ asked_name (H.history host.old) }
 {
     prepare_new(host, alloc, path, bytes)?;
     match host.link_new(path) {
@@ -95,6 +97,7 @@ pub(crate) fn take_path<H: Host>(host: &mut H, path: &str) -> Result<(), HostFau
     ensures errors { errors (H.history host.new) ≡ errors (H.history host.old) }
     ensures read { read (H.history host.new) ≡ read (H.history host.old) }
     ensures path { path_of_name (H.history host.new) ≡ path_of_name (H.history host.old) }
+    ensures asked { asked_name (H.history host.new) ≡ asked_name (H.history host.old) }
     ensures links { has_links (H.history host.new) ≡ has_links (H.history host.old) }
 {
     if host.claim(path).is_err() {

@@ -36,15 +36,15 @@ with_margin_note false ok old = old
 abbrev pub TellsMargins : Margins → List Event → Result (Unit {0}) Ending → List Event → Type 0
 TellsMargins margins old result new = IsDone result × (ok : Bool) × (new ≡ with_margin_note (has_margins margins) ok old)
 
--- the file of the new volume is made, where there is none of its name, and only then is anything printed on standard output
-abbrev pub RescuesVolume : List ℕ → List Event → Result (Unit {0}) Ending → List Event → Type 0
-RescuesVolume image =
-    Then (Answers (Salvages image) (length image)) (λ salvage. Then (Purely (AreLines (rescued_text salvage))) (λ lines. Then (MakesFirst salvage.image.items) (λ it. Finishes (is_complete salvage) lines.items)))
+-- the file of the new volume is made, where there is none of this name, and only then is anything printed on standard output
+abbrev pub RescuesVolume : List ℕ → List ℕ → List Event → Result (Unit {0}) Ending → List Event → Type 0
+RescuesVolume new image =
+    Then (Answers (Salvages image) (length image)) (λ salvage. Then (Purely (AreLines (rescued_text salvage))) (λ lines. Then (MakesFirst new salvage.image.items) (λ it. Finishes (is_complete salvage) lines.items)))
 
 -- the one volume in a file of these bytes is rescued
-abbrev pub RescuesFile : Option Layout → List ℕ → List Event → Result (Unit {0}) Ending → List Event → Type 0
-RescuesFile given file = Then (FindsOne given file) (λ image. Then (TellsMargins (margins_in given file)) (λ it. RescuesVolume image.items))
+abbrev pub RescuesFile : List ℕ → Option Layout → List ℕ → List Event → Result (Unit {0}) Ending → List Event → Type 0
+RescuesFile new given file = Then (FindsOne given file) (λ image. Then (TellsMargins (margins_in given file)) (λ it. RescuesVolume new image.items))
 
 -- An image file is only looked at.
-abbrev pub RescuesImage : ImageForm → List Event → Result (Unit {0}) Ending → List Event → Type 0
-RescuesImage form = Then (Looks form.file.bytes.items form.file.bytes.items) (λ file. RescuesFile form.layout file.items)
+abbrev pub RescuesImage : List ℕ → ImageForm → List Event → Result (Unit {0}) Ending → List Event → Type 0
+RescuesImage new form = Then (Looks form.file.bytes.items form.file.bytes.items) (λ file. RescuesFile new form.layout file.items)

@@ -23,7 +23,7 @@ pub fn rescue_image<H: Host>(
     form: &ImageForm,
     new: &str,
 ) -> Result<(), Ending>
-    ensures { RescuesImage form.now (H.history host.old) result (H.history host.new) }
+    ensures { RescuesImage new.now form.now (H.history host.old) result (H.history host.new) }
 {
     let file = look_file(host, alloc, form.file.as_str())?;
     rescue_file(host, alloc, form.layout, file, new)
@@ -37,7 +37,7 @@ fn rescue_file<H: Host>(
     file: Vec<u8>,
     new: &str,
 ) -> Result<(), Ending>
-    ensures { RescuesFile given file.items (H.history host.old) result (H.history host.new) }
+    ensures { RescuesFile new.now given file.items (H.history host.old) result (H.history host.new) }
 {
     let margins = margins_in(given, &file);
     let image = one_volume_in(host, alloc, file, given)?;
@@ -70,7 +70,7 @@ fn rescue_volume<H: Host>(
     image: &[u8],
     new: &str,
 ) -> Result<(), Ending>
-    ensures { RescuesVolume image.now (H.history host.old) result (H.history host.new) }
+    ensures { RescuesVolume new.now image.now (H.history host.old) result (H.history host.new) }
 {
     let salvage = salvage_of(host, alloc, image)?;
     let lines = lines_of(alloc, &salvage)?;

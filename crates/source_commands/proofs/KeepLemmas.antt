@@ -156,12 +156,12 @@ archive-ending (archive.Refused fault) = refl
 other-ending : (ending other : Ending) → ending ≡ other → is_refusal other ≡ false → is_refusal ending ≡ true → ⊥
 other-ending ending other is none some = never (sym none ∙ ap is_refusal (sym is) ∙ some)
 
-by-never : (content : Content) (file : List ℕ) → Never (MakesBy content (ending_of_file content) file)
-by-never content file old ending new (fault, ends, unmade) is = other-ending ending (ending_of_file content fault) ends (file-ending content fault) is
+by-never : (content : Content) (name file : List ℕ) → Never (MakesBy content (ending_of_file content) name file)
+by-never content name file old ending new (fault, ends, unmade) is = other-ending ending (ending_of_file content fault) ends (file-ending content fault) is
 
 file-never : (content : Content) (name file : List ℕ) → Never (MakesFile content name file)
 file-never content name file old ending new (inl (path, has, ok, p)) is = writes-never content path file (with_lock_note content has ok (hold_calls name path old)) ending new p is
-file-never content name file old ending new (inr (inl (between, idle, failed, p))) is = by-never content file between ending new p is
+file-never content name file old ending new (inr (inl (between, idle, failed, p))) is = by-never content name file between ending new p is
 file-never content name file old ending new (inr (inr (unheld, idle, failed))) is = unheld-never content ending unheld is
 
 writes-if : (is : Bool) (content : Content) (name bytes : List ℕ) → Never (WritesIf is content name bytes)

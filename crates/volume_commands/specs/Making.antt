@@ -4,7 +4,7 @@ use Rattle.std.specs.Global.{Vec}
 use Rattle.hosts.specs.Event.{Event}
 use Rattle.hosts.specs.Place.{about}
 use Rattle.hosts.specs.Saving.{Makes, AnyMomentOf}
-use Rattle.hosts.specs.Streams.{errors, failures, path_of_name, has_links}
+use Rattle.hosts.specs.Streams.{errors, failures, asked_name, path_of_name, has_links}
 use Rattle.hosts.specs.declared.faults.Durability.{Durability}
 use Rattle.hosts.specs.declared.faults.HostFault.{HostFault}
 use Rattle.hosts.specs.declared.faults.HostFault.TheVariants as host
@@ -44,10 +44,11 @@ ending_of_first host.Absent = NotWritten Image AsItWas
 ending_of_first host.Unwritable = NotWritten Image AsItWas
 ending_of_first host.Failed = NotWritten Image AsItWas
 
--- A file of these bytes is made where the host says that a name has none. It is there whole, on the disk, unless a note says that it is not
+-- A file of these bytes is made where the host says that this name has none. It is there whole, on the disk, unless a note says that it is not
 -- known whether a crash keeps it. At each moment meanwhile a crash left what it might have left before, or the file, whole, where the file
 -- system has further names.
-pub record HasMade (content : Content) (file : List ℕ) (old new : List Event) : Type 0 where
+pub record HasMade (content : Content) (name file : List ℕ) (old new : List Event) : Type 0 where
+  pub asked : asked_name new ≡ name
   pub durability : Durability
   pub made : Makes (Ok durability) file (about (path_of_name new) old) (about (path_of_name new) new)
   pub moments : AnyMomentOf (has_links new) file (about (path_of_name new) old) (about (path_of_name new) new)
@@ -55,7 +56,8 @@ pub record HasMade (content : Content) (file : List ℕ) (old new : List Event) 
   pub only : TouchesOnly (path_of_name new) old new
 
 -- no file is made, since a call failed
-pub record HasNotMade (file : List ℕ) (fault : HostFault) (old new : List Event) : Type 0 where
+pub record HasNotMade (name file : List ℕ) (fault : HostFault) (old new : List Event) : Type 0 where
+  pub asked : asked_name new ≡ name
   pub unmade : Makes (Err fault) file (about (path_of_name new) old) (about (path_of_name new) new)
   pub moments : AnyMomentOf (has_links new) file (about (path_of_name new) old) (about (path_of_name new) new)
   pub cause : failures old < failures new
@@ -63,12 +65,12 @@ pub record HasNotMade (file : List ℕ) (fault : HostFault) (old new : List Even
   pub only : TouchesOnly (path_of_name new) old new
 
 -- a file is made where there is none of its name, or else the command ends so by a fault
-abbrev pub MakesBy : Content → (HostFault → Ending) → List ℕ → List Event → Result (Unit {0}) Ending → List Event → Type 0
-MakesBy content ends file old (Ok it) new = HasMade content file old new
-MakesBy content ends file old (Err ending) new = (fault : HostFault) × (ending ≡ ends fault) × HasNotMade file fault old new
+abbrev pub MakesBy : Content → (HostFault → Ending) → List ℕ → List ℕ → List Event → Result (Unit {0}) Ending → List Event → Type 0
+MakesBy content ends name file old (Ok it) new = HasMade content name file old new
+MakesBy content ends name file old (Err ending) new = (fault : HostFault) × (ending ≡ ends fault) × HasNotMade name file fault old new
 
--- a file of these bytes is the first of its name, or none is made
-abbrev pub MakesFirst : List ℕ → List Event → Result (Unit {0}) Ending → List Event → Type 0
+-- a file of these bytes is the first of this name, or none is made
+abbrev pub MakesFirst : List ℕ → List ℕ → List Event → Result (Unit {0}) Ending → List Event → Type 0
 MakesFirst = MakesBy Image ending_of_first
 
 -- why the file of a name can't be held to be written
@@ -84,7 +86,7 @@ IsUnheldFile content (Err _) = ⊥
 abbrev pub MakesFile : Content → List ℕ → List ℕ → List Event → Result (Unit {0}) Ending → List Event → Type 0
 MakesFile content name file old result new =
     ((path : List ℕ) × (has_lock : Bool) × (ok : Bool) × Writes content path file (with_lock_note content has_lock ok (hold_calls name path old)) result new)
-    ⊎ (((between : List Event) × IsIdle old between × (failures old < failures between) × MakesBy content (ending_of_file content) file between result new)
+    ⊎ (((between : List Event) × IsIdle old between × (failures old < failures between) × MakesBy content (ending_of_file content) name file between result new)
     ⊎ (IsUnheldFile content result × IsIdle old new × (failures old < failures new)))
 
 -- the image of an empty volume of so many blocks
@@ -99,7 +101,7 @@ IsBlankTapeFile (Err ending) = Unit {0}
 
 -- whether a file of these bytes is to be the first of its name
 abbrev pub MakesIf : Bool → List ℕ → List ℕ → List Event → Result (Unit {0}) Ending → List Event → Type 0
-MakesIf true name file old result new = MakesFirst file old result new
+MakesIf true name file old result new = MakesFirst name file old result new
 MakesIf false name file old result new = MakesFile Image name file old result new
 
 -- a file gets these bytes, and only then the line of a new volume of so many blocks is printed

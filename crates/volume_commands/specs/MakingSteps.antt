@@ -5,6 +5,6 @@ use Rattle.hosts.specs.declared.faults.HostFault.{HostFault}
 use Rattle.outcome.specs.declared.contents.Content.{Content}
 use Rattle.volume_commands.specs.Making.{HasMade, HasNotMade}
 
-abbrev pub MakesNewFile : Content → List ℕ → List Event → Result (Unit {0}) HostFault → List Event → Type 0
-MakesNewFile content file old (Ok it) new = HasMade content file old new
-MakesNewFile content file old (Err fault) new = HasNotMade file fault old new
+abbrev pub MakesNewFile : Content → List ℕ → List ℕ → List Event → Result (Unit {0}) HostFault → List Event → Type 0
+MakesNewFile content name file old (Ok it) new = HasMade content name file old new
+MakesNewFile content name file old (Err fault) new = HasNotMade name file fault old new

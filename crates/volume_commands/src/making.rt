@@ -42,7 +42,7 @@ pub fn make_first<H: Host>(
     name: &str,
     bytes: &[u8],
 ) -> Result<(), Ending>
-    ensures { MakesFirst bytes.now (H.history host.old) result (H.history host.new) }
+    ensures { MakesFirst name.now bytes.now (H.history host.old) result (H.history host.new) }
 {
     match make_new(host, alloc, Content::Image, name, bytes) {
         Ok(()) => Ok(()),
@@ -58,7 +58,7 @@ fn make_new<H: Host>(
     name: &str,
     bytes: &[u8],
 ) -> Result<(), HostFault>
-    ensures { MakesNewFile content bytes.now (H.history host.old) result (H.history host.new) }
+    ensures { MakesNewFile content name.now bytes.now (H.history host.old) result (H.history host.new) }
 {
     match make(host, alloc, name, bytes) {
         Ok(durability) => match durability {
