@@ -128,3 +128,12 @@ with_over _ at before = before
 abbrev pub last_over : List Step → ℕ
 last_over [] = 0
 last_over (s ∷ earlier) = with_over s.change s.number (last_over earlier)
+
+abbrev pub with_last_bytes : Change → List ℕ → List ℕ → List ℕ
+with_last_bytes WriteOver bytes before = bytes
+with_last_bytes _ bytes before = before
+
+-- the bytes with which the file was written over last
+abbrev pub last_bytes : List Step → List ℕ
+last_bytes [] = []
+last_bytes (s ∷ earlier) = with_last_bytes s.change s.bytes (last_bytes earlier)

@@ -1,8 +1,8 @@
-ghost use Rattle.std.specs.Prelude.{◌≡◌, ◌<◌, ◌≤◌, ℕ, List, [], ◌∷◌, false, OnErr, OnOk, is_ok};
+ghost use Rattle.std.specs.Prelude.{◌≡◌, ◌<◌, ◌≤◌, ℕ, List, [], ◌∷◌, false, OnErr, OnOk, is_ok, take};
 ghost use Rattle.std.specs.Str.{bytes_eq};
 ghost use Rattle.hosts.specs.Event.{Event, drop_call, leads_call};
 ghost use Rattle.hosts.specs.Place.{about};
-ghost use Rattle.hosts.specs.Saving.{Saves, SavesFile, AnyMoment, AnyMomentOf, IsWrittenOver, still_may, last_over};
+ghost use Rattle.hosts.specs.Saving.{Saves, SavesFile, AnyMoment, AnyMomentOf, IsWrittenOver, still_may, last_bytes, last_over};
 ghost use Rattle.hosts.specs.SavingSteps.{IsQuiet, ready_calls};
 ghost use Rattle.hosts.specs.Streams.{output, errors, read, failures, may_replace, path_of_name};
 
@@ -93,6 +93,7 @@ pub fn write_over<H: Host>(
     bytes: &[u8],
 ) -> Result<(), HostFault>
     ensures head_last { OnOk result (last_over (about path.now (H.history host.new)) ≡ 0) }
+    ensures head { OnOk result (last_bytes (about path.now (H.history host.new)) ≡ take first bytes.now) }
     ensures over { OnOk result (IsWrittenOver bytes.now (about path.now (H.history host.old)) (about path.now (H.history host.new))) }
     ensures cause { OnErr result (failures (H.history host.old) < failures (H.history host.new)) }
     ensures others { (other : List ℕ) → bytes_eq path.now other ≡ false
@@ -102,13 +103,13 @@ pub fn write_over<H: Host>(
     ensures read { read (H.history host.new) ≡ read (H.history host.old) }
     ensures alone { may_replace (H.history host.new) ≡ may_replace (H.history host.old) }
 {
-    let (head, rest) = bytes.split_at(bytes.len().min(first));
-    if rest.is_empty() {
+    if bytes.len() <= first {
         host.write_over(path, 0, bytes)?;
         host.finish_over(path, bytes.len())?;
         return Ok(());
     }
-    host.write_over(path, head.len(), rest)?;
+    let (head, rest) = bytes.split_at(first);
+    host.write_over(path, first, rest)?;
     host.write_over(path, 0, head)?;
     host.finish_over(path, bytes.len())?;
     Ok(())
@@ -123,6 +124,7 @@ pub fn save_file<H: Host>(
     first: usize,
     bytes: &[u8],
 ) -> Result<Durability, Unwritten>
+    ensures head { OnOk result (may_replace (H.history host.new) ≡ false → last_bytes (about path.now (H.history host.new)) ≡ take first bytes.now) }
     ensures saves { SavesFile result (may_replace (H.history host.new)) bytes.now (about path.now (H.history host.old)) (about path.now (H.history host.new)) }
     ensures any_moment { AnyMomentOf (may_replace (H.history host.new)) bytes.now (about path.now (H.history host.old)) (about path.now (H.history host.new)) }
     ensures cause { OnErr result (failures (H.history host.old) < failures (H.history host.new)) }
@@ -154,6 +156,7 @@ fn save_over<H: Host>(
     first: usize,
     bytes: &[u8],
 ) -> Result<Durability, Unwritten>
+    ensures head { OnOk result (last_bytes (about path.now (H.history host.new)) ≡ take first bytes.now) }
     ensures saves { SavesFile result false bytes.now (about path.now (H.history host.old)) (about path.now (H.history host.new)) }
     ensures cause { OnErr result (failures (H.history host.old) < failures (H.history host.new)) }
     ensures others { (other : List ℕ) → bytes_eq path.now other ≡ false
