@@ -14,8 +14,8 @@ sys.dont_write_bytecode = True
 TOP = os.path.dirname(os.path.dirname(os.path.dirname(os.path.abspath(__file__))))
 sys.path.insert(0, TOP)
 from tests.model.compare_indexes import program_and_seeds
-from tests.model.compare_pal8_sources import PIECES, Maker, nearly_bytes
-from tests.model.pal8 import answer, headlines
+from tests.model.compare_pal8_sources import PIECES, Maker, nearly_bytes, options_by
+from tests.model.pal8 import Options, answer, headlines
 
 SHOWN = 3
 MOST = 20
@@ -73,7 +73,7 @@ def several_texts(seed: int) -> list[bytes]:
     return [text.replace(b"\n", b"\r\n") for text in texts] if random.random() < 0.1 else texts
 
 
-def printed(program: str, texts: list[bytes]) -> tuple[list[str], str]:
+def printed(program: str, texts: list[bytes], options: Options) -> tuple[list[str], str]:
     """The text, where there are several, the line, the column and the code of each fault that the program prints, and the lines of the tape or the
     numbered line."""
     names = [f"S{k}" for k in range(len(texts))]
@@ -81,7 +81,7 @@ def printed(program: str, texts: list[bytes]) -> tuple[list[str], str]:
         for name, text in zip(names, texts):
             with open(f"{folder}/{name}", "wb") as file:
                 file.write(text)
-        done = subprocess.run([program, "assemble", "--pal8", *names, "--output", "T"], cwd=folder, capture_output=True, timeout=300)
+        done = subprocess.run([program, "assemble", "--pal8", *options.words(), *names, "--output", "T"], cwd=folder, capture_output=True, timeout=300)
         if done.returncode == 0 and not done.stderr and len(texts) > 1:
             return [], subprocess.run([program, "tape", "T"], cwd=folder, capture_output=True, timeout=300).stdout.decode("latin1")
     lines = [it for it in done.stderr.decode("latin1").splitlines() if not it.startswith("note: S")]
@@ -96,16 +96,17 @@ def main() -> int:
     program, seeds = program_and_seeds(__doc__, "sources", 2000)
     passed = failed = 0
     for seed in seeds:
+        options = options_by(seed)
         for texts in ([Faulty(seed).source()], [nearly_bytes(seed)], several_texts(seed)):
-            came, last = printed(program, texts)
-            wanted = headlines(texts, MOST)
-            is_same = came == wanted and (len(texts) == 1 or last == answer(*texts))
+            came, last = printed(program, texts, options)
+            wanted = headlines(texts, MOST, options)
+            is_same = came == wanted and (len(texts) == 1 or last == answer(*texts, options=options))
             if is_same:
                 passed += 1
                 continue
             failed += 1
             if failed <= SHOWN:
-                print(f"seed {seed}: {texts!r}:\n    wanted {wanted} {answer(*texts)}\n    came {came} {last}")
+                print(f"seed {seed}: {options.words()} {texts!r}:\n    wanted {wanted} {answer(*texts, options=options)}\n    came {came} {last}")
     print(f"{passed} passed, {failed} failed")
     return 1 if failed or not passed else 0
 

@@ -1,6 +1,6 @@
 #!/usr/bin/env python3
 """compare_pal8_sources.py [--sources N] [--seed S] [--program FILE]: assembles sources of PAL8 by the program `pal8_asm_bench`. They are the worked
-ones, N random ones, 2000 where nothing is said, and N that are random bytes nearly. It compares the cells that have words, or the first fault with
+ones, N random ones, 2000 where nothing is said, and N that are random bytes nearly, half of them by random options. It compares the cells that have words, or the first fault with
 its place, with the plain model's. Then come the largest: a million literals, brackets within brackets, a line of 10 MB. The same seed makes the same
 sources. The last line is 'N passed, M failed'.
 """
@@ -15,7 +15,7 @@ HERE = os.path.dirname(os.path.abspath(__file__))
 TOP = os.path.dirname(os.path.dirname(HERE))
 sys.path.insert(0, TOP)
 from tests.model import check_pal8_rows
-from tests.model.pal8 import placed_answer
+from tests.model.pal8 import PLAIN, Options, placed_answer
 
 CRATE = f"{os.path.dirname(os.path.dirname(HERE))}/crates/pal8_asm_bench"
 OPERATIONS = ("TAD", "AND", "ISZ", "DCA", "JMS", "JMP", "tad")
@@ -197,8 +197,16 @@ def rows() -> list[tuple[str, bytes, str]]:
     return [(name, source.encode("latin1"), wanted) for name, source, wanted in check_pal8_rows.rows()]
 
 
-def came(program: str, text: bytes) -> str:
-    return subprocess.run([program], input=text, capture_output=True, timeout=300).stdout.decode("latin1")
+def options_by(seed: int) -> Options:
+    """Options at random, none half of the time."""
+    random = Random(seed)
+    return random.choice((PLAIN, Options(*(random.random() < 0.5 for _ in vars(PLAIN)))))
+
+
+def came(program: str, text: bytes, options: Options = PLAIN) -> str:
+    """What the program prints of a source after a byte that says which options there are."""
+    bits = sum(1 << k for k, is_on in enumerate(vars(options).values()) if is_on)
+    return subprocess.run([program], input=bytes([0o100 + bits]) + text, capture_output=True, timeout=300).stdout.decode("latin1")
 
 
 def largest() -> list[tuple[str, bytes, str]]:
@@ -236,18 +244,18 @@ def main() -> int:
         with open(f"{CRATE}/stdin", "rb") as source:
             subprocess.run(["rt", "run"], cwd=CRATE, stdin=source, stdout=subprocess.DEVNULL, stderr=subprocess.DEVNULL, check=False)
     numbers = range(given.seed, given.seed + given.sources)
-    texts = [(name, text, wanted) for name, text, wanted in rows()]
-    texts += [(f"source {k}", Maker(k).source(), "") for k in numbers]
-    texts += [(f"bytes {k}", nearly_bytes(k), "") for k in numbers]
+    texts = [(name, text, wanted, PLAIN) for name, text, wanted in rows()]
+    texts += [(f"source {k}", Maker(k).source(), "", options_by(k)) for k in numbers]
+    texts += [(f"bytes {k}", nearly_bytes(k), "", options_by(k)) for k in numbers]
     passed = failed = 0
-    for name, text, wanted in texts:
-        found = came(program, text)
-        answer = placed_answer(text)
+    for name, text, wanted, options in texts:
+        found = came(program, text, options)
+        answer = placed_answer(text, options)
         if found == answer and (" ".join(found.split()[:4]) + "\n" == wanted or found == wanted or not wanted):
             passed += 1
         else:
             failed += 1
-            print(f"{name}: {text!r}: wanted\n{wanted}{answer}came\n{found}", end="")
+            print(f"{name}: {options.words()} {text!r}: wanted\n{wanted}{answer}came\n{found}", end="")
     for name, text, end in largest():
         found = came(program, text)
         if found.endswith(end):

@@ -36,6 +36,24 @@ Texts = Sequence[bytes]
 """Texts that are one source, in their order."""
 
 
+@dataclass(frozen=True)
+class Options:
+    """How sources are read otherwise: without links, without 00 after an even text, without an origin by FIELD, or with cells by stays."""
+
+    no_links: bool = False
+    text_without_zero: bool = False
+    no_origin: bool = False
+    stay: bool = False
+    stay: bool = False
+
+    def words(self) -> list[str]:
+        """The options of the command."""
+        return [f"--{name.replace('_', '-')}" for name, is_on in vars(self).items() if is_on]
+
+
+PLAIN = Options()
+
+
 class Fault(Exception):
     """A code, with the line of its statement over all texts, and where that begins among the characters that are there in its own text. It has the
     number of the name or the cell that it is about, too, the radix of its statement, and the number of its text."""
@@ -427,6 +445,8 @@ class Judged:
     is_late: bool = False
     fixed: Optional[int] = None
     number: int = 0
+    fields: int = 0
+    moves: int = 0
 
 
 def permanent(name: str, now: Judged) -> Optional[int]:
@@ -453,13 +473,14 @@ class Source:
     """The selected statements of texts, each judged after those before it, up to the first selected `$`. Those that begin at certain places are
     harmless."""
 
-    def __init__(self, texts: Texts, harmless: frozenset[Place] = frozenset()) -> None:
-        self.texts, self.harmless = [live_text(text) for text in texts], harmless
+    def __init__(self, texts: Texts, harmless: frozenset[Place] = frozenset(), options: Options = PLAIN) -> None:
+        self.texts, self.harmless, self.options = [live_text(text) for text in texts], harmless, options
         self.judged: list[Judged] = []
         self.brackets: list[bool] = []
         self.before = Before(8, {name: PERMANENT[name] for name in OPERATIONS})
         self.location, self.shift, self.field, self.is_punched, self.is_expunged = 0o200, 0, 0, True, False
         self.last_fixed: list[str] = []
+        self.fields = self.moves = 0
         self.last_line, self.last_place = self.first_faults()
 
     def first_faults(self) -> tuple[int, Place]:
@@ -533,7 +554,7 @@ class Source:
         is_harmless = (statement.number, statement.start) in self.harmless
         tags, body = harmless_reading(statement) if is_harmless else said(statement, self.before)
         now = Judged(statement.line, tags, body, self.location, self.place(), self.field, self.is_punched, 0, statement.start, self.is_expunged)
-        now.number = statement.number
+        now.number, now.fields, now.moves = statement.number, self.fields, self.moves
         for tag in tags:
             if now.location >= CORE_END:
                 raise Fault("PF")
@@ -548,6 +569,8 @@ class Source:
         if body.form != "word" and body.value is not None and not now.is_late:
             value = self.early_value(body.value, now)
         holds = self.take_effect(now, value)
+        self.fields += body.form == "FIELD"
+        self.moves += body.form == "FIELD" or self.location // 0o200 != now.location // 0o200
         if now.size and now.location + now.size > CORE_END:
             raise Fault("PF")
         self.judged.append(now)
@@ -564,7 +587,7 @@ class Source:
             assert value is not None
             if value > 7:
                 raise Fault("FD")
-            self.field, self.location = value, 0o200
+            self.field, self.location = value, self.location if self.options.no_origin else 0o200
         elif form == "PAGE":
             if value is not None and value > 0o37:
                 raise Fault("PG")
@@ -580,7 +603,9 @@ class Source:
             self.define(now, value)
         else:
             self.change_tables(now, value)
-        now.size = {"word": 1, "TEXT": len(now.body.string) // 2 + 1, "ZBLOCK": value or 0, "FILENA": 4, "DEVICE": 2}.get(form, 0)
+        length = len(now.body.string)
+        text_size = (length + 1) // 2 if self.options.text_without_zero else length // 2 + 1
+        now.size = {"word": 1, "TEXT": text_size, "ZBLOCK": value or 0, "FILENA": 4, "DEVICE": 2}.get(form, 0)
         self.location += now.size
         if form in ("IFDEF", "IFNDEF"):
             return (self.value_before(now.body.name, now) is not None) == (form == "IFDEF")
@@ -691,14 +716,14 @@ def sum_of(expression: Expression, of_term: Callable[[Term], int]) -> int:
 
 # Words and pools
 
-Ask = tuple[int, int, int]
-"""A field, a page of it, and a value."""
+Ask = tuple[int, int, int, int]
+"""A field, a page of it, a value, and by which stay it is asked: 0 for all of them, where stays don't count."""
 
 
 def rank(asks: list[Ask], ask: Ask) -> int:
     """How many different values were asked of the page before this one first was."""
-    values = [value for number, page, value in asks if (number, page) == ask[:2]]
-    return len(set(values[: values.index(ask[2])]))
+    values = [other[2:] for other in asks if other[:2] == ask[:2]]
+    return len(set(values[: values.index(ask[2:])]))
 
 
 class Words:
@@ -787,7 +812,7 @@ class Words:
             if isinstance(term, Literal):
                 inner = self.value(term.value, now, k)
                 if term.opening == "[":
-                    return self.ask((now.in_field, 0, inner), now)
+                    return self.ask(0, inner, now)
                 return 0o200 * (now.place // 0o200) + self.ask_here(inner, now)
             return now.place if term == "." else self.last_value(term, now, k)
 
@@ -799,16 +824,20 @@ class Words:
             return word
         if value.is_indirect or value.operation & 0o400:
             raise Fault("II")
+        if self.source.options.no_links:
+            raise Fault("IR")
         return value.operation | 0o600 | self.ask_here(address, now)
 
     def ask_here(self, value: int, now: Judged) -> int:
         """Asks for a cell of the page of the location. A shift by no whole page would lead to another offset."""
         if (now.location >= 0o200 or now.place >= 0o200) and (now.place - now.location) % 0o200:
             raise Fault("RL")
-        return self.ask((now.in_field, now.location // 0o200, value), now)
+        return self.ask(now.location // 0o200, value, now)
 
-    def ask(self, ask: Ask, now: Judged) -> int:
+    def ask(self, page: int, value: int, now: Judged) -> int:
         """Asks for a cell, and gives its offset on its page."""
+        stay = (now.moves if page else now.fields) if self.source.options.stay else 0
+        ask = now.in_field, page, value, stay
         place = rank(self.asks + [ask], ask)
         if place > 0o177:
             raise Fault("PE" if ask[1] else "ZE")
@@ -821,9 +850,9 @@ class Words:
         return sorted({(self.cell(ask), ask[2]) for ask in self.punched_asks})
 
 
-def pairs(texts: Texts) -> list[tuple[int, int]]:
+def pairs(texts: Texts, options: Options = PLAIN) -> list[tuple[int, int]]:
     """The pairs of a source's tape: its words, and then its pools by rising cell; or its first fault."""
-    words = Words(Source(texts))
+    words = Words(Source(texts, options=options))
     return words.words + words.pool()
 
 
@@ -837,13 +866,13 @@ def concerns_others(texts: Texts, fault: Fault) -> bool:
     return statement.end == "<" or bool(rest) and name_in(rest[0]) in RESERVED
 
 
-def lexical_faults(texts: Texts, first: Fault, most: int) -> list[Fault]:
+def lexical_faults(texts: Texts, first: Fault, most: int, options: Options) -> list[Fault]:
     """The faults after one of a statement's characters, numbers and form, as long as they are such."""
     found, harmless = [first], list[Place]()
     while len(found) <= most and not concerns_others(texts, found[-1]):
         harmless.append((found[-1].number, found[-1].start))
         try:
-            Source(texts, frozenset(harmless))
+            Source(texts, frozenset(harmless), options)
             break
         except Fault as fault:
             if fault.code not in ("IC", "NU", "SY"):
@@ -852,12 +881,12 @@ def lexical_faults(texts: Texts, first: Fault, most: int) -> list[Fault]:
     return found[1:]
 
 
-def further_faults(texts: Texts, most: int) -> list[Fault]:
+def further_faults(texts: Texts, most: int, options: Options) -> list[Fault]:
     """So many faults after the first."""
     try:
-        source = Source(texts)
+        source = Source(texts, options=options)
     except Fault as fault:
-        return lexical_faults(texts, fault, most) if fault.code in ("IC", "NU", "SY") else []
+        return lexical_faults(texts, fault, most, options) if fault.code in ("IC", "NU", "SY") else []
     faults = Words(source, True).faults
     return [fault for fault in faults[1:] if fault.code in ("UA", "DZ", "RL", "II")][:most]
 
@@ -889,32 +918,32 @@ def headline(texts: Texts, fault: Fault) -> str:
     return f"{f'{fault.number}:' if len(texts) > 1 else ''}{1 + before.count(10)}:{column}: {fault.code}"
 
 
-def headlines(texts: Texts, most: int) -> list[str]:
+def headlines(texts: Texts, most: int, options: Options = PLAIN) -> list[str]:
     """The first fault of a source, and so many after it."""
     try:
-        pairs(texts)
+        pairs(texts, options)
         return []
     except Fault as first:
-        return [headline(texts, fault) for fault in (first, *further_faults(texts, most))]
+        return [headline(texts, fault) for fault in (first, *further_faults(texts, most, options))]
 
 
 def lines_of(meaning: dict[int, int]) -> str:
     return "".join(f"{cell // 0o10000} {cell % 0o10000:04o} {meaning[cell]:04o}\n" for cell in sorted(meaning))
 
 
-def placed_answer(text: bytes) -> str:
+def placed_answer(text: bytes, options: Options = PLAIN) -> str:
     """The answer, and of a fault the byte at which its statement begins, and the name or the cell that it is about."""
     try:
-        return lines_of(dict(pairs([text])))
+        return lines_of(dict(pairs([text], options)))
     except Fault as fault:
         about = "" if fault.about is None else f" {fault.about:o}"
         return f"? 5 {fault.code} {fault.line} {place_in(text, fault.start)}{about}\n"
 
 
-def answer(*texts: bytes) -> str:
+def answer(*texts: bytes, options: Options = PLAIN) -> str:
     """The cells that have words, each with the last one, a line each, or the line of the first fault."""
     try:
-        meaning = dict(pairs(texts))
+        meaning = dict(pairs(texts, options))
     except Fault as fault:
         return f"? 5 {fault.code} {fault.line}\n"
     return lines_of(meaning)

@@ -121,10 +121,16 @@ tape_missing values =
 abbrev pub says_of_volume : List Row → Bool
 says_of_volume values = has (codes "onto") values || has (codes "volume") values || is_set (codes "dectape") values
 
+-- something is said of how PAL8 is read
+abbrev pub says_of_pal8 : List Row → Bool
+says_of_pal8 values =
+    is_set (codes "no-links") values || is_set (codes "text-without-zero") values || is_set (codes "no-origin") values || is_set (codes "stay") values
+
 -- of sources that are assembled
 abbrev pub assemble_missing : List Row → Option What
 assemble_missing values =
     if is_set (codes "cross") values && not (has (codes "list") values) then Some what.List
+    else if says_of_pal8 values && not (is_set (codes "pal8") values) then Some what.Pal8
     else if says_of_volume values && not (has (codes "from") values) then Some what.From
     else if has (codes "wait") values && not (has (codes "onto") values) then Some what.Onto
     else None

@@ -232,6 +232,10 @@ AsksFor which values (Assemble form) = (which ≡ verb.Assemble) × (source_name
     × (first_of (codes "list") values ≡ option_map (λ file. file.bytes.items) form.list)
     × (form.is_cross ≡ is_set (codes "cross") values)
     × (form.is_pal8 ≡ is_set (codes "pal8") values)
+    × (form.is_without_links ≡ is_set (codes "no-links") values)
+    × (form.is_without_zero ≡ is_set (codes "text-without-zero") values)
+    × (form.is_without_origin ≡ is_set (codes "no-origin") values)
+    × (form.has_stays ≡ is_set (codes "stay") values)
 AsksFor which values (Teletype form) = (which ≡ verb.Teletype) × IsTape values form.tape
     × IsReadAs cell_of (first_of (codes "start") values) form.start
     × IsReadAs word_of (first_of (codes "switches") values) form.switches

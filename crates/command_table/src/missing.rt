@@ -52,13 +52,16 @@ fn tape_missing(found: &ArgMatches<'_>) -> Option<What>
     Some(What::TapeAndName)
 }
 
-/// What is missing where sources are assembled: a listing for its cross references, the volume of which something is said, or the file that
+/// What is missing where sources are assembled: a listing for its cross references, PAL8 or the volume of which something is said, or the file that
 /// is waited for.
 fn assemble_missing(found: &ArgMatches<'_>) -> Option<What>
     ensures { result ≡ spec.missing_of verb.Assemble (values_in found.now) }
 {
     if is_set(found, "cross") && !has(found, "list") {
         return Some(What::List);
+    }
+    if says_of_pal8(found) && !is_set(found, "pal8") {
+        return Some(What::Pal8);
     }
     if says_of_volume(found) && !has(found, "from") {
         return Some(What::From);
@@ -67,6 +70,16 @@ fn assemble_missing(found: &ArgMatches<'_>) -> Option<What>
         return Some(What::Onto);
     }
     None
+}
+
+/// Whether something is said of how PAL8 is read.
+fn says_of_pal8(found: &ArgMatches<'_>) -> bool
+    ensures { result ≡ spec.says_of_pal8 (values_in found.now) }
+{
+    is_set(found, "no-links")
+        || is_set(found, "text-without-zero")
+        || is_set(found, "no-origin")
+        || is_set(found, "stay")
 }
 
 /// Whether something is said of the volume that has the sources.

@@ -32,6 +32,8 @@ pub enum What {
     From,
     #[error("--onto <NAME>")]
     Onto,
+    #[error("--pal8")]
+    Pal8,
 }
 
 /// What is refused.

@@ -257,6 +257,10 @@ pub const ASSEMBLE: &[Argument] = rows! {
     "list" 'l' option Kind::One(Form::Text), "LISTING", "Write a listing to the file LISTING too";
     "cross" flag Kind::Flag, "", "Put a table of cross references after the listing; it needs --list";
     "pal8" flag Kind::Flag, "", "Take the sources as PAL8, the language of OS/8's assembler";
+    "no-links" flag Kind::Flag, "", "With --pal8 refuse a reference to another page, and make no link (/E)";
+    "text-without-zero" flag Kind::Flag, "", "With --pal8 put no word 0 after a text of an even number of characters (/F)";
+    "no-origin" flag Kind::Flag, "", "With --pal8 leave the location as it is at FIELD (/O)";
+    "stay" flag Kind::Flag, "", "With --pal8 give equal literals of a page one cell only where the source has not left it between them (/W)";
     "from" option Kind::One(Form::Text), "IMAGE", "Take the sources from the volume that the file IMAGE holds";
     "onto" option Kind::One(Form::Text), "NAME", "Put the tape on that volume as the file NAME, in place of standard output";
     "volume" 'v' option Kind::One(Form::Volume), "N", "The volume of an RK05 disk, 1 or 2, where IMAGE is the file of one";

@@ -110,6 +110,10 @@ pub fn assemble(alloc: Global, found: &ArgMatches<'_>) -> Read<Task>
         list,
         is_cross: flag(found, Verb::Assemble, "cross"),
         is_pal8: flag(found, Verb::Assemble, "pal8"),
+        is_without_links: flag(found, Verb::Assemble, "no-links"),
+        is_without_zero: flag(found, Verb::Assemble, "text-without-zero"),
+        is_without_origin: flag(found, Verb::Assemble, "no-origin"),
+        has_stays: flag(found, Verb::Assemble, "stay"),
     }))
 }
 

@@ -11,6 +11,7 @@ use Rattle.pal8_asm.specs.Sources.{Statement, statement_at, pass_over, statement
 use Rattle.pal8_asm.specs.Steps.{HasTaken, Pushes, TakesByte}
 use Rattle.pal8_asm.specs.Assembling.{Progress, Takes, remainder_of}
 use Rattle.pal8_asm.specs.declared.faults.AsmFault.{AsmFault}
+use Rattle.pal8_asm.specs.declared.options.Options.{Options}
 use Rattle.pal8_asm.specs.declared.faults.AsmFault.TheVariants.{At, Memory}
 
 -- the statement that a lexer shows, with the byte that ends it
@@ -30,19 +31,19 @@ newest_is here b at e l place ends it =
     it.1 ∙ ap (λ n. statement_at n s ∷ statements here) (sym place) ∙ ap (λ x. statement_at at x ∷ statements here) (sym (ap (some_or s) is))
 
 -- the byte ends nothing
-pub byte_goes_on : (here : List ℕ) (b : ℕ) (l l' : lex.Progress) (a : Progress) → HasTaken here l a → Pushes here b (Ok false) l' → HasTaken (b ∷ here) l' a
-byte_goes_on here b l l' a taken it = record { has_read = it.1; leaves = ap pass_over it.0 ∙ taken.leaves }
+pub byte_goes_on : (options : Options) (here : List ℕ) (b : ℕ) (l l' : lex.Progress) (a : Progress) → HasTaken options here l a → Pushes here b (Ok false) l' → HasTaken options (b ∷ here) l' a
+byte_goes_on options here b l l' a taken it = record { has_read = it.1; leaves = ap (pass_over options) it.0 ∙ taken.leaves }
 
 -- the byte ends a statement
-pub statement_taken : (here : List ℕ) (b at : ℕ) (e : End) (l l' : lex.Progress) (a a' : Progress) → at ≡ limit (length here) → l'.end ≡ Some e
-    → Pushes here b (Ok true) l' → HasTaken here l a → (result : Result (Unit {0}) AsmFault)
-    → Takes (with_next (shown_at at e l') (Ok (remainder_of a))) result a' → TakesByte (b ∷ here) result l' a'
-statement_taken here b at e l l' a a' place ends it taken result takes = by_result result takes
+pub statement_taken : (options : Options) (here : List ℕ) (b at : ℕ) (e : End) (l l' : lex.Progress) (a a' : Progress) → at ≡ limit (length here) → l'.end ≡ Some e
+    → Pushes here b (Ok true) l' → HasTaken options here l a → (result : Result (Unit {0}) AsmFault)
+    → Takes (with_next (shown_at at e l') (Ok (remainder_of a))) result a' → TakesByte options (b ∷ here) result l' a'
+statement_taken options here b at e l l' a a' place ends it taken result takes = by_result result takes
   where
-    comes : pass_over (statements (b ∷ here)) ≡ with_next (shown_at at e l') (Ok (remainder_of a))
-    comes = ap pass_over (newest_is here b at e l' place ends it) ∙ ap (with_next (shown_at at e l')) taken.leaves
+    comes : pass_over options (statements (b ∷ here)) ≡ with_next (shown_at at e l') (Ok (remainder_of a))
+    comes = ap (pass_over options) (newest_is here b at e l' place ends it) ∙ ap (with_next (shown_at at e l')) taken.leaves
 
-    by_result : (result : Result (Unit {0}) AsmFault) → Takes (with_next (shown_at at e l') (Ok (remainder_of a))) result a' → TakesByte (b ∷ here) result l' a'
+    by_result : (result : Result (Unit {0}) AsmFault) → Takes (with_next (shown_at at e l') (Ok (remainder_of a))) result a' → TakesByte options (b ∷ here) result l' a'
     by_result (Ok nothing) takes = record { has_read = it.2; leaves = comes ∙ takes }
     by_result (Err (At code start)) takes = comes ∙ takes
     by_result (Err Memory) takes = tt

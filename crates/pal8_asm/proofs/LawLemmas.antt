@@ -83,7 +83,7 @@ by_left made (Ok left) is =
     (made_is_free left.standing.names.own left.standing.late left.entries) is
 
 pub apart : NoClashIsApart → Apart
-apart law text made is c has = law made.words made.asks (by_left made (remainder_of_text text) is) c has
+apart law options text made is c has = law made.words made.asks (by_left made (remainder_of_text options text) is) c has
 
 -- ## No pool
 
@@ -95,7 +95,7 @@ no_pairs asks [] are = refl
 no_pairs asks (pair ∷ others) are = absurd (none_asked asks pair.0 pair.1 ((are.each pair.0 pair.1).0 (inl (refl, refl))))
 
 pub no_pool_no_change : NoPoolNoChange
-no_pool_no_change text pairs whole none =
+no_pool_no_change options text pairs whole none =
     whole.are ∙ ap (λ l. whole.made.words ++ l) (no_pairs whole.made.asks whole.pool (subst (λ a. ArePairs whole.made.asks a whole.pool) none whole.is_pool)) ∙ append-nil whole.made.words
 
 -- ## Pools' values
@@ -125,7 +125,7 @@ after [] pairs c v is = is
 after (word ∷ words) pairs c v is = ap (λ o. if_none o (if nat_eq word.0 c then Some word.1 else None)) (after words pairs c v is)
 
 pub value_is_found : ValueIsFound
-value_is_found text pairs whole a is =
+value_is_found options text pairs whole a is =
     ap (λ l. meaning l (cell_in whole.made.asks a)) whole.are
     ∙ after whole.made.words whole.pool (cell_in whole.made.asks a) a.value
     (there whole.pool 0 (cell_in whole.made.asks a) a.value whole.is_pool.rise
@@ -210,7 +210,7 @@ module _ (s : Statement) where
   words_after phrase left entries standing =
       with_late_entry (place_of s) (spot_at left.standing.position) phrase.0 phrase.1 standing.names
       (with_entries_of (place_of s) (spot_at left.standing.position)
-      (words_in phrase.0 (open_value standing) phrase.1 s.string (standing.position.location - left.standing.position.location)) entries)
+      (words_in left.standing.position.options phrase.0 (open_value standing) phrase.1 s.string (standing.position.location - left.standing.position.location)) entries)
 
   by_result : (phrase : Phrase) (left : Remainder) (entries : List Entry) (r : Result Standing Code)
       → without_words (with_phrase s (zero_phrase phrase) (with_words entries left) r) ≡ without_words (with_phrase s phrase left r)
@@ -245,5 +245,5 @@ module _ (s : Statement) where
       ∙ by_reading left left'.entries (is_some left.end) (is_selected left.brackets)
 
 pub places_stay : PlacesStay
-places_stay [] = refl
-places_stay (s ∷ older) = by_both s (passed_zero older) (pass_over older) (places_stay older)
+places_stay options [] = refl
+places_stay options (s ∷ older) = by_both s (passed_zero options older) (pass_over options older) (places_stay options older)

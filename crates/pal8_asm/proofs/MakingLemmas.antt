@@ -277,10 +277,10 @@ module _ (heads heads1 heads2 : List Head) (steps steps1 steps2 own : List Step)
 -- the entry of a word's head is that of where it stands
 pub same_entry : (late : Option Late) (place : Place) (spot : Spot) (cell here count : ℕ) (steps : List Step) → cell ≡ 4096 * spot.field + spot.location % 0o10000
     → here ≡ spot.here % 0o10000
-    → entry_of record { late = late; place = place; cell = cell; here = here; is_punched = spot.is_punched; count = count } steps ≡ entry_with late place spot steps
+    → entry_of record { late = late; place = place; cell = cell; here = here; is_punched = spot.is_punched; may_link = spot.may_link; zero_stay = spot.zero_stay; page_stay = spot.page_stay; count = count } steps ≡ entry_with late place spot steps
 same_entry late place spot cell here count steps cell_is here_is =
-    ap (λ n. entry_of record { late = late; place = place; cell = n; here = here; is_punched = spot.is_punched; count = count } steps) cell_is
-    ∙ ap (λ n. entry_of record { late = late; place = place; cell = 4096 * spot.field + spot.location % 0o10000; here = n; is_punched = spot.is_punched; count = count } steps) here_is
+    ap (λ n. entry_of record { late = late; place = place; cell = n; here = here; is_punched = spot.is_punched; may_link = spot.may_link; zero_stay = spot.zero_stay; page_stay = spot.page_stay; count = count } steps) cell_is
+    ∙ ap (λ n. entry_of record { late = late; place = place; cell = 4096 * spot.field + spot.location % 0o10000; here = n; is_punched = spot.is_punched; may_link = spot.may_link; zero_stay = spot.zero_stay; page_stay = spot.page_stay; count = count } steps) here_is
 
 -- entries were made, over what names have at last by late definitions
 pub made_at_last : (own : Meanings) (is_late : ℕ → Bool) (first found : Meanings) (entries found_in made_of : List Entry) (whole : Result TapeWords Fault) (pools : PoolTable)

@@ -29,6 +29,7 @@ use Rattle.pal8_asm.specs.Tapes.{TapeWords, late_after, late_fault, late_value, 
 use Rattle.pal8_asm.specs.declared.entries.Late.{Late}
 use Rattle.pal8_asm.specs.declared.faults.Code.{Code}
 use Rattle.pal8_asm.specs.declared.faults.Fault.{Fault}
+use Rattle.pal8_asm.specs.declared.options.Options.{Options}
 use Rattle.pal8_asm.specs.declared.faults.Place.{Place}
 use Rattle.pal8_asm.proofs.MakingLemmas.{entries_stay}
 
@@ -200,7 +201,7 @@ module _ (s : Statement) (left : Remainder) (small : AllSmall left.entries) wher
       brackets_small standing _ (brackets_with (place_of s) s.end left.brackets (truth_of phrase.0 phrase.1 standing))
       (late_small (place_of s) (spot_at left.standing.position) phrase.0 phrase.1 standing.names _
       (words_small (place_of s) (spot_at left.standing.position)
-      (words_in phrase.0 (open_value standing) phrase.1 s.string (standing.position.location - left.standing.position.location)) left.entries small))
+      (words_in left.standing.position.options phrase.0 (open_value standing) phrase.1 s.string (standing.position.location - left.standing.position.location)) left.entries small))
 
   said_small : (r : Result Phrase GrammarFault) → LeftSmall (with_said s left r)
   said_small (Err fault) = tt
@@ -211,16 +212,16 @@ module _ (s : Statement) (left : Remainder) (small : AllSmall left.entries) wher
   next_small false true = said_small (phrase_of left.standing s.tokens s.is_cut s.end)
   next_small false false = small
 
-pass_small : (source : Source) → LeftSmall (pass_over source)
-pass_small [] = tt
-pass_small (s ∷ older) = by_result (pass_over older) (pass_small older)
+pass_small : (options : Options) (source : Source) → LeftSmall (pass_over options source)
+pass_small options [] = tt
+pass_small options (s ∷ older) = by_result (pass_over options older) (pass_small options older)
   where
     by_result : (r : PassResult) → LeftSmall r → LeftSmall (with_next s r)
     by_result (Err fault) small = tt
     by_result (Ok left) small = next_small s left small (is_some left.end) (is_selected left.brackets)
 
-text_small : (text : List ℕ) → LeftSmall (remainder_of_text text)
-text_small text = by_result (pass_over (statements text)) (pass_small (statements text))
+text_small : (options : Options) (text : List ℕ) → LeftSmall (remainder_of_text options text)
+text_small options text = by_result (pass_over options (statements text)) (pass_small options (statements text))
   where
     by_end : (left : Remainder) (brackets : List Bool) (end : Option Place) → AllSmall left.entries → LeftSmall (with_end text left brackets end)
     by_end left [] None small = tt
@@ -259,12 +260,12 @@ module _ (made : TapeWords) where
   of_entries dollar (Err fault) is = absurd cc
   of_entries dollar (Ok m) is = ap Ok (if_no_clash dollar m m.clash is)
 
-entries_make : (text : List ℕ) (made : TapeWords) (left : Remainder) → result_of_text text ≡ Ok made → remainder_of_text text ≡ Ok left
+entries_make : (options : Options) (text : List ℕ) (made : TapeWords) (left : Remainder) → result_of_text options text ≡ Ok made → remainder_of_text options text ≡ Ok left
     → words_of_entries left.standing.names.own left.standing.late left.entries ≡ Ok made
-entries_make text made left is leaves =
+entries_make options text made left is leaves =
     of_entries made (dollar_in left.end) (words_of_entries left.standing.names.own left.standing.late left.entries) (ap result_of_source (sym leaves) ∙ is)
 
-module _ (grow : WordsAskMore) (keep : CellsStay) (found : ValueIsFound) (text : List ℕ) (pairs : List (ℕ × ℕ)) (whole : IsAssembled (result_of_text text) pairs) where
+module _ (grow : WordsAskMore) (keep : CellsStay) (found : ValueIsFound) (options : Options) (text : List ℕ) (pairs : List (ℕ × ℕ)) (whole : IsAssembled (result_of_text options text) pairs) where
   -- a word that reaches the cell of its newest ask finds its value
   finds : (own : Meanings) (e : Entry) (steps : List Step) (before : TapeWords) → e.is_punched ≡ true → (it : HasMade grow own e steps before whole.made) (pool : Pool) (value : ℕ)
       → IsAsked it.asks (ask_of (spot_of e) pool value) → IsAsked it.punched (ask_of (spot_of e) pool value)
@@ -275,7 +276,7 @@ module _ (grow : WordsAskMore) (keep : CellsStay) (found : ValueIsFound) (text :
     is_word = subst (IsIn e.cell it.word) (sym whole.are) (in_longer whole.made.words whole.pool e.cell it.word (it.is_word is_punched));
     at_offset = reaches.at_offset ∙ ap (λ c. page_start pool e.here + c % PAGE) (sym stays_there);
     on_page = ap (λ c. c / PAGE) stays_there ∙ reaches.on_page;
-    has_value = found text pairs whole (ask_of (spot_of e) pool value) (it.asks_grow.punched_stay (ask_of (spot_of e) pool value) asked_punched);
+    has_value = found options text pairs whole (ask_of (spot_of e) pool value) (it.asks_grow.punched_stay (ask_of (spot_of e) pool value) asked_punched);
   }
     where
       stays_there : cell_in whole.made.asks (ask_of (spot_of e) pool value) ≡ cell_in it.asks (ask_of (spot_of e) pool value)
@@ -283,16 +284,16 @@ module _ (grow : WordsAskMore) (keep : CellsStay) (found : ValueIsFound) (text :
           ap (λ l. cell_in l (ask_of (spot_of e) pool value)) it.asks_grow.are
           ∙ keep it.asks_grow.more it.asks (ask_of (spot_of e) pool value) asked
 
-  has_word : (own : Meanings) (e : Entry) (steps : List Step) (before : TapeWords) → HasWord text own e steps before → HasMade grow own e steps before whole.made
+  has_word : (own : Meanings) (e : Entry) (steps : List Step) (before : TapeWords) → HasWord options text own e steps before → HasMade grow own e steps before whole.made
   has_word own e steps before has =
       has_made grow own (late_values own has.left.standing.late has.left.entries (λ n. None)) has.left.entries (Ok nothing_made) e steps before whole.made
-      (ap (λ o. words_of_entries o has.left.standing.late has.left.entries) has.values_are ∙ entries_make text whole.made has.left whole.is_whole has.leaves)
+      (ap (λ o. words_of_entries o has.left.standing.late has.left.entries) has.values_are ∙ entries_make options text whole.made has.left whole.is_whole has.leaves)
       has.is_made
 
-  is_small : (own : Meanings) (e : Entry) (steps : List Step) (before : TapeWords) → HasWord text own e steps before → e.here < 0o10000
+  is_small : (own : Meanings) (e : Entry) (steps : List Step) (before : TapeWords) → HasWord options text own e steps before → e.here < 0o10000
   is_small own e steps before has =
       made_small own (late_values own has.left.standing.late has.left.entries (λ n. None)) has.left.entries (Ok nothing_made) e steps before
-      (subst LeftSmall has.leaves (text_small text)) has.is_made
+      (subst LeftSmall has.leaves (text_small options text)) has.is_made
 
 newest_asked : (a : Ask) (asks after : List Ask) → after ≡ a ∷ asks → IsAsked after a
 newest_asked a asks after is = subst (λ l. IsAsked l a) (sym is) (inl refl)
@@ -302,18 +303,18 @@ newest_punched a true punched after same is = subst (λ l. IsAsked l a) (sym is)
 newest_punched a false punched after same is = absurd cc
 
 pub literal_is_found : WordsAskMore → CellsStay → ValueIsFound → LiteralsAreReached → LiteralIsFound
-literal_is_found grow keep found law text pairs whole own e before operation is_indirect pool inside has clear closes =
-    let it = has_word grow keep found text pairs whole own e (operation_steps operation is_indirect ++ literal_steps pool inside) before has in
+literal_is_found grow keep found law options text pairs whole own e before operation is_indirect pool inside has clear closes =
+    let it = has_word grow keep found options text pairs whole own e (operation_steps operation is_indirect ++ literal_steps pool inside) before has in
     let reaches =
     law own (spot_of e) operation is_indirect pool inside before.asks before.punched it.word it.asks it.punched clear
-    (is_small grow keep found text pairs whole own e (operation_steps operation is_indirect ++ literal_steps pool inside) before has) closes it.is_value in
+    (is_small grow keep found options text pairs whole own e (operation_steps operation is_indirect ++ literal_steps pool inside) before has) closes it.is_value in
     record {
       value = reaches.value;
       asks = reaches.asked;
       punched = reaches.asked_punched;
       is_value = reaches.is_value;
       is_found =
-          finds grow keep found text pairs whole own e (operation_steps operation is_indirect ++ literal_steps pool inside) before has.is_punched it pool reaches.value
+          finds grow keep found options text pairs whole own e (operation_steps operation is_indirect ++ literal_steps pool inside) before has.is_punched it pool reaches.value
           (newest_asked (ask_of (spot_of e) pool reaches.value) reaches.asked it.asks reaches.asks_last)
           (newest_punched (ask_of (spot_of e) pool reaches.value) e.is_punched reaches.asked_punched it.punched has.is_punched reaches.punched_last)
           reaches.reaches;
@@ -321,13 +322,13 @@ literal_is_found grow keep found law text pairs whole own e before operation is_
 
 pub link_is_found : WordsAskMore → CellsStay → ValueIsFound → LinksAreReached → LinkIsFound
 unfolding finds
-link_is_found grow keep found law text pairs whole own e steps before evaluation has evaluates is_reference clear out =
-    let it = has_word grow keep found text pairs whole own e steps before has in
+link_is_found grow keep found law options text pairs whole own e steps before evaluation has evaluates is_reference clear out =
+    let it = has_word grow keep found options text pairs whole own e steps before has in
     let reaches =
     law own (spot_of e) steps before.asks before.punched evaluation it.word it.asks it.punched evaluates is_reference clear out it.is_value in
     record {
       is_found =
-          finds grow keep found text pairs whole own e steps before has.is_punched it Own evaluation.sum.total
+          finds grow keep found options text pairs whole own e steps before has.is_punched it Own evaluation.sum.total
           (newest_asked (ask_of (spot_of e) Own evaluation.sum.total) evaluation.asks it.asks reaches.asks_last)
           (newest_punched (ask_of (spot_of e) Own evaluation.sum.total) e.is_punched evaluation.punched it.punched has.is_punched reaches.punched_last)
           reaches.reaches;

@@ -19,6 +19,7 @@ use Rattle.pal8_values.specs.Sums.{Meanings}
 use Rattle.pal8_asm.specs.Laws.{SkippedIsNothing, plain, plain_by, plain_end, plain_statement}
 use Rattle.pal8_asm.specs.declared.faults.Place.{Place}
 use Rattle.pal8_asm.specs.declared.faults.Code.{Code}
+use Rattle.pal8_asm.specs.declared.options.Options.{Options}
 
 -- ## Tags
 
@@ -175,7 +176,7 @@ tags_say_nothing names radix tokens is_cut phrase is =
 
 -- a condition makes no word, and moves nothing
 record IsPassive (b : Body) : Type 0 where
-  pub no_words : (kept : Meanings) (steps : List Step) (string : List ℕ) (size : ℕ) → words_in b kept steps string size ≡ []
+  pub no_words : (options : Options) (kept : Meanings) (steps : List Step) (string : List ℕ) (size : ℕ) → words_in options b kept steps string size ≡ []
   pub no_name : defined_name b ≡ None
   pub stays : (steps : List Step) (n : ℕ) (standing : Standing) → with_body b steps n standing ≡ Ok standing
 
@@ -191,10 +192,10 @@ is_passive body.Page is = absurd cc
 is_passive body.Zeros is = absurd cc
 is_passive body.Text is = absurd cc
 is_passive body.Listing is = absurd cc
-is_passive body.IfZero is = record { no_words = λ kept steps string size. refl; no_name = refl; stays = λ steps n standing. refl }
-is_passive body.IfNotZero is = record { no_words = λ kept steps string size. refl; no_name = refl; stays = λ steps n standing. refl }
-is_passive (body.IfDefined name) is = record { no_words = λ kept steps string size. refl; no_name = refl; stays = λ steps n standing. refl }
-is_passive (body.IfUndefined name) is = record { no_words = λ kept steps string size. refl; no_name = refl; stays = λ steps n standing. refl }
+is_passive body.IfZero is = record { no_words = λ options kept steps string size. refl; no_name = refl; stays = λ steps n standing. refl }
+is_passive body.IfNotZero is = record { no_words = λ options kept steps string size. refl; no_name = refl; stays = λ steps n standing. refl }
+is_passive (body.IfDefined name) is = record { no_words = λ options kept steps string size. refl; no_name = refl; stays = λ steps n standing. refl }
+is_passive (body.IfUndefined name) is = record { no_words = λ options kept steps string size. refl; no_name = refl; stays = λ steps n standing. refl }
 is_passive body.NoPunch is = absurd cc
 is_passive body.Punch is = absurd cc
 is_passive body.Relocate is = absurd cc
@@ -252,7 +253,7 @@ module _ (line at : ℕ) (string : List ℕ) (is_cut : Bool) where
         (with_late_entry (place_of (ended_by tokens end.Open)) (spot_at before.standing.position) phrase.0 phrase.1 standing.names
         (with_entries (place_of (ended_by tokens end.Open)) (spot_at before.standing.position) l before.entries))
         (brackets_with (place_of (ended_by tokens end.Open)) end.Open before.brackets (truth_of phrase.0 phrase.1 standing)))
-        (passive.no_words (open_value standing) phrase.1 string (standing.position.location - before.standing.position.location))
+        (passive.no_words before.standing.position.options (open_value standing) phrase.1 string (standing.position.location - before.standing.position.location))
         ∙ ap (λ name. with_brackets (ended_by tokens end.Open) standing
         (with_late_by (place_of (ended_by tokens end.Open)) (spot_at before.standing.position) phrase.1 standing.names name before.entries)
         (brackets_with (place_of (ended_by tokens end.Open)) end.Open before.brackets (truth_of phrase.0 phrase.1 standing)))
@@ -286,13 +287,13 @@ module _ (line at : ℕ) (string : List ℕ) (is_cut : Bool) where
 
 -- ## Sources
 
-source_goes : (source : Source) (left : Remainder) → pass_over source ≡ Ok left → pass_over (plain source) ≡ Ok (bare left)
-source_goes [] left is = ap (λ p. Ok (bare (left_or left p))) is
-source_goes (s ∷ older) left is = by_older (pass_over older) (source_goes older) is
+source_goes : (options : Options) (source : Source) (left : Remainder) → pass_over options source ≡ Ok left → pass_over options (plain options source) ≡ Ok (bare left)
+source_goes options [] left is = ap (λ p. Ok (bare (left_or left p))) is
+source_goes options (s ∷ older) left is = by_older (pass_over options older) (source_goes options older) is
   where
-    by_tests : (before : Remainder) (over selected : Bool) → pass_over (plain older) ≡ Ok (bare before) → is_some before.end ≡ over
+    by_tests : (before : Remainder) (over selected : Bool) → pass_over options (plain options older) ≡ Ok (bare before) → is_some before.end ≡ over
         → (if over then Ok before else (if selected then with_selected s before else Ok (with_skipped s before))) ≡ Ok left
-        → pass_over (if over then plain older else (if selected then plain_statement s ∷ plain older else plain older)) ≡ Ok (bare left)
+        → pass_over options (if over then plain options older else (if selected then plain_statement s ∷ plain options older else plain options older)) ≡ Ok (bare left)
     by_tests before true selected goes over is = goes ∙ ap (λ p. Ok (bare (left_or left p))) is
     by_tests before false false goes over is = goes ∙ ap (λ p. Ok (bare (left_or left p))) is
     by_tests before false true goes over is =
@@ -300,13 +301,13 @@ source_goes (s ∷ older) left is = by_older (pass_over older) (source_goes olde
         ∙ ap (λ test. if test then Ok (bare before) else with_selected (plain_statement s) (bare before)) over
         ∙ selected_goes s.line s.at s.string s.is_cut before left s.tokens s.end is
 
-    by_older : (r : PassResult) → ((l : Remainder) → r ≡ Ok l → pass_over (plain older) ≡ Ok (bare l)) → with_next s r ≡ Ok left
-        → pass_over (plain_by s r (plain older)) ≡ Ok (bare left)
+    by_older : (r : PassResult) → ((l : Remainder) → r ≡ Ok l → pass_over options (plain options older) ≡ Ok (bare l)) → with_next s r ≡ Ok left
+        → pass_over options (plain_by s r (plain options older)) ≡ Ok (bare left)
     by_older (Err fault) goes is = absurd cc
     by_older (Ok before) goes is = by_tests before (is_some before.end) (is_selected before.brackets) (goes before refl) refl is
 
 pub skipped_is_nothing : SkippedIsNothing
-skipped_is_nothing text left is = by_passed (pass_over (statements text)) (source_goes (statements text)) is
+skipped_is_nothing options text left is = by_passed (pass_over options (statements text)) (source_goes options (statements text)) is
   where
     by_end : (l : Remainder) (brackets : List Bool) (end : Option Place) → l.brackets ≡ brackets → with_end text l brackets end ≡ Ok left → bare l ≡ left
     by_end l [] None same is = absurd cc
@@ -315,7 +316,7 @@ skipped_is_nothing text left is = by_passed (pass_over (statements text)) (sourc
     by_end l (newest ∷ outer) None same is = absurd cc
     by_end l (newest ∷ outer) (Some place) same is = absurd cc
 
-    by_passed : (r : PassResult) → ((l : Remainder) → r ≡ Ok l → pass_over (plain (statements text)) ≡ Ok (bare l)) → end_of_pass text r ≡ Ok left
-        → pass_over (plain (statements text)) ≡ Ok left
+    by_passed : (r : PassResult) → ((l : Remainder) → r ≡ Ok l → pass_over options (plain options (statements text)) ≡ Ok (bare l)) → end_of_pass text r ≡ Ok left
+        → pass_over options (plain options (statements text)) ≡ Ok left
     by_passed (Err fault) goes is = absurd cc
     by_passed (Ok l) goes is = goes l refl ∙ ap Ok (by_end l l.brackets l.end refl is)

@@ -20,6 +20,7 @@ use Rattle.pal8_asm.specs.Tapes.{TapeWords, without_clash, unless_clash, nothing
 use Rattle.pal8_pools.specs.Pooled.{Holds, PoolTable}
 use Rattle.pal8_clash.specs.Clashes.{AreMarks}
 use Rattle.pal8_asm.specs.declared.faults.AsmFault.{AsmFault}
+use Rattle.pal8_asm.specs.declared.options.Options.{Options}
 use Rattle.pal8_asm.specs.declared.faults.AsmFault.TheVariants.{At, Memory}
 use Rattle.pal8_asm.specs.declared.faults.Code.TheVariants as code
 
@@ -82,15 +83,15 @@ pushes here b false new it = (byte_ends_none here b it.0, it.1)
 -- ## What follows
 
 -- a fault is the fault of what follows, too
-fault_stays : (further source : Source) (fault : Fault) → pass_over source ≡ Err fault → pass_over (further ++ source) ≡ Err fault
-fault_stays [] source fault is = is
-fault_stays (s ∷ further) source fault is = ap (with_next s) (fault_stays further source fault is)
+fault_stays : (options : Options) (further source : Source) (fault : Fault) → pass_over options source ≡ Err fault → pass_over options (further ++ source) ≡ Err fault
+fault_stays options [] source fault is = is
+fault_stays options (s ∷ further) source fault is = ap (with_next s) (fault_stays options further source fault is)
 
 -- what follows the `$` that ends a source leaves nothing
-end_stays : (further source : Source) (left : Remainder) → is_some left.end ≡ true → pass_over source ≡ Ok left → pass_over (further ++ source) ≡ Ok left
-end_stays [] source left ends is = is
-end_stays (s ∷ further) source left ends is =
-    ap (with_next s) (end_stays further source left ends is)
+end_stays : (options : Options) (further source : Source) (left : Remainder) → is_some left.end ≡ true → pass_over options source ≡ Ok left → pass_over options (further ++ source) ≡ Ok left
+end_stays options [] source left ends is = is
+end_stays options (s ∷ further) source left ends is =
+    ap (with_next s) (end_stays options further source left ends is)
     ∙ ap (λ test. if test then Ok left else (if is_selected left.brackets then with_selected s left else Ok (with_skipped s left))) ends
 
 -- ## Texts
@@ -109,11 +110,11 @@ statements_after here rest whole same =
     (more.0, ap statements (sym same ∙ it.1) ∙ more.1)
 
 -- the source is over where a `$` ended it
-pub way_ends : (whole rest : List ℕ) (lexer : lex.Progress) (at : ℕ) (a : Progress) → is_some a.end ≡ true → IsOnTheWay whole rest lexer at a → HasReadAll whole lexer at a
-way_ends whole rest lexer at a ends way =
+pub way_ends : (options : Options) (whole rest : List ℕ) (lexer : lex.Progress) (at : ℕ) (a : Progress) → is_some a.end ≡ true → IsOnTheWay options whole rest lexer at a → HasReadAll options whole lexer at a
+way_ends options whole rest lexer at a ends way =
     let more = statements_after way.here rest whole way.same in
     record {
-      leaves = ap pass_over more.1 ∙ end_stays more.0 (statements way.here) (remainder_of a) ends way.taken.leaves;
+      leaves = ap (pass_over options) more.1 ∙ end_stays options more.0 (statements way.here) (remainder_of a) ends way.taken.leaves;
       counts = λ none. absurd (not_both (sym (ap is_some none) ∙ ends));
     }
   where
@@ -121,11 +122,11 @@ way_ends whole rest lexer at a ends way =
     not_both is = cc
 
 -- the text is over
-pub way_is_over : (whole rest : List ℕ) (lexer : lex.Progress) (at : ℕ) (a : Progress) → length rest ≡ 0 → IsOnTheWay whole rest lexer at a → HasReadAll whole lexer at a
-way_is_over whole [] lexer at a none way =
-    let taken = subst (λ w. HasTaken w lexer a) way.same way.taken in
+pub way_is_over : (options : Options) (whole rest : List ℕ) (lexer : lex.Progress) (at : ℕ) (a : Progress) → length rest ≡ 0 → IsOnTheWay options whole rest lexer at a → HasReadAll options whole lexer at a
+way_is_over options whole [] lexer at a none way =
+    let taken = subst (λ w. HasTaken options w lexer a) way.same way.taken in
     record { leaves = taken.leaves; counts = λ now. (way.counts ∙ ap (λ w. limit (length w)) way.same, taken.has_read) }
-way_is_over whole (b ∷ rest) lexer at a none way = absurd (omega (arith, none))
+way_is_over options whole (b ∷ rest) lexer at a none way = absurd (omega (arith, none))
 
 -- what stands after the first of a list
 abbrev pub following_one : {A : Type 0} → List A → List A
@@ -141,12 +142,12 @@ first_one (x ∷ others) long = ap (λ v. x ∷ v) (sym (ap (λ n. take n others
 limit_more : (n : ℕ) → limit (limit n + 1) ≡ limit (suc n)
 limit_more n = omega arith
 
-module _ (whole rest : List ℕ) (lexer lexer' : lex.Progress) (at : ℕ) (a a' : Progress) (long : 1 ≤ length rest)
-    (way : IsOnTheWay whole rest lexer at a) where
+module _ (options : Options) (whole rest : List ℕ) (lexer lexer' : lex.Progress) (at : ℕ) (a a' : Progress) (long : 1 ≤ length rest)
+    (way : IsOnTheWay options whole rest lexer at a) where
   same_again : text_from (slice_index rest 0 ∷ way.here) (following_one rest) ≡ whole
   same_again = sym (ap (text_from way.here) (first_one rest long)) ∙ way.same
 
-  pub way_goes_on : HasTaken (slice_index rest 0 ∷ way.here) lexer' a' → IsOnTheWay whole (following_one rest) lexer' (limit (at + 1)) a'
+  pub way_goes_on : HasTaken options (slice_index rest 0 ∷ way.here) lexer' a' → IsOnTheWay options whole (following_one rest) lexer' (limit (at + 1)) a'
   way_goes_on taken = record {
     here = slice_index rest 0 ∷ way.here;
     counts = ap (λ n. limit (n + 1)) way.counts ∙ limit_more (length way.here);
@@ -155,15 +156,15 @@ module _ (whole rest : List ℕ) (lexer lexer' : lex.Progress) (at : ℕ) (a a' 
   }
 
   -- a byte with a fault has the fault of the text
-  pub way_fails : (fault : AsmFault) → TakesByte (slice_index rest 0 ∷ way.here) (Err fault) lexer' a' → ReadsOn whole (Err fault) lexer' at a'
+  pub way_fails : (fault : AsmFault) → TakesByte options (slice_index rest 0 ∷ way.here) (Err fault) lexer' a' → ReadsOn options whole (Err fault) lexer' at a'
   way_fails (At code place) fails =
       let more = statements_after (slice_index rest 0 ∷ way.here) (following_one rest) whole same_again in
-      ap pass_over more.1 ∙ fault_stays more.0 (statements (slice_index rest 0 ∷ way.here)) (at_place place code) fails
+      ap (pass_over options) more.1 ∙ fault_stays options more.0 (statements (slice_index rest 0 ∷ way.here)) (at_place place code) fails
   way_fails Memory fails = tt
 
 -- nothing is read yet
-pub starts : (whole : List ℕ) (lexer : lex.Progress) (a : Progress) → HasRead lexer [] → remainder_of a ≡ first_left → IsOnTheWay (text_of whole) whole lexer 0 a
-starts whole lexer a read is =
+pub starts : (options : Options) (whole : List ℕ) (lexer : lex.Progress) (a : Progress) → HasRead lexer [] → remainder_of a ≡ first_left options → IsOnTheWay options (text_of whole) whole lexer 0 a
+starts options whole lexer a read is =
     record { here = []; counts = refl; same = refl; taken = record { has_read = read; leaves = ap Ok (sym is) } }
 
 -- the end of a text without a `$`
@@ -174,16 +175,16 @@ text_end whole lexer at line counts read is =
     ap (λ l. record { line = l; start = at }) (is ∙ ap (λ (p : lex.Progress). p.line) read) ∙ ap (λ n. record { line = line_after (live whole); start = n }) counts
 
 -- what the end of a text comes to
-pub text_closes : (whole : List ℕ) (lexer : lex.Progress) (at : ℕ) (a : Progress) → HasReadAll whole lexer at a → (result : Result Place AsmFault)
-    → Closes (with_end whole (remainder_of a) a.brackets a.end) result a → ReadsText whole result a
-text_closes whole lexer at a read (Ok place) closes = (ap (end_of_pass whole) read.leaves ∙ closes.0, closes.1)
-text_closes whole lexer at a read (Err (At code place)) closes = ap (end_of_pass whole) read.leaves ∙ closes
-text_closes whole lexer at a read (Err Memory) closes = tt
+pub text_closes : (options : Options) (whole : List ℕ) (lexer : lex.Progress) (at : ℕ) (a : Progress) → HasReadAll options whole lexer at a → (result : Result Place AsmFault)
+    → Closes (with_end whole (remainder_of a) a.brackets a.end) result a → ReadsText options whole result a
+text_closes options whole lexer at a read (Ok place) closes = (ap (end_of_pass whole) read.leaves ∙ closes.0, closes.1)
+text_closes options whole lexer at a read (Err (At code place)) closes = ap (end_of_pass whole) read.leaves ∙ closes
+text_closes options whole lexer at a read (Err Memory) closes = tt
 
 -- what reading further fails for
-pub text_fails : (whole : List ℕ) (lexer : lex.Progress) (at : ℕ) (a : Progress) (fault : AsmFault) → ReadsOn whole (Err fault) lexer at a → ReadsText whole (Err fault) a
-text_fails whole lexer at a (At code place) fails = ap (end_of_pass whole) fails
-text_fails whole lexer at a Memory fails = tt
+pub text_fails : (options : Options) (whole : List ℕ) (lexer : lex.Progress) (at : ℕ) (a : Progress) (fault : AsmFault) → ReadsOn options whole (Err fault) lexer at a → ReadsText options whole (Err fault) a
+text_fails options whole lexer at a (At code place) fails = ap (end_of_pass whole) fails
+text_fails options whole lexer at a Memory fails = tt
 
 -- ## Ends
 
@@ -239,6 +240,6 @@ words_clear whole pools marks clash pairs making is = record {
 }
 
 pub text_fault_stays : FaultStays
-text_fault_stays later text fault fails =
+text_fault_stays options later text fault fails =
     let more = statements_stay text later in
-    ap (end_of_pass (later ++ text)) (ap pass_over more.1 ∙ fault_stays more.0 (statements text) fault fails)
+    ap (end_of_pass (later ++ text)) (ap (pass_over options) more.1 ∙ fault_stays options more.0 (statements text) fault fails)

@@ -12,6 +12,7 @@ use Rattle.pal8_asm.specs.declared.faults.AsmFault.{AsmFault}
 use Rattle.pal8_asm.specs.declared.faults.AsmFault.TheVariants.{At, Memory}
 use Rattle.pal8_asm.specs.declared.faults.Fault.{Fault}
 use Rattle.pal8_asm.specs.declared.faults.Place.{Place}
+use Rattle.pal8_asm.specs.declared.options.Options.{Options}
 use Rattle.pal8_asm.specs.declared.places.Position.{Position}
 
 abbrev pub left_at : KnownNames → Position → List Entry → List Bool → Option Place → Remainder
@@ -50,10 +51,10 @@ take_fails s before table entries brackets end new (At code place) none selected
 take_fails s before table entries brackets end new Memory none selected takes = tt
 
 -- the permanent names alone
-pub begins : (table : KnownNames) (entries : List Entry) (brackets : List Bool) → names_of table.table ≡ first_names → ((n : ℕ) → is_late table n ≡ false) → entries ≡ [] → brackets ≡ []
-    → left_at table first_left.standing.position entries brackets None ≡ first_left
-begins table entries brackets names late none closed =
-    ap (λ n. record { standing = record { names = n; late = is_late table; position = first_left.standing.position }; entries = entries; brackets = brackets; end = None }) names
-    ∙ ap (λ l. record { standing = record { names = first_names; late = l; position = first_left.standing.position }; entries = entries; brackets = brackets; end = None }) (fun_ext late)
-    ∙ ap (λ e. record { standing = first_left.standing; entries = e; brackets = brackets; end = None }) none
-    ∙ ap (λ b. record { standing = first_left.standing; entries = []; brackets = b; end = None }) closed
+pub begins : (options : Options) (table : KnownNames) (entries : List Entry) (brackets : List Bool) → names_of table.table ≡ first_names → ((n : ℕ) → is_late table n ≡ false) → entries ≡ [] → brackets ≡ []
+    → left_at table (first_left options).standing.position entries brackets None ≡ first_left options
+begins options table entries brackets names late none closed =
+    ap (λ n. record { standing = record { names = n; late = is_late table; position = (first_left options).standing.position }; entries = entries; brackets = brackets; end = None }) names
+    ∙ ap (λ l. record { standing = record { names = first_names; late = l; position = (first_left options).standing.position }; entries = entries; brackets = brackets; end = None }) (fun_ext late)
+    ∙ ap (λ e. record { standing = (first_left options).standing; entries = e; brackets = brackets; end = None }) none
+    ∙ ap (λ b. record { standing = (first_left options).standing; entries = []; brackets = b; end = None }) closed

@@ -1,5 +1,5 @@
 -- Worked sources: what the definitions give for them, by computing.
-use Rattle.std.proofs.Common.{◌≡◌, ℕ, Result, Ok, Err, List, [], ◌∷◌, ◌++◌, refl}
+use Rattle.std.proofs.Common.{◌≡◌, ℕ, false, Result, Ok, Err, List, [], ◌∷◌, ◌++◌, refl}
 use Rattle.std.specs.Prelude.{codes}
 use Rattle.word12.specs.Sixbit.{name_number}
 use Rattle.pal_lex.specs.Text.{text_of}
@@ -10,6 +10,7 @@ use Rattle.pal8_asm.specs.declared.faults.Fault.{Fault}
 use Rattle.pal8_asm.specs.Tapes.{TapeWords}
 use Rattle.pal8_asm.specs.Assembled.{result_of_text}
 use Rattle.pal8_asm.specs.declared.faults.Code.{Code}
+use Rattle.pal8_asm.specs.declared.options.Options.{Options}
 use Rattle.pal8_asm.specs.declared.faults.Code.TheVariants.{IC, SY, NU, UA, DT, RD, IR, II, FD, PG, PF, DZ, RL, PageClash, ZeroClash, PH, NE, NW}
 
 -- each ask with its cell, the oldest first
@@ -22,8 +23,12 @@ abbrev brief : Result TapeWords Fault → Result (List (ℕ × ℕ) × List (ℕ
 brief (Err fault) = Err (fault.code, fault.place.line)
 brief (Ok made) = Ok (made.words, cells made.asks made.asks, cells made.asks made.punched)
 
+-- as the profile says
+abbrev plain : Options
+plain = record { is_without_links = false; is_without_zero = false; is_without_origin = false; has_stays = false }
+
 abbrev read : List ℕ → Result (List (ℕ × ℕ) × List (ℕ × ℕ) × List (ℕ × ℕ)) (Code × ℕ)
-read bytes = brief (result_of_text (text_of bytes))
+read bytes = brief (result_of_text plain (text_of bytes))
 
 dt : read (codes "A=1;A, 2" ++ 10 ∷ codes "$" ++ 10 ∷ []) ≡ Err (DT (name_number (codes "A")), 1)
 unfolding permanent pal8_permanent
@@ -360,25 +365,25 @@ place (Err fault) = Err (fault.code, fault.place.line, fault.place.start)
 place (Ok made) = Ok made.words
 
 -- at the first token, blanks and dropped bytes counted
-place_of_token : place (result_of_text (text_of (codes "1" ++ 13 ∷ 10 ∷ codes "2;  3#" ++ 10 ∷ codes "$" ++ 10 ∷ []))) ≡ Err (IC, 2, 7)
+place_of_token : place (result_of_text plain (text_of (codes "1" ++ 13 ∷ 10 ∷ codes "2;  3#" ++ 10 ∷ codes "$" ++ 10 ∷ []))) ≡ Err (IC, 2, 7)
 unfolding permanent pal8_permanent
 place_of_token = refl
 
 -- an empty statement at the byte that ends it
-place_of_close : place (result_of_text (text_of (codes "1; >" ++ 10 ∷ codes "$" ++ 10 ∷ []))) ≡ Err (PH, 1, 3)
+place_of_close : place (result_of_text plain (text_of (codes "1; >" ++ 10 ∷ codes "$" ++ 10 ∷ []))) ≡ Err (PH, 1, 3)
 unfolding permanent pal8_permanent
 place_of_close = refl
 
 -- no word at the `$`, no end after the last byte
-place_of_dollar : place (result_of_text (text_of (codes "A=1;A=2 $" ++ 10 ∷ []))) ≡ Err (NW, 1, 8)
+place_of_dollar : place (result_of_text plain (text_of (codes "A=1;A=2 $" ++ 10 ∷ []))) ≡ Err (NW, 1, 8)
 unfolding permanent pal8_permanent
 place_of_dollar = refl
 
-place_of_end : place (result_of_text (text_of (codes "1" ++ 10 ∷ codes "2" ++ []))) ≡ Err (NE, 2, 3)
+place_of_end : place (result_of_text plain (text_of (codes "1" ++ 10 ∷ codes "2" ++ []))) ≡ Err (NE, 2, 3)
 unfolding permanent pal8_permanent
 place_of_end = refl
 
 -- the lowest of two cells that clash at once, at the later of two statements
-place_of_clash : place (result_of_text (text_of (codes "*177;1;*377;2;*200;(TAD [1)" ++ 10 ∷ codes "$" ++ 10 ∷ []))) ≡ Err (ZeroClash 0o177, 1, 19)
+place_of_clash : place (result_of_text plain (text_of (codes "*177;1;*377;2;*200;(TAD [1)" ++ 10 ∷ codes "$" ++ 10 ∷ []))) ≡ Err (ZeroClash 0o177, 1, 19)
 unfolding permanent pal8_permanent
 place_of_clash = refl

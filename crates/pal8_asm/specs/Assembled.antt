@@ -4,6 +4,7 @@ use Rattle.pal8_asm.specs.Sources.{PassResult, at_place, remainder_of_text}
 use Rattle.pal8_asm.specs.declared.faults.Place.{Place}
 use Rattle.pal8_asm.specs.declared.faults.Fault.{Fault}
 use Rattle.pal8_asm.specs.declared.faults.Code.TheVariants as code
+use Rattle.pal8_asm.specs.declared.options.Options.{Options}
 use Rattle.pal8_asm.specs.Tapes.{TapeWords, without_clash, words_of_entries}
 
 abbrev pub has_words : List (ℕ × ℕ) → Bool
@@ -29,5 +30,5 @@ result_of_source (Err fault) = Err fault
 result_of_source (Ok left) = result_if_any_word (dollar_in left.end) (without_clash (words_of_entries left.standing.names.own left.standing.late left.entries))
 
 -- what a text makes, or its first fault: of places and names; of its end; of words; of words on pools' cells; that there is no word
-abbrev pub result_of_text : List ℕ → Result TapeWords Fault
-result_of_text text = result_of_source (remainder_of_text text)
+abbrev pub result_of_text : Options → List ℕ → Result TapeWords Fault
+result_of_text options text = result_of_source (remainder_of_text options text)

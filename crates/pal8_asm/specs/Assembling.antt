@@ -18,6 +18,7 @@ use Rattle.pal8_asm.specs.declared.faults.AsmFault.TheVariants as asm
 use Rattle.pal8_asm.specs.declared.faults.Code.{Code}
 use Rattle.pal8_asm.specs.declared.faults.Stop.{Stop}
 use Rattle.pal8_asm.specs.declared.faults.Stop.TheVariants.{At, Memory}
+use Rattle.pal8_asm.specs.declared.options.Options.{Options}
 use Rattle.pal8_asm.specs.declared.places.Position.{Position}
 
 -- the last definition of a name is late
@@ -33,6 +34,12 @@ abbrev pub Passes : Result Standing Code → Result Position Stop → KnownNames
 Passes whole (Ok next) new = whole ≡ Ok (standing new next)
 Passes whole (Err (At code)) new = whole ≡ Err code
 Passes whole (Err Memory) new = Unit {0}
+
+-- whether a condition is true is answered, or the fault of its value; or memory ran out
+abbrev pub IsJudged : Result Bool Code → Result Bool Stop → Type 0
+IsJudged whole (Ok holds) = whole ≡ Ok holds
+IsJudged whole (Err (At code)) = whole ≡ Err code
+IsJudged whole (Err Memory) = Unit {0}
 
 -- How far an assembler is.
 pub record Progress : Type 0 where
@@ -53,10 +60,10 @@ Takes whole (Err (asm.At code place)) new = whole ≡ Err (at_place place code)
 Takes whole (Err asm.Memory) new = Unit {0}
 
 -- what a text leaves to be made was taken, and its `$` has this place; or its fault; or memory ran out
-abbrev pub ReadsText : List ℕ → Result Place AsmFault → Progress → Type 0
-ReadsText text (Ok place) a = (remainder_of_text text ≡ Ok (remainder_of a)) × (a.end ≡ Some place)
-ReadsText text (Err (asm.At code place)) a = remainder_of_text text ≡ Err (at_place place code)
-ReadsText text (Err asm.Memory) a = Unit {0}
+abbrev pub ReadsText : Options → List ℕ → Result Place AsmFault → Progress → Type 0
+ReadsText options text (Ok place) a = (remainder_of_text options text ≡ Ok (remainder_of a)) × (a.end ≡ Some place)
+ReadsText options text (Err (asm.At code place)) a = remainder_of_text options text ≡ Err (at_place place code)
+ReadsText options text (Err asm.Memory) a = Unit {0}
 
 -- Entries were made, after others: these are the words so far, and the pools hold what was asked.
 pub record IsMade (whole : Result TapeWords Fault) (pools : PoolTable) (pairs : List (ℕ × ℕ)) : Type 0 where
@@ -80,7 +87,7 @@ pub record IsAssembled (whole : Result TapeWords Fault) (pairs : List (ℕ × �
   pub is_pool : ArePairs made.asks made.punched pool
 
 -- a text is assembled, or its first fault is answered; or memory ran out
-abbrev pub Assembles : List ℕ → Result (Vec (ℕ × ℕ)) AsmFault → Type 0
-Assembles text (Ok pairs) = IsAssembled (result_of_text text) pairs.items
-Assembles text (Err (asm.At code place)) = result_of_text text ≡ Err (at_place place code)
-Assembles text (Err asm.Memory) = Unit {0}
+abbrev pub Assembles : Options → List ℕ → Result (Vec (ℕ × ℕ)) AsmFault → Type 0
+Assembles options text (Ok pairs) = IsAssembled (result_of_text options text) pairs.items
+Assembles options text (Err (asm.At code place)) = result_of_text options text ≡ Err (at_place place code)
+Assembles options text (Err asm.Memory) = Unit {0}

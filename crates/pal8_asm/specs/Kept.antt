@@ -10,7 +10,17 @@ total [] = 0
 total (h ∷ others) = h.count + total others
 
 abbrev pub entry_of : Head → List Step → Entry
-entry_of h steps = record { late = h.late; place = h.place; cell = h.cell; here = h.here; is_punched = h.is_punched; steps = steps }
+entry_of h steps = record {
+  late = h.late;
+  place = h.place;
+  cell = h.cell;
+  here = h.here;
+  is_punched = h.is_punched;
+  may_link = h.may_link;
+  zero_stay = h.zero_stay;
+  page_stay = h.page_stay;
+  steps = steps;
+}
 
 -- each head with its own steps
 abbrev pub cut : List Head → List Step → List Entry

@@ -14,18 +14,22 @@ use Rattle.pal8_grammar.specs.declared.bodies.Body.TheVariants as body
 use Rattle.pal8_grammar.specs.declared.faults.GrammarFault.{GrammarFault}
 use Rattle.pal8_asm.specs.Sources.{Remainder, PassResult, Source, Statement, first_left, is_selected, remainder_of_text, number, pass_over, phrase_of, statements, with_said, with_skipped}
 use Rattle.pal8_asm.specs.declared.faults.Fault.{Fault}
+use Rattle.pal8_asm.specs.declared.options.Options.{Options}
 
 -- the first fault of the statements of a text is that of the text, whatever follows
 abbrev pub FaultStays : Type 0
-FaultStays = (later text : List ℕ) (fault : Fault) → pass_over (statements text) ≡ Err fault → remainder_of_text (later ++ text) ≡ Err fault
+FaultStays =
+    (options : Options) (later text : List ℕ) (fault : Fault) → pass_over options (statements text) ≡ Err fault → remainder_of_text options (later ++ text) ≡ Err fault
 
 -- in a text without a fault no cell of a punched word is a pool's cell
 abbrev pub Apart : Type 0
-Apart = (text : List ℕ) (made : TapeWords) → result_of_text text ≡ Ok made → (c : ℕ) → has_word made.words c ≡ true → is_cell_of made.asks made.asks c ≡ false
+Apart =
+    (options : Options) (text : List ℕ) (made : TapeWords) → result_of_text options text ≡ Ok made → (c : ℕ) → has_word made.words c ≡ true → is_cell_of made.asks made.asks c ≡ false
 
 -- the pairs of a text whose punched words ask nothing are these words
 abbrev pub NoPoolNoChange : Type 0
-NoPoolNoChange = (text : List ℕ) (pairs : List (ℕ × ℕ)) → (whole : IsAssembled (result_of_text text) pairs) → whole.made.punched ≡ [] → pairs ≡ whole.made.words
+NoPoolNoChange =
+    (options : Options) (text : List ℕ) (pairs : List (ℕ × ℕ)) → (whole : IsAssembled (result_of_text options text) pairs) → whole.made.punched ≡ [] → pairs ≡ whole.made.words
 
 -- what pairs give a cell: the word of the last of them at that cell
 abbrev pub meaning : List (ℕ × ℕ) → ℕ → Option ℕ
@@ -35,7 +39,7 @@ meaning (pair ∷ later) c = if_none (meaning later c) (if nat_eq pair.0 c then 
 -- in a text without a fault the cell that a punched word's literal or link asks for holds its value
 abbrev pub ValueIsFound : Type 0
 ValueIsFound =
-    (text : List ℕ) (pairs : List (ℕ × ℕ)) → (whole : IsAssembled (result_of_text text) pairs) → (a : Ask) → IsAsked whole.made.punched a
+    (options : Options) (text : List ℕ) (pairs : List (ℕ × ℕ)) → (whole : IsAssembled (result_of_text options text) pairs) → (a : Ask) → IsAsked whole.made.punched a
     → meaning pairs (cell_in whole.made.asks a) ≡ Some a.value
 
 -- ## What isn't selected is nothing
@@ -63,13 +67,14 @@ plain_by s (Err fault) others = others
 plain_by s (Ok left) others = if is_some left.end then others else (if is_selected left.brackets then plain_statement s ∷ others else others)
 
 -- the statements of a source that are selected, without conditions and brackets
-abbrev pub plain : Source → Source
-plain [] = []
-plain (s ∷ older) = plain_by s (pass_over older) (plain older)
+abbrev pub plain : Options → Source → Source
+plain options [] = []
+plain options (s ∷ older) = plain_by s (pass_over options older) (plain options older)
 
 -- a text leaves what its selected statements leave, without conditions and brackets
 abbrev pub SkippedIsNothing : Type 0
-SkippedIsNothing = (text : List ℕ) (left : Remainder) → remainder_of_text text ≡ Ok left → pass_over (plain (statements text)) ≡ Ok left
+SkippedIsNothing =
+    (options : Options) (text : List ℕ) (left : Remainder) → remainder_of_text options text ≡ Ok left → pass_over options (plain options (statements text)) ≡ Ok left
 
 -- ## Places rest on no word
 
@@ -113,9 +118,9 @@ read_zero s (Ok left) =
     else Ok (with_skipped s left))
 
 -- what the statements of a source leave, where each word is read as the word 0
-abbrev pub passed_zero : Source → PassResult
-passed_zero [] = Ok first_left
-passed_zero (s ∷ older) = read_zero s (passed_zero older)
+abbrev pub passed_zero : Options → Source → PassResult
+passed_zero options [] = Ok (first_left options)
+passed_zero options (s ∷ older) = read_zero s (passed_zero options older)
 
 -- what is left but the words: places, the field and names, the brackets that are open, and the end
 abbrev pub without_words : PassResult → PassResult
@@ -124,4 +129,4 @@ without_words (Ok left) = Ok record { standing = left.standing; entries = []; br
 
 -- each place, field and name, each condition, the end and each fault of theirs is that of the source with each word read as the word 0
 abbrev pub PlacesStay : Type 0
-PlacesStay = (source : Source) → without_words (passed_zero source) ≡ without_words (pass_over source)
+PlacesStay = (options : Options) (source : Source) → without_words (passed_zero options source) ≡ without_words (pass_over options source)

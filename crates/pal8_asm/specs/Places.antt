@@ -1,6 +1,7 @@
 -- What a statement does to places and names, by those before it (PAL8, in this project's profile). No place and no name rests on a literal
 -- or a link.
 use Rattle.std.specs.Prelude.{ℕ, ◌+◌, ◌-◌, ◌*◌, ◌/◌, ◌%◌, nat_eq, nat_lt, Bool, true, false, ◌&&◌, ◌||◌, not, if◌then◌else◌, is_some, Option, Some, None, Result, Ok, Err, List, [], ◌∷◌}
+use Rattle.word12.specs.declared.sizes.TheConstants.{PAGE}
 use Rattle.pal8_lex.specs.Kinds.{is_comma}
 use Rattle.pal8_lex.specs.declared.tokens.Token.{Token}
 use Rattle.pal8_lex.specs.declared.judging.Radix.{Radix}
@@ -17,8 +18,9 @@ use Rattle.pal8_values.specs.declared.faults.ValueFault.{ValueFault}
 use Rattle.pal8_values.specs.declared.faults.ValueFault.TheVariants as value
 use Rattle.pal8_asm.specs.declared.faults.Code.{Code}
 use Rattle.pal8_asm.specs.declared.faults.Code.TheVariants as code
+use Rattle.pal8_asm.specs.declared.options.Options.{Options}
 use Rattle.pal8_asm.specs.declared.places.Position.{Position}
-use Rattle.pal8_asm.specs.declared.places.TheConstants.{FIRST_PLACE}
+use Rattle.pal8_asm.specs.declared.places.TheConstants.{FIRST_PLACE, LAST_STAY}
 
 -- What statements leave: names, and where the next statement stands. A definition by `=` is late where a name of its value has none by then. It counts
 -- in words alone, so names are those of the other definitions; the late names are those whose last definition is late.
@@ -40,7 +42,15 @@ location_at shift place = (place + 0o10000 - shift) % 0o10000
 
 -- where a statement stands
 abbrev pub spot_at : Position → Spot
-spot_at p = record { field = p.field; location = p.location; here = place_of_location p.shift p.location; is_punched = p.is_punched }
+spot_at p = record {
+  field = p.field;
+  location = p.location;
+  here = place_of_location p.shift p.location;
+  is_punched = p.is_punched;
+  may_link = not p.options.is_without_links;
+  zero_stay = p.zero_stay;
+  page_stay = p.page_stay;
+}
 
 -- ## Names
 
@@ -105,8 +115,21 @@ has_later own (s ∷ others) = is_later own s || has_later own others
 
 -- ## Positions
 
+-- one stay more; 2^32 - 1 is the last one that is counted
+abbrev pub next_stay : ℕ → ℕ
+next_stay stay = if nat_lt stay LAST_STAY then stay + 1 else stay
+
+abbrev pub stay_if : Bool → ℕ → ℕ
+stay_if true stay = next_stay stay
+stay_if false stay = stay
+
+-- a location is on another page than the one before
+abbrev pub is_elsewhere : ℕ → Position → Bool
+is_elsewhere location p = not (nat_eq (location / PAGE) (p.location / PAGE))
+
+-- A page but page zero is asked in a new stay where the location comes to another page.
 abbrev pub at_location : ℕ → Position → Position
-at_location location p = record p { location = location }
+at_location location p = record p { location = location; page_stay = stay_if (p.options.has_stays && is_elsewhere location p) p.page_stay }
 
 -- `*` and PAGE set the place
 abbrev pub to_place : ℕ → Position → Position
@@ -118,9 +141,18 @@ with_size n p =
     if nat_eq n 0 then Ok p
     else (if nat_lt 0o10000 (p.location + n) then Err code.PF else Ok (at_location (p.location + n) p))
 
+-- where FIELD goes on, whose pages are asked in a new stay
+abbrev pub location_in_field : Position → ℕ
+location_in_field p = if p.options.is_without_origin then p.location else FIRST_PLACE
+
 abbrev pub with_field : ℕ → Position → Result Position Code
 with_field n p =
-    if nat_lt 7 n then Err code.FD else Ok record p { location = FIRST_PLACE; field = n }
+    if nat_lt 7 n then Err code.FD else Ok record p {
+      location = location_in_field p;
+      field = n;
+      zero_stay = stay_if p.options.has_stays p.zero_stay;
+      page_stay = stay_if p.options.has_stays p.page_stay;
+    }
 
 abbrev pub with_page : ℕ → Position → Result Position Code
 with_page n p = if nat_lt 0o37 n then Err code.PG else Ok (to_place (0o200 * n) p)
@@ -152,9 +184,9 @@ without_relocation p = record p { shift = 0 }
 abbrev pub with_relocation : ℕ → Position → Position
 with_relocation place p = record p { shift = (place + 0o20000 - p.location) % 0o10000 }
 
--- two characters a word, and 00 after the last one
-abbrev pub text_size : ℕ → ℕ
-text_size length = length / 2 + 1
+-- two characters a word, and 00 after the last one, unless an even text has none
+abbrev pub text_size : Options → ℕ → ℕ
+text_size options length = if options.is_without_zero then (length + 1) / 2 else length / 2 + 1
 
 -- ## Bodies
 
@@ -233,7 +265,7 @@ with_body body.Field steps length s = with_value_of body.Field s (value_at s ste
 with_body body.NextPage steps length s = standing_at s (Ok (next_page s.position))
 with_body body.Page steps length s = with_value_of body.Page s (value_at s steps)
 with_body body.Zeros steps length s = with_value_of body.Zeros s (value_at s steps)
-with_body body.Text steps length s = standing_at s (with_size (text_size length) s.position)
+with_body body.Text steps length s = standing_at s (with_size (text_size s.position.options length) s.position)
 with_body body.Listing steps length s = Ok s
 with_body body.IfZero steps length s = Ok s
 with_body body.IfNotZero steps length s = Ok s

@@ -15,6 +15,7 @@ use Rattle.pal8_asm.specs.Laws.{meaning}
 use Rattle.pal8_asm.specs.Sources.{Entry, Remainder, remainder_of_text, with_values}
 use Rattle.pal8_asm.specs.Tapes.{TapeWords, late_after, late_values, nothing_made, spot_of, with_entry}
 use Rattle.pal8_asm.specs.declared.faults.Fault.{Fault}
+use Rattle.pal8_asm.specs.declared.options.Options.{Options}
 
 -- the word of an entry is made of these steps, after what others have made
 abbrev pub IsMadeAfter : Meanings → Meanings → List Entry → Result TapeWords Fault → Entry → List Step → TapeWords → Type 0
@@ -24,9 +25,9 @@ IsMadeAfter own late (first ∷ others) so_far e steps before =
     ⊎ IsMadeAfter own (late_after own first late) others (with_entry own late first so_far) e steps before
 
 -- A text has a punched word of these steps, in which names have their values, after what others have made.
-pub record HasWord (text : List ℕ) (own : Meanings) (e : Entry) (steps : List Step) (before : TapeWords) : Type 0 where
+pub record HasWord (options : Options) (text : List ℕ) (own : Meanings) (e : Entry) (steps : List Step) (before : TapeWords) : Type 0 where
   pub left : Remainder
-  pub leaves : remainder_of_text text ≡ Ok left
+  pub leaves : remainder_of_text options text ≡ Ok left
   pub values_are : own ≡ left.standing.names.own
   pub is_punched : e.is_punched ≡ true
   pub is_made : IsMadeAfter own (late_values own left.standing.late left.entries (λ n. None)) left.entries (Ok nothing_made) e steps before
@@ -52,9 +53,9 @@ pub record FindsLiteral (pairs : List (ℕ × ℕ)) (own : Meanings) (e : Entry)
 -- in a text without a fault a reference to a literal reaches a cell that holds its value
 abbrev pub LiteralIsFound : Type 0
 LiteralIsFound =
-    (text : List ℕ) (pairs : List (ℕ × ℕ)) → IsAssembled (result_of_text text) pairs → (own : Meanings) (e : Entry) (before : TapeWords)
+    (options : Options) (text : List ℕ) (pairs : List (ℕ × ℕ)) → IsAssembled (result_of_text options text) pairs → (own : Meanings) (e : Entry) (before : TapeWords)
     (operation : ℕ) (is_indirect : Bool) (pool : Pool) (inside : List Step)
-    → HasWord text own e (operation_steps operation is_indirect ++ literal_steps pool inside) before
+    → HasWord options text own e (operation_steps operation is_indirect ++ literal_steps pool inside) before
     → operation % 0o400 ≡ 0 → closes_all inside (Some 0) ≡ true → FindsLiteral pairs own e pool inside before
 
 -- A word is a link: by `I` it reaches its address through a cell that holds it.
@@ -65,6 +66,6 @@ pub record FindsLink (pairs : List (ℕ × ℕ)) (e : Entry) (address : ℕ) : T
 -- in a text without a fault a reference to an address on neither page reaches it through a cell that holds it
 abbrev pub LinkIsFound : Type 0
 LinkIsFound =
-    (text : List ℕ) (pairs : List (ℕ × ℕ)) → IsAssembled (result_of_text text) pairs → (own : Meanings) (e : Entry) (steps : List Step) (before : TapeWords)
-    (it : Evaluation) → HasWord text own e steps before → evaluation_of own (spot_of e) steps before.asks before.punched ≡ Ok it
+    (options : Options) (text : List ℕ) (pairs : List (ℕ × ℕ)) → IsAssembled (result_of_text options text) pairs → (own : Meanings) (e : Entry) (steps : List Step) (before : TapeWords)
+    (it : Evaluation) → HasWord options text own e steps before → evaluation_of own (spot_of e) steps before.asks before.punched ≡ Ok it
     → it.sum.is_reference ≡ true → it.sum.operation % 0o400 ≡ 0 → offset_of e.here it.sum.total ≡ None → FindsLink pairs e it.sum.total

@@ -27,6 +27,7 @@ use Rattle.pal8_asm.specs.declared.faults.Place.{Place}
 use Rattle.pal8_asm.specs.declared.faults.Fault.{Fault}
 use Rattle.pal8_asm.specs.declared.faults.Code.{Code}
 use Rattle.pal8_asm.specs.declared.faults.Code.TheVariants as code
+use Rattle.pal8_asm.specs.declared.options.Options.{Options}
 use Rattle.pal8_asm.specs.declared.places.TheConstants.{FIRST_PLACE}
 
 -- A statement of a text, with the byte that ends it.
@@ -61,14 +62,17 @@ start_of at (t ∷ others) = t.start
 abbrev pub place_of : Statement → Place
 place_of s = record { line = s.line; start = start_of s.at s.tokens }
 
--- A word that is to be made, or a late definition. It has the place of its statement in the text, its cell, what `.` is there, whether it is punched,
--- and the steps of its value.
+-- A word that is to be made, or a late definition. It has the place of its statement in the text, its cell, what `.` is there, and the steps of its
+-- value. It is punched or isn't, may have a link or may not, and asks page zero and its own page each in a stay.
 pub record Entry : Type 0 where
   pub late : Option Late
   pub place : Place
   pub cell : ℕ
   pub here : ℕ
   pub is_punched : Bool
+  pub may_link : Bool
+  pub zero_stay : ℕ
+  pub page_stay : ℕ
   pub steps : List Step
 
 -- What statements leave: places and names; their words, in the order of the source; and for each open bracket whether it is true, the newest first.
@@ -82,13 +86,13 @@ pub record Remainder : Type 0 where
 abbrev pub PassResult : Type 0
 PassResult = Result Remainder Fault
 
--- what stands before a source: the permanent names, and its first place
-abbrev pub first_left : Remainder
-first_left = record {
+-- what stands before a source, which is read by these options: the permanent names, and its first place
+abbrev pub first_left : Options → Remainder
+first_left options = record {
   standing = record {
     names = first_names;
     late = λ n. false;
-    position = record { radix = radix.Octal; location = FIRST_PLACE; field = 0; shift = 0; is_punched = true };
+    position = record { radix = radix.Octal; location = FIRST_PLACE; field = 0; shift = 0; is_punched = true; options = options; zero_stay = 0; page_stay = 0 };
   };
   entries = [];
   brackets = [];
@@ -121,11 +125,11 @@ with_values own (s ∷ others) = resolved_step own s ∷ with_values own others
 abbrev pub number : ℕ → List Step
 number word = step.Number word ∷ []
 
--- two bytes a word, six bits of each, and 00 after the last one
-abbrev pub text_words : List ℕ → List (List Step)
-text_words [] = number 0 ∷ []
-text_words (a ∷ []) = number (0o100 * (a % 0o100)) ∷ []
-text_words (a ∷ b ∷ others) = number (0o100 * (a % 0o100) + b % 0o100) ∷ text_words others
+-- two bytes a word, six bits of each, and 00 after the last one, unless an even text has none
+abbrev pub text_words : Options → List ℕ → List (List Step)
+text_words options [] = if options.is_without_zero then [] else number 0 ∷ []
+text_words options (a ∷ []) = number (0o100 * (a % 0o100)) ∷ []
+text_words options (a ∷ b ∷ others) = number (0o100 * (a % 0o100) + b % 0o100) ∷ text_words options others
 
 -- a word of each step
 abbrev pub word_each : List Step → List (List Step)
@@ -133,32 +137,32 @@ word_each [] = []
 word_each (s ∷ others) = (s ∷ []) ∷ word_each others
 
 -- the words of a body, each as its steps, in their order
-abbrev pub words_in : Body → Meanings → List Step → List ℕ → ℕ → List (List Step)
-words_in body.Nothing own steps string size = []
-words_in body.Origin own steps string size = []
-words_in (body.Define name) own steps string size = []
-words_in body.Decimal own steps string size = []
-words_in body.Octal own steps string size = []
-words_in body.Field own steps string size = []
-words_in body.NextPage own steps string size = []
-words_in body.Page own steps string size = []
-words_in body.Zeros own steps string size = replicate size (number 0)
-words_in body.Text own steps string size = text_words string
-words_in body.Listing own steps string size = []
-words_in body.IfZero own steps string size = []
-words_in body.IfNotZero own steps string size = []
-words_in (body.IfDefined name) own steps string size = []
-words_in (body.IfUndefined name) own steps string size = []
-words_in body.NoPunch own steps string size = []
-words_in body.Punch own steps string size = []
-words_in body.Relocate own steps string size = []
-words_in body.Unrelocate own steps string size = []
-words_in body.FileName own steps string size = word_each (with_values own steps)
-words_in body.Device own steps string size = word_each (with_values own steps)
-words_in body.Expunge own steps string size = []
-words_in body.FixTable own steps string size = []
-words_in (body.FixOperation name) own steps string size = []
-words_in body.Word own steps string size = with_values own steps ∷ []
+abbrev pub words_in : Options → Body → Meanings → List Step → List ℕ → ℕ → List (List Step)
+words_in options body.Nothing own steps string size = []
+words_in options body.Origin own steps string size = []
+words_in options (body.Define name) own steps string size = []
+words_in options body.Decimal own steps string size = []
+words_in options body.Octal own steps string size = []
+words_in options body.Field own steps string size = []
+words_in options body.NextPage own steps string size = []
+words_in options body.Page own steps string size = []
+words_in options body.Zeros own steps string size = replicate size (number 0)
+words_in options body.Text own steps string size = text_words options string
+words_in options body.Listing own steps string size = []
+words_in options body.IfZero own steps string size = []
+words_in options body.IfNotZero own steps string size = []
+words_in options (body.IfDefined name) own steps string size = []
+words_in options (body.IfUndefined name) own steps string size = []
+words_in options body.NoPunch own steps string size = []
+words_in options body.Punch own steps string size = []
+words_in options body.Relocate own steps string size = []
+words_in options body.Unrelocate own steps string size = []
+words_in options body.FileName own steps string size = word_each (with_values own steps)
+words_in options body.Device own steps string size = word_each (with_values own steps)
+words_in options body.Expunge own steps string size = []
+words_in options body.FixTable own steps string size = []
+words_in options (body.FixOperation name) own steps string size = []
+words_in options body.Word own steps string size = with_values own steps ∷ []
 
 abbrev pub entry_with : Option Late → Place → Spot → List Step → Entry
 entry_with late place spot steps = record {
@@ -167,6 +171,9 @@ entry_with late place spot steps = record {
   cell = FIELD * spot.field + spot.location % 0o10000;
   here = spot.here % 0o10000;
   is_punched = spot.is_punched;
+  may_link = spot.may_link;
+  zero_stay = spot.zero_stay;
+  page_stay = spot.page_stay;
   steps = steps;
 }
 
@@ -302,7 +309,7 @@ with_phrase s phrase left (Err fault) = Err (at_place (place_of s) fault)
 with_phrase s phrase left (Ok standing) = with_brackets s standing
     (with_late_entry (place_of s) (spot_at left.standing.position) phrase.0 phrase.1 standing.names
     (with_entries (place_of s) (spot_at left.standing.position)
-    (words_in phrase.0 (open_value standing) phrase.1 s.string (standing.position.location - left.standing.position.location)) left.entries))
+    (words_in left.standing.position.options phrase.0 (open_value standing) phrase.1 s.string (standing.position.location - left.standing.position.location)) left.entries))
     (brackets_with (place_of s) s.end left.brackets (truth_of phrase.0 phrase.1 standing))
 
 abbrev pub with_said : Statement → Remainder → Result Phrase GrammarFault → PassResult
@@ -327,9 +334,9 @@ with_next s (Ok left) =
     if is_some left.end then Ok left else (if is_selected left.brackets then with_selected s left else Ok (with_skipped s left))
 
 -- what the statements of a source leave, or the first fault of those that places, names and conditions have
-abbrev pub pass_over : Source → PassResult
-pass_over [] = Ok first_left
-pass_over (s ∷ older) = with_next s (pass_over older)
+abbrev pub pass_over : Options → Source → PassResult
+pass_over options [] = Ok (first_left options)
+pass_over options (s ∷ older) = with_next s (pass_over options older)
 
 -- ## The end of a source
 
@@ -349,5 +356,5 @@ end_of_pass text (Err fault) = Err fault
 end_of_pass text (Ok left) = with_end text left left.brackets left.end
 
 -- what a text leaves to be made, or its first fault except those of words
-abbrev pub remainder_of_text : List ℕ → PassResult
-remainder_of_text text = end_of_pass text (pass_over (statements text))
+abbrev pub remainder_of_text : Options → List ℕ → PassResult
+remainder_of_text options text = end_of_pass text (pass_over options (statements text))

@@ -30,6 +30,7 @@ use Rattle.pal8_asm.specs.declared.faults.AsmFault.TheVariants as asm
 use Rattle.pal8_asm.specs.declared.faults.Code.{Code}
 use Rattle.pal8_asm.specs.declared.faults.Stop.{Stop}
 use Rattle.pal8_asm.specs.declared.faults.Stop.TheVariants.{At, Memory}
+use Rattle.pal8_asm.specs.declared.options.Options.{Options}
 use Rattle.pal8_asm.specs.declared.places.Position.{Position}
 
 -- ## Names
@@ -63,12 +64,6 @@ Values whole (Ok found) = whole ≡ Ok found
 Values whole (Err (At code)) = whole ≡ Err code
 Values whole (Err Memory) = Unit {0}
 
--- whether a condition is true is answered, or the fault of its value; or memory ran out
-abbrev pub IsJudged : Result Bool Code → Result Bool Stop → Type 0
-IsJudged whole (Ok holds) = whole ≡ Ok holds
-IsJudged whole (Err (At code)) = whole ≡ Err code
-IsJudged whole (Err Memory) = Unit {0}
-
 -- the end of a statement is passed, and these brackets are open then, or its fault is answered; or memory ran out
 abbrev pub PassesEnd : Result (List Bool) Fault → Result (Unit {0}) AsmFault → List Bool → Type 0
 PassesEnd whole (Ok nothing) brackets = whole ≡ Ok brackets
@@ -86,7 +81,7 @@ pub record IsTaken (whole : Result Standing Code) (place : Place) (body : Body) 
     (table : KnownNames) (new : List Entry) : Type 0 where
   pub passed : whole ≡ Ok (standing table next)
   pub words : new ≡ with_late_entry place (spot_at before) body steps (names_of table.table)
-      (with_entries place (spot_at before) (words_in body (open_of table) steps string (next.location - before.location)) old)
+      (with_entries place (spot_at before) (words_in before.options body (open_of table) steps string (next.location - before.location)) old)
 
 abbrev pub TakesBody : Result Standing Code → Place → Body → List Step → List ℕ → Position → List Entry → Result Position AsmFault → KnownNames → List Entry → Type 0
 TakesBody whole place body steps string before old (Ok next) table new = IsTaken whole place body steps string before next old table new
@@ -105,33 +100,33 @@ Pushes here b (Err (asm.At code place)) new = ⊥
 Pushes here b (Err asm.Memory) new = Unit {0}
 
 -- These bytes were read, and what they leave is taken.
-pub record HasTaken (here : List ℕ) (lexer : lex.Progress) (a : Progress) : Type 0 where
+pub record HasTaken (options : Options) (here : List ℕ) (lexer : lex.Progress) (a : Progress) : Type 0 where
   pub has_read : HasRead lexer here
-  pub leaves : pass_over (statements here) ≡ Ok (remainder_of a)
+  pub leaves : pass_over options (statements here) ≡ Ok (remainder_of a)
 
 -- what a byte more gives; or its fault; or memory ran out
-abbrev pub TakesByte : List ℕ → Result (Unit {0}) AsmFault → lex.Progress → Progress → Type 0
-TakesByte here (Ok nothing) lexer a = HasTaken here lexer a
-TakesByte here (Err (asm.At code place)) lexer a = pass_over (statements here) ≡ Err (at_place place code)
-TakesByte here (Err asm.Memory) lexer a = Unit {0}
+abbrev pub TakesByte : Options → List ℕ → Result (Unit {0}) AsmFault → lex.Progress → Progress → Type 0
+TakesByte options here (Ok nothing) lexer a = HasTaken options here lexer a
+TakesByte options here (Err (asm.At code place)) lexer a = pass_over options (statements here) ≡ Err (at_place place code)
+TakesByte options here (Err asm.Memory) lexer a = Unit {0}
 
 -- These bytes are still to be read; what those before them leave is taken.
-pub record IsOnTheWay (whole rest : List ℕ) (lexer : lex.Progress) (at : ℕ) (a : Progress) : Type 0 where
+pub record IsOnTheWay (options : Options) (whole rest : List ℕ) (lexer : lex.Progress) (at : ℕ) (a : Progress) : Type 0 where
   pub here : List ℕ
   pub counts : at ≡ limit (length here)
   pub same : text_from here rest ≡ whole
-  pub taken : HasTaken here lexer a
+  pub taken : HasTaken options here lexer a
 
 -- What a text leaves is taken: all of it was read, or it was read up to the `$` that ends its source.
-pub record HasReadAll (whole : List ℕ) (lexer : lex.Progress) (at : ℕ) (a : Progress) : Type 0 where
-  pub leaves : pass_over (statements whole) ≡ Ok (remainder_of a)
+pub record HasReadAll (options : Options) (whole : List ℕ) (lexer : lex.Progress) (at : ℕ) (a : Progress) : Type 0 where
+  pub leaves : pass_over options (statements whole) ≡ Ok (remainder_of a)
   pub counts : a.end ≡ None → (at ≡ limit (length whole)) × HasRead lexer whole
 
 -- what further bytes give; or their fault; or memory ran out
-abbrev pub ReadsOn : List ℕ → Result (Unit {0}) AsmFault → lex.Progress → ℕ → Progress → Type 0
-ReadsOn whole (Ok nothing) lexer at a = HasReadAll whole lexer at a
-ReadsOn whole (Err (asm.At code place)) lexer at a = pass_over (statements whole) ≡ Err (at_place place code)
-ReadsOn whole (Err asm.Memory) lexer at a = Unit {0}
+abbrev pub ReadsOn : Options → List ℕ → Result (Unit {0}) AsmFault → lex.Progress → ℕ → Progress → Type 0
+ReadsOn options whole (Ok nothing) lexer at a = HasReadAll options whole lexer at a
+ReadsOn options whole (Err (asm.At code place)) lexer at a = pass_over options (statements whole) ≡ Err (at_place place code)
+ReadsOn options whole (Err asm.Memory) lexer at a = Unit {0}
 
 -- a text is over: it ended at a `$` with this place, or this is the fault of its end
 abbrev pub Closes : PassResult → Result Place AsmFault → Progress → Type 0

@@ -29,7 +29,15 @@ abbrev pub nothing_made : TapeWords
 nothing_made = record { words = []; asks = []; punched = []; clash = None }
 
 abbrev pub spot_of : Entry → Spot
-spot_of e = record { field = e.cell / FIELD; location = e.cell % FIELD; here = e.here; is_punched = e.is_punched }
+spot_of e = record {
+  field = e.cell / FIELD;
+  location = e.cell % FIELD;
+  here = e.here;
+  is_punched = e.is_punched;
+  may_link = e.may_link;
+  zero_stay = e.zero_stay;
+  page_stay = e.page_stay;
+}
 
 -- a cell of a page zero
 abbrev pub is_on_zero : ℕ → Bool
@@ -51,7 +59,7 @@ first_of (Some fault) later = Some fault
 
 -- where a late definition stands: `.` is past 7777 there or isn't
 abbrev pub late_spot : Entry → Late → Spot
-late_spot e d = record { field = e.cell / FIELD; location = if d.is_past then 0o10000 else e.cell % FIELD; here = e.here; is_punched = e.is_punched }
+late_spot e d = record (spot_of e) { location = if d.is_past then 0o10000 else e.cell % FIELD }
 
 -- its value, by the other definitions
 abbrev pub late_value : Meanings → Entry → Late → Result ℕ ValueFault

@@ -8,7 +8,7 @@ use crate::brackets::Brackets;
 use crate::entries::Entries;
 use crate::places::{Position, first_position, spot_at};
 use crate::tags::{pass_statement, truth_of};
-use crate::{AsmFault, Code, KnownNames, Place, Stop};
+use crate::{AsmFault, Code, KnownNames, Options, Place, Stop};
 use pal8_grammar::{Body, GrammarFault, Reader, Step};
 use pal8_lex::{End, Token};
 use std::alloc::Global;
@@ -95,7 +95,16 @@ fn take_body(
         Err(Stop::Memory) => return Err(AsmFault::Memory),
     };
     let size = next.location.saturating_sub(before.location);
-    entries.push_body(names, place, spot_at(before), again, steps, string, size)?;
+    entries.push_body(
+        before.options,
+        names,
+        place,
+        spot_at(before),
+        again,
+        steps,
+        string,
+        size,
+    )?;
     entries.push_late(names, place, spot_at(before), said, steps)?;
     Ok(next)
 }
@@ -174,13 +183,13 @@ fn take_statement(
 }
 
 impl Assembler {
-    /// An assembler of no statement, at 0200 of field 0. It takes no memory.
-    pub fn new(alloc: Global) -> Assembler
-        ensures { remainder_of result ≡ first_left }
+    /// An assembler of no statement, at 0200 of field 0, of a source that is read by these options. It takes no memory.
+    pub fn new(alloc: Global, options: Options) -> Assembler
+        ensures { remainder_of result ≡ first_left options }
     {
         Assembler {
             names: KnownNames::new(alloc),
-            position: first_position(),
+            position: first_position(options),
             entries: Entries::new(alloc),
             brackets: Brackets::new(alloc),
             end: None,

@@ -6,7 +6,7 @@ ghost use Rattle.pal8_pools.specs.Pooled.{Holds};
 ghost use Rattle.pal8_asm.specs.Assembling.{Assembles};
 ghost use Rattle.pal8_asm.specs.Steps.{AddsPool};
 
-use crate::{AsmFault, Assembler, Code};
+use crate::{AsmFault, Assembler, Code, Options};
 use pal8_pools::Pools;
 use std::alloc::{AllocError, Global};
 use word12::{Cell, Word};
@@ -23,17 +23,17 @@ fn push_pool(pairs: &mut Vec<(Cell, Word)>, pools: &Pools) -> Result<(), AllocEr
 }
 
 /// Assembles a source, which is the bytes of a host's text: CR, form feed, NUL and rubout are as if they weren't there, and LF ends a line.
-/// The answer is its punched words with their cells, in the order of the source, and then each cell that they ask for with its value, by rising
-/// cell.
+/// It is read by these options. The answer is its punched words with their cells, in the order of the source, and then each cell that they ask for
+/// with its value, by rising cell.
 ///
 /// Its fault is the first of this order. First come those of its statements, by places and names, up to the `$`, and then NE, with the place of the
-/// text's end. Then come those of its words, punched or not: UA, DZ, II, RL, or PE or ZE where a page has no cell left. Then comes the first clash of
-/// a punched word with a pool's cell, at the later of the two statements. Last comes NW, with the place of the `$`. It takes time in proportion to
+/// text's end. Then come those of its words, punched or not: UA, DZ, II, RL, IR for a link, or PE or ZE where a page has no cell left.
+/// Then comes the first clash of a punched word with a pool's cell, at the later of the two statements. Last comes NW, with the place of the `$`. It takes time in proportion to
 /// the bytes, except that a name is found by halving (PAL8, the assembler of OS/8, in this project's profile).
-pub fn assemble(alloc: Global, text: &[u8]) -> Result<Vec<(Cell, Word)>, AsmFault>
-    ensures { Assembles (text_of text.now) result }
+pub fn assemble(alloc: Global, options: Options, text: &[u8]) -> Result<Vec<(Cell, Word)>, AsmFault>
+    ensures { Assembles options (text_of text.now) result }
 {
-    let mut assembler = Assembler::new(alloc);
+    let mut assembler = Assembler::new(alloc, options);
     let end = match assembler.read(alloc, text) {
         Ok(end) => end,
         Err(fault) => return Err(fault),

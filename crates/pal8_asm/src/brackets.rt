@@ -31,7 +31,7 @@ impl Brackets {
     }
 
     /// Whether the next statement is selected.
-    pub(crate) fn is_selected(&self) -> bool
+    pub fn is_selected(&self) -> bool
         ensures { result ≡ is_selected self.now }
     {
         match self.open.last() {
@@ -48,7 +48,7 @@ impl Brackets {
     }
 
     /// Whether a `>` ends a statement where no bracket is open.
-    pub(crate) fn has_none_for(&self, end: End) -> bool
+    pub fn has_none_for(&self, end: End) -> bool
         ensures { result ≡ closes_none end self.now }
     {
         match end {
@@ -58,7 +58,7 @@ impl Brackets {
     }
 
     /// Opens the bracket of a `<` that ends a statement, which is true or not, or closes the newest one at a `>`.
-    pub(crate) fn pass(&mut self, end: End, is_true: bool) -> Result<(), AllocError>
+    pub fn pass(&mut self, end: End, is_true: bool) -> Result<(), AllocError>
         ensures { OnOk result (self.new ≡ brackets_after end is_true self.old) }
     {
         match end {

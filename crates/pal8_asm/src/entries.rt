@@ -12,7 +12,7 @@ ghost use Rattle.pal8_asm.specs.Sources.{Entry, entry_at, entry_with, fixed_valu
 use crate::late::LateValues;
 use crate::tags::has_later;
 use crate::words::make_all;
-use crate::{AsmFault, Fault, KnownNames, Place};
+use crate::{AsmFault, Fault, KnownNames, Options, Place};
 use pal8_clash::WordCells;
 use pal8_grammar::{Body, Step};
 use pal8_lex::Name;
@@ -35,6 +35,9 @@ pub struct Head {
     /// What `.` is there.
     pub here: Word,
     pub is_punched: bool,
+    pub may_link: bool,
+    pub zero_stay: u32,
+    pub page_stay: u32,
     /// How many steps its value has.
     pub count: usize,
     /// Of a late definition what it defines; a word has none.
@@ -203,6 +206,9 @@ impl Entries {
             cell: cell_of(spot),
             here: Word::low(spot.here),
             is_punched: spot.is_punched,
+            may_link: spot.may_link,
+            zero_stay: spot.zero_stay,
+            page_stay: spot.page_stay,
             count: steps.len(),
             late,
         });
@@ -247,13 +253,14 @@ impl Entries {
     /// Puts the words of a text after the others.
     fn push_text(
         &mut self,
+        options: Options,
         names: &KnownNames,
         place: Place,
         spot: Spot,
         string: &[u8],
     ) -> Result<(), AllocError>
         requires { spot.field < 8 }
-        ensures { OnOk result (self.new ≡ with_entries place spot (text_words string.now) self.old) }
+        ensures { OnOk result (self.new ≡ with_entries place spot (text_words options string.now) self.old) }
     {
         let mut at = spot;
         let mut rest = string;
@@ -265,7 +272,12 @@ impl Entries {
         }
         let word = match rest {
             [first, ..] => Word::low(0o100 * u16::from(*first % 0o100)),
-            [] => Word::ZERO,
+            [] => {
+                if options.is_without_zero {
+                    return Ok(());
+                }
+                Word::ZERO
+            }
         };
         self.push_number(names, place, at, word)
     }
@@ -294,6 +306,7 @@ impl Entries {
     /// Puts the words of a statement's body after the others, from where it stands on: of a value, of so many zeros, of a string, or of a name.
     pub(crate) fn push_body(
         &mut self,
+        options: Options,
         names: &KnownNames,
         place: Place,
         spot: Spot,
@@ -304,12 +317,12 @@ impl Entries {
     ) -> Result<(), AllocError>
         requires { spot.field < 8 }
         ensures { OnOk result (self.new ≡ with_entries place spot
-            (words_in body (open_of names.now) steps.now string.now size) self.old) }
+            (words_in options body (open_of names.now) steps.now string.now size) self.old) }
     {
         match body {
             Body::Word => self.push(names, None, false, place, spot, steps),
             Body::Zeros => self.push_zeros(names, place, spot, size),
-            Body::Text => self.push_text(names, place, spot, string),
+            Body::Text => self.push_text(options, names, place, spot, string),
             Body::FileName | Body::Device => self.push_each(names, place, spot, steps),
             Body::Nothing | Body::Origin | Body::Define(_) | Body::Decimal | Body::Octal => Ok(()),
             Body::Field | Body::NextPage | Body::Page | Body::Listing => Ok(()),

@@ -36,6 +36,9 @@ fn late_spot(head: Head, late: Late) -> Spot
         location,
         here: head.here.get(),
         is_punched: head.is_punched,
+        may_link: head.may_link,
+        zero_stay: head.zero_stay,
+        page_stay: head.page_stay,
     }
 }
 

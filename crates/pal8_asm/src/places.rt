@@ -1,13 +1,13 @@
 ghost use Rattle.std.specs.Prelude.{◌≡◌, ◌<◌, IfOk, true};
 ghost use Rattle.pal8_lex.specs.declared.judging.Radix.TheVariants.{Octal};
-ghost use Rattle.pal8_asm.specs.Places.{at_location, kept_low, location_at, next_page, with_relocation, place_of_location, spot_at, to_page, to_place, with_field, with_page, with_size};
+ghost use Rattle.pal8_asm.specs.Places.{at_location, kept_low, location_at, location_in_field, next_page, next_stay, stay_if, with_relocation, place_of_location, spot_at, to_page, to_place, with_field, with_page, with_size};
 ghost use Rattle.pal8_asm.specs.Steps.{Moves};
 ghost use Rattle.pal8_asm.specs.declared.places.TheConstants.{FIRST_PLACE};
 
-use crate::{Code, Stop};
+use crate::{Code, Options, Stop};
 use pal8_lex::Radix;
 use pal8_values::Spot;
-use word12::Word;
+use word12::{PAGE, Word};
 
 /// Where the next statement stands, how its numbers are read, and whether its words are punched.
 #[derive(Clone, Copy)]
@@ -20,14 +20,22 @@ pub struct Position {
     /// What `RELOC` adds to a location, modulo 0o10000: 0 to 0o7777.
     pub shift: u16,
     pub is_punched: bool,
+    /// How the source is read: no statement changes it.
+    pub options: Options,
+    /// In which stay page zero is asked, and in which the page of the location. They are 0 where no stays count.
+    pub zero_stay: u32,
+    pub page_stay: u32,
 }
 
 /// Where a source begins, and each `FIELD`.
 pub const FIRST_PLACE: u16 = 0o200;
 
-/// Where a source begins.
-pub fn first_position() -> Position
-    ensures { result ≡ record { radix = Octal; location = FIRST_PLACE; field = 0; shift = 0; is_punched = true } }
+/// The last stay that is counted.
+const LAST_STAY: u32 = u32::MAX;
+
+/// Where a source begins that is read by these options.
+pub fn first_position(options: Options) -> Position
+    ensures { result ≡ record { radix = Octal; location = FIRST_PLACE; field = 0; shift = 0; is_punched = true; options = options; zero_stay = 0; page_stay = 0 } }
 {
     Position {
         radix: Radix::Octal,
@@ -35,6 +43,9 @@ pub fn first_position() -> Position
         field: 0,
         shift: 0,
         is_punched: true,
+        options,
+        zero_stay: 0,
+        page_stay: 0,
     }
 }
 
@@ -71,15 +82,33 @@ pub fn spot_at(position: Position) -> Spot
         location: position.location,
         here: place_of_location(position.shift, position.location),
         is_punched: position.is_punched,
+        may_link: !position.options.is_without_links,
+        zero_stay: position.zero_stay,
+        page_stay: position.page_stay,
     }
+}
+
+/// One stay more, where it counts.
+fn stay_if(counts: bool, stay: u32) -> u32
+    ensures { result ≡ stay_if counts stay }
+{
+    if counts && stay < LAST_STAY {
+        return stay + 1;
+    }
+    stay
 }
 
 /// The position at another location.
 pub fn at_location(location: u16, position: Position) -> Position
     ensures { result ≡ at_location location position }
 {
+    let is_elsewhere = location / PAGE != position.location / PAGE;
     Position {
         location,
+        page_stay: stay_if(
+            position.options.has_stays && is_elsewhere,
+            position.page_stay,
+        ),
         ..position
     }
 }
@@ -109,8 +138,22 @@ pub fn with_size(size: usize, position: Position) -> Result<Position, Stop>
     Ok(at_location(position.location + size as u16, position))
 }
 
+/// Where a `FIELD` goes on.
+fn location_in_field(position: Position) -> u16
+    requires { position.location < 0o20000 }
+    ensures value { result ≡ location_in_field position }
+    ensures range { result < 0o20000 }
+{
+    if position.options.is_without_origin {
+        position.location
+    } else {
+        FIRST_PLACE
+    }
+}
+
 /// The position after a `FIELD`.
 pub fn with_field(number: Word, position: Position) -> Result<Position, Stop>
+    requires { position.location < 0o20000 }
     ensures moved { Moves (with_field number position) result }
     ensures range { IfOk result (λ p. (p.location < 0o20000) × (p.field < 8) × (p.shift ≡ position.shift)) }
 {
@@ -118,10 +161,13 @@ pub fn with_field(number: Word, position: Position) -> Result<Position, Stop>
     if number > 7 {
         return Err(Stop::At(Code::FD));
     }
+    let again = position;
     Ok(Position {
-        location: FIRST_PLACE,
+        location: location_in_field(position),
         field: number as u8,
-        ..position
+        zero_stay: stay_if(position.options.has_stays, position.zero_stay),
+        page_stay: stay_if(position.options.has_stays, position.page_stay),
+        ..again
     })
 }
 

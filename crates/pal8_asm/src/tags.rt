@@ -4,14 +4,14 @@ ghost use Rattle.pal8_values.specs.Sums.{early_value};
 ghost use Rattle.pal8_values.specs.Answering.{Answers};
 ghost use Rattle.pal8_lex.specs.Kinds.{is_comma};
 ghost use Rattle.pal8_grammar.specs.Bodies.{free_name};
-ghost use Rattle.pal8_asm.specs.Places.{as_code, spot_at, truth_of, has_later, is_later, with_body, with_define, with_definition, with_operation, with_statement, with_tag, with_tags, with_value_of, with_valued};
-ghost use Rattle.pal8_asm.specs.Steps.{Defines, IsJudged, Values};
-ghost use Rattle.pal8_asm.specs.Assembling.{Passes, standing};
+ghost use Rattle.pal8_asm.specs.Places.{as_code, spot_at, text_size, truth_of, has_later, is_later, with_body, with_define, with_definition, with_operation, with_statement, with_tag, with_tags, with_value_of, with_valued};
+ghost use Rattle.pal8_asm.specs.Steps.{Defines, Values};
+ghost use Rattle.pal8_asm.specs.Assembling.{IsJudged, Passes, standing};
 
 use crate::places::{
     Position, next_page, spot_at, to_place, with_field, with_page, with_relocation, with_size,
 };
-use crate::{Code, KnownNames, Stop};
+use crate::{Code, KnownNames, Options, Stop};
 use pal_sym::SymFault;
 use pal8_grammar::{Body, Step, free_name};
 use pal8_lex::{Kind, Name, Radix, Token};
@@ -142,7 +142,7 @@ fn value_at(names: &KnownNames, position: Position, steps: &[Step]) -> Result<Wo
 
 /// Whether a condition is true, at a position, by the names so far, or the first fault of its value: UA, PF, DZ. Another body isn't true (PAL8, in
 /// this project's profile).
-pub(crate) fn truth_of(
+pub fn truth_of(
     names: &KnownNames,
     body: Body,
     steps: &[Step],
@@ -273,6 +273,17 @@ fn pass_definition(
     pass_value(names, Body::Define(name), steps, position)
 }
 
+/// How many words a text of so many characters has.
+fn text_size(options: Options, length: usize) -> usize
+    ensures { result ≡ text_size options length }
+{
+    if options.is_without_zero {
+        length / 2 + length % 2
+    } else {
+        length / 2 + 1
+    }
+}
+
 /// Passes a body.
 fn pass_body(
     names: &mut KnownNames,
@@ -303,7 +314,7 @@ fn pass_body(
             ..position
         }),
         Body::NextPage => Ok(next_page(position)),
-        Body::Text => with_size(length / 2 + 1, position),
+        Body::Text => with_size(text_size(position.options, length), position),
         Body::Word => with_size(1, position),
         Body::Nothing | Body::Listing => Ok(position),
         Body::IfZero | Body::IfNotZero | Body::IfDefined(_) | Body::IfUndefined(_) => Ok(position),

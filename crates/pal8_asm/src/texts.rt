@@ -8,6 +8,7 @@ ghost use Rattle.pal8_pools.specs.Pooled.{Holds};
 ghost use Rattle.pal8_asm.specs.Tapes.{without_clash, words_of_entries};
 ghost use Rattle.pal8_asm.specs.Steps.{Closes, HasTaken, IsOnTheWay, Pushes, ReadsOn, TakesByte};
 ghost use Rattle.pal8_asm.specs.Assembling.{MakesWords, ReadsText, is_late, remainder_of};
+ghost use Rattle.pal8_asm.specs.declared.options.Options.{Options};
 
 use crate::{AsmFault, Assembler, Code, Fault, Place};
 use pal8_clash::WordCells;
@@ -53,8 +54,8 @@ fn push(lexer: &mut Lexer, byte: u8) -> Result<bool, AsmFault>
 impl Assembler {
     /// Takes the next byte of a text, at this place.
     fn take_byte(&mut self, lexer: &mut Lexer, at: u64, byte: u8) -> Result<(), AsmFault>
-        ensures { (here : List ℕ) → at ≡ limit (length here) → HasTaken here lexer.old self.old
-            → TakesByte (byte ∷ here) result lexer.new self.new }
+        ensures { (options : Options) (here : List ℕ) → at ≡ limit (length here) → HasTaken options here lexer.old self.old
+            → TakesByte options (byte ∷ here) result lexer.new self.new }
     {
         let ends = match push(lexer, byte) {
             Ok(ends) => ends,
@@ -79,8 +80,8 @@ impl Assembler {
     /// Takes the first of these bytes.
     fn take_first(&mut self, lexer: &mut Lexer, at: u64, bytes: &[u8]) -> Result<(), AsmFault>
         requires { 1 ≤ length bytes.now }
-        ensures { (here : List ℕ) → at ≡ limit (length here) → HasTaken here lexer.old self.old
-            → TakesByte (slice_index bytes.now 0 ∷ here) result lexer.new self.new }
+        ensures { (options : Options) (here : List ℕ) → at ≡ limit (length here) → HasTaken options here lexer.old self.old
+            → TakesByte options (slice_index bytes.now 0 ∷ here) result lexer.new self.new }
     {
         self.take_byte(lexer, at, bytes[0])
     }
@@ -94,8 +95,8 @@ impl Assembler {
 
     /// Takes further bytes of a text, up to the `$` that ends its source.
     fn read_on(&mut self, lexer: &mut Lexer, at: &mut u64, text: &[u8]) -> Result<(), AsmFault>
-        ensures { (whole : List ℕ) → IsOnTheWay whole text.now lexer.old at.old self.old
-            → ReadsOn whole result lexer.new at.new self.new }
+        ensures { (options : Options) (whole : List ℕ) → IsOnTheWay options whole text.now lexer.old at.old self.old
+            → ReadsOn options whole result lexer.new at.new self.new }
     {
         let mut rest = text;
         while let [_, others @ ..] = rest {
@@ -147,7 +148,7 @@ impl Assembler {
     /// Its fault is the first of its statements in their order, or else PH where a bracket is open at the `$`. Without a `$` it is PH or NE with the
     /// place of the text's end (PAL8, in this project's profile).
     pub fn read(&mut self, alloc: Global, text: &[u8]) -> Result<Place, AsmFault>
-        ensures { remainder_of self.old ≡ first_left → ReadsText (text_of text.now) result self.new }
+        ensures { (options : Options) → remainder_of self.old ≡ first_left options → ReadsText options (text_of text.now) result self.new }
     {
         let mut lexer = Lexer::new(alloc);
         let mut at = 0;

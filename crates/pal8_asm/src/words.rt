@@ -1,5 +1,6 @@
 ghost use Rattle.std.specs.Prelude.{◌≡◌, ◌+◌, ◌/◌, ◌%◌, ◌<◌, ◌≤◌, List, OnOk, Result, Ok, length, vec_len, vec_capacity};
 ghost use Rattle.word12.specs.declared.sizes.TheConstants.{FIELD, PAGE};
+ghost use Rattle.pal8_grammar.specs.declared.steps.Step.{Step};
 ghost use Rattle.pal8_sym.specs.SourceNames.{is_other, own_value};
 ghost use Rattle.pal8_pools.specs.Asks.{Ask};
 ghost use Rattle.pal8_pools.specs.Pooled.{Holds};
@@ -8,7 +9,7 @@ ghost use Rattle.pal8_values.specs.Words.{AskResult, word_value};
 ghost use Rattle.pal8_values.specs.Answering.{IsFault};
 ghost use Rattle.pal8_asm.specs.Sources.{with_values};
 ghost use Rattle.pal8_asm.specs.Kept.{cut, entry_of, total};
-ghost use Rattle.pal8_asm.specs.Tapes.{TapeWords, clash_code, clash_fault, first_of, late_after, late_fault, late_value, with_entries, with_entry, with_word_entry};
+ghost use Rattle.pal8_asm.specs.Tapes.{TapeWords, clash_code, clash_fault, first_of, late_after, late_fault, late_value, spot_of, with_entries, with_entry, with_word_entry};
 ghost use Rattle.pal8_asm.specs.Steps.{GivesAt, IsFaultAt, IsJudgedLate, IsMaking, Makes, late_of};
 ghost use Rattle.pal8_asm.specs.declared.faults.Fault.{Fault};
 
@@ -24,15 +25,18 @@ use std::alloc::Global;
 use word12::{Cell, PAGE, Word};
 
 /// Where a word stands.
-fn spot_of(cell: Cell, here: Word, is_punched: bool) -> Spot
-    ensures value { result ≡ record { field = cell / FIELD; location = cell % FIELD; here = here; is_punched = is_punched } }
+fn spot_of(head: Head) -> Spot
+    ensures value { (steps : List Step) → result ≡ spot_of (entry_of head steps) }
     ensures range { (result.field < 8) × (result.location < 0o10000) × (result.here < 0o10000) }
 {
     Spot {
-        field: cell.field(),
-        location: cell.address().get(),
-        here: here.get(),
-        is_punched,
+        field: head.cell.field(),
+        location: head.cell.address().get(),
+        here: head.here.get(),
+        is_punched: head.is_punched,
+        may_link: head.may_link,
+        zero_stay: head.zero_stay,
+        page_stay: head.page_stay,
     }
 }
 
@@ -150,7 +154,8 @@ fn make_word(
 {
     words_ask_near();
     pairs.reserve(1)?;
-    let spot = spot_of(head.cell, head.here, head.is_punched);
+    let again = head;
+    let spot = spot_of(again);
     let own = pools.count(spot.field, page_of(spot));
     let zero = pools.count(spot.field, 0);
     let word = match word_at(frames, pools, alloc, names, head.place, spot, steps) {

@@ -1,9 +1,10 @@
-//! Assembles a PAL8 source on standard input by `pal8_asm`, to hold it to the plain model. It prints each cell that has a word, as field,
+//! Assembles a PAL8 source on standard input by `pal8_asm`, to hold it to the plain model. The first byte is no part of it: its low bits are the
+//! options. It prints each cell that has a word, as field,
 //! address and word in octal. Or it prints the code of the first fault with its line, and the byte at which its statement begins. The name
 //! or the cell that the fault is about follows, by its number in octal.
 #![tactic(auto)]
 
-use pal8_asm::{AsmFault, Code, Place, assemble};
+use pal8_asm::{AsmFault, Code, Options, Place, assemble};
 use std::alloc::{AllocError, Global};
 use std::io::Read;
 use std::process::ExitCode;
@@ -97,13 +98,26 @@ fn status(is_done: bool) -> ExitCode {
     }
 }
 
+/// The options whose bits are set.
+fn options_of(bits: u8) -> Options {
+    Options {
+        is_without_links: bits & 1 != 0,
+        is_without_zero: bits & 2 != 0,
+        is_without_origin: bits & 4 != 0,
+        has_stays: bits & 8 != 0,
+    }
+}
+
 fn main(rt: HostRuntime) -> ExitCode {
     let mut rt = rt;
     let mut text = Vec::new(rt.alloc());
     if rt.reader().read_to_end(&mut text).is_err() {
         return ExitCode::FAILURE;
     }
-    match assemble(rt.alloc(), &text) {
+    let [bits, source @ ..] = text.as_slice() else {
+        return ExitCode::FAILURE;
+    };
+    match assemble(rt.alloc(), options_of(*bits), source) {
         Ok(pairs) => match core_of(rt.alloc(), &pairs) {
             Ok(words) => status(print_core(&mut rt, &words)),
             Err(_) => ExitCode::FAILURE,

@@ -1,6 +1,6 @@
 -- Words on pools' cells (PAL8, in this project's profile): a cell that holds the value of a literal or a link is no word's.
 use Rattle.std.specs.Prelude.{◌≡◌, ℕ, nat_eq, nat_lt, Bool, true, false, ◌&&◌, ◌||◌, if◌then◌else◌, slice_index_or, Option, Some, None, List, [], ◌∷◌, ◌++◌}
-use Rattle.pal8_pools.specs.Asks.{Ask, values_of_page}
+use Rattle.pal8_pools.specs.Asks.{Ask, items_of_page}
 use Rattle.pal8_pools.specs.Pooled.{is_cell_of}
 
 -- the lower of two cells, if there is one
@@ -34,4 +34,4 @@ AreMarks marks words = (c : ℕ) → slice_index_or marks c false ≡ has_word w
 
 -- nothing was asked but of this page of a field and of its page zero
 abbrev pub OthersStay : ℕ → ℕ → List Ask → List Ask → Type 0
-OthersStay f p before after = (g q : ℕ) → (nat_eq f g && (nat_eq p q || nat_eq 0 q)) ≡ false → values_of_page after g q ≡ values_of_page before g q
+OthersStay f p before after = (g q : ℕ) → (nat_eq f g && (nat_eq p q || nat_eq 0 q)) ≡ false → items_of_page after g q ≡ items_of_page before g q

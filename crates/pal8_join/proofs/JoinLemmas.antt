@@ -8,17 +8,18 @@ use Rattle.pal8_lex.specs.Text.{live}
 use Rattle.pal8_lex.specs.declared.rules.End.{End}
 use Rattle.pal8_lex.specs.declared.rules.End.TheVariants as end
 use Rattle.pal8_asm.specs.Sources.{PassResult, first_left}
+use Rattle.pal8_asm.specs.declared.options.Options.{Options}
 use Rattle.pal8_join.specs.Joins.{bytes_in, closing_bytes, counts_from, counts_of, is_line_open, join_from, join_of, joined_bytes, remainder_after, part, texts_of}
 use Rattle.pal8_join.specs.Passing.{Finds, Follows, PassState, Puts, part_bytes, part_with}
 use Rattle.pal8_join.specs.declared.pauses.Pause.{Pause}
 use Rattle.pal8_join.proofs.TextLemmas.{text_again, text_joined, text_length}
 
 -- These sources are still to be joined, and so much stands in the join.
-pub record IsJoining (sources rest : List (Bor (List ℕ))) (join counts : List ℕ) (pass : PassState) : Type 0 where
+pub record IsJoining (options : Options) (sources rest : List (Bor (List ℕ))) (join counts : List ℕ) (pass : PassState) : Type 0 where
   pub left : PassResult
   pub follows : (length rest ≡ 0 → ⊥) → Follows pass left
-  pub text : join_of (bytes_in sources) ≡ join_from left (texts_of (bytes_in rest)) ++ text_of join
-  pub counts_are : counts_of (bytes_in sources) ≡ counts ++ counts_from left (texts_of (bytes_in rest))
+  pub text : join_of options (bytes_in sources) ≡ join_from left (texts_of (bytes_in rest)) ++ text_of join
+  pub counts_are : counts_of options (bytes_in sources) ≡ counts ++ counts_from left (texts_of (bytes_in rest))
 
 -- ## A part
 
@@ -65,9 +66,9 @@ first_of_rest (x ∷ others) none long = ap (λ l. x ∷ l) (sym (ap (λ n. take
 some_more : (next : Bor (List ℕ)) (later : List (Bor (List ℕ))) → nat_eq (length (next ∷ later)) 0 ≡ false
 some_more next later = grind (arith, nat_tests)
 
-module _ (sources : List (Bor (List ℕ))) (source : Bor (List ℕ)) (join join' counts counts' : List ℕ) (pass pass' : PassState) (last : Bool) where
-  put_on : (others : List (Bor (List ℕ))) → IsJoining sources (source ∷ others) join counts pass → last ≡ nat_eq (length others) 0
-      → ((left : PassResult) → Follows pass left → Puts last left source.now join join' counts counts' pass') → IsJoining sources others join' counts' pass'
+module _ (options : Options) (sources : List (Bor (List ℕ))) (source : Bor (List ℕ)) (join join' counts counts' : List ℕ) (pass pass' : PassState) (last : Bool) where
+  put_on : (others : List (Bor (List ℕ))) → IsJoining options sources (source ∷ others) join counts pass → last ≡ nat_eq (length others) 0
+      → ((left : PassResult) → Follows pass left → Puts last left source.now join join' counts counts' pass') → IsJoining options sources others join' counts' pass'
   put_on [] stands is puts =
       let put = subst (λ l. Puts l stands.left source.now join join' counts counts' pass') is (puts stands.left (stands.follows (λ none. omega (arith, none)))) in
       record {
@@ -89,26 +90,26 @@ module _ (sources : List (Bor (List ℕ))) (source : Bor (List ℕ)) (join join'
             ∙ ap (λ l. l ++ counts_from (remainder_after stands.left text) others) (sym put.1);
       }
 
-pub joins_on : (sources rest : List (Bor (List ℕ))) (none : Bor (List ℕ)) (join join' counts counts' : List ℕ) (pass pass' : PassState) (last : Bool) → 1 ≤ length rest
-    → IsJoining sources rest join counts pass → last ≡ nat_eq (length (following_one rest)) 0
-    → ((left : PassResult) → Follows pass left → Puts last left (get_or rest 0 none).now join join' counts counts' pass') → IsJoining sources (following_one rest) join' counts' pass'
-joins_on sources rest none join join' counts counts' pass pass' last long stands is puts =
-    put_on sources (get_or rest 0 none) join join' counts counts' pass pass' last (following_one rest)
-    (subst (λ l. IsJoining sources l join counts pass) (first_of_rest rest none long) stands) is puts
+pub joins_on : (options : Options) (sources rest : List (Bor (List ℕ))) (none : Bor (List ℕ)) (join join' counts counts' : List ℕ) (pass pass' : PassState) (last : Bool) → 1 ≤ length rest
+    → IsJoining options sources rest join counts pass → last ≡ nat_eq (length (following_one rest)) 0
+    → ((left : PassResult) → Follows pass left → Puts last left (get_or rest 0 none).now join join' counts counts' pass') → IsJoining options sources (following_one rest) join' counts' pass'
+joins_on options sources rest none join join' counts counts' pass pass' last long stands is puts =
+    put_on options sources (get_or rest 0 none) join join' counts counts' pass pass' last (following_one rest)
+    (subst (λ l. IsJoining options sources l join counts pass) (first_of_rest rest none long) stands) is puts
 
 -- nothing is joined yet
-pub begins : (sources : List (Bor (List ℕ))) (pass : PassState) → Follows pass (Ok first_left) → IsJoining sources sources [] [] pass
-begins sources pass follows = record { left = Ok first_left; follows = λ none. follows; text = sym (append-nil (join_of (bytes_in sources))); counts_are = refl }
+pub begins : (options : Options) (sources : List (Bor (List ℕ))) (pass : PassState) → Follows pass (Ok (first_left options)) → IsJoining options sources sources [] [] pass
+begins options sources pass follows = record { left = Ok (first_left options); follows = λ none. follows; text = sym (append-nil (join_of options (bytes_in sources))); counts_are = refl }
 
 none_left : (rest : List (Bor (List ℕ))) → length rest ≡ 0 → rest ≡ []
 none_left [] none = refl
 none_left (source ∷ rest) none = absurd (omega (arith, none))
 
-module _ (sources rest : List (Bor (List ℕ))) (join counts : List ℕ) (pass : PassState) (none : length rest ≡ 0) (stands : IsJoining sources rest join counts pass) where
-  pub joined_text : join ≡ joined_bytes (bytes_in sources)
+module _ (options : Options) (sources rest : List (Bor (List ℕ))) (join counts : List ℕ) (pass : PassState) (none : length rest ≡ 0) (stands : IsJoining options sources rest join counts pass) where
+  pub joined_text : join ≡ joined_bytes options (bytes_in sources)
   joined_text =
-      let is : join_of (bytes_in sources) ≡ text_of join = stands.text ∙ ap (λ l. join_from stands.left (texts_of (bytes_in l)) ++ text_of join) (none_left rest none) in
+      let is : join_of options (bytes_in sources) ≡ text_of join = stands.text ∙ ap (λ l. join_from stands.left (texts_of (bytes_in l)) ++ text_of join) (none_left rest none) in
       sym (ap text_of is ∙ text_again join)
 
-  pub joined_counts : counts ≡ counts_of (bytes_in sources)
+  pub joined_counts : counts ≡ counts_of options (bytes_in sources)
   joined_counts = sym (stands.counts_are ∙ ap (λ l. counts ++ counts_from stands.left (texts_of (bytes_in l))) (none_left rest none) ∙ append-nil counts)

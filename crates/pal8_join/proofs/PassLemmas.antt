@@ -25,7 +25,7 @@ module _ (s : Statement) (names : KnownNames) (position : Position) (entries : L
       (judged : truth_of phrase.0 phrase.1 (standing names' next) ≡ Ok holds) where
     abbrev more : List Entry
     more = with_late_entry (place_of s) (spot_at position) phrase.0 phrase.1 (standing names' next).names
-        (with_entries (place_of s) (spot_at position) (words_in phrase.0 (open_value (standing names' next)) phrase.1 s.string (next.location - position.location)) entries)
+        (with_entries (place_of s) (spot_at position) (words_in position.options phrase.0 (open_value (standing names' next)) phrase.1 s.string (next.location - position.location)) entries)
 
     abbrev then_brackets : Result (List Bool) Fault → PassResult
     then_brackets = with_brackets s (standing names' next) more

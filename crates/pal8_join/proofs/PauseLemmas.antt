@@ -67,7 +67,7 @@ rest_not_read left text later others at is =
     )
 
 pub itself : OneIsItself
-itself source = (text_again source, refl)
+itself options source = (text_again source, refl)
 
 -- ## A byte more
 

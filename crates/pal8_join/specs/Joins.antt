@@ -12,6 +12,7 @@ use Rattle.pal8_lex.specs.declared.tokens.Token.{Token}
 use Rattle.pal8_lex.specs.declared.rules.End.{End}
 use Rattle.pal8_lex.specs.declared.rules.End.TheVariants as end
 use Rattle.pal8_grammar.specs.Bodies.{name_of, opens}
+use Rattle.pal8_asm.specs.declared.options.Options.{Options}
 use Rattle.pal8_asm.specs.Sources.{PassResult, Source, Statement, first_left, is_selected, statements, with_next}
 
 -- ## Statements
@@ -132,17 +133,17 @@ abbrev pub texts_of : List (List ℕ) → List (List ℕ)
 texts_of [] = []
 texts_of (source ∷ others) = text_of source ∷ texts_of others
 
--- the text that sources join to, the newest byte first, where each source has its bytes in their order
-abbrev pub join_of : List (List ℕ) → List ℕ
-join_of sources = join_from (Ok first_left) (texts_of sources)
+-- the text that sources join to, the newest byte first, where each source has its bytes in their order, and all are read by these options
+abbrev pub join_of : Options → List (List ℕ) → List ℕ
+join_of options sources = join_from (Ok (first_left options)) (texts_of sources)
 
 -- how many bytes of it are of each source that another follows
-abbrev pub counts_of : List (List ℕ) → List ℕ
-counts_of sources = counts_from (Ok first_left) (texts_of sources)
+abbrev pub counts_of : Options → List (List ℕ) → List ℕ
+counts_of options sources = counts_from (Ok (first_left options)) (texts_of sources)
 
 -- the bytes of the join in their order
-abbrev pub joined_bytes : List (List ℕ) → List ℕ
-joined_bytes sources = text_of (join_of sources)
+abbrev pub joined_bytes : Options → List (List ℕ) → List ℕ
+joined_bytes options sources = text_of (join_of options sources)
 
 -- the bytes of sources that are lent
 abbrev pub bytes_in : List (Bor (List ℕ)) → List (List ℕ)

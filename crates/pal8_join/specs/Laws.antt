@@ -1,12 +1,13 @@
 -- What holds of joins.
 use Rattle.std.specs.Prelude.{◌≡◌, ℕ, Option, Some, None, Ok, Err, List, [], ◌∷◌, ◌++◌}
 use Rattle.pal8_lex.specs.declared.rules.End.{End}
+use Rattle.pal8_asm.specs.declared.options.Options.{Options}
 use Rattle.pal8_asm.specs.Sources.{PassResult, Remainder, statements}
 use Rattle.pal8_join.specs.Joins.{counts_of, first_pause, joined_bytes, part, pass_on, remainder_after}
 
 -- one source is the join of itself
 abbrev pub OneIsItself : Type 0
-OneIsItself = (source : List ℕ) → (joined_bytes (source ∷ []) ≡ source) × (counts_of (source ∷ []) ≡ [])
+OneIsItself = (options : Options) (source : List ℕ) → (joined_bytes options (source ∷ []) ≡ source) × (counts_of options (source ∷ []) ≡ [])
 
 -- What stands after PAUSE doesn't matter: whatever follows, as much of the text is joined, and the next one goes on after the same.
 abbrev pub RestIsNotRead : Type 0

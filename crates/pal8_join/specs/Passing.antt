@@ -56,18 +56,6 @@ is_dollar end.Open = false
 is_dollar end.Close = false
 is_dollar end.Dollar = true
 
--- the value of steps, or its fault; or memory ran out
-abbrev pub Values : Result ℕ Code → Result ℕ Stop → Type 0
-Values whole (Ok v) = whole ≡ Ok v
-Values whole (Err (At code)) = whole ≡ Err code
-Values whole (Err Memory) = Unit {0}
-
--- whether a condition is true, or the fault of its value; or memory ran out
-abbrev pub IsJudged : Result Bool Code → Result Bool Stop → Type 0
-IsJudged whole (Ok holds) = whole ≡ Ok holds
-IsJudged whole (Err (At code)) = whole ≡ Err code
-IsJudged whole (Err Memory) = Unit {0}
-
 -- a statement is taken, or it is PAUSE
 abbrev pub Meets : PassResult → Statement → Bool → PassState → Type 0
 Meets left s paused new = ((is_pause s.tokens s.end && is_read left) ≡ paused) × Follows new (with_next (if paused then empty_statement s.end else s) left)

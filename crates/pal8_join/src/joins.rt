@@ -8,6 +8,7 @@ ghost use Rattle.pal8_join.specs.Passing.{Follows, Puts, part_bytes};
 use crate::JoinFault;
 use crate::passes::Pass;
 use crate::pauses::{Pause, find_pause, is_line_open};
+use pal8_asm::Options;
 use pal8_lex::End;
 use std::alloc::{AllocError, Global};
 
@@ -22,19 +23,19 @@ pub struct Join {
 
 /// The join of sources of the host. Each but the last goes on in the next one, at its first PAUSE that is selected and has no tag, or at its end. The
 /// next one begins a line of its own. Names, the radix, the location and open brackets go on. A `>` that ends PAUSE closes its bracket, and a `$`
-/// that ends it means nothing (PAL8, the assembler of OS/8, in this project's profile).
+/// that ends it means nothing. The sources are read by these options (PAL8, the assembler of OS/8, in this project's profile).
 ///
 /// After a statement with a fault, and after the `$` that ends the source, no PAUSE counts, and each text is joined whole. It takes time in proportion
 /// to the bytes, except that a name is found by halving. The only fault is `Memory`.
-pub fn join_all(alloc: Global, sources: &[&[u8]]) -> Result<Join, JoinFault>
-    ensures text { IfOk result (λ join. join.text.items ≡ joined_bytes (bytes_in sources.now)) }
-    ensures counts { IfOk result (λ join. join.counts.items ≡ counts_of (bytes_in sources.now)) }
+pub fn join_all(alloc: Global, options: Options, sources: &[&[u8]]) -> Result<Join, JoinFault>
+    ensures text { IfOk result (λ join. join.text.items ≡ joined_bytes options (bytes_in sources.now)) }
+    ensures counts { IfOk result (λ join. join.counts.items ≡ counts_of options (bytes_in sources.now)) }
 {
     let mut join = Join {
         text: Vec::new(alloc),
         counts: Vec::new(alloc),
     };
-    let mut pass = Pass::new(alloc);
+    let mut pass = Pass::new(alloc, options);
     let mut rest = sources;
     while let [source, others @ ..] = rest {
         put(alloc, &mut join, &mut pass, source, others.is_empty())?;

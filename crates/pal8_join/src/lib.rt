@@ -4,13 +4,11 @@
 //! brackets alone: no word of theirs is kept.
 #![tactic(auto)]
 
-mod brackets;
 mod faults;
 mod joins;
 pub mod laws;
 mod passes;
 mod pauses;
-mod values;
 
 pub use faults::JoinFault;
 pub use joins::{Join, join_all};

@@ -6,9 +6,9 @@ ghost use Rattle.pal8_join.specs.Joins.{is_lone_pause, is_pause, is_pause_name, 
 ghost use Rattle.pal8_join.specs.Passing.{Follows, Leaves, Meets, is_dollar, remainder_at};
 
 use crate::JoinFault;
-use crate::brackets::Brackets;
-use crate::values::truth_of;
-use pal8_asm::{Code, KnownNames, Position, Stop, first_position, pass_statement};
+use pal8_asm::{
+    Brackets, Code, KnownNames, Options, Position, Stop, first_position, pass_statement, truth_of,
+};
 use pal8_grammar::{GrammarFault, Reader};
 use pal8_lex::{End, Kind, Name, Token};
 use std::alloc::Global;
@@ -142,13 +142,13 @@ fn pass_selected(
 }
 
 impl Pass {
-    /// A pass of no statement. It takes no memory.
-    pub(crate) fn new(alloc: Global) -> Pass
-        ensures { Follows result (Ok first_left) }
+    /// A pass of no statement of sources that are read by these options. It takes no memory.
+    pub(crate) fn new(alloc: Global, options: Options) -> Pass
+        ensures { Follows result (Ok (first_left options)) }
     {
         Pass {
             names: KnownNames::new(alloc),
-            position: first_position(),
+            position: first_position(options),
             brackets: Brackets::new(alloc),
             is_over: false,
             reader: Reader::new(alloc),

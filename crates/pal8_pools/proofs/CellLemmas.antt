@@ -2,7 +2,7 @@
 use Rattle.std.proofs.Common.{◌≡◌, ℕ, ◌+◌, ◌-◌, ◌*◌, ◌/◌, ◌%◌, ◌<◌, ◌≤◌, ◌↔◌, ◌&&◌, ◌||◌, inl, inr, nat_eq, nat_lt, Bool, true, false, if◌then◌else◌, length, List, [], ◌∷◌, slice_index, slice_index_or, refl, sym, ap, subst, ◌∙◌, arith, zero, suc}
 use Rattle.std.proofs.lemmas.Bool.{eqb-true, eqb-false}
 use Rattle.std.proofs.lemmas.Bool.Decides.{nat_tests}
-use Rattle.pal8_pools.specs.Asks.{Ask, IsAsked, pool_of, rank, count, cell_in, end}
+use Rattle.pal8_pools.specs.Asks.{Ask, IsAsked, pool_of, rank, count, cell_in, end, item_of}
 use Rattle.pal8_pools.specs.Values.{HoldsValues}
 use Rattle.pal8_pools.specs.Pooled.{HasSizes, Holds, PoolTable, is_cell_of}
 use Rattle.pal8_pools.specs.Cells.{ArePairs, IsIn, IsPair, IsTaken, RiseFrom, is_listed, is_used, pairs_from}
@@ -39,7 +39,7 @@ module _ (values counts : List ℕ) (asks : List Ask) (holds : HoldsValues value
   taken_at a is c has =
       let core = holds.in_core a is in
       let few = holds.few a.field a.page core.0 core.1 in
-      let small : rank (pool_of asks a.field a.page) a.value < count asks a.field a.page = rank_is_below _ a.value (asked_among asks a is) in
+      let small : rank (pool_of asks a.field a.page) (item_of a) < count asks a.field a.page = rank_is_below _ (item_of a) (asked_among asks a is) in
       (omega (arith, has, core.0, core.1), omega (arith, has, few, small), omega (arith, has, few, small))
 
   pub taken_small : (c : ℕ) → IsTaken asks c → c < 0o100000
@@ -112,7 +112,7 @@ module _ (values counts : List ℕ) (punched : List Bool) where
   one_more n size at is inside = omega (arith, is, inside)
 
   -- a cell that is listed comes first
-  pub comes : (size at : ℕ) → at < size → is_listed counts punched at ≡ true → pairs_from values counts punched at (size - at) ≡ (at, slice_index values at) ∷ pairs_from values counts punched (at + 1) (size - (at + 1))
+  pub comes : (size at : ℕ) → at < size → is_listed counts punched at ≡ true → pairs_from values counts punched at (size - at) ≡ (at, slice_index values at % 0o10000) ∷ pairs_from values counts punched (at + 1) (size - (at + 1))
   comes size at inside listed = moved at (size - at) at (suc (size - (at + 1))) refl (one_more (size - at) size at refl inside) ∙ (rw listed refl)
 
   pub passes_one : (size at : ℕ) → at < size → is_listed counts punched at ≡ false → pairs_from values counts punched at (size - at) ≡ pairs_from values counts punched (at + 1) (size - (at + 1))
@@ -133,7 +133,7 @@ record IsListed (values counts : List ℕ) (punched : List Bool) (low n c v : �
   above : low ≤ c
   below : c < low + n
   listed : is_listed counts punched c ≡ true
-  value : v ≡ slice_index values c
+  value : v ≡ slice_index values c % 0o10000
 
 module _ (values counts : List ℕ) (punched : List Bool) (c v : ℕ) where
   in_listed : (n low : ℕ) → IsIn c v (pairs_from values counts punched low n) → IsListed values counts punched low n c v
@@ -144,13 +144,13 @@ module _ (values counts : List ℕ) (punched : List Bool) (c v : ℕ) where
       later it = record { above = omega (arith, it.above); below = omega (arith, it.below); listed = it.listed; value = it.value }
 
       by_test : (IsIn c v (pairs_from values counts punched (low + 1) n) → IsListed values counts punched (low + 1) n c v) → (test : Bool) → is_listed counts punched low ≡ test
-          → IsIn c v (if test then (low, slice_index values low) ∷ pairs_from values counts punched (low + 1) n else pairs_from values counts punched (low + 1) n)
+          → IsIn c v (if test then (low, slice_index values low % 0o10000) ∷ pairs_from values counts punched (low + 1) n else pairs_from values counts punched (low + 1) n)
           → IsListed values counts punched low (suc n) c v
       by_test hyp true listed (inl same) = record {
         above = omega (arith, same.0);
         below = omega (arith, same.0);
         listed = subst (λ (x : ℕ). is_listed counts punched x ≡ true) same.0 listed;
-        value = sym same.1 ∙ ap (slice_index values) same.0;
+        value = sym same.1 ∙ ap (λ k. slice_index values k % 0o10000) same.0;
       }
       by_test hyp true listed (inr is) = later (hyp is)
       by_test hyp false listed is = later (hyp is)
@@ -166,8 +166,8 @@ module _ (values counts : List ℕ) (punched : List Bool) (c v : ℕ) where
           next x y le other = omega (arith, le, other)
 
       by_test : (IsListed values counts punched (low + 1) n c v → IsIn c v (pairs_from values counts punched (low + 1) n)) → (test at : Bool) → is_listed counts punched low ≡ test → nat_eq low c ≡ at
-          → IsIn c v (if test then (low, slice_index values low) ∷ pairs_from values counts punched (low + 1) n else pairs_from values counts punched (low + 1) n)
-      by_test hyp true true listed same = inl (eqb-true low c same, ap (slice_index values) (eqb-true low c same) ∙ sym it.value)
+          → IsIn c v (if test then (low, slice_index values low % 0o10000) ∷ pairs_from values counts punched (low + 1) n else pairs_from values counts punched (low + 1) n)
+      by_test hyp true true listed same = inl (eqb-true low c same, ap (λ k. slice_index values k % 0o10000) (eqb-true low c same) ∙ sym it.value)
       by_test hyp true false listed other = inr (hyp (later other))
       by_test hyp false true listed same = absurd (cc (sym listed ∙ ap (is_listed counts punched) (eqb-true low c same) ∙ it.listed))
       by_test hyp false false listed other = hyp (later other)
@@ -177,7 +177,7 @@ rises values counts punched zero bound low le = tt
 rises values counts punched (suc n) bound low le = by_test (λ b. rises values counts punched n b (low + 1)) (is_listed counts punched low)
   where
     by_test : ((b : ℕ) → b ≤ low + 1 → RiseFrom b (pairs_from values counts punched (low + 1) n)) → (test : Bool)
-        → RiseFrom bound (if test then (low, slice_index values low) ∷ pairs_from values counts punched (low + 1) n else pairs_from values counts punched (low + 1) n)
+        → RiseFrom bound (if test then (low, slice_index values low % 0o10000) ∷ pairs_from values counts punched (low + 1) n else pairs_from values counts punched (low + 1) n)
     by_test hyp true = (le, hyp (low + 1) (omega arith))
     by_test hyp false = hyp bound (omega (arith, le))
 
@@ -224,6 +224,14 @@ are_pairs table values counts punched is size whole sizes asks words holds = rec
     before : Holds (record { values = values; counts = counts; punched = punched }) asks words
     before = subst (λ (t : PoolTable). Holds t asks words) (sym is) holds
 
+    word_in : (v stay : ℕ) → v < 0o10000 → v ≡ (v + 0o10000 * stay) % 0o10000
+    word_in v stay small = omega (arith, small)
+
+    -- the value of an ask is the word in its cell
+    word_there : (a : Ask) → IsAsked asks a → a.value ≡ slice_index values (cell_in asks a) % 0o10000
+    word_there a is =
+        word_in a.value a.stay (before.holds_values.in_core a is).2 ∙ ap (λ n. n % 0o10000) (sym (value_at values counts asks before.holds_values a is))
+
     to_pair : (c v : ℕ) → IsIn c v (pairs_from values counts punched 0 size) → IsPair asks words c v
     to_pair c v there =
         let it = in_listed values counts punched c v size 0 there in
@@ -232,7 +240,7 @@ are_pairs table values counts punched is size whole sizes asks words holds = rec
           ask = of.0;
           is_asked = of.1;
           has_cell = of.2;
-          has_value = sym (value_at values counts asks before.holds_values of.0 (before.are_asks of.0 of.1)) ∙ ap (slice_index values) of.2 ∙ sym it.value;
+          has_value = word_there of.0 (before.are_asks of.0 of.1) ∙ ap (λ k. slice_index values k % 0o10000) of.2 ∙ sym it.value;
         }
 
     to_in : (c v : ℕ) → IsPair asks words c v → IsIn c v (pairs_from values counts punched 0 size)
@@ -243,5 +251,5 @@ are_pairs table values counts punched is size whole sizes asks words holds = rec
           above = omega arith;
           below = subst (λ (k : ℕ). c < k) (omega arith) (subst (λ (k : ℕ). c < k) (sym whole) (within values counts punched sizes asks c before.holds_values taken_cell));
           listed = rw (taken_used values counts asks before.holds_values c taken_cell) (before.has_marks c ∙ is_of_cell asks words c it.ask it.is_asked it.has_cell);
-          value = sym it.has_value ∙ sym (value_at values counts asks before.holds_values it.ask asked) ∙ ap (slice_index values) it.has_cell;
+          value = sym it.has_value ∙ word_there it.ask asked ∙ ap (λ k. slice_index values k % 0o10000) it.has_cell;
         })

@@ -3,7 +3,7 @@ use Rattle.std.proofs.Common.{◌≡◌, ℕ, ◌+◌, ◌-◌, ◌*◌, ◌<◌
 use Rattle.std.proofs.lemmas.Bool.{eqb-true, eqb-false}
 use Rattle.std.proofs.lemmas.Bool.Decides.{nat_tests}
 use Rattle.std.proofs.lemmas.List.{length-replicate, get_or-set_same, get_or-set_other}
-use Rattle.pal8_pools.specs.Asks.{Ask, IsAsked, count, pool_of, rank, cell_in, end, is_among}
+use Rattle.pal8_pools.specs.Asks.{Ask, IsAsked, count, pool_of, rank, cell_in, end, is_among, item_of}
 use Rattle.pal8_pools.specs.Values.{values_below, HoldsValues}
 use Rattle.pal8_pools.specs.Pooled.{GetsRoom, HasSizes, Holds, PoolTable, has_room, is_cell_of, with_punched, Answers}
 use Rattle.pal8_pools.specs.Steps.{Puts, Ranks, with_mark}
@@ -153,8 +153,8 @@ marks_size old values counts marks is sizes room = omega (arith, sizes.punched_a
 -- ## After the table's making
 
 -- where there is no room nothing was asked, so no page is full
-not_full : (a : Ask) (asks words : List Ask) (old : PoolTable) → Holds old asks words → a.field < 8 → a.page < 32 → has_room old ≡ false → rank (pool_of (a ∷ asks) a.field a.page) a.value ≡ 0
-not_full a asks words old holds in_field in_page none = rw (pool_own a asks (ap (λ (l : List ℕ). is_among l a.value) (sym empty)), same_number a.value) (ap length (sym empty))
+not_full : (a : Ask) (asks words : List Ask) (old : PoolTable) → Holds old asks words → a.field < 8 → a.page < 32 → has_room old ≡ false → rank (pool_of (a ∷ asks) a.field a.page) (item_of a) ≡ 0
+not_full a asks words old holds in_field in_page none = rw (pool_own a asks (ap (λ (l : List ℕ). is_among l (item_of a)) (sym empty)), same_number (item_of a)) (ap length (sym empty))
   where
     no_counts : old.counts ≡ []
     no_counts = length_none old.counts (zero_length (length old.counts) none)
@@ -170,7 +170,7 @@ pub answers_ask : (a : Ask) (is_word : Bool) (asks words : List Ask) (old betwee
 answers_ask a is_word asks words old between new (Ok address) made in_field in_page holds puts = puts
 answers_ask a is_word asks words old between new (Err Full) made in_field in_page holds puts = by_test (has_room old) refl
   where
-    by_test : (test : Bool) → has_room old ≡ test → (new ≡ old) × (0o177 < rank (pool_of (a ∷ asks) a.field a.page) a.value)
+    by_test : (test : Bool) → has_room old ≡ test → (new ≡ old) × (0o177 < rank (pool_of (a ∷ asks) a.field a.page) (item_of a))
     by_test true room = (puts.0 ∙ made.stays room, puts.1)
     by_test false none = absurd (omega (arith, puts.1, not_full a asks words old holds in_field in_page none))
 answers_ask a is_word asks words old between new (Err Memory) made in_field in_page holds puts = absurd puts

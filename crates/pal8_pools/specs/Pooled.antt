@@ -3,12 +3,12 @@ use Rattle.std.specs.Prelude.{◌≡◌, ℕ, ◌+◌, ◌*◌, ◌<◌, ◌≤�
 use Rattle.std.specs.Coded.{Coded, code_by, coded×, coded_ℕ, coded_bool, coded_list}
 use Rattle.std.specs.declared.alloc.AllocError.{AllocError}
 use Rattle.word12.specs.declared.sizes.TheConstants.{FIELD}
-use Rattle.pal8_pools.specs.Asks.{Ask, IsAsked, cell_in, pool_of, rank}
+use Rattle.pal8_pools.specs.Asks.{Ask, IsAsked, cell_in, item_of, pool_of, rank}
 use Rattle.pal8_pools.specs.Values.{HoldsValues}
 use Rattle.pal8_pools.specs.declared.faults.PoolFault.{PoolFault}
 use Rattle.pal8_pools.specs.declared.faults.PoolFault.TheVariants.{Full, Memory}
 
--- What a contract sees of pools: by cell the values and whether a punched word asks for it, and how many values each page has.
+-- What a contract sees of pools: by cell the items and whether a punched word asks for it, and how many items each page has.
 pub record PoolTable : Type 0 where
   pub values : List ℕ
   pub counts : List ℕ
@@ -48,9 +48,9 @@ with_punched false a punched = punched
 -- and no memory.
 abbrev pub Answers : Ask → Bool → List Ask → List Ask → PoolTable → PoolTable → Result ℕ PoolFault → Type 0
 Answers a is_punched asks punched old new (Ok address) =
-    (FIELD * a.field + address ≡ cell_in (a ∷ asks) a) × (rank (pool_of (a ∷ asks) a.field a.page) a.value ≤ 0o177)
+    (FIELD * a.field + address ≡ cell_in (a ∷ asks) a) × (rank (pool_of (a ∷ asks) a.field a.page) (item_of a) ≤ 0o177)
     × Holds new (a ∷ asks) (with_punched is_punched a punched) × (has_room new ≡ true)
-Answers a is_punched asks punched old new (Err Full) = (new ≡ old) × (0o177 < rank (pool_of (a ∷ asks) a.field a.page) a.value)
+Answers a is_punched asks punched old new (Err Full) = (new ≡ old) × (0o177 < rank (pool_of (a ∷ asks) a.field a.page) (item_of a))
 Answers a is_punched asks punched old new (Err Memory) = (new ≡ old) × (has_room old ≡ false)
 
 -- The asks stay, and there is room for further ones.

@@ -11,4 +11,4 @@ values_below values last (suc n) = slice_index values (last - n) ∷ values_belo
 pub record HoldsValues (values counts : List ℕ) (asks : List Ask) : Type 0 where
   pub pools : (f p : ℕ) → f < 8 → p < 32 → values_below values (end f p) (slice_index counts (32 * f + p)) ≡ pool_of asks f p
   pub few : (f p : ℕ) → f < 8 → p < 32 → count asks f p ≤ 0o200
-  pub in_core : (a : Ask) → IsAsked asks a → (a.field < 8) × (a.page < 32)
+  pub in_core : (a : Ask) → IsAsked asks a → (a.field < 8) × (a.page < 32) × (a.value < 0o10000)

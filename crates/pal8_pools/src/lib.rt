@@ -2,7 +2,7 @@
 //! this project's profile).
 //!
 //! A page of a field has 0200 cells. The first value that is asked of it gets its last cell, the next one the cell below. Equal
-//! values have one cell. In each contract the asks are a list, the newest first.
+//! values have one cell in one stay. In each contract the asks are a list, the newest first.
 #![tactic(auto)]
 
 mod cells;

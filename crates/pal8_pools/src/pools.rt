@@ -16,7 +16,7 @@ const PAGES: usize = 0o400;
 /// The pools of all pages: the values that are asked of each, and the cells that hold them.
 #[derive(Drop)]
 pub struct Pools {
-    values: Vec<Word>,
+    values: Vec<u64>,
     counts: Vec<u8>,
     punched: Vec<bool>,
 }
@@ -49,7 +49,7 @@ impl Pools {
         }
     }
 
-    /// Makes room: so many asks, and all later ones, then take no memory. It takes 97 KiB once, and nothing for no ask.
+    /// Makes room: so many asks, and all later ones, then take no memory. It takes 289 KiB once, and nothing for no ask.
     pub fn room(&mut self, alloc: Global, asks: usize) -> Result<(), AllocError>
         ensures { MakesRoom asks self.old self.new result }
     {
@@ -61,23 +61,24 @@ impl Pools {
     }
 
     /// Asks a page (0 to 037) of a field (0 to 7) for a cell with this value, and gives the cell's address in its field. Each
-    /// ask of that value gets the same cell. A page has 0200 cells: it answers `Full` where they hold other values.
+    /// ask of that value in that stay gets the same cell. A page has 0200 cells: it answers `Full` where they hold others.
     pub fn ask(
         &mut self,
         alloc: Global,
         field: u8,
         page: u8,
         value: Word,
+        stay: u32,
         punched: bool,
     ) -> Result<Word, PoolFault>
         requires field { field < 8 }
         requires page { page < 0o40 }
         ensures { (asks words : List Ask) → Holds self.old asks words
-            → Answers (record { field = field; page = page; value = value }) punched asks words
+            → Answers (record { field = field; page = page; value = value; stay = stay }) punched asks words
             self.old self.new result }
     {
         self.make(alloc)?;
-        self.put(field, page, value, punched)
+        self.put(field, page, value, stay, punched)
     }
 
     /// Whether the cell is that of an ask, whether a punched word's or not.
@@ -91,7 +92,7 @@ impl Pools {
         0o177 - number % 0o200 < usize::from(self.counts[number / 0o200])
     }
 
-    /// How many different values are asked of a page (0 to 037) of a field (0 to 7). It takes no memory.
+    /// How many different values, each with its stay, are asked of a page (0 to 037) of a field (0 to 7). It takes no memory.
     pub fn count(&self, field: u8, page: u8) -> usize
         requires field { field < 8 }
         requires page { page < 0o40 }
@@ -132,16 +133,28 @@ impl Pools {
     }
 
     /// Asks where there is room.
-    fn put(&mut self, field: u8, page: u8, value: Word, punched: bool) -> Result<Word, PoolFault>
+    fn put(
+        &mut self,
+        field: u8,
+        page: u8,
+        value: Word,
+        stay: u32,
+        punched: bool,
+    ) -> Result<Word, PoolFault>
         requires field { field < 8 }
         requires page { page < 0o40 }
         requires room { has_room self.old ≡ true }
         ensures { (asks words : List Ask) → Holds self.old asks words
-            → Puts (record { field = field; page = page; value = value }) punched asks words
+            → Puts (record { field = field; page = page; value = value; stay = stay }) punched asks words
             self.old self.new result }
     {
         let number = 0o40 * usize::from(field) + usize::from(page);
-        match rank_in(&mut self.values, &mut self.counts, number, value) {
+        match rank_in(
+            &mut self.values,
+            &mut self.counts,
+            number,
+            item_of(value, stay),
+        ) {
             Some(rank) => {
                 mark(&mut self.punched, 0o200 * number + 0o177, rank, punched);
                 Ok(Word::low(0o200 * u16::from(page) + 0o177 - rank as u16))
@@ -149,6 +162,14 @@ impl Pools {
             None => Err(PoolFault::Full),
         }
     }
+}
+
+/// A value with its stay.
+fn item_of(value: Word, stay: u32) -> u64
+    ensures value { result ≡ value + 0o10000 * stay }
+    ensures small { value < 0o10000 }
+{
+    u64::from(value.get()) + 0o10000 * u64::from(stay)
 }
 
 /// Marks the cell of this rank on the page with this last cell, if it is asked for by a punched word.
@@ -162,10 +183,10 @@ fn mark(marks: &mut [bool], last: usize, rank: usize, is_punched: bool)
     }
 }
 
-fn no_values(alloc: Global, count: usize) -> Result<Vec<Word>, AllocError>
+fn no_values(alloc: Global, count: usize) -> Result<Vec<u64>, AllocError>
     ensures { IfOk result (λ values. values.items ≡ replicate count 0) }
 {
-    let values = vec![in alloc; Word::ZERO; count]?;
+    let values = vec![in alloc; 0; count]?;
     Ok(values)
 }
 

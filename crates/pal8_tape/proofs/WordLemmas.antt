@@ -39,4 +39,4 @@ some_first [] pool has = absurd (false_true has)
 some_first (word ∷ words) pool has = omega arith
 
 pub has_words_in : HasWords
-has_words_in text pairs s = subst (λ l. 0 < length l) (sym s.are) (some_first s.made.words s.pool (passed_words (remainder_of_text text) s.made s.is_whole))
+has_words_in options text pairs s = subst (λ l. 0 < length l) (sym s.are) (some_first s.made.words s.pool (passed_words (remainder_of_text options text) s.made s.is_whole))

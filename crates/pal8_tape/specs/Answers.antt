@@ -7,6 +7,7 @@ use Rattle.pal8_asm.specs.Assembled.{result_of_text}
 use Rattle.pal8_asm.specs.Assembling.{IsAssembled}
 use Rattle.pal8_asm.specs.Tapes.{TapeWords}
 use Rattle.pal8_asm.specs.declared.faults.Fault as asm
+use Rattle.pal8_asm.specs.declared.options.Options.{Options}
 use Rattle.host_sources.specs.Places.{place_in}
 use Rattle.pal8_join.specs.Joins.{bytes_in, counts_of, joined_bytes}
 use Rattle.pal8_tape.specs.Marks.{fault_mark}
@@ -16,30 +17,30 @@ use Rattle.pal8_tape.specs.declared.faults.SourceFault.{SourceFault}
 use Rattle.pal8_tape.specs.declared.faults.SourceFault.TheVariants.{At, Memory}
 
 -- what sources make, or their first fault: it is that of the text that they join to
-abbrev pub result_of : List (List ℕ) → Result TapeWords asm.Fault
-result_of texts = result_of_text (text_of (joined_bytes texts))
+abbrev pub result_of : Options → List (List ℕ) → Result TapeWords asm.Fault
+result_of options texts = result_of_text options (text_of (joined_bytes options texts))
 
 -- The sources have no fault. These are the frames of the tape of their words with their cells, in their order, and then of the cells of their
 -- pools with their values, by rising cell.
-pub record IsTape (sources : List (Bor (List ℕ))) (frames : List ℕ) : Type 0 where
+pub record IsTape (options : Options) (sources : List (Bor (List ℕ))) (frames : List ℕ) : Type 0 where
   pub pairs : List (ℕ × ℕ)
-  pub are_all : IsAssembled (result_of (bytes_in sources)) pairs
+  pub are_all : IsAssembled (result_of options (bytes_in sources)) pairs
   pub are : frames ≡ tape_of pairs
 
 -- a fault of sources with these texts that is at a byte of their join, by its number from 0
-abbrev pub at_mark : List (Bor (List ℕ)) → List (List ℕ) → asm.Fault → ℕ → Fault
-at_mark sources texts fault at = record {
+abbrev pub at_mark : Options → List (Bor (List ℕ)) → List (List ℕ) → asm.Fault → ℕ → Fault
+at_mark options sources texts fault at = record {
   code = fault.code;
   line = fault.place.line;
-  place = place_by sources (place_in (counts_of texts) at);
-  byte = get_or (joined_bytes texts) at 0;
+  place = place_by sources (place_in (counts_of options texts) at);
+  byte = get_or (joined_bytes options texts) at 0;
 }
 
 -- a fault of sources with these texts, where each statement has its line and its first byte in the join
-abbrev pub with_place : List (Bor (List ℕ)) → List (List ℕ) → asm.Fault → Fault
-with_place sources texts fault = at_mark sources texts fault (fault_mark (joined_bytes texts) fault.code fault.place.start)
+abbrev pub with_place : Options → List (Bor (List ℕ)) → List (List ℕ) → asm.Fault → Fault
+with_place options sources texts fault = at_mark options sources texts fault (fault_mark options (joined_bytes options texts) fault.code fault.place.start)
 
 -- the first fault of the sources, with its place; or memory ran out
-abbrev pub IsTold : List (Bor (List ℕ)) → SourceFault → Type 0
-IsTold sources (At fault) = (met : asm.Fault) × (result_of (bytes_in sources) ≡ Err met) × (fault ≡ with_place sources (bytes_in sources) met)
-IsTold sources Memory = Unit {0}
+abbrev pub IsTold : Options → List (Bor (List ℕ)) → SourceFault → Type 0
+IsTold options sources (At fault) = (met : asm.Fault) × (result_of options (bytes_in sources) ≡ Err met) × (fault ≡ with_place options sources (bytes_in sources) met)
+IsTold options sources Memory = Unit {0}

@@ -5,6 +5,7 @@ use Rattle.pal_lex.specs.Text.{text_of}
 use Rattle.pal8_asm.specs.Sources.{PassResult, remainder_of_text}
 use Rattle.pal8_asm.specs.Tapes.{TapeWords}
 use Rattle.pal8_asm.specs.declared.faults.Fault as asm
+use Rattle.pal8_asm.specs.declared.options.Options.{Options}
 use Rattle.pal8_asm.specs.declared.faults.Code.{Code}
 use Rattle.pal8_asm.specs.declared.faults.Code.TheVariants.{IC, SY, NU, UA, DT, RD, IR, II, FD, PG, PF, DZ, PE, ZE, PageClash, ZeroClash, RL, PH, NE, NW}
 use Rattle.host_sources.specs.Places.{place_in}
@@ -89,8 +90,8 @@ is_ok (Ok left) = true
 is_ok (Err fault) = false
 
 -- no statement has a fault but for words, and the source ends
-abbrev pub is_passed : List (List ℕ) → Bool
-is_passed texts = is_ok (remainder_of_text (text_of (joined_bytes texts)))
+abbrev pub is_passed : Options → List (List ℕ) → Bool
+is_passed options texts = is_ok (remainder_of_text options (text_of (joined_bytes options texts)))
 
 -- further faults are looked for after it
 abbrev pub is_followed : Bool → Code → Bool
@@ -105,8 +106,8 @@ fault_by passed (Ok made) = None
 fault_by passed (Err fault) = if is_followed passed fault.code then Some fault else None
 
 -- the first fault of sources, if further ones are looked for after it
-abbrev pub followed_fault : Bool → List (List ℕ) → Option asm.Fault
-followed_fault passed texts = fault_by passed (result_of texts)
+abbrev pub followed_fault : Options → Bool → List (List ℕ) → Option asm.Fault
+followed_fault options passed texts = fault_by passed (result_of options texts)
 
 -- ## The sources in which the next fault is looked for
 
@@ -127,36 +128,36 @@ harmless_at passed (text ∷ others) (suc number) start = with_others text (harm
 abbrev pub harmless_by_place : Bool → List (List ℕ) → ℕ × ℕ → Option (List (List ℕ))
 harmless_by_place passed texts at = harmless_at passed texts at.0 at.1
 
-abbrev pub next_by : Bool → List (List ℕ) → Option asm.Fault → Option (List (List ℕ))
-next_by passed texts None = None
-next_by passed texts (Some fault) = harmless_by_place passed texts (place_in (counts_of texts) fault.place.start)
+abbrev pub next_by : Options → Bool → List (List ℕ) → Option asm.Fault → Option (List (List ℕ))
+next_by options passed texts None = None
+next_by options passed texts (Some fault) = harmless_by_place passed texts (place_in (counts_of options texts) fault.place.start)
 
 -- the texts in which the next fault is looked for, if it is: the statement with the first one is harmless in them
-abbrev pub next_texts : Bool → List (List ℕ) → Option (List (List ℕ))
-next_texts passed texts = next_by passed texts (followed_fault passed texts)
+abbrev pub next_texts : Options → Bool → List (List ℕ) → Option (List (List ℕ))
+next_texts options passed texts = next_by options passed texts (followed_fault options passed texts)
 
-abbrev pub further_by : Bool → List (Bor (List ℕ)) → List (List ℕ) → Result TapeWords asm.Fault → Option Fault
-further_by passed sources texts (Ok made) = None
-further_by passed sources texts (Err fault) = if is_further passed fault.code then Some (with_place sources texts fault) else None
+abbrev pub further_by : Options → Bool → List (Bor (List ℕ)) → List (List ℕ) → Result TapeWords asm.Fault → Option Fault
+further_by options passed sources texts (Ok made) = None
+further_by options passed sources texts (Err fault) = if is_further passed fault.code then Some (with_place options sources texts fault) else None
 
 -- the first fault of such texts, at its place in the sources, if it is one of the further faults
-abbrev pub further_fault : Bool → List (Bor (List ℕ)) → List (List ℕ) → Option Fault
-further_fault passed sources texts = further_by passed sources texts (result_of texts)
+abbrev pub further_fault : Options → Bool → List (Bor (List ℕ)) → List (List ℕ) → Option Fault
+further_fault options passed sources texts = further_by options passed sources texts (result_of options texts)
 
 abbrev pub items_of : {A : Type 0} → Option A → List A
 items_of None = []
 items_of (Some a) = a ∷ []
 
 -- the fault of the texts with one statement made harmless, and those after it
-abbrev pub faults_from : Bool → List (Bor (List ℕ)) → (List (List ℕ) → List Fault) → Option (List (List ℕ)) → List Fault
-faults_from passed sources others None = []
-faults_from passed sources others (Some texts) = items_of (further_fault passed sources texts) ++ others texts
+abbrev pub faults_from : Options → Bool → List (Bor (List ℕ)) → (List (List ℕ) → List Fault) → Option (List (List ℕ)) → List Fault
+faults_from options passed sources others None = []
+faults_from options passed sources others (Some texts) = items_of (further_fault options passed sources texts) ++ others texts
 
 -- The faults after the first of texts, where so many statements at most are made harmless, one after the other. The first of these has the
 -- first fault of the texts; each other one has the first fault of the texts with those before it.
-unfoldable pub faults_after : Bool → List (Bor (List ℕ)) → ℕ → List (List ℕ) → List Fault
-faults_after passed sources zero texts = []
-faults_after passed sources (suc n) texts = faults_from passed sources (faults_after passed sources n) (next_texts passed texts)
+unfoldable pub faults_after : Options → Bool → List (Bor (List ℕ)) → ℕ → List (List ℕ) → List Fault
+faults_after options passed sources zero texts = []
+faults_after options passed sources (suc n) texts = faults_from options passed sources (faults_after options passed sources n) (next_texts options passed texts)
 
 -- a text whose last line is ended
 abbrev pub ended_text : List ℕ → List ℕ
@@ -169,6 +170,6 @@ ended_texts (text ∷ []) = text ∷ []
 ended_texts (text ∷ next ∷ others) = ended_text text ∷ ended_texts (next ∷ others)
 
 -- So many faults of sources after the first. They are those of statements that are bad by themselves, or those of words that are so.
-abbrev pub further_faults : List (Bor (List ℕ)) → ℕ → List Fault
-further_faults sources most =
-    take most (faults_after (is_passed (ended_texts (bytes_in sources))) sources MOST_HARMLESS (ended_texts (bytes_in sources)))
+abbrev pub further_faults : Options → List (Bor (List ℕ)) → ℕ → List Fault
+further_faults options sources most =
+    take most (faults_after options (is_passed options (ended_texts (bytes_in sources))) sources MOST_HARMLESS (ended_texts (bytes_in sources)))

@@ -2,11 +2,12 @@
 use Rattle.std.specs.Prelude.{◌≡◌, ℕ, ◌≤◌, ◌<◌, take, drop, length, List}
 use Rattle.pal8_asm.specs.Assembled.{result_of_text}
 use Rattle.pal8_asm.specs.Assembling.{IsAssembled}
+use Rattle.pal8_asm.specs.declared.options.Options.{Options}
 use Rattle.pal8_tape.specs.Mending.{with_part}
 
 -- a text with no fault has a word
 abbrev pub HasWords : Type 0
-HasWords = (text : List ℕ) (pairs : List (ℕ × ℕ)) → IsAssembled (result_of_text text) pairs → 0 < length pairs
+HasWords = (options : Options) (text : List ℕ) (pairs : List (ℕ × ℕ)) → IsAssembled (result_of_text options text) pairs → 0 < length pairs
 
 -- A text in which a statement is made harmless has as many bytes. Those before it and those after it are the same, at the same places.
 abbrev pub KeepsOthers : Type 0

@@ -12,6 +12,7 @@ use Rattle.pal8_grammar.specs.Bodies.{body_in}
 use Rattle.pal8_asm.specs.Assembled.{result_of_text}
 use Rattle.pal8_asm.specs.Tapes.{TapeWords}
 use Rattle.pal8_asm.specs.declared.faults.Fault.{Fault}
+use Rattle.pal8_asm.specs.declared.options.Options.{Options}
 use Rattle.pal8_asm.specs.declared.faults.Code.{Code}
 use Rattle.pal8_asm.specs.declared.faults.Code.TheVariants.{IC, SY, NU, UA, DT, RD, IR, II, FD, PG, PF, DZ, PE, ZE, PageClash, ZeroClash, RL, PH, NE, NW}
 
@@ -127,12 +128,12 @@ radix_by (Ok made) = Decimal
 radix_by (Err fault) = if is_number_fault fault.code then Octal else Decimal
 
 -- How numbers are read where a statement begins: in octal, if 8 is none there.
-abbrev pub radix_at : List ℕ → ℕ → Radix
-radix_at source start = radix_by (result_of_text (text_of (take start source ++ codes "8;")))
+abbrev pub radix_at : Options → List ℕ → ℕ → Radix
+radix_at options source start = radix_by (result_of_text options (text_of (take start source ++ codes "8;")))
 
-abbrev pub radix_for : Code → List ℕ → ℕ → Radix
-radix_for code source start = if is_number_fault code then radix_at source start else Octal
+abbrev pub radix_for : Options → Code → List ℕ → ℕ → Radix
+radix_for options code source start = if is_number_fault code then radix_at options source start else Octal
 
 -- where the fault of a source is whose statement begins there
-abbrev pub fault_mark : List ℕ → Code → ℕ → ℕ
-fault_mark source code start = mark_in code (radix_for code source start) start (statements (text_of source))
+abbrev pub fault_mark : Options → List ℕ → Code → ℕ → ℕ
+fault_mark options source code start = mark_in code (radix_for options code source start) start (statements (text_of source))

@@ -12,7 +12,7 @@ use crate::places::place_in;
 use crate::tapes::at_token;
 use crate::texts::{ended_texts, join_texts, mend};
 use crate::{Fault, SourceFault};
-use pal8_asm::{AsmFault, Assembler, Code, Place, assemble};
+use pal8_asm::{AsmFault, Assembler, Code, Options, Place, assemble};
 use pal8_join::Join;
 use std::alloc::{AllocError, Global};
 
@@ -25,29 +25,30 @@ const MOST_HARMLESS: usize = 100;
 /// Where the first fault is IC, SY or NU, so is each further one. There is no next one where the statement opens a bracket, or a reserved name begins
 /// its body: what it says may concern those after it. Where the first fault is one of a word, further ones are UA, DZ, RL and II of words. PE and ZE
 /// aren't among them, and a word with a fault asks for nothing. A late definition is judged with the words, and one with a fault is its tags
-/// alone. There are none where the sources have another first fault, or none at all (PAL8, in this project's profile). The only fault of the call is
-/// `Memory`.
+/// alone. There are none where the sources have another first fault, or none at all. The sources are read by these options (PAL8, in this project's
+/// profile). The only fault of the call is `Memory`.
 pub fn further_faults(
     alloc: Global,
+    options: Options,
     sources: &[&[u8]],
     most: usize,
 ) -> Result<Vec<Fault>, SourceFault>
-    ensures faults { IfOk result (λ faults. faults.items ≡ further_faults sources.now most) }
+    ensures faults { IfOk result (λ faults. faults.items ≡ further_faults options sources.now most) }
     ensures fault { IfErr result (λ fault. fault ≡ Memory) }
 {
     let mut texts = ended_texts(alloc, sources)?;
-    let passed = is_passed(alloc, &texts)?;
+    let passed = is_passed(alloc, options, &texts)?;
     let mut faults = Vec::new(alloc);
     let mut left = MOST_HARMLESS;
     while left > 0 {
         if faults.len() >= most {
             return Ok(faults);
         }
-        let is_mended = mend_first(alloc, &mut texts, passed)?;
+        let is_mended = mend_first(alloc, options, &mut texts, passed)?;
         if !is_mended {
             return Ok(faults);
         }
-        let fault = further_fault(alloc, sources, &texts, passed)?;
+        let fault = further_fault(alloc, options, sources, &texts, passed)?;
         put(&mut faults, fault)?;
         left -= 1;
     }
@@ -68,12 +69,12 @@ fn put<T: Drop>(items: &mut Vec<T>, item: Option<T>) -> Result<(), AllocError>
 }
 
 /// Whether no statement of texts has a fault but for words, and their source ends.
-fn is_passed(alloc: Global, texts: &[Vec<u8>]) -> Result<bool, SourceFault>
-    ensures passed { IfOk result (λ is. is ≡ spec.is_passed (map (λ text. text.items) texts.now)) }
+fn is_passed(alloc: Global, options: Options, texts: &[Vec<u8>]) -> Result<bool, SourceFault>
+    ensures passed { IfOk result (λ is. is ≡ spec.is_passed options (map (λ text. text.items) texts.now)) }
     ensures fault { IfErr result (λ fault. fault ≡ Memory) }
 {
-    let join = join_texts(alloc, texts)?;
-    let mut assembler = Assembler::new(alloc);
+    let join = join_texts(alloc, options, texts)?;
+    let mut assembler = Assembler::new(alloc, options);
     match assembler.read(alloc, &join.text) {
         Ok(_) => Ok(true),
         Err(AsmFault::At(_, _)) => Ok(false),
@@ -82,48 +83,55 @@ fn is_passed(alloc: Global, texts: &[Vec<u8>]) -> Result<bool, SourceFault>
 }
 
 /// Makes the statement with the first fault of texts harmless, if the next one is looked for, and answers whether it is.
-fn mend_first(alloc: Global, texts: &mut Vec<Vec<u8>>, passed: bool) -> Result<bool, SourceFault>
-    ensures mends { IfOk result (λ is. Mends (spec.next_texts passed (map (λ text. text.items) texts.old.items)) is texts.new.items) }
+fn mend_first(
+    alloc: Global,
+    options: Options,
+    texts: &mut Vec<Vec<u8>>,
+    passed: bool,
+) -> Result<bool, SourceFault>
+    ensures mends { IfOk result (λ is. Mends (spec.next_texts options passed (map (λ text. text.items) texts.old.items)) is texts.new.items) }
     ensures fault { IfErr result (λ fault. fault ≡ Memory) }
 {
-    let join = join_texts(alloc, texts)?;
-    match assemble(alloc, &join.text) {
+    let join = join_texts(alloc, options, texts)?;
+    match assemble(alloc, options, &join.text) {
         Ok(_pairs) => Ok(false),
-        Err(fault) => mend_after(alloc, texts, &join, passed, fault),
+        Err(fault) => mend_after(alloc, options, texts, &join, passed, fault),
     }
 }
 
 /// The same by the fault of their join.
 fn mend_after(
     alloc: Global,
+    options: Options,
     texts: &mut Vec<Vec<u8>>,
     join: &Join,
     passed: bool,
     fault: AsmFault,
 ) -> Result<bool, SourceFault>
-    requires text { join.now.text.items ≡ joined_bytes (map (λ text. text.items) texts.old.items) }
-    requires counts { join.now.counts.items ≡ counts_of (map (λ text. text.items) texts.old.items) }
-    requires fault { Assembles (text_of join.now.text.items) (Err fault) }
-    ensures mends { IfOk result (λ is. Mends (spec.next_texts passed (map (λ text. text.items) texts.old.items)) is texts.new.items) }
+    requires text { join.now.text.items ≡ joined_bytes options (map (λ text. text.items) texts.old.items) }
+    requires counts { join.now.counts.items ≡ counts_of options (map (λ text. text.items) texts.old.items) }
+    requires fault { Assembles options (text_of join.now.text.items) (Err fault) }
+    ensures mends { IfOk result (λ is. Mends (spec.next_texts options passed (map (λ text. text.items) texts.old.items)) is texts.new.items) }
     ensures fault { IfErr result (λ fault. fault ≡ Memory) }
 {
     match fault {
         AsmFault::Memory => Err(SourceFault::Memory),
-        AsmFault::At(code, place) => mend_by(alloc, texts, join, passed, code, place),
+        AsmFault::At(code, place) => mend_by(alloc, options, texts, join, passed, code, place),
     }
 }
 
 /// Makes the statement of texts harmless that has this first fault of their join, if the next one is looked for.
 fn mend_by(
     alloc: Global,
+    options: Options,
     texts: &mut Vec<Vec<u8>>,
     join: &Join,
     passed: bool,
     code: Code,
     place: Place,
 ) -> Result<bool, SourceFault>
-    requires counts { join.now.counts.items ≡ counts_of (map (λ text. text.items) texts.old.items) }
-    ensures mends { IfOk result (λ is. Mends (spec.next_by passed (map (λ text. text.items) texts.old.items)
+    requires counts { join.now.counts.items ≡ counts_of options (map (λ text. text.items) texts.old.items) }
+    ensures mends { IfOk result (λ is. Mends (spec.next_by options passed (map (λ text. text.items) texts.old.items)
         (spec.fault_by passed (Err (record { code = code; place = place })))) is texts.new.items) }
     ensures fault { IfErr result (λ fault. fault ≡ Memory) }
 {
@@ -138,44 +146,49 @@ fn mend_by(
 /// The first fault of texts at its place in the sources, if it is one of the further faults.
 fn further_fault(
     alloc: Global,
+    options: Options,
     sources: &[&[u8]],
     texts: &[Vec<u8>],
     passed: bool,
 ) -> Result<Option<Fault>, SourceFault>
-    ensures found { IfOk result (λ found. found ≡ spec.further_fault passed sources.now (map (λ text. text.items) texts.now)) }
+    ensures found { IfOk result (λ found. found ≡ spec.further_fault options passed sources.now (map (λ text. text.items) texts.now)) }
     ensures fault { IfErr result (λ fault. fault ≡ Memory) }
 {
-    let join = join_texts(alloc, texts)?;
-    match assemble(alloc, &join.text) {
+    let join = join_texts(alloc, options, texts)?;
+    match assemble(alloc, options, &join.text) {
         Ok(_pairs) => Ok(None),
-        Err(fault) => fault_with_place(alloc, sources, texts, &join, passed, fault),
+        Err(fault) => fault_with_place(alloc, options, sources, texts, &join, passed, fault),
     }
 }
 
 /// The same by the fault of their join.
 fn fault_with_place(
     alloc: Global,
+    options: Options,
     sources: &[&[u8]],
     texts: &[Vec<u8>],
     join: &Join,
     passed: bool,
     fault: AsmFault,
 ) -> Result<Option<Fault>, SourceFault>
-    requires text { join.now.text.items ≡ joined_bytes (map (λ text. text.items) texts.now) }
-    requires counts { join.now.counts.items ≡ counts_of (map (λ text. text.items) texts.now) }
-    requires fault { Assembles (text_of join.now.text.items) (Err fault) }
-    ensures found { IfOk result (λ found. found ≡ spec.further_fault passed sources.now (map (λ text. text.items) texts.now)) }
+    requires text { join.now.text.items ≡ joined_bytes options (map (λ text. text.items) texts.now) }
+    requires counts { join.now.counts.items ≡ counts_of options (map (λ text. text.items) texts.now) }
+    requires fault { Assembles options (text_of join.now.text.items) (Err fault) }
+    ensures found { IfOk result (λ found. found ≡ spec.further_fault options passed sources.now (map (λ text. text.items) texts.now)) }
     ensures fault { IfErr result (λ fault. fault ≡ Memory) }
 {
     match fault {
         AsmFault::Memory => Err(SourceFault::Memory),
-        AsmFault::At(code, place) => further_by(alloc, sources, texts, join, passed, code, place),
+        AsmFault::At(code, place) => further_by(
+            alloc, options, sources, texts, join, passed, code, place,
+        ),
     }
 }
 
 /// This first fault of a join at its place in the sources, if it is one of the further faults.
 fn further_by(
     alloc: Global,
+    options: Options,
     sources: &[&[u8]],
     texts: &[Vec<u8>],
     join: &Join,
@@ -183,16 +196,16 @@ fn further_by(
     code: Code,
     place: Place,
 ) -> Result<Option<Fault>, SourceFault>
-    requires text { join.now.text.items ≡ joined_bytes (map (λ text. text.items) texts.now) }
-    requires counts { join.now.counts.items ≡ counts_of (map (λ text. text.items) texts.now) }
-    ensures found { IfOk result (λ found. found ≡ spec.further_by passed sources.now (map (λ text. text.items) texts.now)
+    requires text { join.now.text.items ≡ joined_bytes options (map (λ text. text.items) texts.now) }
+    requires counts { join.now.counts.items ≡ counts_of options (map (λ text. text.items) texts.now) }
+    ensures found { IfOk result (λ found. found ≡ spec.further_by options passed sources.now (map (λ text. text.items) texts.now)
         (Err (record { code = code; place = place }))) }
     ensures fault { IfErr result (λ fault. fault ≡ Memory) }
 {
     if !is_further(passed, &code) {
         return Ok(None);
     }
-    let fault = at_token(alloc, sources, join, code, place)?;
+    let fault = at_token(alloc, options, sources, join, code, place)?;
     Ok(Some(fault))
 }
 

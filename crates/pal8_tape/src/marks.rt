@@ -6,20 +6,21 @@ ghost use Rattle.pal8_lex.specs.Statements.{statements};
 ghost use Rattle.pal8_tape.specs.Marks.{begins, fault_mark, first_start, is_meant, is_name, is_number_fault, is_redefinition, mark_in, mark_of, meant_mark, radix_at, radix_for};
 
 use host_sources::first_bytes;
-use pal8_asm::{AsmFault, Code, assemble};
+use pal8_asm::{AsmFault, Code, Options, assemble};
 use pal8_lex::{Kind, Lexer, Radix, Token, tag_count};
 use std::alloc::{AllocError, Global};
 
 /// Where the fault of a source is whose statement begins at a place.
 pub(crate) fn fault_mark(
     alloc: Global,
+    options: Options,
     source: &[u8],
     code: &Code,
     start: u64,
 ) -> Result<u64, AllocError>
-    ensures { IfOk result (λ at. at ≡ fault_mark source.now code.now start) }
+    ensures { IfOk result (λ at. at ≡ fault_mark options source.now code.now start) }
 {
-    let radix = radix_for(alloc, source, code, start)?;
+    let radix = radix_for(alloc, options, source, code, start)?;
     let mut lexer = Lexer::new(alloc);
     let mut mark = start;
     let mut taken = 0;
@@ -32,23 +33,34 @@ pub(crate) fn fault_mark(
 }
 
 /// How numbers are read where the statement begins that has a fault, if it is NU.
-fn radix_for(alloc: Global, source: &[u8], code: &Code, start: u64) -> Result<Radix, AllocError>
-    ensures { IfOk result (λ radix. radix ≡ radix_for code.now source.now start) }
+fn radix_for(
+    alloc: Global,
+    options: Options,
+    source: &[u8],
+    code: &Code,
+    start: u64,
+) -> Result<Radix, AllocError>
+    ensures { IfOk result (λ radix. radix ≡ radix_for options code.now source.now start) }
 {
     if is_number_fault(code) {
-        return radix_at(alloc, source, start as usize);
+        return radix_at(alloc, options, source, start as usize);
     }
     Ok(Radix::Octal)
 }
 
 /// How numbers are read where a statement begins: in octal, if 8 is none there.
-fn radix_at(alloc: Global, source: &[u8], start: usize) -> Result<Radix, AllocError>
-    ensures { IfOk result (λ radix. radix ≡ radix_at source.now start) }
+fn radix_at(
+    alloc: Global,
+    options: Options,
+    source: &[u8],
+    start: usize,
+) -> Result<Radix, AllocError>
+    ensures { IfOk result (λ radix. radix ≡ radix_at options source.now start) }
 {
     let mut probe = Vec::new(alloc);
     probe.extend_from_slice(first_bytes(source, start))?;
     probe.extend_from_slice(b"8;")?;
-    match assemble(alloc, &probe) {
+    match assemble(alloc, options, &probe) {
         Ok(_) => Ok(Radix::Decimal),
         Err(AsmFault::At(code, _)) => {
             if is_number_fault(&code) {

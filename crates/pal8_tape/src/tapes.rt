@@ -13,7 +13,7 @@ use crate::laws::has_words;
 use crate::marks::fault_mark;
 use crate::places::place_by;
 use crate::{Fault, SourceFault};
-use pal8_asm::{AsmFault, Code, Place, assemble};
+use pal8_asm::{AsmFault, Code, Options, Place, assemble};
 use pal8_join::{Join, join_all};
 use std::alloc::{AllocError, Global};
 use word12::{Cell, Word};
@@ -21,30 +21,32 @@ use word12::{Cell, Word};
 /// The frames of the BIN tape that sources of the host are assembled to as one, or their first fault, with its place.
 ///
 /// LF ends a line of a source, and CR, form feed, NUL and rubout are as if they weren't there. Each source but the last goes on in the next one, at its
-/// first PAUSE that is selected and has no tag, or at its end. The tape has the words in the order of the sources. After them come the literals and
-/// links of each page, by rising cell (PAL8, the assembler of OS/8, in this project's profile). Where memory runs out the answer is `Memory`.
-pub fn tape_of(alloc: Global, sources: &[&[u8]]) -> Result<Vec<u8>, SourceFault>
-    ensures tape { IfOk result (λ tape. IsTape sources.now tape.items) }
-    ensures fault { IfErr result (λ fault. IsTold sources.now fault) }
+/// first PAUSE that is selected and has no tag, or at its end. They are read by these options. The tape has the words in the order of the sources. After
+/// them come the literals and links of each page, by rising cell (PAL8, the assembler of OS/8, in this project's profile). Where memory runs out the
+/// answer is `Memory`.
+pub fn tape_of(alloc: Global, options: Options, sources: &[&[u8]]) -> Result<Vec<u8>, SourceFault>
+    ensures tape { IfOk result (λ tape. IsTape options sources.now tape.items) }
+    ensures fault { IfErr result (λ fault. IsTold options sources.now fault) }
 {
-    let join = join_all(alloc, sources)?;
-    match assemble(alloc, &join.text) {
+    let join = join_all(alloc, options, sources)?;
+    match assemble(alloc, options, &join.text) {
         Ok(pairs) => {
-            let frames = frames_of(alloc, sources, &pairs)?;
+            let frames = frames_of(alloc, options, sources, &pairs)?;
             Ok(frames)
         }
-        Err(fault) => Err(with_place(alloc, sources, &join, fault)),
+        Err(fault) => Err(with_place(alloc, options, sources, &join, fault)),
     }
 }
 
 /// The frames of the tape of the pairs of sources.
 fn frames_of(
     alloc: Global,
+    options: Options,
     sources: &[&[u8]],
     pairs: &[(Cell, Word)],
 ) -> Result<Vec<u8>, AllocError>
-    requires { IsAssembled (result_of (bytes_in sources.now)) pairs.now }
-    ensures { IfOk result (λ frames. IsTape sources.now frames.items) }
+    requires { IsAssembled (result_of options (bytes_in sources.now)) pairs.now }
+    ensures { IfOk result (λ frames. IsTape options sources.now frames.items) }
 {
     has_words();
     let frames = bin_tape::tape_of(alloc, pairs)?;
@@ -52,15 +54,21 @@ fn frames_of(
 }
 
 /// A fault of sources with its place.
-fn with_place(alloc: Global, sources: &[&[u8]], join: &Join, fault: AsmFault) -> SourceFault
-    requires text { join.now.text.items ≡ joined_bytes (bytes_in sources.now) }
-    requires counts { join.now.counts.items ≡ counts_of (bytes_in sources.now) }
-    requires fault { Assembles (text_of join.now.text.items) (Err fault) }
-    ensures { IsTold sources.now result }
+fn with_place(
+    alloc: Global,
+    options: Options,
+    sources: &[&[u8]],
+    join: &Join,
+    fault: AsmFault,
+) -> SourceFault
+    requires text { join.now.text.items ≡ joined_bytes options (bytes_in sources.now) }
+    requires counts { join.now.counts.items ≡ counts_of options (bytes_in sources.now) }
+    requires fault { Assembles options (text_of join.now.text.items) (Err fault) }
+    ensures { IsTold options sources.now result }
 {
     match fault {
         AsmFault::Memory => SourceFault::Memory,
-        AsmFault::At(code, at) => match at_token(alloc, sources, join, code, at) {
+        AsmFault::At(code, at) => match at_token(alloc, options, sources, join, code, at) {
             Ok(fault) => SourceFault::At(fault),
             Err(memory) => memory,
         },
@@ -70,6 +78,7 @@ fn with_place(alloc: Global, sources: &[&[u8]], join: &Join, fault: AsmFault) ->
 /// A fault of the statement of a join that has a place, at the token that it is about. The only fault of the call is `Memory`.
 pub(crate) fn at_token(
     alloc: Global,
+    options: Options,
     sources: &[&[u8]],
     join: &Join,
     code: Code,
@@ -78,12 +87,12 @@ pub(crate) fn at_token(
     ensures fault { IfOk result (λ fault. fault ≡ record {
       code = code;
       line = at.line;
-      place = places.place_by sources.now (place_in join.now.counts.items (marks.fault_mark join.now.text.items code at.start));
-      byte = get_or join.now.text.items (marks.fault_mark join.now.text.items code at.start) 0;
+      place = places.place_by sources.now (place_in join.now.counts.items (marks.fault_mark options join.now.text.items code at.start));
+      byte = get_or join.now.text.items (marks.fault_mark options join.now.text.items code at.start) 0;
     }) }
     ensures memory { IfErr result (λ fault. fault ≡ Memory) }
 {
-    let mark = fault_mark(alloc, &join.text, &code, at.start)?;
+    let mark = fault_mark(alloc, options, &join.text, &code, at.start)?;
     Ok(at_mark(sources, join, code, at.line, mark as usize))
 }
 

@@ -7,6 +7,7 @@ ghost use Rattle.pal8_tape.specs.declared.faults.SourceFault.TheVariants.{Memory
 
 use crate::SourceFault;
 use crate::mending::harmless;
+use pal8_asm::Options;
 use pal8_join::{Join, is_line_open, join_all};
 use std::alloc::{AllocError, Global};
 
@@ -44,13 +45,17 @@ fn put_text(texts: &mut Vec<Vec<u8>>, text: Vec<u8>) -> Result<(), AllocError>
 }
 
 /// The join of texts. The only fault is `Memory`.
-pub(crate) fn join_texts(alloc: Global, texts: &[Vec<u8>]) -> Result<Join, SourceFault>
-    ensures text { IfOk result (λ join. join.text.items ≡ joined_bytes (map (λ text. text.items) texts.now)) }
-    ensures counts { IfOk result (λ join. join.counts.items ≡ counts_of (map (λ text. text.items) texts.now)) }
+pub(crate) fn join_texts(
+    alloc: Global,
+    options: Options,
+    texts: &[Vec<u8>],
+) -> Result<Join, SourceFault>
+    ensures text { IfOk result (λ join. join.text.items ≡ joined_bytes options (map (λ text. text.items) texts.now)) }
+    ensures counts { IfOk result (λ join. join.counts.items ≡ counts_of options (map (λ text. text.items) texts.now)) }
     ensures fault { IfErr result (λ fault. fault ≡ Memory) }
 {
     let sources = slices_of(alloc, texts)?;
-    let join = join_all(alloc, &sources)?;
+    let join = join_all(alloc, options, &sources)?;
     Ok(join)
 }
 

@@ -1,16 +1,16 @@
 -- What was asked stays asked.
-use Rattle.std.proofs.Common.{◌≡◌, ℕ, Bool, true, false, if◌then◌else◌, Option, Some, None, Result, Ok, Err, List, [], ◌∷◌, ◌++◌, inl, inr, refl, sym, ap, subst, ◌∙◌}
+use Rattle.std.proofs.Common.{ℕ, Bool, true, false, if◌then◌else◌, Option, Some, None, Result, Ok, Err, List, [], ◌∷◌, ◌++◌, inr, refl, sym, ap, subst, ◌∙◌}
 use Rattle.std.specs.Prelude.{nat_le, ◌+◌, ◌%◌}
 use Rattle.std.proofs.lemmas.List.{append_assoc}
 use Rattle.word12.specs.declared.sizes.TheConstants.{PAGE}
 use Rattle.pal8_lex.specs.declared.tokens.Pool.{Pool}
 use Rattle.pal8_lex.specs.declared.tokens.Pool.TheVariants.{Own}
-use Rattle.pal8_pools.specs.Asks.{Ask, IsAsked, cell_in, pool_of, rank}
+use Rattle.pal8_pools.specs.Asks.{item_of, Ask, IsAsked, cell_in, pool_of, rank}
 use Rattle.pal8_pools.specs.Pooled.{with_punched}
 use Rattle.pal8_grammar.specs.declared.steps.Step.{Step}
 use Rattle.pal8_grammar.specs.declared.steps.Step.TheVariants as step
 use Rattle.pal8_values.specs.Sums.{Meanings, empty, offset_of, with_plain, with_value}
-use Rattle.pal8_values.specs.Words.{AskResult, Evaluation, ask_of, evaluation, full, is_through, is_torn, page_start, word_of_reference, value_by, with_ask, with_cell, with_cell_of, with_close, with_link, with_literal, with_step, with_step_if, with_steps, word_in, word_value}
+use Rattle.pal8_values.specs.Words.{AskResult, Evaluation, ask_of, evaluation, full, is_through, is_torn, page_start, value_by, with_ask, with_cell, with_cell_of, with_close, with_link, with_link_if, with_literal, with_step, with_step_if, with_steps, word_in, word_of_reference}
 use Rattle.pal8_values.specs.Laws.{AsksGrow, WordsAskMore}
 use Rattle.pal8_values.specs.declared.sums.Sum.{Sum}
 use Rattle.pal8_values.specs.declared.sums.Spot.{Spot}
@@ -61,18 +61,23 @@ module _ (spot : Spot) where
       by_shift : (test : Bool) → Grows asks punched (if test then Err RL else with_cell_of spot pool (ask_of spot pool value) asks punched)
       by_shift true = tt
       by_shift false =
-          by_room (nat_le (rank (pool_of (ask_of spot pool value ∷ asks) (ask_of spot pool value).field (ask_of spot pool value).page) value) 0o177)
+          by_room (nat_le (rank (pool_of (ask_of spot pool value ∷ asks) (ask_of spot pool value).field (ask_of spot pool value).page) (item_of (ask_of spot pool value))) 0o177)
 
   link_grows : (operation : ℕ) (asks punched : List Ask) (r : AskResult) → Grows asks punched r → Grows asks punched (with_link operation r)
   link_grows operation asks punched (Err fault) grows = tt
   link_grows operation asks punched (Ok (cell, after, after_punched)) grows = grows
 
+  link_if_grows : (operation address : ℕ) (may_link : Bool) (asks punched : List Ask)
+      → Grows asks punched (with_link_if spot operation address may_link asks punched)
+  link_if_grows operation address false asks punched = tt
+  link_if_grows operation address true asks punched =
+      link_grows operation asks punched (with_ask spot Own address asks punched) (ask_grows Own address asks punched)
+
   reference_grows : (operation : ℕ) (is_indirect : Bool) (offset : Option ℕ) (address : ℕ) (asks punched : List Ask)
       → Grows asks punched (word_of_reference spot operation is_indirect offset address asks punched)
   reference_grows operation is_indirect (Some offset) address asks punched = stays asks punched
   reference_grows operation true None address asks punched = tt
-  reference_grows operation false None address asks punched =
-      link_grows operation asks punched (with_ask spot Own address asks punched) (ask_grows Own address asks punched)
+  reference_grows operation false None address asks punched = link_if_grows operation address spot.may_link asks punched
 
   value_grows : (is_reference : Bool) (s : Sum) (asks punched : List Ask) → Grows asks punched (value_by spot is_reference s asks punched)
   value_grows false s asks punched = stays asks punched

@@ -5,12 +5,12 @@ use Rattle.std.proofs.lemmas.List.{append_assoc}
 use Rattle.word12.specs.declared.sizes.TheConstants.{PAGE}
 use Rattle.pal8_lex.specs.declared.tokens.Pool.{Pool}
 use Rattle.pal8_lex.specs.declared.tokens.Pool.TheVariants.{Own, Zero}
-use Rattle.pal8_pools.specs.Asks.{Ask, values_of_page, cell_in, is_of, pool_of, rank}
+use Rattle.pal8_pools.specs.Asks.{item_of, Ask, items_of_page, cell_in, is_of, pool_of, rank}
 use Rattle.pal8_pools.specs.Pooled.{with_punched}
 use Rattle.pal8_grammar.specs.declared.steps.Step.{Step}
 use Rattle.pal8_grammar.specs.declared.steps.Step.TheVariants as step
 use Rattle.pal8_values.specs.Sums.{Meanings, offset_of, with_plain, with_value}
-use Rattle.pal8_values.specs.Words.{AskResult, Evaluation, ask_of, evaluation, full, is_through, is_torn, page_start, word_of_reference, value_by, with_ask, with_cell, with_cell_of, with_close, with_link, with_literal, with_step, with_step_if, with_steps, word_in}
+use Rattle.pal8_values.specs.Words.{AskResult, Evaluation, ask_of, evaluation, full, is_through, is_torn, page_start, value_by, with_ask, with_cell, with_cell_of, with_close, with_link, with_link_if, with_literal, with_step, with_step_if, with_steps, word_in, word_of_reference}
 use Rattle.pal8_values.specs.Laws.{AsksNear, GoesNear, WordsAskNear, is_near}
 use Rattle.pal8_values.specs.declared.sums.Sum.{Sum}
 use Rattle.pal8_values.specs.declared.sums.Spot.{Spot}
@@ -48,7 +48,7 @@ module _ (spot : Spot) where
   one_near pool value asks = record {
     more = ask_of spot pool value ∷ [];
     are = refl;
-    others = λ f p far. ap (λ test. if test then value ∷ values_of_page asks f p else values_of_page asks f p) (is_far pool value f p far);
+    others = λ f p far. ap (λ test. if test then item_of (ask_of spot pool value) ∷ items_of_page asks f p else items_of_page asks f p) (is_far pool value f p far);
   }
 
   goes_further : (a b : List Ask) (r : AskResult) → AsksNear spot a b → GoesNear spot b r → GoesNear spot a r
@@ -71,17 +71,21 @@ module _ (spot : Spot) where
       by_shift : (test : Bool) → GoesNear spot asks (if test then Err RL else with_cell_of spot pool (ask_of spot pool value) asks punched)
       by_shift true = tt
       by_shift false =
-          by_room (nat_le (rank (pool_of (ask_of spot pool value ∷ asks) (ask_of spot pool value).field (ask_of spot pool value).page) value) 0o177)
+          by_room (nat_le (rank (pool_of (ask_of spot pool value ∷ asks) (ask_of spot pool value).field (ask_of spot pool value).page) (item_of (ask_of spot pool value))) 0o177)
 
   link_near : (operation : ℕ) (asks : List Ask) (r : AskResult) → GoesNear spot asks r → GoesNear spot asks (with_link operation r)
   link_near operation asks (Err fault) goes = tt
   link_near operation asks (Ok (cell, after, punched)) goes = goes
 
+  link_if_near : (operation address : ℕ) (may_link : Bool) (asks punched : List Ask) → GoesNear spot asks (with_link_if spot operation address may_link asks punched)
+  link_if_near operation address false asks punched = tt
+  link_if_near operation address true asks punched = link_near operation asks (with_ask spot Own address asks punched) (ask_near Own address asks punched)
+
   reference_near : (operation : ℕ) (is_indirect : Bool) (offset : Option ℕ) (address : ℕ) (asks punched : List Ask)
       → GoesNear spot asks (word_of_reference spot operation is_indirect offset address asks punched)
   reference_near operation is_indirect (Some offset) address asks punched = stays asks
   reference_near operation true None address asks punched = tt
-  reference_near operation false None address asks punched = link_near operation asks (with_ask spot Own address asks punched) (ask_near Own address asks punched)
+  reference_near operation false None address asks punched = link_if_near operation address spot.may_link asks punched
 
   value_near : (is_reference : Bool) (s : Sum) (asks punched : List Ask) → GoesNear spot asks (value_by spot is_reference s asks punched)
   value_near false s asks punched = stays asks

@@ -1,6 +1,6 @@
 -- What the reference of a word reaches.
 use Rattle.std.proofs.Common.{◌≡◌, ℕ, zero, suc, ◌+◌, ◌-◌, ◌*◌, ◌/◌, ◌%◌, ◌<◌, ◌≤◌, ◌⊎◌, inl, inr, Bool, true, false, if◌then◌else◌, Option, Some, None, Result, Ok, Err, length, List, [], ◌∷◌, ◌++◌, refl, sym, ap, subst, ◌∙◌, arith}
-use Rattle.std.specs.Prelude.{nat_eq, nat_le, nat_lt, bit_and, bit_or, not, ◌&&◌, ◌||◌}
+use Rattle.std.specs.Prelude.{nat_eq, nat_le, nat_lt, bit_or}
 use Rattle.std.specs.Int.Bits.{or_zero_l, or_zero_r}
 use Rattle.std.proofs.lemmas.Nat.{or_mod}
 use Rattle.std.proofs.lemmas.Grind.{numeral_or}
@@ -8,13 +8,13 @@ use Rattle.std.proofs.lemmas.Bool.Decides.{nat_tests}
 use Rattle.word12.specs.declared.sizes.TheConstants.{FIELD, PAGE}
 use Rattle.pal8_lex.specs.declared.tokens.Pool.{Pool}
 use Rattle.pal8_lex.specs.declared.tokens.Pool.TheVariants.{Own, Zero}
-use Rattle.pal8_pools.specs.Asks.{Ask, cell_in, pool_of, rank}
+use Rattle.pal8_pools.specs.Asks.{item_of, Ask, cell_in, pool_of, rank}
 use Rattle.pal8_pools.specs.Pooled.{with_punched}
 use Rattle.pal8_grammar.specs.declared.steps.Step.{Step}
 use Rattle.pal8_grammar.specs.declared.steps.Step.TheVariants as step
 use Rattle.pal8_values.specs.Sums.{Meanings, empty, indirect_bit, offset_of, reference_word, with_plain, with_value}
-use Rattle.pal8_values.specs.Words.{AskResult, Evaluation, ask_of, evaluation, full, is_through, is_torn, page_of, page_start, value_by, value_of, with_ask, with_cell, with_cell_of, with_close, with_link, with_literal, with_step, with_step_if, with_steps, word_in, word_of_reference, word_value}
-use Rattle.pal8_values.specs.Laws.{LinksAreReached, LiteralsAreReached, Reaches, ReachesLink, ReachesLiteral, closes_all, depth_after, evaluation_of, literal_steps, operation_steps, reached_address}
+use Rattle.pal8_values.specs.Words.{AskResult, Evaluation, ask_of, evaluation, full, is_through, is_torn, page_of, page_start, value_by, value_of, with_ask, with_cell, with_cell_of, with_close, with_link, with_link_if, with_literal, with_step, with_step_if, with_steps, word_in, word_of_reference, word_value}
+use Rattle.pal8_values.specs.Laws.{LinksAreReached, LiteralsAreReached, ReachesLink, ReachesLiteral, closes_all, depth_after, reached_address}
 use Rattle.pal8_values.specs.declared.sums.Sum.{Sum}
 use Rattle.pal8_values.specs.declared.sums.Spot.{Spot}
 use Rattle.pal8_values.specs.declared.frames.Frame.{Frame}
@@ -164,7 +164,7 @@ module _ (spot : Spot) (pool : Pool) (value : ℕ) (asks punched : List Ask) whe
   no_more a b is = grind (arith, nat_tests, is)
 
   abbrev own_rank : ℕ
-  own_rank = rank (pool_of (own_ask ∷ asks) own_ask.field own_ask.page) value
+  own_rank = rank (pool_of (own_ask ∷ asks) own_ask.field own_ask.page) (item_of own_ask)
 
   by_room : (test : Bool) → nat_le own_rank 0o177 ≡ test → GetsCell spot pool value asks punched
       (if test then Ok (page_start pool spot.here + cell_in (own_ask ∷ asks) own_ask % PAGE, own_ask ∷ asks, with_punched spot.is_punched own_ask punched)
@@ -488,11 +488,15 @@ module _ (spot : Spot) (operation address : ℕ) (asks punched : List Ask) (word
           ap (λ n. (if nat_eq n 0 then 0 else here / PAGE * PAGE) + (address % PAGE + 0o200) % PAGE) (one address)
           ∙ ap (λ n. here / PAGE * PAGE + n) (offset_is here address cell is)
 
+  from_link : (may_link : Bool) → with_link_if spot operation address may_link asks punched ≡ link_whole → ReachesLink spot address asks punched word after after_punched
+  from_link false is = absurd cc
+  from_link true is = from_cell (with_ask spot Own address asks punched) (gets_cell spot Own address asks punched) is
+
   from_offset : (is_indirect : Bool) (offset : Option ℕ) → offset ≡ None → word_of_reference spot operation is_indirect offset address asks punched ≡ link_whole
       → ReachesLink spot address asks punched word after after_punched
   from_offset is_indirect (Some offset) none is = absurd cc
   from_offset true None none is = absurd cc
-  from_offset false None none is = from_cell (with_ask spot Own address asks punched) (gets_cell spot Own address asks punched) is
+  from_offset false None none is = from_link spot.may_link is
 
 from_reference : (spot : Spot) (e : Evaluation) (word : ℕ) (after after_punched : List Ask) → e.sum.operation % 0o400 ≡ 0 → offset_of spot.here e.sum.total ≡ None
     → (is_reference : Bool) → is_reference ≡ true → value_by spot is_reference e.sum e.asks e.punched ≡ Ok (word, after, after_punched)

@@ -3,7 +3,7 @@ use Rattle.std.specs.Prelude.{◌≡◌, ◌<◌, ℕ, zero, suc, ◌+◌, ◌*�
 use Rattle.word12.specs.declared.sizes.TheConstants.{FIELD, PAGE}
 use Rattle.pal8_lex.specs.declared.tokens.Pool.{Pool}
 use Rattle.pal8_lex.specs.declared.tokens.Pool.TheVariants.{Own}
-use Rattle.pal8_pools.specs.Asks.{Ask, IsAsked, cell_in, values_of_page}
+use Rattle.pal8_pools.specs.Asks.{Ask, IsAsked, cell_in, items_of_page}
 use Rattle.pal8_pools.specs.Pooled.{with_punched}
 use Rattle.pal8_grammar.specs.declared.steps.Step.{Step}
 use Rattle.pal8_grammar.specs.declared.steps.Step.TheVariants as step
@@ -20,7 +20,7 @@ is_near spot f p = nat_eq spot.field f && (nat_eq (spot.location / PAGE) p || na
 pub record AsksNear (spot : Spot) (before after : List Ask) : Type 0 where
   pub more : List Ask
   pub are : after ≡ more ++ before
-  pub others : (f p : ℕ) → is_near spot f p ≡ false → values_of_page after f p ≡ values_of_page before f p
+  pub others : (f p : ℕ) → is_near spot f p ≡ false → items_of_page after f p ≡ items_of_page before f p
 
 abbrev pub GoesNear : Spot → List Ask → AskResult → Type 0
 GoesNear spot before (Err fault) = Unit {0}

@@ -3,7 +3,7 @@ use Rattle.std.specs.Prelude.{ℕ, ◌+◌, ◌*◌, ◌/◌, ◌%◌, nat_eq, n
 use Rattle.word12.specs.declared.sizes.TheConstants.{PAGE}
 use Rattle.pal8_lex.specs.declared.tokens.Pool.{Pool}
 use Rattle.pal8_lex.specs.declared.tokens.Pool.TheVariants.{Own, Zero}
-use Rattle.pal8_pools.specs.Asks.{Ask, cell_in, pool_of, rank}
+use Rattle.pal8_pools.specs.Asks.{Ask, cell_in, item_of, pool_of, rank}
 use Rattle.pal8_pools.specs.Pooled.{with_punched}
 use Rattle.pal8_grammar.specs.declared.steps.Step.{Step}
 use Rattle.pal8_grammar.specs.declared.steps.Step.TheVariants as step
@@ -12,7 +12,7 @@ use Rattle.pal8_values.specs.declared.sums.Sum.{Sum}
 use Rattle.pal8_values.specs.declared.sums.Spot.{Spot}
 use Rattle.pal8_values.specs.declared.frames.Frame.{Frame}
 use Rattle.pal8_values.specs.declared.faults.ValueFault.{ValueFault}
-use Rattle.pal8_values.specs.declared.faults.ValueFault.TheVariants.{II, PE, ZE, RL}
+use Rattle.pal8_values.specs.declared.faults.ValueFault.TheVariants.{II, IR, PE, ZE, RL}
 
 -- The word so far: the innermost value, those around it; all that was asked, and what punched words asked of that, each the
 -- newest first.
@@ -35,8 +35,17 @@ abbrev pub page_of : Pool → ℕ → ℕ
 page_of Own location = location / PAGE
 page_of Zero location = 0
 
+-- in which stay a page is asked
+abbrev pub stay_at : Spot → ℕ → ℕ
+stay_at spot page = if nat_eq page 0 then spot.zero_stay else spot.page_stay
+
 abbrev pub ask_of : Spot → Pool → ℕ → Ask
-ask_of spot pool value = record { field = spot.field; page = page_of pool spot.location; value = value }
+ask_of spot pool value = record {
+  field = spot.field;
+  page = page_of pool spot.location;
+  value = value;
+  stay = stay_at spot (page_of pool spot.location);
+}
 
 -- By the address of a literal its cell is reached where the word runs: on the page of the place, or on page zero.
 abbrev pub page_start : Pool → ℕ → ℕ
@@ -51,7 +60,7 @@ is_torn Zero spot = false
 
 abbrev pub with_cell_of : Spot → Pool → Ask → List Ask → List Ask → AskResult
 with_cell_of spot pool a asks punched =
-    if nat_le (rank (pool_of (a ∷ asks) a.field a.page) a.value) 0o177 then Ok (
+    if nat_le (rank (pool_of (a ∷ asks) a.field a.page) (item_of a)) 0o177 then Ok (
       page_start pool spot.here + cell_in (a ∷ asks) a % PAGE,
       a ∷ asks,
       with_punched spot.is_punched a punched,
@@ -68,11 +77,16 @@ abbrev pub with_link : ℕ → AskResult → AskResult
 with_link operation (Err fault) = Err fault
 with_link operation (Ok (cell, asks, punched)) = Ok (reference_word operation true (cell % PAGE + 0o200), asks, punched)
 
+-- a link, if one may be made
+abbrev pub with_link_if : Spot → ℕ → ℕ → Bool → List Ask → List Ask → AskResult
+with_link_if spot operation address false asks punched = Err IR
+with_link_if spot operation address true asks punched = with_link operation (with_ask spot Own address asks punched)
+
 -- the word of a reference: where its address is out of reach, a link, unless it is indirect
 abbrev pub word_of_reference : Spot → ℕ → Bool → Option ℕ → ℕ → List Ask → List Ask → AskResult
 word_of_reference spot operation is_indirect (Some offset) address asks punched = Ok (reference_word operation is_indirect offset, asks, punched)
 word_of_reference spot operation true None address asks punched = Err II
-word_of_reference spot operation false None address asks punched = with_link operation (with_ask spot Own address asks punched)
+word_of_reference spot operation false None address asks punched = with_link_if spot operation address spot.may_link asks punched
 
 -- a reference is indirect by `I`, or by the word of its operation
 abbrev pub is_through : Sum → Bool

@@ -23,6 +23,11 @@ pub struct Spot {
     pub here: u16,
     /// Whether its words go to the tape.
     pub is_punched: bool,
+    /// Whether a link may be made for a reference whose address is out of reach.
+    pub may_link: bool,
+    /// In which stay page zero is asked for literals, and in which the page of the location. They are 0 where no stays count.
+    pub zero_stay: u32,
+    pub page_stay: u32,
 }
 
 /// The value of the terms so far: the address of a memory reference, or an expression.

@@ -1,9 +1,10 @@
-ghost use Rattle.std.specs.Prelude.{◌≡◌, ◌<◌, ◌≤◌, ◌+◌, ◌*◌, ◌%◌, ℕ, false, None, List};
+ghost use Rattle.std.specs.Prelude.{◌≡◌, ◌<◌, ◌≤◌, ◌+◌, ◌*◌, ◌%◌, ℕ, List};
+ghost use Rattle.pal8_lex.specs.declared.tokens.Pool.TheVariants.{Own};
 ghost use Rattle.word12.specs.declared.sizes.TheConstants.{FIELD, PAGE};
 ghost use Rattle.pal8_sym.specs.SourceNames.{own_value};
 ghost use Rattle.pal8_pools.specs.Asks.{Ask};
 ghost use Rattle.pal8_pools.specs.Pooled.{Holds};
-ghost use Rattle.pal8_values.specs.Words.{full, is_through, is_torn, page_of, page_start, word_of_reference, value_of, with_ask, with_close, with_step, word_value};
+ghost use Rattle.pal8_values.specs.Words.{full, is_through, is_torn, page_of, page_start, stay_at, value_of, with_ask, with_link, with_close, with_step, word_value};
 ghost use Rattle.pal8_values.specs.Steps.{Takes};
 ghost use Rattle.pal8_values.specs.Answering.{Gives};
 
@@ -36,6 +37,17 @@ fn full(page: u8) -> ValueFault
         ValueFault::ZE
     } else {
         ValueFault::PE
+    }
+}
+
+/// In which stay a page is asked.
+fn stay_at(spot: Spot, page: u8) -> u32
+    ensures { result ≡ stay_at spot page }
+{
+    if page == 0 {
+        spot.zero_stay
+    } else {
+        spot.page_stay
     }
 }
 
@@ -89,7 +101,8 @@ fn ask(
         return Err(ValueFault::RL);
     }
     let page = page_of(pool, spot.location);
-    match pools.ask(alloc, spot.field, page, value, spot.is_punched) {
+    let stay = stay_at(spot, page);
+    match pools.ask(alloc, spot.field, page, value, stay, spot.is_punched) {
         Ok(address) => Ok(address_at(pool, spot.here, address)),
         Err(PoolFault::Full) => Err(full(page)),
         Err(PoolFault::Memory) => Err(ValueFault::Memory),
@@ -108,7 +121,7 @@ fn word_through_link(
     requires place { spot.location < 0o10000 }
     requires here { spot.here < 0o10000 }
     ensures { (asks punched : List Ask) → Holds pools.old asks punched
-        → Gives (word_of_reference spot operation false None address asks punched) result pools.new }
+        → Gives (with_link operation (with_ask spot Own address asks punched)) result pools.new }
 {
     let cell = match ask(pools, alloc, spot, Pool::Own, address) {
         Ok(cell) => cell,
@@ -143,6 +156,9 @@ fn value_of(pools: &mut Pools, alloc: Global, spot: Spot, sum: Sum) -> Result<Wo
         None => {
             if is_indirect {
                 return Err(ValueFault::II);
+            }
+            if !spot.may_link {
+                return Err(ValueFault::IR);
             }
             word_through_link(pools, alloc, spot, sum.operation, sum.total)
         }
@@ -215,8 +231,8 @@ fn take(
 /// their cells, which hold what was asked before. The asks come in the order of the terms, those in a literal before its own, that of a link last. A
 /// word that isn't punched asks, too.
 ///
-/// Its fault is the first from the left. It is UA, DZ, II, or RL where an own literal or a link would ask and the place and the location are apart by
-/// no whole pages. Or it is PE or ZE where a page has no cell left. Memory is taken for the pools, and for literals within others (PAL8, in this
+/// Its fault is the first from the left. It is UA, DZ, II, or IR for a link that may not be made. It is RL where an own literal or a link would ask and
+/// the place and the location are apart by no whole pages. Or it is PE or ZE where a page has no cell left. Memory is taken for the pools, and for literals within others (PAL8, in this
 /// project's profile).
 pub fn word_value(
     frames: &mut Frames,

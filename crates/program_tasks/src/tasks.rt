@@ -63,6 +63,18 @@ pub struct AssembleForm {
 
     /// Whether the sources are PAL8; there is no listing then.
     pub is_pal8: bool,
+
+    /// Whether PAL8 makes no links.
+    pub is_without_links: bool,
+
+    /// Whether PAL8 puts no word 00 after a text of an even number of characters.
+    pub is_without_zero: bool,
+
+    /// Whether `FIELD` of PAL8 leaves the location.
+    pub is_without_origin: bool,
+
+    /// Whether equal values have one cell of a page of PAL8 only within one stay on it.
+    pub has_stays: bool,
 }
 
 /// What a source is written of (PAL III manual, and this project's reading of a program's flow).

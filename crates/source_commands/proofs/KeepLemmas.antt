@@ -23,6 +23,7 @@ use Rattle.outcome.specs.declared.notes.NameNote.{NameNote}
 use Rattle.outcome.specs.declared.notes.NameNote.TheVariants.{NoSource}
 use Rattle.host_sources.specs.declared.faults.SourceFault as pal3_fault
 use Rattle.host_sources.specs.declared.faults.SourceFault.TheVariants as pal3_is
+use Rattle.pal8_asm.specs.declared.options.Options.{Options}
 use Rattle.pal8_tape.specs.declared.faults.SourceFault as pal8_fault
 use Rattle.pal8_tape.specs.declared.faults.SourceFault.TheVariants as pal8_is
 use Rattle.program_tasks.specs.declared.forms.ImageForm.{ImageForm}
@@ -36,7 +37,7 @@ use Rattle.volume_commands.specs.Reading.{Looks, LooksAt, Opens, hold_calls, wit
 use Rattle.volume_commands.specs.Saving.{Prints, SavesIf, Stores, Writes}
 use Rattle.volume_commands.specs.Work.{Then, Purely}
 use Rattle.volume_commands.specs.declared.images.Image.{Image}
-use Rattle.source_commands.specs.Assembling.{Assembles, AssemblesAll, AssemblesFrom, AssemblesTo, IsTapeOf, ListsTape, Makes, MakesIf, MakesPal3, MakesPal8, PrintsFaults, RefusesPal8, RefusesSources}
+use Rattle.source_commands.specs.Assembling.{Assembles, AssemblesAll, AssemblesFrom, AssemblesTo, IsTapeOf, ListsTape, Makes, MakesIf, MakesPal3, MakesPal8, PrintsFaults, RefusesPal8, RefusesSources, options_of}
 use Rattle.source_commands.specs.Clashes.{IsRefused, RefusesClash, clash_of}
 use Rattle.source_commands.specs.Faults.{faults_text, pal8_faults_text}
 use Rattle.source_commands.specs.Laws.{is_refusal}
@@ -81,20 +82,20 @@ sources-refused : (sources names : List (Bor (List ℕ))) (fault : pal3_fault.So
 sources-refused sources names (pal3_is.At fault) old ending new p path = faults-keep (faults_text sources names fault) old ending new p path
 sources-refused sources names pal3_is.Memory old ending new p path = same path p.1
 
-pal8-refused : (sources names : List (Bor (List ℕ))) (fault : pal8_fault.SourceFault) (old : List Event) (ending : Ending) (new : List Event) → RefusesPal8 sources names fault old ending new → (path : List ℕ) → about path new ≡ about path old
-pal8-refused sources names (pal8_is.At fault) old ending new p path = faults-keep (pal8_faults_text sources names fault) old ending new p path
-pal8-refused sources names pal8_is.Memory old ending new p path = same path p.1
+pal8-refused : (options : Options) (sources names : List (Bor (List ℕ))) (fault : pal8_fault.SourceFault) (old : List Event) (ending : Ending) (new : List Event) → RefusesPal8 options sources names fault old ending new → (path : List ℕ) → about path new ≡ about path old
+pal8-refused options sources names (pal8_is.At fault) old ending new p path = faults-keep (pal8_faults_text options sources names fault) old ending new p path
+pal8-refused options sources names pal8_is.Memory old ending new p path = same path p.1
 
 pal3-keeps : (is_listed is_cross : Bool) (sources names : List (Bor (List ℕ))) → KeepsFiles (MakesPal3 is_listed is_cross sources names)
 pal3-keeps is_listed is_cross sources names old (Ok made) new (assembled, listed, p) path = same path p
 pal3-keeps is_listed is_cross sources names old (Err ending) new (fault, told, p) path = sources-refused sources names fault old ending new p path
 
-pal8-keeps : (sources names : List (Bor (List ℕ))) → KeepsFiles (MakesPal8 sources names)
-pal8-keeps sources names old (Ok made) new (assembled, listed, p) path = same path p
-pal8-keeps sources names old (Err ending) new (fault, told, p) path = pal8-refused sources names fault old ending new p path
+pal8-keeps : (options : Options) (sources names : List (Bor (List ℕ))) → KeepsFiles (MakesPal8 options sources names)
+pal8-keeps options sources names old (Ok made) new (assembled, listed, p) path = same path p
+pal8-keeps options sources names old (Err ending) new (fault, told, p) path = pal8-refused options sources names fault old ending new p path
 
 makes-if : (is : Bool) (form : AssembleForm) (sources names : List (Bor (List ℕ))) → KeepsFiles (MakesIf is form sources names)
-makes-if true form sources names old result new p path = pal8-keeps sources names old result new p path
+makes-if true form sources names old result new p path = pal8-keeps (options_of form) sources names old result new p path
 makes-if false form sources names old result new p path = pal3-keeps (is_some form.list) form.is_cross sources names old result new p path
 
 makes-keeps : (form : AssembleForm) (texts : List (List ℕ)) → KeepsFiles (Makes form texts)

@@ -9,6 +9,7 @@ use Rattle.host_sources.specs.declared.faults.SourceFault.TheVariants as pal3_is
 use Rattle.source_listing.specs.Listings.{IsListed}
 use Rattle.source_listing.specs.declared.listing.ListingForm.{ListingForm}
 use Rattle.source_listing.specs.declared.listing.ListingForm.TheVariants.{Symbols, Cross}
+use Rattle.pal8_asm.specs.declared.options.Options.{Options}
 use Rattle.pal8_tape.specs.Answers as pal8
 use Rattle.pal8_tape.specs.declared.faults.SourceFault as pal8_fault
 use Rattle.pal8_tape.specs.declared.faults.SourceFault.TheVariants as pal8_is
@@ -54,17 +55,26 @@ MakesPal3 is_listed is_cross sources names old (Ok made) new = pal3.IsAssembled 
 MakesPal3 is_listed is_cross sources names old (Err ending) new = (fault : pal3_fault.SourceFault) × pal3.IsTold sources fault × RefusesSources sources names fault old ending new
 
 -- why sources of PAL8 are not assembled
-abbrev pub RefusesPal8 : List (Bor (List ℕ)) → List (Bor (List ℕ)) → pal8_fault.SourceFault → List Event → Ending → List Event → Type 0
-RefusesPal8 sources names (pal8_is.At fault) old ending new = PrintsFaults (pal8_faults_text sources names fault) old ending new
-RefusesPal8 sources names pal8_is.Memory old ending new = (ending ≡ Fault Memory) × (new ≡ old)
+abbrev pub RefusesPal8 : Options → List (Bor (List ℕ)) → List (Bor (List ℕ)) → pal8_fault.SourceFault → List Event → Ending → List Event → Type 0
+RefusesPal8 options sources names (pal8_is.At fault) old ending new = PrintsFaults (pal8_faults_text options sources names fault) old ending new
+RefusesPal8 options sources names pal8_is.Memory old ending new = (ending ≡ Fault Memory) × (new ≡ old)
+
+-- how PAL8 is read
+abbrev pub options_of : AssembleForm → Options
+options_of form = record {
+  is_without_links = form.is_without_links;
+  is_without_zero = form.is_without_zero;
+  is_without_origin = form.is_without_origin;
+  has_stays = form.has_stays;
+}
 
 -- PAL8 sources are assembled as one, or their faults are printed
-abbrev pub MakesPal8 : List (Bor (List ℕ)) → List (Bor (List ℕ)) → List Event → Result Assembled Ending → List Event → Type 0
-MakesPal8 sources names old (Ok made) new = pal8.IsTape sources made.tape.items × (made.listing ≡ None) × (new ≡ old)
-MakesPal8 sources names old (Err ending) new = (fault : pal8_fault.SourceFault) × pal8.IsTold sources fault × RefusesPal8 sources names fault old ending new
+abbrev pub MakesPal8 : Options → List (Bor (List ℕ)) → List (Bor (List ℕ)) → List Event → Result Assembled Ending → List Event → Type 0
+MakesPal8 options sources names old (Ok made) new = pal8.IsTape options sources made.tape.items × (made.listing ≡ None) × (new ≡ old)
+MakesPal8 options sources names old (Err ending) new = (fault : pal8_fault.SourceFault) × pal8.IsTold options sources fault × RefusesPal8 options sources names fault old ending new
 
 abbrev pub MakesIf : Bool → AssembleForm → List (Bor (List ℕ)) → List (Bor (List ℕ)) → List Event → Result Assembled Ending → List Event → Type 0
-MakesIf true form sources names old result new = MakesPal8 sources names old result new
+MakesIf true form sources names old result new = MakesPal8 (options_of form) sources names old result new
 MakesIf false form sources names old result new = MakesPal3 (is_some form.list) form.is_cross sources names old result new
 
 -- what texts come to in the language that is asked for

@@ -5,6 +5,7 @@ use Rattle.file_kind.specs.Texts.{are_marked, is_text}
 use Rattle.host_sources.specs.FaultLines as pal3
 use Rattle.host_sources.specs.Further.{further_faults}
 use Rattle.host_sources.specs.declared.faults.Fault as pal3_fault
+use Rattle.pal8_asm.specs.declared.options.Options.{Options}
 use Rattle.pal8_tape.specs.FaultLines as pal8
 use Rattle.pal8_tape.specs.Further as pal8_further
 use Rattle.pal8_tape.specs.Signs.{sign_text}
@@ -59,7 +60,7 @@ faults_text sources names fault =
     ++ further_text (map (pal3.fault_text sources names) (further_faults sources MOST_FURTHER))
 
 -- what is printed of the faults of PAL8 sources: the first one, and then the further ones
-abbrev pub pal8_faults_text : List (Bor (List ℕ)) → List (Bor (List ℕ)) → pal8_fault.Fault → List ℕ
-pal8_faults_text sources names fault =
+abbrev pub pal8_faults_text : Options → List (Bor (List ℕ)) → List (Bor (List ℕ)) → pal8_fault.Fault → List ℕ
+pal8_faults_text options sources names fault =
     top_bits_notes sources names ++ pal8.fault_text sources names fault
-    ++ further_text (map (pal8.fault_text sources names) (pal8_further.further_faults sources MOST_FURTHER))
+    ++ further_text (map (pal8.fault_text sources names) (pal8_further.further_faults options sources MOST_FURTHER))

@@ -10,6 +10,7 @@ use crate::sources::{names_of, read_sources, slices_of};
 use host_sources::{SourceFault, assemble_sources};
 use hosts::Host;
 use outcome::Ending;
+use pal8_asm::Options;
 use pal8_tape::{SourceFault as Pal8Fault, tape_of};
 use program_tasks::{AssembleForm, ImageForm};
 use script8::SessionFault;
@@ -138,7 +139,7 @@ fn assembled_sources<H: Host>(
     ensures { MakesIf form.now.is_pal8 form.now sources.now names.now (H.history host.old) result (H.history host.new) }
 {
     if form.is_pal8 {
-        return pal8_assembled(host, alloc, sources, names);
+        return pal8_assembled(host, alloc, options_of(form), sources, names);
     }
     if form.list.is_some() {
         return listed_sources(host, alloc, form.is_cross, sources, names);
@@ -207,21 +208,34 @@ fn print_faults<H: Host>(host: &mut H, text: &[u8]) -> Ending
     Ending::Failure
 }
 
+/// How PAL8 is read.
+fn options_of(form: &AssembleForm) -> Options
+    ensures { result ≡ spec.options_of form.now }
+{
+    Options {
+        is_without_links: form.is_without_links,
+        is_without_zero: form.is_without_zero,
+        is_without_origin: form.is_without_origin,
+        has_stays: form.has_stays,
+    }
+}
+
 /// What PAL8 sources are assembled to.
 fn pal8_assembled<H: Host>(
     host: &mut H,
     alloc: Global,
+    options: Options,
     sources: &[&[u8]],
     names: &[&str],
 ) -> Result<Assembled, Ending>
-    ensures { MakesPal8 sources.now names.now (H.history host.old) result (H.history host.new) }
+    ensures { MakesPal8 options sources.now names.now (H.history host.old) result (H.history host.new) }
 {
-    match tape_of(alloc, sources) {
+    match tape_of(alloc, options, sources) {
         Ok(tape) => Ok(Assembled {
             tape,
             listing: None,
         }),
-        Err(fault) => Err(refuse_pal8(host, alloc, sources, names, fault)),
+        Err(fault) => Err(refuse_pal8(host, alloc, options, sources, names, fault)),
     }
 }
 
@@ -229,15 +243,16 @@ fn pal8_assembled<H: Host>(
 fn refuse_pal8<H: Host>(
     host: &mut H,
     alloc: Global,
+    options: Options,
     sources: &[&[u8]],
     names: &[&str],
     fault: Pal8Fault,
 ) -> Ending
-    ensures { RefusesPal8 sources.now names.now fault (H.history host.old) result (H.history host.new) }
+    ensures { RefusesPal8 options sources.now names.now fault (H.history host.old) result (H.history host.new) }
 {
     match fault {
         Pal8Fault::Memory => Ending::Fault(SessionFault::Memory),
-        Pal8Fault::At(first) => match pal8_faults_text(alloc, sources, names, first) {
+        Pal8Fault::At(first) => match pal8_faults_text(alloc, options, sources, names, first) {
             Ok(text) => print_faults(host, &text),
             Err(ending) => ending,
         },

@@ -13,6 +13,7 @@ ghost use Rattle.source_commands.specs.FaultSteps.{AreFurther};
 use file_kind::{are_marked, is_text};
 use host_sources::{About, Fault};
 use outcome::{Ending, NameNote, Note, PlainNote};
+use pal8_asm::Options;
 use pal8_tape::sign_text;
 use script8::SessionFault;
 use std::alloc::{AllocError, Global};
@@ -42,13 +43,14 @@ pub(crate) fn faults_text(
 /// What is printed of the faults of PAL8 sources with these names, by the first one.
 pub(crate) fn pal8_faults_text(
     alloc: Global,
+    options: Options,
     sources: &[&[u8]],
     names: &[&str],
     fault: pal8_tape::Fault,
 ) -> Result<Vec<u8>, Ending>
-    ensures { AreLines (spec.pal8_faults_text sources.now names.now fault) result }
+    ensures { AreLines (spec.pal8_faults_text options sources.now names.now fault) result }
 {
-    let further = pal8_further_texts(alloc, sources, names)?;
+    let further = pal8_further_texts(alloc, options, sources, names)?;
     let first = pal8_tape::fault_text(alloc, sources, names, fault)?;
     let mut text = Vec::new(alloc);
     put_top_bits_notes(alloc, sources, names, &mut text)?;
@@ -89,12 +91,13 @@ fn texts_of(
 /// The texts of the faults of PAL8 sources after the first, so many of them as are printed.
 fn pal8_further_texts(
     alloc: Global,
+    options: Options,
     sources: &[&[u8]],
     names: &[&str],
 ) -> Result<Vec<Vec<u8>>, Ending>
-    ensures { AreFurther (map (pal8.fault_text sources.now names.now) (pal8_further.further_faults sources.now MOST_FURTHER)) result }
+    ensures { AreFurther (map (pal8.fault_text sources.now names.now) (pal8_further.further_faults options sources.now MOST_FURTHER)) result }
 {
-    match pal8_tape::further_faults(alloc, sources, MOST_FURTHER) {
+    match pal8_tape::further_faults(alloc, options, sources, MOST_FURTHER) {
         Ok(faults) => pal8_texts_of(alloc, sources, names, &faults),
         Err(_) => Err(Ending::Fault(SessionFault::Memory)),
     }

@@ -16,13 +16,13 @@ returns-in-Err c = λ whole making.
     c.args.clash.now c.args.clash.now c.args.pairs.now.items c.reserve.new.self.items c.in-Err.fault making (subst (λ s.
     GivesAt c.args.head.place (word_value (own_value c.args.names.now.table) s c.args.steps.now making.made.asks making.made.punched) (Err c.in-Err.fault)
     c.word_at.new.pools)
-    c.spot_of-spot.ensures.value (c.in-Err.ensures {u = tt} making.made.asks making.made.punched making.holds))
+    (c.spot_of-spot.ensures.value c.args.steps.now) (c.in-Err.ensures {u = tt} making.made.asks making.made.punched making.holds))
 
 pub returns : goal.returns
 returns c = λ whole making.
     let asked = subst (λ s.
     IsAsked (word_value (own_value c.args.names.now.table) s c.args.steps.now making.made.asks making.made.punched) c.in-Ok.word c.word_at.new.pools)
-    c.spot_of-spot.ensures.value (c.in-Ok.ensures {u = tt} making.made.asks making.made.punched making.holds) in
+    (c.spot_of-spot.ensures.value c.args.steps.now) (c.in-Ok.ensures {u = tt} making.made.asks making.made.punched making.holds) in
     subst (λ o.
     IsMaking (with_word_entry (own_value c.args.names.now.table) (entry_of c.args.head c.args.steps.now) c.args.steps.now whole) c.word_at.new.pools c.put-found.new.self o
     c.put_word.new.pairs.items)
@@ -37,6 +37,6 @@ returns c = λ whole making.
     none
     (c.count-own.ensures making.made.asks making.made.punched making.holds
     ∙ ap (λ p. count making.made.asks c.spot_of-spot.result.field p) c.page_of.ensures.value
-    ∙ ap (λ s. count making.made.asks s.field (s.location / 128)) c.spot_of-spot.ensures.value)
+    ∙ ap (λ s. count making.made.asks s.field (s.location / 128)) (c.spot_of-spot.ensures.value c.args.steps.now))
     (c.count-zero.ensures making.made.asks making.made.punched making.holds
-    ∙ ap (λ s. count making.made.asks s.field 0) c.spot_of-spot.ensures.value)))
+    ∙ ap (λ s. count making.made.asks s.field 0) (c.spot_of-spot.ensures.value c.args.steps.now))))

@@ -6,8 +6,8 @@ use Rattle.pal8_tape.proofs.further.further_faults.Given as goal
 
 abbrev pub invariant-loop-left : goal.invariant-loop-left
 invariant-loop-left l = record {
-  same : l.faults.items ++ faults_after l.passed l.sources l.left (map (λ text. text.items) l.texts.items)
-      ≡ faults_after l.passed l.sources MOST_HARMLESS (ended_texts (bytes_in l.sources));
+  same : l.faults.items ++ faults_after l.fn.options l.passed l.sources l.left (map (λ text. text.items) l.texts.items)
+      ≡ faults_after l.fn.options l.passed l.sources MOST_HARMLESS (ended_texts (bytes_in l.sources));
   few : length l.faults.items ≤ l.fn.most;
 }
 

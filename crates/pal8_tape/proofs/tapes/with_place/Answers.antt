@@ -19,12 +19,12 @@ returns-in-Ok c =
     λ text counts. record {
       code = code;
       line = at.line;
-      place = place_by sources (place_in counts (fault_mark text code at.start));
-      byte = get_or text (fault_mark text code at.start) 0;
+      place = place_by sources (place_in counts (fault_mark c.args.options text code at.start));
+      byte = get_or text (fault_mark c.args.options text code at.start) 0;
     } in (
       record { code = code; place = at },
-      ap (λ t. result_of_text (text_of t)) (sym c.requires.text)
-          ∙ subst (λ (f : AsmFault). Assembles (text_of c.args.join.now.text.items) (Err f)) c.in-At.is c.requires.fault,
+      ap (λ t. result_of_text c.args.options (text_of t)) (sym c.requires.text)
+          ∙ subst (λ (f : AsmFault). Assembles c.args.options (text_of c.args.join.now.text.items) (Err f)) c.in-At.is c.requires.fault,
       (c.in-Ok.ensures {u = tt}).fault ∙ ap (λ t. marked t c.args.join.now.counts.items) c.requires.text
-          ∙ ap (λ l. marked (joined_bytes (bytes_in sources)) l) c.requires.counts,
+          ∙ ap (λ l. marked (joined_bytes c.args.options (bytes_in sources)) l) c.requires.counts,
     )

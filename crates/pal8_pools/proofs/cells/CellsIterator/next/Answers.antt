@@ -1,5 +1,4 @@
 use Rattle.std.proofs.Common.{length, ap, sym, ◌∙◌, arith, false, true}
-use Rattle.std.proofs.lemmas.List.{get_or_read}
 use Rattle.pal8_pools.specs.Cells.{pairs_left}
 use Rattle.pal8_pools.proofs.CellLemmas.{comes, first_same, is_used_now, none_left, passes_one, passes}
 use Rattle.pal8_pools.proofs.cells.CellsIterator.next.Goals as goal
@@ -26,11 +25,10 @@ pub returns-then-self-cell-clause-steps : goal.returns-then-self-cell-clause-ste
 unfolding pairs_left
 returns-then-self-cell-clause-steps c =
     let it = c.loop-self.self in
-    let value = get_or_read it.values.now it.at c.index-self-cell.result (omega (arith, c.loop-self-test.true, it.punched_are, it.values_are)) c.index-self-cell.is 0 in
     sym c.loop-self.invariant.same
     ∙ comes it.values.now it.counts.now it.punched.now (length it.punched.now) it.at c.loop-self-test.true
     (is_used_now it.values.now it.counts.now it.punched.now it.at c.from-used.result c.from-used.ensures c.if-used-cell.false true c.if-self-cell.true)
-    ∙ first_same (sym c.of.ensures.number) (sym value ∙ c.index-self-cell.is)
+    ∙ first_same (sym c.of.ensures.number) (sym c.word_of.ensures.value)
 
 pub returns-then-self-cell-clause-goes : goal.returns-then-self-cell-clause-goes
 returns-then-self-cell-clause-goes c =
