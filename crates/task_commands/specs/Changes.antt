@@ -1,11 +1,11 @@
 -- Commands that write an image file, which another program may hold (this project's profile).
-use Rattle.std.specs.Prelude.{◌≡◌, ◌≤◌, ◌*◌, ◌⊎◌, ⊥, ℕ, Option, None, Some, Result, Ok, Err, List, [], ◌∷◌, length}
+use Rattle.std.specs.Prelude.{◌≡◌, ◌≤◌, ◌*◌, ◌⊎◌, ℕ, Option, None, Some, Result, Ok, Err, List, [], ◌∷◌, length}
 use Rattle.hosts.specs.Event.{Event}
 use Rattle.program_tasks.specs.declared.forms.ImageForm.{ImageForm}
 use Rattle.outcome.specs.declared.contents.Content.TheVariants.{Image}
 use Rattle.outcome.specs.declared.endings.Ending.{Ending}
 use Rattle.outcome.specs.declared.endings.Ending.TheVariants.{Busy}
-use Rattle.archive_files.specs.Targets.{target_of}
+use Rattle.archive_files.specs.Asking.{target_of}
 use Rattle.volume_commands.specs.Making.{CreatesFile, IsBlankImage, IsBlankTapeFile}
 use Rattle.volume_commands.specs.declared.creating.TheConstants.{TAPE_BLOCKS}
 use Rattle.volume_commands.specs.Changing.{Renames, Squeezes}
@@ -53,17 +53,17 @@ seconds_of (change.Patch image word) = image.wait
 seconds_of (change.Assemble form) = seconds_for form.from
 
 -- each of these tries found that another program holds the image; the calls before each, the newest first
-abbrev pub AreBusy : (List Event → Result (Unit {0}) Ending → List Event → Type 0) → List (List Event) → List Event → List Event → Type 0
+abbrev pub AreBusy : {A : Type 0} → (List Event → Result A Ending → List Event → Type 0) → List (List Event) → List Event → List Event → Type 0
 AreBusy command [] old new = new ≡ old
 AreBusy command (before ∷ earlier) old new = AreBusy command earlier old before × command before (Err (Busy Image)) new
 
 -- another program doesn't hold the image
-abbrev pub IsFree : Result (Unit {0}) Ending → Type 0
+abbrev pub IsFree : {A : Type 0} → Result A Ending → Type 0
 IsFree (Ok it) = Unit {0}
 IsFree (Err ending) = ending ≡ Busy Image → ⊥
 
 -- While another program holds its image, a command is tried again, for so many seconds. What the last try answers is the answer.
-pub record Within (seconds : ℕ) (command : List Event → Result (Unit {0}) Ending → List Event → Type 0) (old : List Event) (result : Result (Unit {0}) Ending) (new : List Event) : Type 0 where
+pub record Within {A : Type 0} (seconds : ℕ) (command : List Event → Result A Ending → List Event → Type 0) (old : List Event) (result : Result A Ending) (new : List Event) : Type 0 where
   pub tries : List (List Event)
   pub between : List Event
   pub busy : AreBusy command tries old between

@@ -6,8 +6,8 @@ use Rattle.program_tasks.specs.declared.archives.IndexForm.{IndexForm}
 use Rattle.program_tasks.specs.declared.archives.LineForm.{LineForm}
 use Rattle.program_tasks.specs.declared.archives.LineForm.TheVariants.{Columns, Json}
 use Rattle.program_tasks.specs.declared.archives.PatchForm.{PatchForm}
-use Rattle.program_tasks.specs.declared.archives.ScanForm.{ScanForm}
 use Rattle.program_tasks.specs.declared.forms.ImageForm.{ImageForm}
+use Rattle.program_tasks.specs.declared.tasks.TeletypeForm.{TeletypeForm}
 use Rattle.program_tasks.specs.declared.tasks.Task.{Task}
 use Rattle.program_tasks.specs.declared.tasks.Task.TheVariants as task
 use Rattle.archive_files.specs.Getting.{Gets}
@@ -85,42 +85,50 @@ ScansBlocks (Some folder) image = WritesPieces folder.bytes.items image
 
 -- ## Tasks
 
--- A task is one command. The keys of a Teletype and the lines of a script come from the input, which a person types or not.
-abbrev pub DoesTask : Task → Option (List ℕ) → Bool → List Event → Result (Unit {0}) Ending → List Event → Type 0
-DoesTask (task.Tape tape) input is_typed = ListsTape tape
-DoesTask (task.Rim tape form) input is_typed = WritesRim form tape
-DoesTask (task.Source form) input is_typed = WritesSource form
-DoesTask (task.Assemble form) input is_typed = Within (seconds_for form.from) (Assembles form)
-DoesTask (task.Teletype form) input is_typed old result new = (rest : Option (List ℕ)) × RunsTeletype form input rest old result new
-DoesTask (task.Trace form) input is_typed = TracesTape form
-DoesTask (task.Profile form) input is_typed = ProfilesTape form
-DoesTask (task.Create form blocks) input is_typed = Within form.wait (CreatesFile (IsBlankImage blocks) form blocks)
-DoesTask (task.CreateTape form) input is_typed = Within form.wait (CreatesFile IsBlankTapeFile form TAPE_BLOCKS)
-DoesTask (task.List image) input is_typed = ReportsOne report.Files image.layout image.file.bytes.items
-DoesTask (task.ListLong image year) input is_typed = ReportsOne (report.Places year) image.layout image.file.bytes.items
-DoesTask (task.ListSome form) input is_typed = ListsSome form
-DoesTask (task.Get image file form) input is_typed = Shows (λ bytes. Gets bytes (wanted_file file) form) image
-DoesTask (task.GetBin image file) input is_typed = ShowsTape file image
-DoesTask (task.GetMany form) input is_typed = GetsMany form
-DoesTask (task.GetBlocks form) input is_typed = ShowsBlocks form
-DoesTask (task.Put form) input is_typed = Within form.image.wait (Puts form)
-DoesTask (task.PutMany form) input is_typed = Within form.image.wait (PutsMany form)
-DoesTask (task.Delete form) input is_typed = Within form.image.wait (Deletes form)
-DoesTask (task.Rename image file new) input is_typed = Within image.wait (Renames (wanted_file file) new.bytes.items image)
-DoesTask (task.Copy form) input is_typed = Within form.to.wait (Copies form)
-DoesTask (task.CopyMany form) input is_typed = Within form.to.wait (CopiesMany form)
-DoesTask (task.Squeeze image) input is_typed = Within image.wait (Squeezes image)
-DoesTask (task.Check form) input is_typed = ChecksImages form
-DoesTask (task.Dump form) input is_typed = Dumps form.span form.is_sixbit form.image
-DoesTask (task.Patch form) input is_typed = Within form.image.wait (PatchesWord (word_patch form) form.image)
-DoesTask (task.Index form) input is_typed = ListsIndex form
-DoesTask (task.Rescue form) input is_typed = RescuesImage form.image
-DoesTask (task.Scan form) input is_typed = ScansBlocks form.into form.image
-DoesTask (task.Run image form) input is_typed old result new = Unit {0}
+-- a program runs at the Teletype, and some keys may be left
+abbrev pub RunsAtTeletype : TeletypeForm → Option (List ℕ) → List Event → Result (Unit {0}) Ending → List Event → Type 0
+RunsAtTeletype form keys old result new = (rest : Option (List ℕ)) × RunsTeletype form keys rest old result new
+
+-- the host isn't asked
+abbrev pub AsksNothing : List Event → Result (Unit {0}) Ending → List Event → Type 0
+AsksNothing old result new = new ≡ old
+
+-- A task is one command. The keys of a Teletype come from the input. A script is run by the caller, and the host isn't asked.
+abbrev pub DoesTask : Task → Option (List ℕ) → List Event → Result (Unit {0}) Ending → List Event → Type 0
+DoesTask (task.Tape tape) input = ListsTape tape
+DoesTask (task.Rim tape form) input = WritesRim form tape
+DoesTask (task.Source form) input = WritesSource form
+DoesTask (task.Assemble form) input = Within (seconds_for form.from) (Assembles form)
+DoesTask (task.Teletype form) input = RunsAtTeletype form input
+DoesTask (task.Trace form) input = TracesTape form
+DoesTask (task.Profile form) input = ProfilesTape form
+DoesTask (task.Create form blocks) input = Within form.wait (CreatesFile (IsBlankImage blocks) form blocks)
+DoesTask (task.CreateTape form) input = Within form.wait (CreatesFile IsBlankTapeFile form TAPE_BLOCKS)
+DoesTask (task.List image) input = ReportsOne report.Files image.layout image.file.bytes.items
+DoesTask (task.ListLong image year) input = ReportsOne (report.Places year) image.layout image.file.bytes.items
+DoesTask (task.ListSome form) input = ListsSome form
+DoesTask (task.Get image file form) input = Shows (λ bytes. Gets bytes (wanted_file file) form) image
+DoesTask (task.GetBin image file) input = ShowsTape file image
+DoesTask (task.GetMany form) input = GetsMany form
+DoesTask (task.GetBlocks form) input = ShowsBlocks form
+DoesTask (task.Put form) input = Within form.image.wait (Puts form)
+DoesTask (task.PutMany form) input = Within form.image.wait (PutsMany form)
+DoesTask (task.Delete form) input = Within form.image.wait (Deletes form)
+DoesTask (task.Rename image file new) input = Within image.wait (Renames (wanted_file file) new.bytes.items image)
+DoesTask (task.Copy form) input = Within form.to.wait (Copies form)
+DoesTask (task.CopyMany form) input = Within form.to.wait (CopiesMany form)
+DoesTask (task.Squeeze image) input = Within image.wait (Squeezes image)
+DoesTask (task.Check form) input = ChecksImages form
+DoesTask (task.Dump form) input = Dumps form.span form.is_sixbit form.image
+DoesTask (task.Patch form) input = Within form.image.wait (PatchesWord (word_patch form) form.image)
+DoesTask (task.Index form) input = ListsIndex form
+DoesTask (task.Rescue form) input = RescuesImage form.image
+DoesTask (task.Scan form) input = ScansBlocks form.into form.image
+DoesTask (task.Run image form) input = AsksNothing
 
 -- A task is done, and then what its end prints is printed: that is the status.
-pub record RunsTask (task : Task) (input : Option (List ℕ)) (is_typed : Bool) (old new : List Event) (status : ℕ) : Type 0 where
+pub record RunsTask (task : Task) (input : Option (List ℕ)) (old new : List Event) (status : ℕ) : Type 0 where
   pub work : Result (Unit {0}) Ending
   pub between : List Event
-  pub does : DoesTask task input is_typed old work between
+  pub does : DoesTask task input old work between
   pub ends : EndsSo (gives_data task) work between new status

@@ -10,7 +10,7 @@ use many_commands::put_files;
 use outcome::{Content, Ending};
 use program_tasks::{
     AssembleForm, CopyForm, CopyManyForm, CreateForm, DeleteForm, ImageForm, PutManyForm,
-    PutOneForm,
+    PutOneForm, RunForm,
 };
 use source_commands::assemble_files;
 use std::alloc::Global;
@@ -21,9 +21,13 @@ use volume_commands::{
 /// How many times a second a command is tried again.
 pub const TRIES: u128 = 20;
 
-/// What lets the twentieth part of a second pass, between two tries.
-pub trait Pause {
+/// What a task has of its caller beside a host.
+pub trait Caller {
+    /// Lets the twentieth part of a second pass, between two tries.
     fn pause(&self);
+
+    /// Runs the script on standard input over the volume of an image file.
+    fn run_script(&self, image: &ImageForm, form: RunForm) -> Result<(), Ending>;
 }
 
 /// A task that writes an image file.
@@ -44,10 +48,10 @@ pub enum Change {
 
 /// Writes an image file as it is asked for. While another program holds the file, this is tried again for as many seconds as the command line
 /// says, and such a try changes nothing and prints nothing (this project's profile).
-pub fn change_image<H: Host, P: Pause>(
+pub fn change_image<H: Host, C: Caller>(
     host: &mut H,
     alloc: Global,
-    pause: &P,
+    caller: &C,
     change: &Change,
 ) -> Result<(), Ending>
     ensures { Within (seconds_of change.now) (DoesChange change.now) (H.history host.old) result (H.history host.new) }
@@ -57,7 +61,7 @@ pub fn change_image<H: Host, P: Pause>(
     while tries < most {
         match change.make(host, alloc) {
             Err(Ending::Busy(Content::Image)) => {
-                pause.pause();
+                caller.pause();
                 tries += 1;
             }
             work => return work,

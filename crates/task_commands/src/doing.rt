@@ -1,10 +1,10 @@
 //! What a task does: the command that it is, and its end.
-ghost use Rattle.std.specs.Prelude.{◌≡◌, OnOk};
+ghost use Rattle.std.specs.Prelude.{◌≡◌, IfOk};
 ghost use Rattle.task_commands.specs.declared.changes.Change.TheVariants as change;
 ghost use Rattle.task_commands.specs.Tasks as spec;
 ghost use Rattle.task_commands.specs.Tasks.{ChoosesStyle, DoesTask, ListsIndex, RunsTask, ScansBlocks, word_patch};
 
-use crate::changes::{Change, Pause, change_image};
+use crate::changes::{Caller, Change, change_image};
 use archive_commands::{WordPatch, dump_blocks};
 use choice_commands::list_some;
 use hosts::Host;
@@ -21,43 +21,41 @@ use volume_commands::{Rooms, end, file_asked, get_bin, get_blocks, get_file};
 use volume_index::IndexStyle;
 
 /// Does a task, and prints what its end asks for. The answer is the exit status: 0, 1 after a fault, 141 where nobody reads standard output,
-/// and 2 for words that a command refuses (this project's profile). A script and the keys of a Teletype are read from the input, which a
-/// person types where `is_typed` says so.
-pub fn run_task<H: Host, I: Read + Drop, P: Pause>(
+/// and 2 for words that a command refuses (this project's profile). The keys of a Teletype are read from the input; a
+/// script is run by the caller.
+pub fn run_task<H: Host, I: Read + Drop, C: Caller>(
     host: H,
     alloc: Global,
     rooms: Rooms,
     input: I,
-    is_typed: bool,
-    pause: &P,
+    caller: &C,
     task: Task,
 ) -> (H, u8)
-    ensures { RunsTask task (I.remaining input) is_typed (H.history host) (H.history result.0) result.1 }
+    ensures { RunsTask task (I.remaining input) (H.history host) (H.history result.0) result.1 }
 {
     let is_data = gives_data(&task);
-    let (host, work) = do_task(host, alloc, input, is_typed, pause, task);
+    let (host, work) = do_task(host, alloc, input, caller, task);
     let mut host = host;
     let status = end(&mut host, rooms, is_data, work);
     (host, status)
 }
 
 /// Does a task. The host is handed over, since the output of a machine that runs is the host itself, and is given back.
-pub fn do_task<H: Host, I: Read + Drop, P: Pause>(
+pub fn do_task<H: Host, I: Read + Drop, C: Caller>(
     host: H,
     alloc: Global,
     input: I,
-    is_typed: bool,
-    pause: &P,
+    caller: &C,
     task: Task,
 ) -> (H, Result<(), Ending>)
-    ensures { DoesTask task (I.remaining input) is_typed (H.history host) result.1 (H.history result.0) }
+    ensures { DoesTask task (I.remaining input) (H.history host) result.1 (H.history result.0) }
 {
     let mut host = host;
     let mut keys = input;
     let work = match task {
         Task::Teletype(form) => return run_teletype(host, alloc, &mut keys, &form),
         Task::Trace(form) => return trace_tape(host, alloc, &form),
-        Task::Run(_image, _form) => Ok(()),
+        Task::Run(image, form) => caller.run_script(&image, form),
         Task::Profile(form) => profile_tape(&mut host, alloc, &form),
         Task::Tape(tape) => list_tape(&mut host, alloc, &tape),
         Task::Rim(tape, form) => write_rim(&mut host, alloc, &tape, form),
@@ -75,21 +73,21 @@ pub fn do_task<H: Host, I: Read + Drop, P: Pause>(
         Task::Scan(form) => scan_image(&mut host, alloc, &form),
         Task::Rescue(form) => rescue_image(&mut host, alloc, &form.image, form.new.as_str()),
         Task::Create(form, blocks) => {
-            change_image(&mut host, alloc, pause, &Change::Create(form, blocks))
+            change_image(&mut host, alloc, caller, &Change::Create(form, blocks))
         }
-        Task::CreateTape(form) => change_image(&mut host, alloc, pause, &Change::CreateTape(form)),
-        Task::Put(form) => change_image(&mut host, alloc, pause, &Change::Put(form)),
-        Task::PutMany(form) => change_image(&mut host, alloc, pause, &Change::PutMany(form)),
-        Task::Delete(form) => change_image(&mut host, alloc, pause, &Change::Delete(form)),
+        Task::CreateTape(form) => change_image(&mut host, alloc, caller, &Change::CreateTape(form)),
+        Task::Put(form) => change_image(&mut host, alloc, caller, &Change::Put(form)),
+        Task::PutMany(form) => change_image(&mut host, alloc, caller, &Change::PutMany(form)),
+        Task::Delete(form) => change_image(&mut host, alloc, caller, &Change::Delete(form)),
         Task::Rename(image, file, new) => {
             let change = Change::Rename(image, file_asked(file), new);
-            change_image(&mut host, alloc, pause, &change)
+            change_image(&mut host, alloc, caller, &change)
         }
-        Task::Copy(form) => change_image(&mut host, alloc, pause, &Change::Copy(form)),
-        Task::CopyMany(form) => change_image(&mut host, alloc, pause, &Change::CopyMany(form)),
-        Task::Squeeze(image) => change_image(&mut host, alloc, pause, &Change::Squeeze(image)),
-        Task::Patch(form) => change_image(&mut host, alloc, pause, &word_change(form)),
-        Task::Assemble(form) => change_image(&mut host, alloc, pause, &Change::Assemble(form)),
+        Task::Copy(form) => change_image(&mut host, alloc, caller, &Change::Copy(form)),
+        Task::CopyMany(form) => change_image(&mut host, alloc, caller, &Change::CopyMany(form)),
+        Task::Squeeze(image) => change_image(&mut host, alloc, caller, &Change::Squeeze(image)),
+        Task::Patch(form) => change_image(&mut host, alloc, caller, &word_change(form)),
+        Task::Assemble(form) => change_image(&mut host, alloc, caller, &Change::Assemble(form)),
     };
     (host, work)
 }
@@ -109,15 +107,25 @@ fn list_index<H: Host>(host: &mut H, alloc: Global, form: IndexForm) -> Result<(
     let style = IndexStyle {
         find: pattern_or_all(alloc, find)?,
         grep,
-        is_json: form == LineForm::Json,
+        is_json: is_json(form),
         year,
     };
     index_images(host, alloc, &style, &images, layout)
 }
 
+/// Whether lines of this form are JSON objects.
+fn is_json(form: LineForm) -> bool
+    ensures { result ≡ spec.is_json form }
+{
+    match form {
+        LineForm::Columns => false,
+        LineForm::Json => true,
+    }
+}
+
 /// The pattern that is given, or else the one that fits each name.
 fn pattern_or_all(alloc: Global, find: Option<String>) -> Result<String, AllocError>
-    ensures { OnOk result (result.bytes.items ≡ spec.pattern_or_all find) }
+    ensures { IfOk result (λ pattern. pattern.bytes.items ≡ spec.pattern_or_all find) }
 {
     match find {
         Some(pattern) => Ok(pattern),
