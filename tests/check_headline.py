@@ -1,6 +1,7 @@
 #!/usr/bin/env python3
 """check_headline.py: writes target/headline.md, which lists every definition that the public clauses of `Session` and of its laws unfold to. They
-stand by the file of each, with the Rust types and constants that they name. Then comes what those of `Jobs` and of its laws unfold to besides.
+stand by the file of each, with the Rust types and constants that they name. Then comes what those of `Jobs` and of its laws unfold to besides, and what
+those of the whole program do, which are those of `run_words`.
 
 It fails where that page lacks one of them, and where a type doesn't stand where it is imported from. It fails too where docs/PROVED.md names a file
 or a wrong body that isn't there. The last line is 'N passed, M failed'.
@@ -32,6 +33,11 @@ other contracts cite besides.
 SECOND = """
 The headline does not need what the contracts of `Jobs` and of its laws, on which a session stands, unfold to besides: {definitions}
 definitions in {files} files, with {types} more types and constants.
+
+"""
+THIRD = """
+What the whole program does is the contract of `run_words`: from the words of a command line, standard input and the calls so far to the calls that
+are made and the exit status. It unfolds to these besides: {definitions} definitions in {files} files, with {types} more types and constants.
 
 """
 
@@ -70,7 +76,7 @@ def undeclared(named: Found) -> Iterator[str]:
 def unfolded() -> tuple[str, Found, Found]:
     """The page, its definitions, and the types that it names."""
     told, before, named_before = HEADING, Found(), Found()
-    for crate, name, words in (("system_session", "Session", FIRST), ("volume_jobs", "Jobs", SECOND)):
+    for crate, name, words in (("system_session", "Session", FIRST), ("volume_jobs", "Jobs", SECOND), ("task_commands", "run_words", THIRD)):
         begun, named = roots(crate, name)
         found = closure(begun)
         named = named.union(*(types(*it) for it in found)) - named_before

@@ -1,0 +1,72 @@
+-- Commands that write an image file, which another program may hold (this project's profile).
+use Rattle.std.specs.Prelude.{◌≡◌, ◌≤◌, ◌*◌, ◌⊎◌, ℕ, Option, None, Some, Result, Ok, Err, List, [], ◌∷◌, length}
+use Rattle.hosts.specs.Event.{Event}
+use Rattle.program_tasks.specs.declared.forms.ImageForm.{ImageForm}
+use Rattle.outcome.specs.declared.contents.Content.TheVariants.{Image}
+use Rattle.outcome.specs.declared.endings.Ending.{Ending}
+use Rattle.outcome.specs.declared.endings.Ending.TheVariants.{Busy}
+use Rattle.archive_files.specs.Asking.{target_of}
+use Rattle.volume_commands.specs.Making.{CreatesFile, IsBlankImage, IsBlankTapeFile}
+use Rattle.volume_commands.specs.declared.creating.TheConstants.{TAPE_BLOCKS}
+use Rattle.volume_commands.specs.Changing.{Renames, Squeezes}
+use Rattle.volume_commands.specs.Copying.{Copies}
+use Rattle.volume_commands.specs.Deleting.{Deletes}
+use Rattle.volume_commands.specs.Putting.{Puts}
+use Rattle.many_commands.specs.PuttingMany.{PutsMany}
+use Rattle.choice_commands.specs.Copying.{CopiesMany}
+use Rattle.archive_commands.specs.Patching.{PatchesWord}
+use Rattle.source_commands.specs.Assembling.{Assembles}
+use Rattle.task_commands.specs.declared.changes.Change.{Change}
+use Rattle.task_commands.specs.declared.changes.Change.TheVariants as change
+use Rattle.task_commands.specs.declared.changes.TheConstants.{TRIES}
+
+-- what a command does that writes an image file
+abbrev pub DoesChange : Change → List Event → Result (Unit {0}) Ending → List Event → Type 0
+DoesChange (change.Create form blocks) = CreatesFile (IsBlankImage blocks) form blocks
+DoesChange (change.CreateTape form) = CreatesFile IsBlankTapeFile form TAPE_BLOCKS
+DoesChange (change.Put form) = Puts form
+DoesChange (change.PutMany form) = PutsMany form
+DoesChange (change.Delete form) = Deletes form
+DoesChange (change.Rename image file new) = Renames (target_of file) new.bytes.items image
+DoesChange (change.Copy form) = Copies form
+DoesChange (change.CopyMany form) = CopiesMany form
+DoesChange (change.Squeeze image) = Squeezes image
+DoesChange (change.Patch image word) = PatchesWord word image
+DoesChange (change.Assemble form) = Assembles form
+
+abbrev pub seconds_for : Option ImageForm → ℕ
+seconds_for None = 0
+seconds_for (Some image) = image.wait
+
+-- how many seconds a command is tried again
+abbrev pub seconds_of : Change → ℕ
+seconds_of (change.Create form blocks) = form.wait
+seconds_of (change.CreateTape form) = form.wait
+seconds_of (change.Put form) = form.image.wait
+seconds_of (change.PutMany form) = form.image.wait
+seconds_of (change.Delete form) = form.image.wait
+seconds_of (change.Rename image file new) = image.wait
+seconds_of (change.Copy form) = form.to.wait
+seconds_of (change.CopyMany form) = form.to.wait
+seconds_of (change.Squeeze image) = image.wait
+seconds_of (change.Patch image word) = image.wait
+seconds_of (change.Assemble form) = seconds_for form.from
+
+-- each of these tries found that another program holds the image; the calls before each, the newest first
+abbrev pub AreBusy : {A : Type 0} → (List Event → Result A Ending → List Event → Type 0) → List (List Event) → List Event → List Event → Type 0
+AreBusy command [] old new = new ≡ old
+AreBusy command (before ∷ earlier) old new = AreBusy command earlier old before × command before (Err (Busy Image)) new
+
+-- another program doesn't hold the image
+abbrev pub IsFree : {A : Type 0} → Result A Ending → Type 0
+IsFree (Ok it) = Unit {0}
+IsFree (Err ending) = ending ≡ Busy Image → ⊥
+
+-- While another program holds its image, a command is tried again, for so many seconds. What the last try answers is the answer.
+pub record Within {A : Type 0} (seconds : ℕ) (command : List Event → Result A Ending → List Event → Type 0) (old : List Event) (result : Result A Ending) (new : List Event) : Type 0 where
+  pub tries : List (List Event)
+  pub between : List Event
+  pub busy : AreBusy command tries old between
+  pub last : command between result new
+  pub few : length tries ≤ TRIES * seconds
+  pub ends : IsFree result ⊎ (length tries ≡ TRIES * seconds)

@@ -1,0 +1,134 @@
+-- What each task does over a host: which command it is, and what is printed at its end (this project's profile).
+use Rattle.std.specs.Prelude.{◌≡◌, ℕ, Bool, true, false, codes, map, Option, None, Some, String, Result, Ok, Err, List}
+use Rattle.std.specs.Global.{Global}
+use Rattle.hosts.specs.Event.{Event}
+use Rattle.program_tasks.specs.declared.archives.IndexForm.{IndexForm}
+use Rattle.program_tasks.specs.declared.archives.LineForm.{LineForm}
+use Rattle.program_tasks.specs.declared.archives.LineForm.TheVariants.{Columns, Json}
+use Rattle.program_tasks.specs.declared.archives.PatchForm.{PatchForm}
+use Rattle.program_tasks.specs.declared.forms.ImageForm.{ImageForm}
+use Rattle.program_tasks.specs.declared.tasks.TeletypeForm.{TeletypeForm}
+use Rattle.program_tasks.specs.declared.tasks.Task.{Task}
+use Rattle.program_tasks.specs.declared.tasks.Task.TheVariants as task
+use Rattle.archive_files.specs.Getting.{Gets}
+use Rattle.volume_index.specs.declared.styles.IndexStyle.{IndexStyle}
+use Rattle.outcome.specs.Streams.{gives_data}
+use Rattle.outcome.specs.declared.endings.Ending.{Ending}
+use Rattle.outcome.specs.declared.endings.Ending.TheVariants.{Fault}
+use Rattle.script8.specs.declared.faults.SessionFault.TheVariants.{Memory}
+use Rattle.volume_commands.specs.Work.{Then, Purely}
+use Rattle.volume_commands.specs.Ending.{EndsSo}
+use Rattle.volume_commands.specs.Making.{CreatesFile, IsBlankImage, IsBlankTapeFile}
+use Rattle.volume_commands.specs.declared.creating.TheConstants.{TAPE_BLOCKS}
+use Rattle.volume_commands.specs.Changing.{Renames, Squeezes}
+use Rattle.volume_commands.specs.Copying.{Copies}
+use Rattle.volume_commands.specs.Deleting.{Deletes}
+use Rattle.volume_commands.specs.Putting.{Puts}
+use Rattle.volume_commands.specs.Showing.{Shows, wanted_file}
+use Rattle.volume_commands.specs.ShowingParts.{ShowsBlocks, ShowsTape}
+use Rattle.many_commands.specs.Checking.{ChecksImages}
+use Rattle.many_commands.specs.GettingMany.{GetsMany}
+use Rattle.many_commands.specs.PuttingMany.{PutsMany}
+use Rattle.many_commands.specs.Volumes.{ReportsOne}
+use Rattle.many_commands.specs.declared.reports.ReportKind.TheVariants as report
+use Rattle.choice_commands.specs.Copying.{CopiesMany}
+use Rattle.choice_commands.specs.Listing.{ListsSome}
+use Rattle.archive_commands.specs.Dumping.{Dumps}
+use Rattle.archive_commands.specs.Patching.{PatchesWord}
+use Rattle.archive_commands.specs.declared.patches.WordPatch.{WordPatch}
+use Rattle.index_commands.specs.Indexing.{Indexes}
+use Rattle.salvage_commands.specs.Rescuing.{RescuesImage}
+use Rattle.salvage_commands.specs.ScanningBlocks.{ShowsPieces, WritesPieces}
+use Rattle.program_commands.specs.Rims.{WritesRim}
+use Rattle.program_commands.specs.Sources.{WritesSource}
+use Rattle.program_commands.specs.Tapes.{ListsTape}
+use Rattle.source_commands.specs.Assembling.{Assembles}
+use Rattle.tape_commands.specs.Profiles.{ProfilesTape}
+use Rattle.tape_commands.specs.Teletypes.{RunsTeletype}
+use Rattle.tape_commands.specs.Traces.{TracesTape}
+use Rattle.task_commands.specs.Changes.{Within, seconds_for}
+
+-- ## What a task asks of its command
+
+-- the word that is to stand in the image, and the one that stands there
+abbrev pub word_patch : PatchForm → WordPatch
+word_patch form = record { block = form.block; number = form.number; old = form.old; new = form.new }
+
+abbrev pub is_json : LineForm → Bool
+is_json Columns = false
+is_json Json = true
+
+-- the pattern that chooses the files of an index, if none is given that of all names
+abbrev pub pattern_or_all : Option (String Global) → List ℕ
+pattern_or_all None = codes "*.*"
+pattern_or_all (Some pattern) = pattern.bytes.items
+
+-- which files an index has, and how its lines are written
+pub record IsStyle (form : IndexForm) (style : IndexStyle) : Type 0 where
+  pub find : style.find.bytes.items ≡ pattern_or_all form.find
+  pub grep : style.grep ≡ form.grep
+  pub json : style.is_json ≡ is_json form.form
+  pub year : style.year ≡ form.year
+
+abbrev pub ChoosesStyle : IndexForm → Result IndexStyle Ending → Type 0
+ChoosesStyle form (Ok style) = IsStyle form style
+ChoosesStyle form (Err ending) = ending ≡ Fault Memory
+
+-- the index of the images that are given, of the files that it is to have
+abbrev pub ListsIndex : IndexForm → List Event → Result (Unit {0}) Ending → List Event → Type 0
+ListsIndex form = Then (Purely (ChoosesStyle form)) (λ style. Indexes style form.layout (map (λ image. image.bytes.items) form.images.items))
+
+-- what blocks hold is listed, and written to a folder where one is given
+abbrev pub ScansBlocks : Option (String Global) → ImageForm → List Event → Result (Unit {0}) Ending → List Event → Type 0
+ScansBlocks None image = ShowsPieces image
+ScansBlocks (Some folder) image = WritesPieces folder.bytes.items image
+
+-- ## Tasks
+
+-- a program runs at the Teletype, and some keys may be left
+abbrev pub RunsAtTeletype : TeletypeForm → Option (List ℕ) → List Event → Result (Unit {0}) Ending → List Event → Type 0
+RunsAtTeletype form keys old result new = (rest : Option (List ℕ)) × RunsTeletype form keys rest old result new
+
+-- the host isn't asked
+abbrev pub AsksNothing : List Event → Result (Unit {0}) Ending → List Event → Type 0
+AsksNothing old result new = new ≡ old
+
+-- A task is one command. The keys of a Teletype come from the input. A script is run by the caller, and the host isn't asked.
+abbrev pub DoesTask : Task → Option (List ℕ) → List Event → Result (Unit {0}) Ending → List Event → Type 0
+DoesTask (task.Tape tape) input = ListsTape tape
+DoesTask (task.Rim tape form) input = WritesRim form tape
+DoesTask (task.Source form) input = WritesSource form
+DoesTask (task.Assemble form) input = Within (seconds_for form.from) (Assembles form)
+DoesTask (task.Teletype form) input = RunsAtTeletype form input
+DoesTask (task.Trace form) input = TracesTape form
+DoesTask (task.Profile form) input = ProfilesTape form
+DoesTask (task.Create form blocks) input = Within form.wait (CreatesFile (IsBlankImage blocks) form blocks)
+DoesTask (task.CreateTape form) input = Within form.wait (CreatesFile IsBlankTapeFile form TAPE_BLOCKS)
+DoesTask (task.List image) input = ReportsOne report.Files image.layout image.file.bytes.items
+DoesTask (task.ListLong image year) input = ReportsOne (report.Places year) image.layout image.file.bytes.items
+DoesTask (task.ListSome form) input = ListsSome form
+DoesTask (task.Get image file form) input = Shows (λ bytes. Gets bytes (wanted_file file) form) image
+DoesTask (task.GetBin image file) input = ShowsTape file image
+DoesTask (task.GetMany form) input = GetsMany form
+DoesTask (task.GetBlocks form) input = ShowsBlocks form
+DoesTask (task.Put form) input = Within form.image.wait (Puts form)
+DoesTask (task.PutMany form) input = Within form.image.wait (PutsMany form)
+DoesTask (task.Delete form) input = Within form.image.wait (Deletes form)
+DoesTask (task.Rename image file new) input = Within image.wait (Renames (wanted_file file) new.bytes.items image)
+DoesTask (task.Copy form) input = Within form.to.wait (Copies form)
+DoesTask (task.CopyMany form) input = Within form.to.wait (CopiesMany form)
+DoesTask (task.Squeeze image) input = Within image.wait (Squeezes image)
+DoesTask (task.Check form) input = ChecksImages form
+DoesTask (task.Dump form) input = Dumps form.span form.is_sixbit form.image
+DoesTask (task.Patch form) input = Within form.image.wait (PatchesWord (word_patch form) form.image)
+DoesTask (task.Index form) input = ListsIndex form
+DoesTask (task.Rescue form) input = RescuesImage form.image
+DoesTask (task.Scan form) input = ScansBlocks form.into form.image
+DoesTask (task.Run image form) input = AsksNothing
+
+-- A task is done, and then what its end prints is printed: that is the status.
+pub record RunsTask (task : Task) (input : Option (List ℕ)) (old new : List Event) (status : ℕ) : Type 0 where
+  pub work : Result (Unit {0}) Ending
+  pub between : List Event
+  pub does : DoesTask task input old work between
+  pub ends : EndsSo (gives_data task) work between new status

@@ -1,0 +1,114 @@
+//! Commands that write an image file, which are tried again while another program holds it.
+ghost use Rattle.std.specs.Prelude.{◌≡◌};
+ghost use Rattle.task_commands.specs.Changes.{DoesChange, Within, seconds_of};
+
+use archive_commands::{WordPatch, patch_word};
+use archive_files::Asked;
+use choice_commands::copy_files;
+use hosts::Host;
+use many_commands::put_files;
+use outcome::{Content, Ending};
+use program_tasks::{
+    AssembleForm, CopyForm, CopyManyForm, CreateForm, DeleteForm, ImageForm, PutManyForm,
+    PutOneForm, RunForm,
+};
+use source_commands::assemble_files;
+use std::alloc::Global;
+use volume_commands::{
+    copy_file, create_image, create_tape, delete_files, put_file, rename_file, squeeze_files,
+};
+
+/// How many times a second a command is tried again.
+pub const TRIES: u128 = 20;
+
+/// What a task has of its caller beside a host.
+pub trait Caller {
+    /// Lets the twentieth part of a second pass, between two tries.
+    fn pause(&self);
+
+    /// Runs the script on standard input over the volume of an image file.
+    fn run_script(&self, image: &ImageForm, form: RunForm) -> Result<(), Ending>;
+}
+
+/// A task that writes an image file.
+#[derive(Drop)]
+pub enum Change {
+    Create(CreateForm, usize),
+    CreateTape(CreateForm),
+    Put(PutOneForm),
+    PutMany(PutManyForm),
+    Delete(DeleteForm),
+    Rename(ImageForm, Asked, String),
+    Copy(CopyForm),
+    CopyMany(CopyManyForm),
+    Squeeze(ImageForm),
+    Patch(ImageForm, WordPatch),
+    Assemble(AssembleForm),
+}
+
+/// Writes an image file as it is asked for. While another program holds the file, this is tried again for as many seconds as the command line
+/// says, and such a try changes nothing and prints nothing (this project's profile).
+pub fn change_image<H: Host, C: Caller>(
+    host: &mut H,
+    alloc: Global,
+    caller: &C,
+    change: &Change,
+) -> Result<(), Ending>
+    ensures { Within (seconds_of change.now) (DoesChange change.now) (H.history host.old) result (H.history host.new) }
+{
+    let most = TRIES * change.seconds() as u128;
+    let mut tries: u128 = 0;
+    while tries < most {
+        match change.make(host, alloc) {
+            Err(Ending::Busy(Content::Image)) => {
+                caller.pause();
+                tries += 1;
+            }
+            work => return work,
+        }
+    }
+    change.make(host, alloc)
+}
+
+impl Change {
+    /// How many seconds are waited for the image.
+    fn seconds(&self) -> usize
+        ensures { result ≡ seconds_of self.now }
+    {
+        match self {
+            Change::Create(form, _) => form.wait,
+            Change::CreateTape(form) => form.wait,
+            Change::Put(form) => form.image.wait,
+            Change::PutMany(form) => form.image.wait,
+            Change::Delete(form) => form.image.wait,
+            Change::Rename(image, ..) => image.wait,
+            Change::Copy(form) => form.to.wait,
+            Change::CopyMany(form) => form.to.wait,
+            Change::Squeeze(image) => image.wait,
+            Change::Patch(image, _) => image.wait,
+            Change::Assemble(form) => match &form.from {
+                Some(image) => image.wait,
+                None => 0,
+            },
+        }
+    }
+
+    /// Tries once.
+    fn make<H: Host>(&self, host: &mut H, alloc: Global) -> Result<(), Ending>
+        ensures { DoesChange self.now (H.history host.old) result (H.history host.new) }
+    {
+        match self {
+            Change::Create(form, blocks) => create_image(host, alloc, form, *blocks),
+            Change::CreateTape(form) => create_tape(host, alloc, form),
+            Change::Put(form) => put_file(host, alloc, form),
+            Change::PutMany(form) => put_files(host, alloc, form),
+            Change::Delete(form) => delete_files(host, alloc, form),
+            Change::Rename(image, file, new) => rename_file(host, alloc, image, file, new),
+            Change::Copy(form) => copy_file(host, alloc, form),
+            Change::CopyMany(form) => copy_files(host, alloc, form),
+            Change::Squeeze(image) => squeeze_files(host, alloc, image),
+            Change::Patch(image, word) => patch_word(host, alloc, image, word),
+            Change::Assemble(form) => assemble_files(host, alloc, form),
+        }
+    }
+}

@@ -1,0 +1,164 @@
+//! What a task does: the command that it is, and its end.
+ghost use Rattle.std.specs.Prelude.{◌≡◌, IfOk};
+ghost use Rattle.task_commands.specs.declared.changes.Change.TheVariants as change;
+ghost use Rattle.task_commands.specs.Tasks as spec;
+ghost use Rattle.task_commands.specs.Tasks.{ChoosesStyle, DoesTask, ListsIndex, RunsTask, ScansBlocks, word_patch};
+
+use crate::changes::{Caller, Change, change_image};
+use archive_commands::{WordPatch, dump_blocks};
+use choice_commands::list_some;
+use hosts::Host;
+use index_commands::index_images;
+use many_commands::{check_images, get_files, list_files, list_places};
+use outcome::{Ending, gives_data};
+use program_commands::{list_tape, write_rim, write_source};
+use program_tasks::{IndexForm, LineForm, PatchForm, ScanForm, Task};
+use salvage_commands::{rescue_image, scan_blocks, scan_into};
+use std::alloc::{AllocError, Global};
+use std::io::Read;
+use tape_commands::{profile_tape, run_teletype, trace_tape};
+use volume_commands::{Rooms, end, file_asked, get_bin, get_blocks, get_file};
+use volume_index::IndexStyle;
+
+/// Does a task, and prints what its end asks for. The answer is the exit status: 0, 1 after a fault, 141 where nobody reads standard output,
+/// and 2 for words that a command refuses (this project's profile). The keys of a Teletype are read from the input; a
+/// script is run by the caller.
+pub fn run_task<H: Host, I: Read + Drop, C: Caller>(
+    host: H,
+    alloc: Global,
+    rooms: Rooms,
+    input: I,
+    caller: &C,
+    task: Task,
+) -> (H, u8)
+    ensures { RunsTask task (I.remaining input) (H.history host) (H.history result.0) result.1 }
+{
+    let is_data = gives_data(&task);
+    let (host, work) = do_task(host, alloc, input, caller, task);
+    let mut host = host;
+    let status = end(&mut host, rooms, is_data, work);
+    (host, status)
+}
+
+/// Does a task. The host is handed over, since the output of a machine that runs is the host itself, and is given back.
+pub fn do_task<H: Host, I: Read + Drop, C: Caller>(
+    host: H,
+    alloc: Global,
+    input: I,
+    caller: &C,
+    task: Task,
+) -> (H, Result<(), Ending>)
+    ensures { DoesTask task (I.remaining input) (H.history host) result.1 (H.history result.0) }
+{
+    let mut host = host;
+    let mut keys = input;
+    let work = match task {
+        Task::Teletype(form) => return run_teletype(host, alloc, &mut keys, &form),
+        Task::Trace(form) => return trace_tape(host, alloc, &form),
+        Task::Run(image, form) => caller.run_script(&image, form),
+        Task::Profile(form) => profile_tape(&mut host, alloc, &form),
+        Task::Tape(tape) => list_tape(&mut host, alloc, &tape),
+        Task::Rim(tape, form) => write_rim(&mut host, alloc, &tape, form),
+        Task::Source(form) => write_source(&mut host, alloc, &form),
+        Task::List(image) => list_files(&mut host, alloc, &image),
+        Task::ListLong(image, year) => list_places(&mut host, alloc, &image, year),
+        Task::ListSome(form) => list_some(&mut host, alloc, &form),
+        Task::Get(image, file, form) => get_file(&mut host, alloc, &image, file, form),
+        Task::GetBin(image, file) => get_bin(&mut host, alloc, &image, file),
+        Task::GetMany(form) => get_files(&mut host, alloc, &form),
+        Task::GetBlocks(form) => get_blocks(&mut host, alloc, &form),
+        Task::Check(form) => check_images(&mut host, alloc, &form),
+        Task::Index(form) => list_index(&mut host, alloc, form),
+        Task::Dump(form) => dump_blocks(&mut host, alloc, &form.image, form.span, form.is_sixbit),
+        Task::Scan(form) => scan_image(&mut host, alloc, &form),
+        Task::Rescue(form) => rescue_image(&mut host, alloc, &form.image, form.new.as_str()),
+        Task::Create(form, blocks) => {
+            change_image(&mut host, alloc, caller, &Change::Create(form, blocks))
+        }
+        Task::CreateTape(form) => change_image(&mut host, alloc, caller, &Change::CreateTape(form)),
+        Task::Put(form) => change_image(&mut host, alloc, caller, &Change::Put(form)),
+        Task::PutMany(form) => change_image(&mut host, alloc, caller, &Change::PutMany(form)),
+        Task::Delete(form) => change_image(&mut host, alloc, caller, &Change::Delete(form)),
+        Task::Rename(image, file, new) => {
+            let change = Change::Rename(image, file_asked(file), new);
+            change_image(&mut host, alloc, caller, &change)
+        }
+        Task::Copy(form) => change_image(&mut host, alloc, caller, &Change::Copy(form)),
+        Task::CopyMany(form) => change_image(&mut host, alloc, caller, &Change::CopyMany(form)),
+        Task::Squeeze(image) => change_image(&mut host, alloc, caller, &Change::Squeeze(image)),
+        Task::Patch(form) => change_image(&mut host, alloc, caller, &word_change(form)),
+        Task::Assemble(form) => change_image(&mut host, alloc, caller, &Change::Assemble(form)),
+    };
+    (host, work)
+}
+
+/// The index of the images that are given.
+fn list_index<H: Host>(host: &mut H, alloc: Global, form: IndexForm) -> Result<(), Ending>
+    ensures { ListsIndex form (H.history host.old) result (H.history host.new) }
+{
+    let IndexForm {
+        images,
+        layout,
+        year,
+        form,
+        find,
+        grep,
+    } = form;
+    let style = IndexStyle {
+        find: pattern_or_all(alloc, find)?,
+        grep,
+        is_json: is_json(form),
+        year,
+    };
+    index_images(host, alloc, &style, &images, layout)
+}
+
+/// Whether lines of this form are JSON objects.
+fn is_json(form: LineForm) -> bool
+    ensures { result ≡ spec.is_json form }
+{
+    match form {
+        LineForm::Columns => false,
+        LineForm::Json => true,
+    }
+}
+
+/// The pattern that is given, or else the one that fits each name.
+fn pattern_or_all(alloc: Global, find: Option<String>) -> Result<String, AllocError>
+    ensures { IfOk result (λ pattern. pattern.bytes.items ≡ spec.pattern_or_all find) }
+{
+    match find {
+        Some(pattern) => Ok(pattern),
+        None => String::from_str(alloc, "*.*"),
+    }
+}
+
+/// Lists what the blocks of a volume hold, and writes it to a folder where one is given.
+fn scan_image<H: Host>(host: &mut H, alloc: Global, form: &ScanForm) -> Result<(), Ending>
+    ensures { ScansBlocks form.now.into form.now.image (H.history host.old) result (H.history host.new) }
+{
+    match &form.into {
+        Some(folder) => scan_into(host, alloc, &form.image, folder.as_str()),
+        None => scan_blocks(host, alloc, &form.image),
+    }
+}
+
+/// The change of a word.
+fn word_change(form: PatchForm) -> Change
+    ensures { result ≡ change.Patch form.image (word_patch form) }
+{
+    let PatchForm {
+        image,
+        block,
+        number,
+        old,
+        new,
+    } = form;
+    let word = WordPatch {
+        block,
+        number,
+        old,
+        new,
+    };
+    Change::Patch(image, word)
+}

@@ -1,0 +1,10 @@
+//! What a command line asks for, done over any host: each task by its command, and its end by what `outcome` says of it.
+#![tactic(auto)]
+
+mod changes;
+mod doing;
+mod words;
+
+pub use changes::{Caller, Change, TRIES, change_image};
+pub use doing::{do_task, run_task};
+pub use words::run_words;

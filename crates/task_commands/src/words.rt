@@ -1,0 +1,102 @@
+//! The words of a command line: what they ask for is done, or why they ask for nothing is printed.
+ghost use Rattle.std.specs.Prelude.{◌≡◌, map};
+ghost use Rattle.task_commands.specs.Words as spec;
+ghost use Rattle.task_commands.specs.Words.{RefusesWords, RunsWords, ShowsText, WantsMemory};
+
+use crate::changes::Caller;
+use crate::doing::run_task;
+use clap::Error;
+use clap::error::ErrorKind;
+use command_table::{Refusal, TaskFault, task};
+use hosts::Host;
+use outcome::Ending;
+use script8::SessionFault;
+use std::alloc::{AllocError, Global};
+use std::io::Read;
+use volume_commands::{Rooms, end, print};
+
+/// The exit status where words are refused.
+const MISUSE: u8 = 2;
+
+/// Does what the words of a command line ask for, the program's own name first, and gives the exit status. Where they ask for nothing, why is
+/// printed on standard error, and the status is 2. Help and the version, where they are asked for, go to standard output with status 0
+/// (this project's profile).
+pub fn run_words<H: Host, I: Read + Drop, C: Caller>(
+    host: H,
+    alloc: Global,
+    rooms: Rooms,
+    words: &[&str],
+    input: I,
+    caller: &C,
+) -> (H, u8)
+    ensures { RunsWords (map (λ given. given.now) words.now) (I.remaining input) (H.history host) (H.history result.0) result.1 }
+{
+    match task(alloc, words) {
+        Ok(task) => run_task(host, alloc, rooms, input, caller, task),
+        Err(fault) => {
+            let mut host = host;
+            let status = refuse_words(&mut host, alloc, rooms, &fault);
+            (host, status)
+        }
+    }
+}
+
+/// Prints why words ask for nothing, or the help that they ask for, and gives the exit status.
+fn refuse_words<H: Host>(host: &mut H, alloc: Global, rooms: Rooms, fault: &TaskFault) -> u8
+    ensures { RefusesWords fault.now (H.history host.old) (H.history host.new) result }
+{
+    match fault {
+        TaskFault::Memory => want_memory(host, rooms),
+        TaskFault::Words(error) => match text_of(alloc, error) {
+            Ok(text) => show_text(host, rooms, is_request(error.kind()), text.as_str()),
+            Err(_) => want_memory(host, rooms),
+        },
+        TaskFault::Refused(usage, refusal) => match refusal_text(alloc, usage, refusal) {
+            Ok(text) => show_text(host, rooms, false, text.as_str()),
+            Err(_) => want_memory(host, rooms),
+        },
+    }
+}
+
+/// Prints that memory is wanted, and gives the exit status.
+fn want_memory<H: Host>(host: &mut H, rooms: Rooms) -> u8
+    ensures { WantsMemory (H.history host.old) (H.history host.new) result }
+{
+    end(host, rooms, false, Err(Ending::Fault(SessionFault::Memory)))
+}
+
+/// Prints help that is asked for on standard output, or another text on standard error, and gives the exit status.
+fn show_text<H: Host>(host: &mut H, rooms: Rooms, is_request: bool, text: &str) -> u8
+    ensures { ShowsText is_request (H.history host.old) (H.history host.new) result }
+{
+    if is_request {
+        let work = print(host, text.as_bytes());
+        return end(host, rooms, false, work);
+    }
+    let _ = host.tell(text);
+    MISUSE
+}
+
+/// Whether help or the version is asked for.
+fn is_request(kind: ErrorKind) -> bool
+    ensures { result ≡ spec.is_request kind }
+{
+    match kind {
+        ErrorKind::DisplayHelp | ErrorKind::DisplayVersion => true,
+        _ => false,
+    }
+}
+
+/// The text of an error of `clap`.
+fn text_of(alloc: Global, error: &Error) -> Result<String, AllocError> {
+    let text = format!(in alloc; "{error}")?;
+    Ok(text)
+}
+
+/// Why words that `clap` takes are refused, as it says it of those that it refuses itself.
+fn refusal_text(alloc: Global, usage: &str, refusal: &Refusal) -> Result<String, AllocError> {
+    let text = format!(in alloc;
+        "error: {refusal}\n\n{usage}\n\nFor more information, try '--help'.\n"
+    )?;
+    Ok(text)
+}
