@@ -15,12 +15,14 @@ sys.path.insert(0, TOP)
 from tests.contracts import shown
 from tests.rattle_sources import APART, Function, Source, closing, crate_of, files_of, source
 
-# Arguments of which nothing can be said: memory that is lent, or an allocator.
-LENT = {"alloc", "rt"}
+# Arguments of which nothing can be said: an allocator, the system's runtime, and what lets time pass.
+LENT = {"alloc", "rt", "caller"}
 FREE = {
     ("fake_host", "new", "memory"),
     ("outcome", "outcome_of", "room"),
     ("pal8_values", "word_value", "frames"),
+    ("task_commands", "run_task", "rooms"),
+    ("task_commands", "run_words", "rooms"),
     ("volume_commands", "end", "rooms"),
 }
 ARGUMENT = re.compile(r"(?:&(?:'\w+ )?)?(?:mut )?(\w+)")

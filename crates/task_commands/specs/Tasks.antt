@@ -122,7 +122,7 @@ DoesTask (task.Check form) input = ChecksImages form
 DoesTask (task.Dump form) input = Dumps form.span form.is_sixbit form.image
 DoesTask (task.Patch form) input = Within form.image.wait (PatchesWord (word_patch form) form.image)
 DoesTask (task.Index form) input = ListsIndex form
-DoesTask (task.Rescue form) input = RescuesImage form.image
+DoesTask (task.Rescue form) input = RescuesImage form.new.bytes.items form.image
 DoesTask (task.Scan form) input = ScansBlocks form.into form.image
 DoesTask (task.Run image form) input = AsksNothing
 
