@@ -49,6 +49,7 @@ where
 }
 
 /// What the system has beside files and streams.
+#[derive(Drop)]
 struct Runtime<'a, R> {
     rt: &'a R,
 }
