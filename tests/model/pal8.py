@@ -44,7 +44,6 @@ class Options:
     text_without_zero: bool = False
     no_origin: bool = False
     stay: bool = False
-    stay: bool = False
 
     def words(self) -> list[str]:
         """The options of the command."""

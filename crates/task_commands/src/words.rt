@@ -10,7 +10,6 @@ use clap::error::ErrorKind;
 use command_table::{Refusal, TaskFault, task};
 use hosts::Host;
 use outcome::Ending;
-use script8::SessionFault;
 use std::alloc::{AllocError, Global};
 use std::io::Read;
 use volume_commands::{Rooms, end, print};
@@ -46,23 +45,23 @@ fn refuse_words<H: Host>(host: &mut H, alloc: Global, rooms: Rooms, fault: &Task
     ensures { RefusesWords fault.now (H.history host.old) (H.history host.new) result }
 {
     match fault {
-        TaskFault::Memory => want_memory(host, rooms),
+        TaskFault::Memory => want_memory(host, rooms, AllocError),
         TaskFault::Words(error) => match text_of(alloc, error) {
             Ok(text) => show_text(host, rooms, is_request(error.kind()), text.as_str()),
-            Err(_) => want_memory(host, rooms),
+            Err(error) => want_memory(host, rooms, error),
         },
         TaskFault::Refused(usage, refusal) => match refusal_text(alloc, usage, refusal) {
             Ok(text) => show_text(host, rooms, false, text.as_str()),
-            Err(_) => want_memory(host, rooms),
+            Err(error) => want_memory(host, rooms, error),
         },
     }
 }
 
 /// Prints that memory is wanted, and gives the exit status.
-fn want_memory<H: Host>(host: &mut H, rooms: Rooms) -> u8
+fn want_memory<H: Host>(host: &mut H, rooms: Rooms, error: AllocError) -> u8
     ensures { WantsMemory (H.history host.old) (H.history host.new) result }
 {
-    end(host, rooms, false, Err(Ending::Fault(SessionFault::Memory)))
+    end(host, rooms, false, Err(Ending::from(error)))
 }
 
 /// Prints help that is asked for on standard output, or another text on standard error, and gives the exit status.
