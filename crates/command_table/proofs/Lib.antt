@@ -4,6 +4,7 @@ mod WalkLemmas
 mod LeafLemmas
 mod FoundLemmas
 mod RefusalLemmas
+mod SourceLemmas
 mod TableLemmas
 mod NumberLemmas
 mod TaskLemmas

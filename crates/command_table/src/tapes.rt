@@ -2,6 +2,7 @@
 ghost use Rattle.std.specs.Prelude.{◌≡◌, ◌≤◌, codes, map, true, IfOk, IfSome, Some};
 ghost use Rattle.command_table.specs.Tasks.{IsTape, IsTapeOrInput, IsTraceForm};
 ghost use Rattle.command_table.specs.Steps.{Has, has_text, kind_at, IsAskedBy, Needs, values_in};
+ghost use Rattle.command_table.specs.Found.{is_set};
 ghost use Rattle.command_table.specs.Tables.{rows_for};
 ghost use Rattle.command_table.specs.declared.table.Form.TheVariants as form;
 ghost use Rattle.command_table.specs.declared.table.Kind.TheVariants as kind;
@@ -102,6 +103,12 @@ pub fn assemble(alloc: Global, found: &ArgMatches<'_>) -> Read<Task>
     let onto = name_if_given(alloc, found, Verb::Assemble, "onto")?;
     let output = value_if_given(alloc, found, Verb::Assemble, "output")?;
     let list = value_if_given(alloc, found, Verb::Assemble, "list")?;
+    let Pal8Flags {
+        is_without_links,
+        is_without_zero,
+        is_without_origin,
+        has_stays,
+    } = pal8_flags(found);
     Ok(Task::Assemble(AssembleForm {
         sources,
         from,
@@ -110,11 +117,36 @@ pub fn assemble(alloc: Global, found: &ArgMatches<'_>) -> Read<Task>
         list,
         is_cross: flag(found, Verb::Assemble, "cross"),
         is_pal8: flag(found, Verb::Assemble, "pal8"),
+        is_without_links,
+        is_without_zero,
+        is_without_origin,
+        has_stays,
+    }))
+}
+
+/// Which options say how PAL8 is read.
+struct Pal8Flags {
+    is_without_links: bool,
+    is_without_zero: bool,
+    is_without_origin: bool,
+    has_stays: bool,
+}
+
+/// Those that are given.
+fn pal8_flags(found: &ArgMatches<'_>) -> Pal8Flags
+    ensures { result ≡ record {
+      is_without_links = is_set (codes "no-links") (values_in found.now);
+      is_without_zero = is_set (codes "text-without-zero") (values_in found.now);
+      is_without_origin = is_set (codes "no-origin") (values_in found.now);
+      has_stays = is_set (codes "stay") (values_in found.now);
+    } }
+{
+    Pal8Flags {
         is_without_links: flag(found, Verb::Assemble, "no-links"),
         is_without_zero: flag(found, Verb::Assemble, "text-without-zero"),
         is_without_origin: flag(found, Verb::Assemble, "no-origin"),
         has_stays: flag(found, Verb::Assemble, "stay"),
-    }))
+    }
 }
 
 /// The sources: files of the volume that is named, or else of the host.
