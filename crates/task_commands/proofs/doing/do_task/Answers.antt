@@ -26,7 +26,7 @@ returns g c = elim c.match-task.branch [
   | in-Index w ↦ rw (w.in-Index.is, w.host-is, w.work-is) w.list_index-work.ensures
   | in-Dump w ↦ rw (w.in-Dump.is, w.host-is, w.work-is) w.dump_blocks-work.ensures
   | in-Scan w ↦ rw (w.in-Scan.is, w.host-is, w.work-is) w.scan_image-work.ensures
-  | in-Rescue w ↦ rw (w.in-Rescue.is, w.host-is, w.work-is) w.rescue_image-work.ensures
+  | in-Rescue w ↦ rw (w.in-Rescue.is, w.host-is, w.work-is) (rw w.as_str.ensures.value at w.rescue_image-work.ensures)
   | in-Create w ↦ rw (w.in-Create.is, w.host-is, w.work-is) w.change_image-work.ensures
   | in-CreateTape w ↦ rw (w.in-CreateTape.is, w.host-is, w.work-is) w.change_image-work-in-CreateTape.ensures
   | in-Put w ↦ rw (w.in-Put.is, w.host-is, w.work-is) w.change_image-work-in-Put.ensures
