@@ -38,7 +38,7 @@ pub fn tape_of(alloc: Global, sources: &[&[u8]]) -> Result<Vec<u8>, SourceFault>
 }
 
 /// The frames of the tape of the pairs of sources.
-fn frames_of(
+pub fn frames_of(
     alloc: Global,
     sources: &[&[u8]],
     pairs: &[(Cell, Word)],
@@ -51,8 +51,8 @@ fn frames_of(
     Ok(frames)
 }
 
-/// A fault of sources with its place.
-fn with_place(alloc: Global, sources: &[&[u8]], join: &Join, fault: AsmFault) -> SourceFault
+/// A fault of sources with its place, by the join of these and the first fault of that. Where memory ran out it is `Memory`.
+pub fn with_place(alloc: Global, sources: &[&[u8]], join: &Join, fault: AsmFault) -> SourceFault
     requires text { join.now.text.items ≡ joined_bytes (bytes_in sources.now) }
     requires counts { join.now.counts.items ≡ counts_of (bytes_in sources.now) }
     requires fault { Assembles (text_of join.now.text.items) (Err fault) }

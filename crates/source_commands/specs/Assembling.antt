@@ -9,6 +9,7 @@ use Rattle.host_sources.specs.declared.faults.SourceFault.TheVariants as pal3_is
 use Rattle.source_listing.specs.Listings.{IsListed}
 use Rattle.source_listing.specs.declared.listing.ListingForm.{ListingForm}
 use Rattle.source_listing.specs.declared.listing.ListingForm.TheVariants.{Symbols, Cross}
+use Rattle.pal8_listing.specs.Listings as pal8_listing
 use Rattle.pal8_tape.specs.Answers as pal8
 use Rattle.pal8_tape.specs.declared.faults.SourceFault as pal8_fault
 use Rattle.pal8_tape.specs.declared.faults.SourceFault.TheVariants as pal8_is
@@ -58,13 +59,19 @@ abbrev pub RefusesPal8 : List (Bor (List ℕ)) → List (Bor (List ℕ)) → pal
 RefusesPal8 sources names (pal8_is.At fault) old ending new = PrintsFaults (pal8_faults_text sources names fault) old ending new
 RefusesPal8 sources names pal8_is.Memory old ending new = (ending ≡ Fault Memory) × (new ≡ old)
 
--- PAL8 sources are assembled as one, or their faults are printed
-abbrev pub MakesPal8 : List (Bor (List ℕ)) → List (Bor (List ℕ)) → List Event → Result Assembled Ending → List Event → Type 0
-MakesPal8 sources names old (Ok made) new = pal8.IsTape sources made.tape.items × (made.listing ≡ None) × (new ≡ old)
-MakesPal8 sources names old (Err ending) new = (fault : pal8_fault.SourceFault) × pal8.IsTold sources fault × RefusesPal8 sources names fault old ending new
+-- the listing of PAL8 sources, if it is asked for
+abbrev pub IsPal8Listing : Bool → List (Bor (List ℕ)) → Option (Vec ℕ) → Type 0
+IsPal8Listing true sources None = ⊥
+IsPal8Listing true sources (Some listing) = pal8_listing.IsListed sources listing.items
+IsPal8Listing false sources listing = listing ≡ None
+
+-- PAL8 sources are assembled as one, and listed if that is asked for; or their faults are printed
+abbrev pub MakesPal8 : Bool → List (Bor (List ℕ)) → List (Bor (List ℕ)) → List Event → Result Assembled Ending → List Event → Type 0
+MakesPal8 is_listed sources names old (Ok made) new = pal8.IsTape sources made.tape.items × IsPal8Listing is_listed sources made.listing × (new ≡ old)
+MakesPal8 is_listed sources names old (Err ending) new = (fault : pal8_fault.SourceFault) × pal8.IsTold sources fault × RefusesPal8 sources names fault old ending new
 
 abbrev pub MakesIf : Bool → AssembleForm → List (Bor (List ℕ)) → List (Bor (List ℕ)) → List Event → Result Assembled Ending → List Event → Type 0
-MakesIf true form sources names old result new = MakesPal8 sources names old result new
+MakesIf true form sources names old result new = MakesPal8 (is_some form.list) sources names old result new
 MakesIf false form sources names old result new = MakesPal3 (is_some form.list) form.is_cross sources names old result new
 
 -- what texts come to in the language that is asked for

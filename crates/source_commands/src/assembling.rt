@@ -138,7 +138,7 @@ fn assembled_sources<H: Host>(
     ensures { MakesIf form.now.is_pal8 form.now sources.now names.now (H.history host.old) result (H.history host.new) }
 {
     if form.is_pal8 {
-        return pal8_assembled(host, alloc, sources, names);
+        return pal8_assembled(host, alloc, form.list.is_some(), sources, names);
     }
     if form.list.is_some() {
         return listed_sources(host, alloc, form.is_cross, sources, names);
@@ -207,19 +207,41 @@ fn print_faults<H: Host>(host: &mut H, text: &[u8]) -> Ending
     Ending::Failure
 }
 
-/// What PAL8 sources are assembled to.
+/// What PAL8 sources are assembled to, with their listing if it is asked for.
 fn pal8_assembled<H: Host>(
+    host: &mut H,
+    alloc: Global,
+    is_listed: bool,
+    sources: &[&[u8]],
+    names: &[&str],
+) -> Result<Assembled, Ending>
+    ensures { MakesPal8 is_listed sources.now names.now (H.history host.old) result (H.history host.new) }
+{
+    if is_listed {
+        return listed_pal8(host, alloc, sources, names);
+    }
+    match tape_of(alloc, sources) {
+        Ok(tape) => Ok(Assembled {
+            tape,
+            listing: None,
+        }),
+        Err(fault) => Err(refuse_pal8(host, alloc, sources, names, fault)),
+    }
+}
+
+/// What PAL8 sources are assembled to, with their listing.
+fn listed_pal8<H: Host>(
     host: &mut H,
     alloc: Global,
     sources: &[&[u8]],
     names: &[&str],
 ) -> Result<Assembled, Ending>
-    ensures { MakesPal8 sources.now names.now (H.history host.old) result (H.history host.new) }
+    ensures { MakesPal8 true sources.now names.now (H.history host.old) result (H.history host.new) }
 {
-    match tape_of(alloc, sources) {
-        Ok(tape) => Ok(Assembled {
-            tape,
-            listing: None,
+    match pal8_listing::list_sources(alloc, sources) {
+        Ok(listing) => Ok(Assembled {
+            tape: listing.tape,
+            listing: Some(listing.text),
         }),
         Err(fault) => Err(refuse_pal8(host, alloc, sources, names, fault)),
     }

@@ -1,0 +1,16 @@
+use Rattle.std.proofs.Common.{length, ◌∙◌, ap, nat_eq}
+use Rattle.pal_lex.specs.Text.{text_of}
+use Rattle.pal8_asm.proofs.WholeLemmas.{all_words, has_some}
+use Rattle.pal8_asm.proofs.assembling.read_whole.Goals as goal
+
+pub returns : goal.returns
+returns c =
+    let reads = c.in-Ok.ensures c.new-assembler.ensures in
+    let made = c.in-Ok-words.ensures in
+    record {
+      assembled =
+          all_words (text_of c.args.text.now) c.read.new.self c.in-Ok.end c.words.new.pools c.in-Ok-words.pairs.items c.push_pool.new.pairs.items reads made
+          (has_some c.in-Ok-words.pairs.items (c.if-is_empty.ensures ∙ ap (λ n. nat_eq n 0) c.in-Ok-words.pairs.ok.0)) (c.in_ok-push_pool.ensures made.made.asks made.made.punched made.holds);
+      count = ?;
+      leaves = reads.0;
+    }
