@@ -47,12 +47,12 @@ one_less None = None
 one_less (Some left) = Some (left - 1)
 
 -- The lines of a source after the beginning of one, with their numbers from this one on, of which so many are read. LF ends a line, and CR is left out.
-abbrev pub numbered : List ℕ → ℕ → Option ℕ → List ℕ → List Line
-numbered line number left [] = record { text = line; number = number_by left number; is_ended = false } ∷ []
-numbered line number left (b ∷ source) =
-    if nat_eq b 0o15 then numbered line number left source
-    else (if nat_eq b 0o12 then record { text = line; number = number_by left number; is_ended = true } ∷ numbered [] (limit (number + 1)) (one_less left) source
-    else numbered (line ++ b ∷ []) number left source)
+abbrev pub numbered_lines : List ℕ → ℕ → Option ℕ → List ℕ → List Line
+numbered_lines line number left [] = record { text = line; number = number_by left number; is_ended = false } ∷ []
+numbered_lines line number left (b ∷ source) =
+    if nat_eq b 0o15 then numbered_lines line number left source
+    else (if nat_eq b 0o12 then record { text = line; number = number_by left number; is_ended = true } ∷ numbered_lines [] (limit (number + 1)) (one_less left) source
+    else numbered_lines (line ++ b ∷ []) number left source)
 
 -- how many lines of a join end in the bytes that are of the next source, if another one follows that
 abbrev pub lines_read : List ℕ → List ℕ → Option ℕ
@@ -72,7 +72,7 @@ join_after (count ∷ counts) join = drop count join
 abbrev pub all_lines : ℕ → List (Bor (List ℕ)) → List ℕ → List ℕ → List Line
 all_lines number [] counts join = []
 all_lines number (source ∷ others) counts join =
-    numbered [] number (lines_read counts join) source.now
+    numbered_lines [] number (lines_read counts join) source.now
     ++ all_lines (number_after number (lines_read counts join)) others (drop 1 counts) (join_after counts join)
 
 -- ## Rows

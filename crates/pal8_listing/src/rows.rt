@@ -1,6 +1,6 @@
 //! The lines of sources with their words.
 ghost use Rattle.std.specs.Prelude.{◌≡◌, ◌++◌, [], List, drop, IfOk, OnOk};
-ghost use Rattle.pal8_listing.specs.Rows.{Line, all_lines, join_after, last_text, line_text, lines_read, number_after, number_by, numbered, one_less, rows_of, rows_text, words_at, words_below};
+ghost use Rattle.pal8_listing.specs.Rows.{Line, all_lines, join_after, last_text, line_text, lines_read, number_after, number_by, numbered_lines, one_less, rows_of, rows_text, words_at, words_below};
 
 use crate::lines::{put_last, put_line};
 use crate::words::{ListedWord, split_words};
@@ -109,7 +109,7 @@ fn put_source<'a>(
     words: &'a [ListedWord],
 ) -> Result<&'a [ListedWord], AllocError>
     ensures { IfOk result (λ after. (later : List Line) → text.new.items ++ rows_text (rows_of later after.now)
-        ≡ text.old.items ++ rows_text (rows_of (numbered [] number left source.now ++ later) words.now)) }
+        ≡ text.old.items ++ rows_text (rows_of (numbered_lines [] number left source.now ++ later) words.now)) }
 {
     let mut line = Vec::new(alloc);
     let mut number = number;
