@@ -7,5 +7,5 @@ pub mod laws;
 mod permanent_names;
 mod source_names;
 
-pub use permanent_names::{Meaning, Standing, is_reserved, permanent};
+pub use permanent_names::{Meaning, Standing, is_reserved, is_reserved_number, permanent};
 pub use source_names::SourceNames;

@@ -132,11 +132,10 @@ fn standing_of(name: Name) -> Standing
     }
 }
 
-/// Whether a name is reserved in PAL III, too.
-fn is_old_reserved(name: Name) -> bool
-    ensures { result ≡ old.is_reserved name }
+/// Whether the name of a number is reserved in PAL III, too.
+fn is_old_reserved(number: u64) -> bool
+    ensures { result ≡ old.is_reserved number }
 {
-    let number = name.number();
     number == name!(b'D' b'E' b'C' b'I' b'M' b'A')
         || number == name!(b'O' b'C' b'T' b'A' b'L' 0)
         || number == name!(b'F' b'I' b'E' b'L' b'D' 0)
@@ -149,7 +148,14 @@ fn is_old_reserved(name: Name) -> bool
 pub fn is_reserved(name: Name) -> bool
     ensures { result ≡ is_reserved name }
 {
-    is_old_reserved(name) || is_one_of(&RESERVED_NAMES, name.number())
+    is_reserved_number(name.number())
+}
+
+/// The same of the name of a number, which six sixbit codes make.
+pub fn is_reserved_number(number: u64) -> bool
+    ensures { result ≡ is_reserved number }
+{
+    is_old_reserved(number) || is_one_of(&RESERVED_NAMES, number)
 }
 
 /// Whether a number is one of a list.

@@ -105,7 +105,7 @@ pub fn named_source_from(
 }
 
 /// The names that a text gives cells with these words, or the first line that is refused.
-fn names_in(alloc: Global, words: &[Option<Word>], text: &[u8]) -> Result<CellNames, ListFault>
+pub fn names_in(alloc: Global, words: &[Option<Word>], text: &[u8]) -> Result<CellNames, ListFault>
     requires { length words.now ≡ CORE }
     ensures names { IfOk result (λ names. AreNames (word_in words.now) text.now names) }
     ensures fault { IfErr result (λ fault. IsRefused (word_in words.now) text.now fault) }
@@ -118,7 +118,7 @@ fn names_in(alloc: Global, words: &[Option<Word>], text: &[u8]) -> Result<CellNa
 }
 
 /// The first of these cells that has no word.
-fn first_without(words: &[Option<Word>], starts: &[Cell]) -> Option<Cell>
+pub fn first_without(words: &[Option<Word>], starts: &[Cell]) -> Option<Cell>
     requires { length words.now ≡ CORE }
     ensures { MatchOption result (AllGiven (word_in words.now) starts.now)
         (IsFirstWithout (word_in words.now) starts.now) }
@@ -133,7 +133,7 @@ fn first_without(words: &[Option<Word>], starts: &[Cell]) -> Option<Cell>
 
 /// All cells are taken for instructions.
 #[tactic(auto, using(crate::proofs::TapeLemmas::told_all))]
-fn all_code(alloc: Global, count: usize) -> Result<Vec<bool>, AllocError>
+pub fn all_code(alloc: Global, count: usize) -> Result<Vec<bool>, AllocError>
     ensures code { IfOk result (λ code. (cell : ℕ) → cell < count → is_flagged code.items cell ≡ true) }
     ensures size { IfOk result (λ code. vec_len code ≡ count) }
 {
@@ -169,7 +169,7 @@ fn source_with(
 }
 
 /// The last word that a tape gives each cell.
-fn words_of(alloc: Global, frames: &[u8]) -> Result<Vec<Option<Word>>, ListFault>
+pub fn words_of(alloc: Global, frames: &[u8]) -> Result<Vec<Option<Word>>, ListFault>
     ensures size { IfOk result (λ words. vec_len words ≡ CORE) }
     ensures words { IfOk result (λ words. IsMapOf frames.now words.items) }
     ensures fault { IfErr result (λ fault. IsUnread frames.now fault) }

@@ -1,0 +1,2 @@
+pub mod PoolLemmas
+pub mod TextLemmas

@@ -1,0 +1,173 @@
+use crate::Pal8Fault;
+use crate::lines::lines_of;
+use crate::pools::pooled_cells;
+use crate::programs::Program;
+use crate::sheets::Sheet;
+use flow8::flow;
+use pal8_sym::is_reserved_number;
+use pal_sym::SymbolName;
+use source_names::{CellNames, visible_name};
+use source_notes::Notes;
+use std::alloc::{AllocError, Global};
+use tape_source::{ListFault, all_code, first_without, names_in, tags_of, words_of};
+use word12::{CORE, Cell, Word};
+
+/// The PAL8 source of a BIN tape.
+pub fn pal8_source(
+    alloc: Global,
+    frames: &[u8],
+    starts: &[Cell],
+    names: &Option<Vec<u8>>,
+) -> Result<Vec<u8>, Pal8Fault> {
+    let words = words_of(alloc, frames)?;
+    if let Some(start) = first_without(&words, starts) {
+        return Err(Pal8Fault::List(ListFault::NoStart(start)));
+    }
+    let table = table_of(alloc, &words, names)?;
+    if let Some(cell) = first_reserved(&table) {
+        return Err(Pal8Fault::Reserved(cell));
+    }
+    let code = code_of(alloc, &words, starts)?;
+    let text = source_with(alloc, &words, &code, &table, !starts.is_empty())?;
+    if text.is_empty() {
+        return Err(Pal8Fault::List(ListFault::NoWord));
+    }
+    Ok(text)
+}
+
+/// The names that a text gives cells, if there is one.
+fn table_of(
+    alloc: Global,
+    words: &[Option<Word>],
+    names: &Option<Vec<u8>>,
+) -> Result<Option<CellNames>, ListFault> {
+    match names {
+        Some(names) => {
+            let table = names_in(alloc, words, names)?;
+            Ok(Some(table))
+        }
+        None => Ok(None),
+    }
+}
+
+/// The lowest cell whose name PAL8 reserves.
+fn first_reserved(table: &Option<CellNames>) -> Option<Cell> {
+    let Some(names) = table else {
+        return None;
+    };
+    for number in 0u32..CORE as u32 {
+        if is_reserved_name(names.get(Cell::of(number))) {
+            return Some(Cell::of(number));
+        }
+    }
+    None
+}
+
+/// Whether a name, if there is one, is a word of PAL8.
+fn is_reserved_name(name: Option<[u8; 6]>) -> bool {
+    match name {
+        Some(six) => is_reserved_text(visible_name(&six)),
+        None => false,
+    }
+}
+
+/// Whether a text is a word of PAL8.
+fn is_reserved_text(name: &[u8]) -> bool {
+    match SymbolName::of(name) {
+        Some(symbol) => is_reserved_number(symbol.number()),
+        None => false,
+    }
+}
+
+/// Which words are instructions: all, or those that a program reaches from its starts.
+fn code_of(
+    alloc: Global,
+    words: &[Option<Word>],
+    starts: &[Cell],
+) -> Result<Vec<bool>, AllocError> {
+    if starts.is_empty() {
+        return all_code(alloc, CORE);
+    }
+    flow(alloc, words, starts)
+}
+
+/// The source of these words, of which these are instructions.
+fn source_with(
+    alloc: Global,
+    words: &[Option<Word>],
+    code: &[bool],
+    names: &Option<CellNames>,
+    has_starts: bool,
+) -> Result<Vec<u8>, AllocError> {
+    let kept = kept_cells(alloc, code, names, has_starts)?;
+    let program = Program {
+        words,
+        code,
+        kept: &kept,
+    };
+    let pooled = pooled_cells(alloc, &program)?;
+    let shown = all_but(alloc, code, &pooled)?;
+    let marked = tags_of(alloc, words, &shown, names)?;
+    let flags = all_but(alloc, &marked, &pooled)?;
+    let notes = notes_of(alloc, words, code, has_starts)?;
+    let sheet = Sheet {
+        words,
+        pooled: &pooled,
+        code: &shown,
+        flags: &flags,
+        names,
+        notes: &notes,
+        has_starts,
+    };
+    let mut text = lines_of(alloc, &sheet)?;
+    if !text.is_empty() {
+        text.extend_from_slice(b"$\r\n")?;
+    }
+    Ok(text)
+}
+
+/// The notes of words, where a start is given.
+fn notes_of<'w>(
+    alloc: Global,
+    words: &'w [Option<Word>],
+    code: &'w [bool],
+    has_starts: bool,
+) -> Result<Option<Notes<'w>>, AllocError> {
+    if !has_starts {
+        return Ok(None);
+    }
+    let notes = Notes::new(alloc, words, code)?;
+    Ok(Some(notes))
+}
+
+/// Which cells are no pool's, since they are named or are reached from a start.
+fn kept_cells(
+    alloc: Global,
+    code: &[bool],
+    names: &Option<CellNames>,
+    has_starts: bool,
+) -> Result<Vec<bool>, AllocError> {
+    let mut kept = Vec::with_capacity(alloc, CORE)?;
+    for number in 0u32..CORE as u32 {
+        let is_kept = has_name(names, Cell::of(number)) || (has_starts && code[number as usize]);
+        kept.push(is_kept)?;
+    }
+    Ok(kept)
+}
+
+/// Whether a cell is given a name.
+fn has_name(names: &Option<CellNames>, cell: Cell) -> bool {
+    match names {
+        Some(names) => names.get(cell).is_some(),
+        None => false,
+    }
+}
+
+/// These flags, where others aren't set.
+fn all_but(alloc: Global, flags: &[bool], others: &[bool]) -> Result<Vec<bool>, AllocError> {
+    let mut left = Vec::with_capacity(alloc, CORE)?;
+    for number in 0u32..CORE as u32 {
+        left.push(flags[number as usize] && !others[number as usize])?;
+    }
+    Ok(left)
+}
