@@ -1,2 +1,3 @@
 pub mod PoolLemmas
 pub mod TextLemmas
+pub mod LineLemmas

@@ -77,7 +77,7 @@ same_turn a b page n (suc k) same small =
 same_can : (p : Program) (a b : Asks) (page n k : ℕ) (word : Option ℕ) → SameAsks a b → k < 128 → can_be p a page n k word ≡ can_be p b page n k word
 same_can p a b page n k None same small = refl
 same_can p a b page n k (Some word) same small =
-    ap (λ (t : Bool). not (is_flagged p.kept (cell_from_end page k)) && (t && is_new p page word k)) (same_turn a b page n k same small)
+    ap (λ (t : Bool). not (is_flagged p.exempt (cell_from_end page k)) && (t && is_new p page word k)) (same_turn a b page n k same small)
 
 same_all : (p : Program) (a b : Asks) (page n k : ℕ) → SameAsks a b → k ≤ 128 → can_all_be p a page n k ≡ can_all_be p b page n k
 same_all p a b page n zero same small = refl

@@ -68,14 +68,14 @@ abbrev pub word_lines : Sheet → ℕ → ℕ → List ℕ
 word_lines s cell word = note_lines (s.look.above cell) ++ word_line s cell word ++ (if s.look.has_gap cell then line_end else [])
 
 -- a string between two of a character
-abbrev pub quoted : Option ℕ → List ℕ → List ℕ
-quoted None text = []
-quoted (Some mark) text = mark ∷ text ++ mark ∷ []
+abbrev pub with_marks : Option ℕ → List ℕ → List ℕ
+with_marks None text = []
+with_marks (Some mark) text = mark ∷ text ++ mark ∷ []
 
 -- so many words as one TEXT, with the first of them in the comment
 abbrev pub text_line : Sheet → ℕ → ℕ → ℕ → List ℕ
 text_line s cell word count =
-    0o11 ∷ codes "TEXT " ++ quoted (first_absent delimiters (characters s cell count)) (characters s cell count) ++ 0o11 ∷ comment cell word ++ line_end
+    0o11 ∷ codes "TEXT " ++ with_marks (first_absent delimiters (characters s cell count)) (characters s cell count) ++ 0o11 ∷ comment cell word ++ line_end
 
 abbrev pub lines_with : Sheet → Option ℕ → ℕ → ℕ → ℕ → List ℕ
 lines_with s before cell word zero = heading before cell ++ word_lines s cell word
@@ -96,14 +96,14 @@ newest_below s zero = None
 newest_below s (suc cell) = if is_written s cell then Some cell else newest_below s cell
 
 -- how many cells stand in a TEXT after one of its own, or after one that begins it with so many
-abbrev pub left_after : ℕ → ℕ → ℕ
-left_after zero size = size - 1
-left_after (suc left) size = left
+abbrev pub rest_after : ℕ → ℕ → ℕ
+rest_after zero size = size - 1
+rest_after (suc left) size = left
 
 -- how many cells from a number on stand in the TEXT of a cell below it
-abbrev pub left_of_text : Sheet → ℕ → ℕ
-left_of_text s zero = 0
-left_of_text s (suc cell) = left_after (left_of_text s cell) (text_size s cell)
+abbrev pub rest_of_text : Sheet → ℕ → ℕ
+rest_of_text s zero = 0
+rest_of_text s (suc cell) = rest_after (rest_of_text s cell) (text_size s cell)
 
 abbrev pub lines_unless : ℕ → List ℕ → List ℕ
 lines_unless zero lines = lines
@@ -112,7 +112,7 @@ lines_unless (suc left) lines = []
 -- the lines of the cells below a number
 unfoldable pub lines_below : Sheet → ℕ → List ℕ
 lines_below s zero = []
-lines_below s (suc cell) = lines_below s cell ++ lines_unless (left_of_text s cell) (cell_lines s (newest_below s cell) cell (s.words cell))
+lines_below s (suc cell) = lines_below s cell ++ lines_unless (rest_of_text s cell) (cell_lines s (newest_below s cell) cell (s.words cell))
 
 -- the lines of all cells, and `$`
 abbrev pub source_of : Sheet → List ℕ

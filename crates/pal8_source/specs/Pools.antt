@@ -10,7 +10,7 @@ use Rattle.source_notes.specs.Referrers.{names_cell}
 pub record Program : Type 0 where
   pub words : List (Option ℕ)
   pub code : List Bool
-  pub kept : List Bool
+  pub exempt : List Bool
 
 -- an instruction is a memory reference that names a cell
 abbrev pub refers : Program → ℕ → ℕ → Bool
@@ -80,7 +80,7 @@ is_new p page word (suc k) = is_new p page word k && not (is_word (word_in p.wor
 -- a cell, with this word or none, can be in a pool of n cells
 abbrev pub can_be : Program → Asks → ℕ → ℕ → ℕ → Option ℕ → Bool
 can_be p asks page n k None = false
-can_be p asks page n k (Some word) = not (is_flagged p.kept (cell_from_end page k)) && (is_in_turn asks page n k && is_new p page word k)
+can_be p asks page n k (Some word) = not (is_flagged p.exempt (cell_from_end page k)) && (is_in_turn asks page n k && is_new p page word k)
 
 -- the last k cells can be in a pool of n
 abbrev pub can_all_be : Program → Asks → ℕ → ℕ → ℕ → Bool

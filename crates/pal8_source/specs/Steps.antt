@@ -30,7 +30,7 @@ pub record SameAsks (one other : Asks) : Type 0 where
 -- what a source shows, as lists
 pub record SheetLists : Type 0 where
   pub words : List (Option ℕ)
-  pub pooled : List Bool
+  pub pools : List Bool
   pub code : List Bool
   pub flags : List Bool
   pub names : Option (List (Option (List ℕ)))
@@ -40,7 +40,7 @@ pub record SheetLists : Type 0 where
 abbrev pub sheet_of : SheetLists → Sheet
 sheet_of l = record {
   words = word_in l.words;
-  is_pooled = is_flagged l.pooled;
+  is_pooled = is_flagged l.pools;
   look = look_with l.names l.notes (is_flagged l.code);
   is_tagged = is_flagged l.flags;
   has_starts = l.has_starts;

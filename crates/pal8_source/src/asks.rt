@@ -189,7 +189,7 @@ pub fn can_be(program: &Program<'_>, asks: &Asks, page: usize, n: usize, k: usiz
     let cell = cell_from_end(page, k);
     match program.words[cell.index()] {
         Some(word) => {
-            !program.kept[cell.index()]
+            !program.exempt[cell.index()]
                 && is_in_turn(asks, page, n, k)
                 && is_new(program, page, word, k)
         }

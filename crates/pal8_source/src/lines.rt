@@ -1,8 +1,8 @@
 ghost use Rattle.std.specs.Prelude.{◌≡◌, ◌++◌, ℕ, IfOk, OnOk, Some, if◌then◌else◌};
 ghost use Rattle.word12.specs.declared.sizes.TheConstants.{CORE};
 ghost use Rattle.flow8.specs.Flow.{word_in};
-ghost use Rattle.tape_source.specs.Lines.{with_lead};
-ghost use Rattle.pal8_source.specs.Lines.{cell_lines, has_literal, is_written, left_after, lines_below, lines_unless, lines_with, literal_part, opening, statement_part, value, word_line, word_lines};
+ghost use Rattle.tape_source.specs.Lines.{line_end, tag_part, with_lead};
+ghost use Rattle.pal8_source.specs.Lines.{cell_lines, has_literal, is_written, rest_after, lines_below, lines_unless, lines_with, literal_part, opening, statement_part, value, word_line, word_lines};
 ghost use Rattle.pal8_source.specs.Sheets as spec;
 ghost use Rattle.pal8_source.specs.Steps.{IsText, quoted_line, sheet_of};
 ghost use Rattle.pal8_source.specs.Texts.{text_size};
@@ -24,7 +24,7 @@ use word12::{CORE, Cell, PAGE, Word};
 #[derive(Clone, Copy)]
 struct Reached {
     before: Option<Cell>,
-    left: usize,
+    rest: usize,
 }
 
 /// The lines of all cells, by rising cell.
@@ -34,7 +34,7 @@ pub fn lines_of(alloc: Global, sheet: &Sheet<'_>) -> Result<Vec<u8>, AllocError>
     let mut text = Vec::new(alloc);
     let mut reached = Reached {
         before: None,
-        left: 0,
+        rest: 0,
     };
     for number in 0u32..CORE as u32 {
         reached = put_next(alloc, &mut text, sheet, reached, Cell::of(number))?;
@@ -50,39 +50,39 @@ fn put_next(
     reached: Reached,
     cell: Cell,
 ) -> Result<Reached, AllocError>
-    ensures text { OnOk result (text.new.items ≡ text.old.items ++ lines_unless reached.left
+    ensures text { OnOk result (text.new.items ≡ text.old.items ++ lines_unless reached.rest
         (cell_lines (sheet_of sheet.now) reached.before cell (word_in sheet.now.words cell))) }
     ensures before { IfOk result (λ next. next.before
         ≡ (if is_written (sheet_of sheet.now) cell then Some cell else reached.before)) }
-    ensures left { IfOk result (λ next. next.left ≡ left_after reached.left (text_size (sheet_of sheet.now) cell)) }
+    ensures rest { IfOk result (λ next. next.rest ≡ rest_after reached.rest (text_size (sheet_of sheet.now) cell)) }
 {
     let before = newest(sheet, reached.before, cell);
-    if reached.left > 0 {
-        let left = reached.left - 1;
-        return Ok(Reached { before, left });
+    if reached.rest > 0 {
+        let rest = reached.rest - 1;
+        return Ok(Reached { before, rest });
     }
     let found = text_at(alloc, sheet, cell)?;
     put_cell(text, sheet, reached.before, cell, &found)?;
-    let left = left_in(&found);
-    Ok(Reached { before, left })
+    let rest = rest_in(&found);
+    Ok(Reached { before, rest })
 }
 
 /// The newest cell whose word stands in the source, after a cell.
 fn newest(sheet: &Sheet<'_>, before: Option<Cell>, cell: Cell) -> Option<Cell>
     ensures { result ≡ (if is_written (sheet_of sheet.now) cell then Some cell else before) }
 {
-    if sheet.words[cell.index()].is_some() && !sheet.pooled[cell.index()] {
+    if sheet.words[cell.index()].is_some() && !sheet.pools[cell.index()] {
         return Some(cell);
     }
     before
 }
 
 /// How many cells a text has after its first.
-fn left_in(found: &Option<Text>) -> usize
-    ensures { (cell : ℕ) (s : spec.Sheet) → IsText s cell found.now → result ≡ left_after 0 (text_size s cell) }
+fn rest_in(found: &Option<Text>) -> usize
+    ensures { (cell : ℕ) (s : spec.Sheet) → IsText s cell found.now → result ≡ rest_after 0 (text_size s cell) }
 {
     match found {
-        Some(found) => found.size - 1,
+        Some(found) => found.size.saturating_sub(1),
         None => 0,
     }
 }
@@ -102,7 +102,7 @@ fn put_cell(
     let Some(word) = sheet.words[cell.index()] else {
         return Ok(());
     };
-    if sheet.pooled[cell.index()] {
+    if sheet.pools[cell.index()] {
         return Ok(());
     }
     put_lines(text, sheet, before, cell, word, found)
@@ -167,13 +167,35 @@ fn put_word(
 ) -> Result<(), AllocError>
     ensures { OnOk result (text.new.items ≡ text.old.items ++ word_line (sheet_of sheet.now) cell word) }
 {
+    put_head(text, sheet, cell, word)?;
+    put_comment(text, cell, word)?;
+    put_tail(text, sheet, cell)?;
+    Ok(())
+}
+
+/// Appends a cell's tag, if it has one, and the statement of its word.
+fn put_head(
+    text: &mut Vec<u8>,
+    sheet: &Sheet<'_>,
+    cell: Cell,
+    word: Word,
+) -> Result<(), AllocError>
+    ensures { OnOk result (text.new.items ≡ text.old.items
+        ++ (tag_part (sheet_of sheet.now).look.name (sheet_of sheet.now).is_tagged cell ++ statement_part (sheet_of sheet.now) cell word)) }
+{
     let tags = Tags {
         flags: sheet.flags,
         names: sheet.names,
     };
     put_tag(text, &tags, cell)?;
     put_statement_part(text, sheet, &tags, cell, word)?;
-    put_comment(text, cell, word)?;
+    Ok(())
+}
+
+/// Appends what stands in a cell's comment after its word, and the line's end.
+fn put_tail(text: &mut Vec<u8>, sheet: &Sheet<'_>, cell: Cell) -> Result<(), AllocError>
+    ensures { OnOk result (text.new.items ≡ text.old.items ++ ((sheet_of sheet.now).look.remark cell ++ line_end)) }
+{
     put_remark(text, sheet.notes, cell)?;
     text.extend_from_slice(b"\r\n")?;
     Ok(())
@@ -203,7 +225,7 @@ fn has_literal(sheet: &Sheet<'_>, cell: Cell, word: Word) -> bool
 {
     sheet.code[cell.index()]
         && is_reference(cell.address(), word)
-        && sheet.pooled[referred_cell(cell, word).index()]
+        && sheet.pools[referred_cell(cell, word).index()]
 }
 
 /// Appends a memory reference to a cell of a pool: the operation, `I` where the word is indirect, and the literal.

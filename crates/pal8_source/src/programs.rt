@@ -13,7 +13,7 @@ use word12::{Cell, Word};
 pub struct Program<'p> {
     pub words: &'p [Option<Word>],
     pub code: &'p [bool],
-    pub kept: &'p [bool],
+    pub exempt: &'p [bool],
 }
 
 impl<'p> Model for Program<'p> {
@@ -23,9 +23,9 @@ impl<'p> Model for Program<'p> {
 
     ghost Value = { spec.Program };
 
-    ghost view = { λ p. record { words = p.words.now; code = p.code.now; kept = p.kept.now } };
+    ghost view = { λ p. record { words = p.words.now; code = p.code.now; exempt = p.exempt.now } };
 
-    ghost invariant = { λ p. (length p.words.now ≡ CORE) × (length p.code.now ≡ CORE) × (length p.kept.now ≡ CORE) };
+    ghost invariant = { λ p. (length p.words.now ≡ CORE) × (length p.code.now ≡ CORE) × (length p.exempt.now ≡ CORE) };
 }
 
 impl Program<'_> {

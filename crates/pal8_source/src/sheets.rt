@@ -13,7 +13,7 @@ use word12::{Cell, Word};
 #[derive(Drop)]
 pub struct Sheet<'s> {
     pub words: &'s [Option<Word>],
-    pub pooled: &'s [bool],
+    pub pools: &'s [bool],
     pub code: &'s [bool],
     pub flags: &'s [bool],
     pub names: &'s Option<CellNames>,
@@ -30,7 +30,7 @@ impl<'s> Model for Sheet<'s> {
 
     ghost view = { λ s. record {
       words = s.words.now;
-      pooled = s.pooled.now;
+      pools = s.pools.now;
       code = s.code.now;
       flags = s.flags.now;
       names = s.names.now;
@@ -38,7 +38,7 @@ impl<'s> Model for Sheet<'s> {
       has_starts = s.has_starts;
     } };
 
-    ghost invariant = { λ s. (length s.words.now ≡ CORE) × (length s.pooled.now ≡ CORE) × (length s.code.now ≡ CORE) × (length s.flags.now ≡ CORE) };
+    ghost invariant = { λ s. (length s.words.now ≡ CORE) × (length s.pools.now ≡ CORE) × (length s.code.now ≡ CORE) × (length s.flags.now ≡ CORE) };
 }
 
 impl Sheet<'_> {
@@ -50,7 +50,7 @@ impl Sheet<'_> {
             && self.words[cell.index()].is_some()
             && !self.code[cell.index()]
             && !self.flags[cell.index()]
-            && !self.pooled[cell.index()]
+            && !self.pools[cell.index()]
     }
 
     /// The number of a cell's word, or 0.

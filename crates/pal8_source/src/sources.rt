@@ -1,3 +1,11 @@
+ghost use Rattle.std.specs.Prelude.{◌≡◌, ◌&&◌, ◌||◌, ◌<◌, ℕ, IfErr, IfOk, MatchOption, Some, is_some, length, not, option_map, vec_len};
+ghost use Rattle.word12.specs.declared.sizes.TheConstants.{CORE};
+ghost use Rattle.flow8.specs.Flow.{word_in};
+ghost use Rattle.source_notes.specs.Notes.{is_flagged};
+ghost use Rattle.tape_source.specs.Steps.{name_by};
+ghost use Rattle.pal8_sym.specs.Permanent.{is_reserved};
+ghost use Rattle.pal8_source.specs.Sources.{AreInstructions, IsPal8Fault, IsPal8Source, is_word_of_pal8};
+
 use crate::Pal8Fault;
 use crate::lines::lines_of;
 use crate::pools::pooled_cells;
@@ -12,13 +20,22 @@ use std::alloc::{AllocError, Global};
 use tape_source::{ListFault, all_code, first_without, names_in, tags_of, words_of};
 use word12::{CORE, Cell, Word};
 
-/// The PAL8 source of a BIN tape.
+/// The PAL8 source of a BIN tape, as `assemble --pal8` takes it (PAL8, in this project's profile). It has the lines of the PAL III source but for
+/// pools, `PAGE` and `TEXT`. Where a program starts at some cells, just the words that it reaches are instructions. Where a text gives cells names,
+/// these are their tags.
+///
+/// The tape's fault is reported first, then a start without a word, a line of the names, a name that PAL8 reserves, and a tape of no word.
 pub fn pal8_source(
     alloc: Global,
     frames: &[u8],
     starts: &[Cell],
     names: &Option<Vec<u8>>,
-) -> Result<Vec<u8>, Pal8Fault> {
+) -> Result<Vec<u8>, Pal8Fault>
+    ensures source { IfOk result (λ text.
+        IsPal8Source frames.now starts.now (option_map (λ names. names.items) names.now) text.items) }
+    ensures fault { IfErr result (λ fault.
+        IsPal8Fault frames.now starts.now (option_map (λ names. names.items) names.now) fault) }
+{
     let words = words_of(alloc, frames)?;
     if let Some(start) = first_without(&words, starts) {
         return Err(Pal8Fault::List(ListFault::NoStart(start)));
@@ -99,20 +116,20 @@ fn source_with(
     names: &Option<CellNames>,
     has_starts: bool,
 ) -> Result<Vec<u8>, AllocError> {
-    let kept = kept_cells(alloc, code, names, has_starts)?;
+    let exempt = kept_cells(alloc, code, names, has_starts)?;
     let program = Program {
         words,
         code,
-        kept: &kept,
+        exempt: &exempt,
     };
-    let pooled = pooled_cells(alloc, &program)?;
-    let shown = all_but(alloc, code, &pooled)?;
+    let pools = pooled_cells(alloc, &program)?;
+    let shown = all_but(alloc, code, &pools)?;
     let marked = tags_of(alloc, words, &shown, names)?;
-    let flags = all_but(alloc, &marked, &pooled)?;
+    let flags = all_but(alloc, &marked, &pools)?;
     let notes = notes_of(alloc, words, code, has_starts)?;
     let sheet = Sheet {
         words,
-        pooled: &pooled,
+        pools: &pools,
         code: &shown,
         flags: &flags,
         names,
@@ -146,17 +163,24 @@ fn kept_cells(
     code: &[bool],
     names: &Option<CellNames>,
     has_starts: bool,
-) -> Result<Vec<bool>, AllocError> {
-    let mut kept = Vec::with_capacity(alloc, CORE)?;
+) -> Result<Vec<bool>, AllocError>
+    requires { length code.now ≡ CORE }
+    ensures size { IfOk result (λ exempt. vec_len exempt ≡ CORE) }
+    ensures exempt { IfOk result (λ exempt. (cell : ℕ) → cell < CORE → is_flagged exempt.items cell
+        ≡ (is_some (name_by names.now cell) || (has_starts && is_flagged code.now cell))) }
+{
+    let mut exempt = Vec::with_capacity(alloc, CORE)?;
     for number in 0u32..CORE as u32 {
         let is_kept = has_name(names, Cell::of(number)) || (has_starts && code[number as usize]);
-        kept.push(is_kept)?;
+        exempt.push(is_kept)?;
     }
-    Ok(kept)
+    Ok(exempt)
 }
 
 /// Whether a cell is given a name.
-fn has_name(names: &Option<CellNames>, cell: Cell) -> bool {
+fn has_name(names: &Option<CellNames>, cell: Cell) -> bool
+    ensures { result ≡ is_some (name_by names.now cell) }
+{
     match names {
         Some(names) => names.get(cell).is_some(),
         None => false,
@@ -164,7 +188,13 @@ fn has_name(names: &Option<CellNames>, cell: Cell) -> bool {
 }
 
 /// These flags, where others aren't set.
-fn all_but(alloc: Global, flags: &[bool], others: &[bool]) -> Result<Vec<bool>, AllocError> {
+fn all_but(alloc: Global, flags: &[bool], others: &[bool]) -> Result<Vec<bool>, AllocError>
+    requires flags { length flags.now ≡ CORE }
+    requires others { length others.now ≡ CORE }
+    ensures size { IfOk result (λ left. vec_len left ≡ CORE) }
+    ensures flags { IfOk result (λ left. (cell : ℕ) → cell < CORE → is_flagged left.items cell
+        ≡ (is_flagged flags.now cell && not (is_flagged others.now cell))) }
+{
     let mut left = Vec::with_capacity(alloc, CORE)?;
     for number in 0u32..CORE as u32 {
         left.push(flags[number as usize] && !others[number as usize])?;
