@@ -1,10 +1,9 @@
-ghost use Rattle.std.specs.Prelude.{◌≡◌, ◌&&◌, ◌||◌, ◌<◌, ℕ, IfErr, IfOk, MatchOption, Some, is_some, length, not, option_map, vec_len};
+ghost use Rattle.std.specs.Prelude.{◌≡◌, ◌&&◌, ◌||◌, ◌<◌, ℕ, IfErr, IfOk, [], is_some, length, not, option_map, vec_len};
 ghost use Rattle.word12.specs.declared.sizes.TheConstants.{CORE};
 ghost use Rattle.flow8.specs.Flow.{word_in};
 ghost use Rattle.source_notes.specs.Notes.{is_flagged};
 ghost use Rattle.tape_source.specs.Steps.{name_by};
-ghost use Rattle.pal8_sym.specs.Permanent.{is_reserved};
-ghost use Rattle.pal8_source.specs.Sources.{AreInstructions, IsPal8Fault, IsPal8Source, is_word_of_pal8};
+ghost use Rattle.pal8_source.specs.Sources.{AreInstructions, IsPal8Fault, IsPal8Source, notes_of};
 
 use crate::Pal8Fault;
 use crate::lines::lines_of;
@@ -57,7 +56,9 @@ fn table_of(
     alloc: Global,
     words: &[Option<Word>],
     names: &Option<Vec<u8>>,
-) -> Result<Option<CellNames>, ListFault> {
+) -> Result<Option<CellNames>, ListFault>
+    requires { length words.now ≡ CORE }
+{
     match names {
         Some(names) => {
             let table = names_in(alloc, words, names)?;
@@ -101,7 +102,11 @@ fn code_of(
     alloc: Global,
     words: &[Option<Word>],
     starts: &[Cell],
-) -> Result<Vec<bool>, AllocError> {
+) -> Result<Vec<bool>, AllocError>
+    requires { length words.now ≡ CORE }
+    ensures size { IfOk result (λ code. vec_len code ≡ CORE) }
+    ensures code { IfOk result (λ code. AreInstructions (word_in words.now) starts.now (is_flagged code.items)) }
+{
     if starts.is_empty() {
         return all_code(alloc, CORE);
     }
@@ -115,7 +120,10 @@ fn source_with(
     code: &[bool],
     names: &Option<CellNames>,
     has_starts: bool,
-) -> Result<Vec<u8>, AllocError> {
+) -> Result<Vec<u8>, AllocError>
+    requires words { length words.now ≡ CORE }
+    requires code { length code.now ≡ CORE }
+{
     let exempt = kept_cells(alloc, code, names, has_starts)?;
     let program = Program {
         words,
@@ -149,7 +157,12 @@ fn notes_of<'w>(
     words: &'w [Option<Word>],
     code: &'w [bool],
     has_starts: bool,
-) -> Result<Option<Notes<'w>>, AllocError> {
+) -> Result<Option<Notes<'w>>, AllocError>
+    requires words { length words.now ≡ CORE }
+    requires code { length code.now ≡ CORE }
+    ensures { IfOk result (λ notes. notes
+        ≡ notes_of (record { words = words.now; code = code.now; exempt = [] }) has_starts) }
+{
     if !has_starts {
         return Ok(None);
     }
