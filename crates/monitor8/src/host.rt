@@ -1,10 +1,9 @@
 //! The program over the files and the streams of a host: what the words ask for is done by the command, and what `outcome` says of its end
 //! is printed.
 
-use crate::runs::run_image;
 use archive_commands::{WordPatch, dump_blocks, patch_word};
 use choice_commands::{copy_files, list_some};
-use command_table::{TaskFault, task};
+use command_table::{SCRIPT_LINES, TaskFault, task};
 use host_inputs::{tell_bad_argument, texts_of};
 use hosts::Host;
 use index_commands::index_images;
@@ -13,6 +12,7 @@ use outcome::{Content, Ending, ending_of_output, gives_data, no_memory_line};
 use program_commands::{list_tape, write_rim, write_source};
 use program_tasks::{AssembleForm, IndexForm, LineForm, ScanForm, Task};
 use salvage_commands::{rescue_image, scan_blocks, scan_into};
+use script_commands::run_script;
 use script8::SessionFault;
 use source_commands::assemble_files;
 use std::alloc::{AllocError, Global};
@@ -113,7 +113,14 @@ where
             assemble_files(host, alloc, &form)
         ),
         Task::Profile(form) => profile_tape(host, alloc, &form),
-        Task::Run(image, form) => run_image(rt, &image, form),
+        Task::Run(image, form) => {
+            let forms = forms_for(rt.reader().is_terminal());
+            wait_for_image!(
+                rt,
+                image.wait,
+                run_script(host, alloc, rt.reader(), &image, form, forms)
+            )
+        }
         Task::Create(form, blocks) => wait_for_image!(
             rt,
             form.wait,
@@ -164,6 +171,14 @@ where
         // These have the host itself: `do_task` does them.
         Task::Teletype(_) | Task::Trace(_) => Ok(()),
     }
+}
+
+/// The forms of a script's lines, which a person at a terminal is shown.
+fn forms_for(is_terminal: bool) -> Option<&'static str> {
+    if is_terminal {
+        return Some(SCRIPT_LINES);
+    }
+    None
 }
 
 /// How many seconds are waited for the image that has the sources, and may get the tape.

@@ -2,9 +2,7 @@
 //! the public calls of the crates below that a program may want.
 #![tactic(auto)]
 
-mod hints;
 mod host;
-mod runs;
 
 pub use command_table::{TaskFault, plain_words, task};
 pub use host::program;

@@ -1,13 +1,12 @@
 //! What is printed at a terminal for a line of a script that is none.
 
-use command_table::SCRIPT_LINES;
 use outcome::command_hint;
 
-/// What is printed for a line of a script that is none. It is the form of the command that its first word names, in letters of
-/// either size, with what it does; else all commands.
-pub fn line_hint(line: &[u8]) -> &'static str {
+/// What is printed for a line of a script that is none. Of these forms, one a line after the first, it is that of the command which its
+/// first word names, in letters of either size, with what it does; else all commands.
+pub(crate) fn line_hint(forms: &'static str, line: &[u8]) -> &'static str {
     let word = first_word(line);
-    for form in SCRIPT_LINES.lines().skip(1) {
+    for form in forms.lines().skip(1) {
         let form = form.trim_start();
         if first_word(form.as_bytes()).eq_ignore_ascii_case(word) {
             return form;

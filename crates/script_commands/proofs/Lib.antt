@@ -1,0 +1,4 @@
+mod InputLemmas
+mod LawLemmas
+mod RunLemmas
+mod SaveLemmas
