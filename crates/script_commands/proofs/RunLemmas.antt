@@ -13,7 +13,7 @@ use Rattle.program_tasks.specs.declared.tasks.Saving.{Saving}
 use Rattle.program_tasks.specs.declared.tasks.Saving.TheVariants.{Never}
 use Rattle.volume_commands.specs.declared.images.Image.{Image}
 use Rattle.script_commands.specs.Steps.{StaysUnsaved, Saves, Fails, Replies, Prints, Refuses, Shows, Cuts, is_unknown, or_else, printed_text, reply_text}
-use Rattle.script_commands.specs.RunSteps.{Adds, HasDone, IsAfterPrint, MayPrint, Gets, PrintsLines, TellsForm}
+use Rattle.script_commands.specs.RunSteps.{Adds, HasDone, IsAfterPrint, MayPrint, Gets, PrintsLines, TellsCut, TellsForm}
 use Rattle.script_commands.specs.declared.progress.Progress.{Progress}
 
 -- ## What was printed
@@ -91,6 +91,28 @@ cut_short start old mid new p ok d is = record {
   kept = d.kept;
   never = d.never;
 }
+
+-- no note says so
+not_cut : (start : Image) (old new : List Event) (p : Progress) → HasDone start old p new → p.is_cut ≡ false → HasDone start old (record p { is_cut = false }) new
+not_cut start old new p d whole = record {
+  steps = d.steps;
+  done = d.done;
+  image = d.image;
+  place = d.place;
+  sync = d.sync;
+  refused = d.refused;
+  why = d.why;
+  fault = d.fault;
+  cut = sym whole ∙ d.cut;
+  waiting = d.waiting;
+  text = d.text;
+  kept = d.kept;
+  never = d.never;
+}
+
+pub limit_told : (start : Image) (old mid new : List Event) (p : Progress) (is_told : Bool) → HasDone start old p mid → p.is_cut ≡ false → TellsCut is_told mid new → HasDone start old (record p { is_cut = is_told }) new
+limit_told start old mid new p true d whole (ok, is) = cut_short start old mid new p ok d is
+limit_told start old mid new p false d whole same = subst (λ (h : List Event). HasDone start old (record p { is_cut = false }) h) (sym same) (not_cut start old mid p d whole)
 
 -- all lines that wait are printed
 pub printed : (start : Image) (old mid new : List Event) (p : Progress) (lines : Vec ℕ) → HasDone start old p mid → lines.items ≡ [] → new ≡ print_call true 0 p.lines.items ∷ mid → HasDone start old (record p { lines = lines }) new

@@ -164,11 +164,12 @@ fn run_session<H: Host, I: Read + Drop, B: Start>(
 
 /// Prints a note where standard input has more bytes than are read.
 fn tell_of_limit<H: Host>(host: &mut H, alloc: Global, progress: &mut Progress, is_too_long: bool)
+    requires { progress.old.is_cut ≡ false }
     ensures done { (start : ImageState) (old : List Event)
         → HasDone start old progress.old (H.history host.old) → HasDone start old progress.new (H.history host.new) }
     ensures output { output_text (H.history host.new) ≡ output_text (H.history host.old) }
     ensures progress { progress.new ≡ record progress.old { is_cut = progress.new.is_cut } }
-    ensures cut { progress.new.is_cut ≡ true → progress.old.is_cut ≡ false → is_too_long ≡ true }
+    ensures cut { progress.new.is_cut ≡ true → is_too_long ≡ true }
 {
     if is_too_long {
         progress.is_cut = has_told_limit(host, alloc);
