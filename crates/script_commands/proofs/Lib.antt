@@ -2,3 +2,4 @@ mod InputLemmas
 mod LawLemmas
 mod RunLemmas
 mod SaveLemmas
+mod SessionLemmas

@@ -36,6 +36,8 @@ pub(crate) fn keep<H: Host>(
     ensures image { result ≡ true → IsImageOf progress.new.image.bytes.items store.now.blocks }
     ensures failed { result ≡ false → progress.new.unsaved ≡ None → ⊥ }
     ensures saved { result ≡ true → progress.new.unsaved ≡ None }
+    ensures earlier { progress.new.unsaved ≡ None → progress.old.unsaved ≡ None }
+    ensures fault { progress.new.fault ≡ progress.old.fault }
     ensures output { output (H.history host.new) ≡ output (H.history host.old) }
     ensures lines { progress.new.lines ≡ progress.old.lines }
     ensures saving { progress.new.saving ≡ progress.old.saving }
@@ -200,6 +202,8 @@ pub(crate) fn save_last<H: Host>(
         → HasDone start old progress.old (H.history host.old) → HasDone start old progress.new (H.history host.new) }
     ensures image { (progress.old.saving ≡ saving.Never → ⊥) → progress.new.unsaved ≡ None
         → IsImageOf progress.new.image.bytes.items store.now.blocks }
+    ensures earlier { progress.new.unsaved ≡ None → progress.old.unsaved ≡ None }
+    ensures fault { progress.new.fault ≡ progress.old.fault }
     ensures output { output (H.history host.new) ≡ output (H.history host.old) }
     ensures lines { progress.new.lines ≡ progress.old.lines }
     ensures saving { progress.new.saving ≡ progress.old.saving }

@@ -134,7 +134,8 @@ fn run_session<H: Host, I: Read + Drop, B: Start>(
     form: RunForm,
     forms: Option<&'static str>,
 ) -> Result<(), Ending>
-    requires { I.remaining input ≡ B.bytes }
+    requires input { I.remaining input ≡ B.bytes }
+    requires running { session.volume.stopped ≡ false }
     ensures { RunsSession form (is_some forms.entry) image session (I.remaining input) (H.history host.old) result (H.history host.new) }
 {
     let mut session = session;
