@@ -3,3 +3,4 @@ mod LawLemmas
 mod RunLemmas
 mod SaveLemmas
 mod SessionLemmas
+mod WorkLemmas

@@ -114,6 +114,10 @@ pub record RunsSession (form : RunForm) (is_typed : Bool) (image : Image) (sessi
   pub cut : has_cut steps ≡ true → (count : ℕ) × TakesBytes input left count × (MOST < count)
   pub ends : EndsRun form.is_strict (has_refusal steps) (unsaved steps) (unprinted steps) answer result
 
--- An image file is held and read. The script runs over a session of its volume.
+-- A script runs over a session of an image's volume, unless memory is wanted, or the image is refused.
+abbrev pub RunsOver : RunForm → Bool → Image → Option (List ℕ) → List Event → Result (Unit {0}) Ending → List Event → Type 0
+RunsOver form is_typed image input = Then (Purely (IsRoom {A = Unit {0}})) (λ room. Then (Answers (MountsSession image.bytes.items) (length image.bytes.items)) (λ session. RunsSession form is_typed image session input))
+
+-- An image file is held and read, and the script runs over it.
 abbrev pub RunsScript : ImageForm → RunForm → Bool → Option (List ℕ) → List Event → Result (Unit {0}) Ending → List Event → Type 0
-RunsScript named form is_typed input = Then (OpensFor form.saving named) (λ image. Then (Purely (IsRoom {A = Unit {0}})) (λ room. Then (Answers (MountsSession image.bytes.items) (length image.bytes.items)) (λ session. RunsSession form is_typed image session input)))
+RunsScript named form is_typed input = Then (OpensFor form.saving named) (λ image. RunsOver form is_typed image input)

@@ -12,4 +12,4 @@ mod saves;
 mod scripts;
 mod watching;
 
-pub use scripts::run_script;
+pub use scripts::{open_image, run_over, run_script};

@@ -5,7 +5,7 @@ ghost use Rattle.hosts.specs.Streams.{output_text};
 ghost use Rattle.volume_commands.specs.Answers.{Answers};
 ghost use Rattle.volume_commands.specs.declared.images.Image.{Image as ImageState};
 ghost use Rattle.script_commands.specs.RunSteps.{HasDone, TellsCut};
-ghost use Rattle.script_commands.specs.Scripts.{IsRoom, MountsSession, OpensFor, OnlyReads, RunsScript, RunsSession, EndsRun};
+ghost use Rattle.script_commands.specs.Scripts.{IsRoom, MountsSession, OpensFor, OnlyReads, RunsOver, RunsScript, RunsSession, EndsRun};
 
 use crate::inputs::{CountedInput, Start};
 use crate::printing::{ROOM, print_waiting};
@@ -41,14 +41,12 @@ pub fn run_script<H: Host, I: Read + Drop>(
 ) -> Result<(), Ending>
     ensures { RunsScript named.now form (is_some forms.entry) (I.remaining input) (H.history host.old) result (H.history host.new) }
 {
-    let image = image_for(host, alloc, named, form.saving)?;
-    let rooms = Rooms::new(alloc, &image.bytes)?;
-    let session = session_over(host, alloc, &image.bytes)?;
-    run_session::<H, I, Brand>(host, alloc, input, image, rooms, session, form, forms)
+    let image = open_image(host, alloc, named, form.saving)?;
+    run_over(host, alloc, input, image, form, forms)
 }
 
-/// The image in a file, which is held unless the image is never to be saved.
-fn image_for<H: Host>(
+/// Opens the image in a file, which is held unless the image is never to be saved. A run over it may come later.
+pub fn open_image<H: Host>(
     host: &mut H,
     alloc: Global,
     named: &ImageForm,
@@ -77,6 +75,22 @@ fn read_image<H: Host>(host: &mut H, alloc: Global, named: &ImageForm) -> Result
         bytes,
         disk: None,
     })
+}
+
+/// Runs the script of a reader over the volume of an image that was opened for it, as `run_script` does.
+pub fn run_over<H: Host, I: Read + Drop>(
+    host: &mut H,
+    alloc: Global,
+    input: I,
+    image: Image,
+    form: RunForm,
+    forms: Option<&'static str>,
+) -> Result<(), Ending>
+    ensures { RunsOver form (is_some forms.entry) image (I.remaining input) (H.history host.old) result (H.history host.new) }
+{
+    let rooms = Rooms::new(alloc, &image.bytes)?;
+    let session = session_over(host, alloc, &image.bytes)?;
+    run_session::<H, I, Brand>(host, alloc, input, image, rooms, session, form, forms)
 }
 
 /// Room for what a run takes memory for.
