@@ -23,7 +23,7 @@ use Rattle.volume_commands.specs.Reading.{Looks}
 use Rattle.volume_commands.specs.Work.{Then, Purely}
 use Rattle.volume_commands.specs.declared.images.Image.{Image}
 use Rattle.script_commands.specs.Laws.{IsInPlace, IsKeptBefore, IsOneOf, file_of}
-use Rattle.script_commands.specs.Scripts.{IsRoom, MountsSession, OnlyReads, OpensFor, RunsScript, RunsSession}
+use Rattle.script_commands.specs.Scripts.{MountsSession, OnlyReads, OpensFor, RunsScript, RunsSession}
 use Rattle.script_commands.specs.Steps.{Step, Saves, Fails, Replies, Prints, Refuses as RefusesPrint, Shows, Cuts, AreDone, AreKept, AreUnsaved, GetsImage, IsFileOf, changes, has_saved, has_unsynced, last_image, unsaved}
 
 same : {old new : List Event} (path : List ℕ) → new ≡ old → about path new ≡ about path old

@@ -1,9 +1,8 @@
 -- How an image file gets an image.
-use Rattle.std.proofs.Common.{◌≡◌, ◌∙◌, ◌<◌, ℕ, Bool, true, false, List, ◌∷◌, Result, Ok, Err, ap, inl, refl}
-use Rattle.std.specs.Str.{bytes_eq}
+use Rattle.std.proofs.Common.{◌≡◌, ◌∙◌, ◌<◌, ℕ, Bool, true, false, List, Err, ap, inl, refl}
 use Rattle.hosts.specs.Event.{Event}
 use Rattle.hosts.specs.Place.{Step, about}
-use Rattle.hosts.specs.Saving.{AnyMomentOf, KeepsFile, SavesFile}
+use Rattle.hosts.specs.Saving.{AnyMomentOf, SavesFile}
 use Rattle.hosts.specs.Streams.{output, errors, read, failures, may_replace}
 use Rattle.hosts.specs.declared.faults.Durability.{Durability}
 use Rattle.hosts.specs.declared.faults.Durability.TheVariants.{Certain, Unknown}
@@ -13,7 +12,7 @@ use Rattle.outcome.specs.declared.contents.Content.TheVariants as content
 use Rattle.volume_commands.specs.Faults.{ending_of_write}
 use Rattle.volume_commands.specs.Saving.{IsPlaceTold, TouchesOnly, Writes}
 use Rattle.volume_commands.specs.declared.images.Image.{Image}
-use Rattle.script_commands.specs.Steps.{GetsImage, IsFileOf, IsPlaceToldOnce, IsSyncToldOnce}
+use Rattle.script_commands.specs.Steps.{GetsImage, IsPlaceToldOnce, IsSyncToldOnce}
 use Rattle.script_commands.specs.RunSteps.{IsWritten, NotesSync}
 
 -- what a note on the folder leaves as it was

@@ -8,7 +8,7 @@ use Rattle.hosts.specs.declared.faults.PrintFault.{PrintFault}
 use Rattle.outcome.specs.declared.endings.Ending.{Ending}
 use Rattle.program_tasks.specs.declared.tasks.RunForm.{RunForm}
 use Rattle.program_tasks.specs.declared.tasks.Saving.{Saving}
-use Rattle.program_tasks.specs.declared.tasks.Saving.TheVariants.{Never, Always}
+use Rattle.program_tasks.specs.declared.tasks.Saving.TheVariants.{Never}
 use Rattle.script8.specs.Reading.{TakesBytes}
 use Rattle.script8.specs.declared.readings.TheConstants.{MOST}
 use Rattle.script8.specs.declared.faults.SessionFault.{SessionFault}
@@ -19,7 +19,7 @@ use Rattle.system_session.specs.Session.{IsLater, NoCallFailed, SessionView, sta
 use Rattle.volume_image.specs.Image.{IsImageOf}
 use Rattle.volume_commands.specs.declared.images.Image.{Image}
 use Rattle.script_commands.specs.Scripts.{EndsRun, RunsSession}
-use Rattle.script_commands.specs.Steps.{AreDone, has_cut, has_refusal, last_image, printed_text, reply_text, unprinted, unsaved}
+use Rattle.script_commands.specs.Steps.{AreDone, has_refusal, last_image, printed_text, reply_text, unprinted, unsaved}
 use Rattle.script_commands.specs.RunSteps.{HasDone}
 use Rattle.script_commands.specs.declared.progress.Progress.{Progress}
 use Rattle.script_commands.proofs.RunLemmas.{none_done, same_text}
@@ -32,6 +32,19 @@ first image saving is_typed lines = record { image = image; saving = saving; is_
 
 pub begun : (image : Image) (saving : Saving) (is_typed : Bool) (lines : Vec ℕ) (p : Progress) (old : List Event) → lines.items ≡ [] → p ≡ first image saving is_typed lines → HasDone p.image old p old
 begun image saving is_typed lines p old none is = subst (λ (q : Progress). HasDone q.image old q old) (sym is) (none_done image saving is_typed lines old none)
+
+-- what it has
+pub image_at : (image : Image) (saving : Saving) (is_typed : Bool) (lines : Vec ℕ) (p : Progress) → p ≡ first image saving is_typed lines → p.image ≡ image
+image_at image saving is_typed lines p is = ap (λ (q : Progress). q.image) is
+
+pub saving_at : (image : Image) (saving : Saving) (is_typed : Bool) (lines : Vec ℕ) (p : Progress) → p ≡ first image saving is_typed lines → p.saving ≡ saving
+saving_at image saving is_typed lines p is = ap (λ (q : Progress). q.saving) is
+
+pub typed_at : (image : Image) (saving : Saving) (is_typed : Bool) (lines : Vec ℕ) (p : Progress) → p ≡ first image saving is_typed lines → p.is_typed ≡ is_typed
+typed_at image saving is_typed lines p is = ap (λ (q : Progress). q.is_typed) is
+
+pub cut_at : (image : Image) (saving : Saving) (is_typed : Bool) (lines : Vec ℕ) (p : Progress) → p ≡ first image saving is_typed lines → p.is_cut ≡ false
+cut_at image saving is_typed lines p is = ap (λ (q : Progress). q.is_cut) is
 
 pub begun_at : (image start : Image) (old h new : List Event) (p : Progress) → HasDone start h p new → start ≡ image → h ≡ old → HasDone image old p new
 begun_at image start old h new p d is same = subst (λ (i : Image). HasDone i old p new) is (subst (λ (e : List Event). HasDone start e p new) same d)

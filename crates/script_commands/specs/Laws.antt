@@ -1,15 +1,11 @@
 -- What a run of a script means for who keeps images.
-use Rattle.std.specs.Prelude.{◌≡◌, ◌⊎◌, ℕ, List, [], ◌∷◌, ◌++◌, Bool, false, true, Option, None, Some, Result}
+use Rattle.std.specs.Prelude.{◌≡◌, ◌⊎◌, ℕ, List, [], ◌∷◌, ◌++◌, Bool, false, Option, None, Some}
 use Rattle.disk_layouts.specs.Files.{Disk}
 use Rattle.hosts.specs.Event.{Event}
-use Rattle.hosts.specs.Place.{Place, Leaves, about, ever}
-use Rattle.hosts.specs.Streams.{may_replace, output_text}
-use Rattle.script8.specs.declared.entries.Entry.{Entry}
-use Rattle.script8.specs.declared.faults.SessionFault.{SessionFault}
-use Rattle.script8.specs.declared.replies.Reply.{Reply}
+use Rattle.hosts.specs.Streams.{may_replace}
 use Rattle.volume_image.specs.Image.{IsImageOf}
 use Rattle.volume_commands.specs.declared.images.Image.{Image}
-use Rattle.script_commands.specs.Steps.{Step, Saves, Fails, Replies, Prints, Refuses, Shows, Cuts, AreDone, last_image, printed_text}
+use Rattle.script_commands.specs.Steps.{Step, Saves, Fails, Replies, Prints, Refuses, Shows, Cuts, AreDone, last_image}
 
 -- the bytes of the file that has an image
 abbrev pub file_of : Option Disk → List ℕ → List ℕ

@@ -1,5 +1,5 @@
 -- What a run of a script does at its host, step by step.
-use Rattle.std.specs.Prelude.{◌≡◌, ◌≢◌, ◌⊎◌, ℕ, List, [], ◌∷◌, ◌++◌, Bool, true, false, Option, None, Some, Result, Ok, Err, codes}
+use Rattle.std.specs.Prelude.{◌≡◌, ◌⊎◌, ℕ, List, [], ◌∷◌, ◌++◌, Bool, true, false, Option, None, Some, Result, Ok, Err, codes}
 use Rattle.hosts.specs.Event.{Event, print_call, tell_call}
 use Rattle.hosts.specs.Faults.{pipe_number}
 use Rattle.hosts.specs.Place.{about}

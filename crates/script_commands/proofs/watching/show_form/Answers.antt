@@ -1,4 +1,3 @@
-use Rattle.std.proofs.Common.{rules}
 use Rattle.script_commands.proofs.RunLemmas.{form_told}
 use Rattle.script_commands.proofs.watching.show_form.Goals as goal
 
