@@ -24,7 +24,7 @@ use Rattle.volume_commands.specs.Work.{Then, Purely}
 use Rattle.volume_commands.specs.declared.images.Image.{Image}
 use Rattle.script_commands.specs.Laws.{IsInPlace, IsKeptBefore, IsOneOf, file_of}
 use Rattle.script_commands.specs.Scripts.{MountsSession, OnlyReads, OpensFor, RunsScript, RunsSession}
-use Rattle.script_commands.specs.Steps.{Step, Saves, Fails, Replies, Prints, Refuses as RefusesPrint, Shows, Cuts, AreDone, AreKept, AreUnsaved, GetsImage, IsFileOf, changes, has_saved, has_unsynced, last_image, unsaved}
+use Rattle.script_commands.specs.Steps.{Step, Saves, Fails, Replies, Prints, Refuses as RefusesPrint, Shows, Cuts, AreDone, AreKept, AreUnsaved, GetsImage, IsFileOf, changes, has_saved, has_unsynced, last_image, save_ending}
 
 same : {old new : List Event} (path : List ℕ) → new ≡ old → about path new ≡ about path old
 same path is = ap (λ (events : List Event). about path events) is
@@ -121,7 +121,7 @@ later-leaves is_typed start step steps old place found one (inr (inr it)) = inr 
 still : (path : List ℕ) (mid new : List Event) (place : Place) (found : Option (List ℕ)) → about path new ≡ about path mid → Leaves (ever place (about path new)) found → Leaves (ever place (about path mid)) found
 still path mid new place found is left = subst (λ (s : List HostStep). Leaves (ever place s) found) is left
 
-saves-leaves : (is_typed : Bool) (start image : Image) (durability : Durability) (earlier : List Step) (old mid new : List Event) (place : Place) (found : Option (List ℕ)) → AreDone is_typed start earlier old mid → unsaved earlier ≡ None
+saves-leaves : (is_typed : Bool) (start image : Image) (durability : Durability) (earlier : List Step) (old mid new : List Event) (place : Place) (found : Option (List ℕ)) → AreDone is_typed start earlier old mid → save_ending earlier ≡ None
     → GetsImage (has_saved earlier) (has_unsynced earlier) (last_image start earlier) image durability mid new
     → (Leaves (ever place (about start.place.path.bytes.items mid)) found → CrashLeaves is_typed start earlier old place found)
     → Leaves (ever place (about start.place.path.bytes.items new)) found → CrashLeaves is_typed start (Saves image durability ∷ earlier) old place found
@@ -141,7 +141,7 @@ saves-leaves is_typed start image durability earlier old mid new place found don
   saves (inl (inr new-one)) = one (subst (λ (l : List Remainder). Leaves l found) new-one left)
   saves (inr over) = inr (inr (record { later = []; earlier = Saves image durability ∷ earlier; parts = refl; moment = new; done = (mid, done, (none, got)); over = over }))
 
-pub crash-leaves : (is_typed : Bool) (start : Image) (steps : List Step) (old new : List Event) → AreDone is_typed start steps old new → unsaved steps ≡ None
+pub crash-leaves : (is_typed : Bool) (start : Image) (steps : List Step) (old new : List Event) → AreDone is_typed start steps old new → save_ending steps ≡ None
     → (place : Place) (found : Option (List ℕ)) → Leaves (ever place (about start.place.path.bytes.items new)) found → CrashLeaves is_typed start steps old place found
 crash-leaves is_typed start [] old new done none place found left = inl (still start.place.path.bytes.items old new place found (same start.place.path.bytes.items done) left)
 crash-leaves is_typed start (Saves image durability ∷ earlier) old new (mid, done, (none', got)) none place found left =

@@ -238,9 +238,9 @@ pub after_now : (start : Image) (old mid new : List Event) (p q : Progress) (is_
 after_now start old mid new p q is_refused bytes (Ok it) d m none is after = printed_now start old mid new p q is_refused bytes d m none is after
 after_now start old mid new p q is_refused bytes (Err why) d m none is after = refused_now start old mid new p q is_refused why bytes d is after
 
-pub may_still : (p q : Progress) (is_refused : Bool) (bytes : List ℕ) → MayPrint is_refused p bytes → q.unsaved ≡ p.unsaved → q.saving ≡ p.saving → q.image ≡ p.image → MayPrint is_refused q bytes
-may_still p q is_refused bytes m unsaved saving image = record {
-  saved = unsaved ∙ m.saved;
+pub may_still : (p q : Progress) (is_refused : Bool) (bytes : List ℕ) → MayPrint is_refused p bytes → q.save_ending ≡ p.save_ending → q.saving ≡ p.saving → q.image ≡ p.image → MayPrint is_refused q bytes
+may_still p q is_refused bytes m save_ending saving image = record {
+  saved = save_ending ∙ m.saved;
   entry = m.entry;
   answer = m.answer;
   are = m.are;
@@ -254,7 +254,7 @@ abbrev is_there : Option Ending → Type 0
 is_there None = ⊥
 is_there (Some it) = Unit {0}
 
-pub saved : (start : Image) (old mid new : List Event) (p q : Progress) → HasDone start old p mid → p.unsaved ≡ None → (p.saving ≡ Never → ⊥) → q ≡ record p { image = q.image; is_place_told = q.is_place_told; is_sync_told = q.is_sync_told }
+pub saved : (start : Image) (old mid new : List Event) (p q : Progress) → HasDone start old p mid → p.save_ending ≡ None → (p.saving ≡ Never → ⊥) → q ≡ record p { image = q.image; is_place_told = q.is_place_told; is_sync_told = q.is_sync_told }
     → Gets p (Ok tt) q mid new → output new ≡ output mid → HasDone start old q new
 saved start old mid new p q d none may same (inl it) out = rw (it.0) (subst (λ (h : List Event). HasDone start old p h) (sym it.1) d)
 saved start old mid new p q d none may same (inr it) out = rw same (record {
@@ -273,8 +273,8 @@ saved start old mid new p q d none may same (inr it) out = rw same (record {
   never = λ never. absurd (may never);
 })
 
-pub failed : (start : Image) (old mid new : List Event) (p q : Progress) (why : Ending) → HasDone start old p mid → p.unsaved ≡ None → (p.saving ≡ Never → ⊥) → q ≡ record p { image = q.image; is_place_told = q.is_place_told; is_sync_told = q.is_sync_told }
-    → Gets p (Err why) q mid new → output new ≡ output mid → HasDone start old (record q { unsaved = Some why }) new
+pub failed : (start : Image) (old mid new : List Event) (p q : Progress) (why : Ending) → HasDone start old p mid → p.save_ending ≡ None → (p.saving ≡ Never → ⊥) → q ≡ record p { image = q.image; is_place_told = q.is_place_told; is_sync_told = q.is_sync_told }
+    → Gets p (Err why) q mid new → output new ≡ output mid → HasDone start old (record q { save_ending = Some why }) new
 failed start old mid new p q why d none may same stays out = rw same (record {
   steps = Fails why ∷ d.steps;
   done = (mid, d.done, (sym d.why ∙ none, subst (λ (i : Image). StaysUnsaved i why mid new) (d.image none) stays));
@@ -295,7 +295,7 @@ failed start old mid new p q why d none may same stays out = rw same (record {
 
 -- nothing is done
 pub none_done : (start : Image) (saving : Saving) (is_typed : Bool) (lines : Vec ℕ) (old : List Event) → lines.items ≡ []
-    → HasDone start old (record { image = start; saving = saving; is_typed = is_typed; lines = lines; is_place_told = false; is_sync_told = false; is_cut = false; is_refused = false; unsaved = None; fault = None }) old
+    → HasDone start old (record { image = start; saving = saving; is_typed = is_typed; lines = lines; is_place_told = false; is_sync_told = false; is_cut = false; is_refused = false; save_ending = None; fault = None }) old
 none_done start saving is_typed lines old none = record {
   steps = [];
   done = refl;

@@ -19,7 +19,7 @@ use Rattle.system_session.specs.Session.{IsLater, NoCallFailed, SessionView, sta
 use Rattle.volume_image.specs.Image.{IsImageOf}
 use Rattle.volume_commands.specs.declared.images.Image.{Image}
 use Rattle.script_commands.specs.Scripts.{EndsRun, RunsSession}
-use Rattle.script_commands.specs.Steps.{AreDone, has_refusal, last_image, printed_text, reply_text, unprinted, unsaved}
+use Rattle.script_commands.specs.Steps.{AreDone, has_refusal, last_image, printed_text, reply_text, print_fault, save_ending}
 use Rattle.script_commands.specs.RunSteps.{HasDone}
 use Rattle.script_commands.specs.declared.progress.Progress.{Progress}
 use Rattle.script_commands.proofs.RunLemmas.{none_done, same_text}
@@ -28,7 +28,7 @@ use Rattle.script_commands.proofs.RunLemmas.{none_done, same_text}
 
 -- a run that has done nothing
 abbrev pub first : Image → Saving → Bool → Vec ℕ → Progress
-first image saving is_typed lines = record { image = image; saving = saving; is_typed = is_typed; lines = lines; is_place_told = false; is_sync_told = false; is_cut = false; is_refused = false; unsaved = None; fault = None }
+first image saving is_typed lines = record { image = image; saving = saving; is_typed = is_typed; lines = lines; is_place_told = false; is_sync_told = false; is_cut = false; is_refused = false; save_ending = None; fault = None }
 
 pub begun : (image : Image) (saving : Saving) (is_typed : Bool) (lines : Vec ℕ) (p : Progress) (old : List Event) → lines.items ≡ [] → p ≡ first image saving is_typed lines → HasDone p.image old p old
 begun image saving is_typed lines p old none is = subst (λ (q : Progress). HasDone q.image old q old) (sym is) (none_done image saving is_typed lines old none)
@@ -76,18 +76,18 @@ module _
     (old ran limit last new : List Event) (p q r s : Progress) (blocks : List (List ℕ)) (is_long : Bool)
     (done : HasDone image old p ran) (saving : p.saving ≡ form.saving) (typed : p.is_typed ≡ is_typed)
     (told : RunsText 16777216 (state_of session) (state_of end) input left (Some (output_text old)) (Some (output_text ran ++ p.lines.items)) answer)
-    (stopped : IfErr answer (λ e. e ≡ Writer → (p.unsaved ≡ None → ⊥) ⊎ (p.fault ≡ None → ⊥)))
+    (stopped : IfErr answer (λ e. e ≡ Writer → (p.save_ending ≡ None → ⊥) ⊎ (p.fault ≡ None → ⊥)))
     (long : is_long ≡ true → (count : ℕ) × TakesBytes input left count × (MOST < count))
     (done-q : (start : Image) (before : List Event) → HasDone start before p ran → HasDone start before q limit)
     (out-q : output_text limit ≡ output_text ran) (is-q : q ≡ record p { is_cut = q.is_cut }) (cut-q : q.is_cut ≡ true → is_long ≡ true)
     (done-r : (start : Image) (before : List Event) → HasDone start before q limit → HasDone start before r last)
-    (image-r : (q.saving ≡ Never → ⊥) → r.unsaved ≡ None → IsImageOf r.image.bytes.items blocks) (blocks-are : blocks ≡ end.volume.blocks)
-    (was-r : r.unsaved ≡ None → q.unsaved ≡ None) (fault-r : r.fault ≡ q.fault) (out-r : output last ≡ output limit) (lines-r : r.lines ≡ q.lines)
+    (image-r : (q.saving ≡ Never → ⊥) → r.save_ending ≡ None → IsImageOf r.image.bytes.items blocks) (blocks-are : blocks ≡ end.volume.blocks)
+    (was-r : r.save_ending ≡ None → q.save_ending ≡ None) (fault-r : r.fault ≡ q.fault) (out-r : output last ≡ output limit) (lines-r : r.lines ≡ q.lines)
     (saving-r : r.saving ≡ q.saving) (typed-r : r.is_typed ≡ q.is_typed) (cut-r : r.is_cut ≡ q.is_cut)
     (done-s : (start : Image) (before : List Event) → HasDone start before r last → HasDone start before s new)
-    (image-s : s.image ≡ r.image) (saving-s : s.saving ≡ r.saving) (typed-s : s.is_typed ≡ r.is_typed) (unsaved-s : s.unsaved ≡ r.unsaved) (cut-s : s.is_cut ≡ r.is_cut)
+    (image-s : s.image ≡ r.image) (saving-s : s.saving ≡ r.saving) (typed-s : s.is_typed ≡ r.is_typed) (save_ending-s : s.save_ending ≡ r.save_ending) (cut-s : s.is_cut ≡ r.is_cut)
     (text-s : output_text new ++ s.lines.items ≡ output_text last ++ r.lines.items) (waiting-s : s.fault ≡ None → s.lines.items ≡ []) (fault-s : s.fault ≡ None → r.fault ≡ None)
-    (ends : EndsRun form.is_strict s.is_refused s.unsaved s.fault answer result)
+    (ends : EndsRun form.is_strict s.is_refused s.save_ending s.fault answer result)
   where
     d : HasDone image old s new
     d = done-s image old (done-r image old (done-q image old done))
@@ -107,24 +107,24 @@ module _
     replies : output_text new ++ s.lines.items ≡ output_text old ++ reply_text d.steps
     replies = ap (λ (t : List ℕ). t ++ s.lines.items) d.text ∙ (append_assoc (output_text old) (printed_text d.steps) s.lines.items ∙ ap (λ (t : List ℕ). output_text old ++ t) (sym d.waiting))
 
-    was-saved : unsaved d.steps ≡ None → p.unsaved ≡ None
-    was-saved none = sym (ap (λ (x : Progress). x.unsaved) is-q) ∙ was-r (sym unsaved-s ∙ (d.why ∙ none))
+    was-saved : save_ending d.steps ≡ None → p.save_ending ≡ None
+    was-saved none = sym (ap (λ (x : Progress). x.save_ending) is-q) ∙ was-r (sym save_ending-s ∙ (d.why ∙ none))
 
-    was-printed : unprinted d.steps ≡ None → p.fault ≡ None
+    was-printed : print_fault d.steps ≡ None → p.fault ≡ None
     was-printed none = sym (ap (λ (x : Progress). x.fault) is-q) ∙ (sym fault-r ∙ fault-s (d.fault ∙ none))
 
-    stops : (p.unsaved ≡ None → ⊥) ⊎ (p.fault ≡ None → ⊥) → (unsaved d.steps ≡ None → ⊥) ⊎ (unprinted d.steps ≡ None → ⊥)
+    stops : (p.save_ending ≡ None → ⊥) ⊎ (p.fault ≡ None → ⊥) → (save_ending d.steps ≡ None → ⊥) ⊎ (print_fault d.steps ≡ None → ⊥)
     stops (inl failed) = inl (λ none. failed (was-saved none))
     stops (inr failed) = inr (λ none. failed (was-printed none))
 
-    saved : (form.saving ≡ Never → ⊥) → unsaved d.steps ≡ None → IsImageOf (last_image image d.steps).bytes.items end.volume.blocks
+    saved : (form.saving ≡ Never → ⊥) → save_ending d.steps ≡ None → IsImageOf (last_image image d.steps).bytes.items end.volume.blocks
     saved may none = subst (λ (i : Image). IsImageOf i.bytes.items end.volume.blocks) (sym image-s ∙ d.image (d.why ∙ none))
-        (subst (λ (b : List (List ℕ)). IsImageOf r.image.bytes.items b) blocks-are (image-r (λ never. may (sym q-saving ∙ never)) (sym unsaved-s ∙ (d.why ∙ none))))
+        (subst (λ (b : List (List ℕ)). IsImageOf r.image.bytes.items b) blocks-are (image-r (λ never. may (sym q-saving ∙ never)) (sym save_ending-s ∙ (d.why ∙ none))))
 
-    ended : EndsRun form.is_strict (has_refusal d.steps) (unsaved d.steps) (unprinted d.steps) answer result
-    ended = subst (λ (b : Bool). EndsRun form.is_strict b (unsaved d.steps) (unprinted d.steps) answer result) d.refused
-        (subst (λ (u : Option Ending). EndsRun form.is_strict s.is_refused u (unprinted d.steps) answer result) d.why
-            (subst (λ (f : Option PrintFault). EndsRun form.is_strict s.is_refused s.unsaved f answer result) d.fault ends))
+    ended : EndsRun form.is_strict (has_refusal d.steps) (save_ending d.steps) (print_fault d.steps) answer result
+    ended = subst (λ (b : Bool). EndsRun form.is_strict b (save_ending d.steps) (print_fault d.steps) answer result) d.refused
+        (subst (λ (u : Option Ending). EndsRun form.is_strict s.is_refused u (print_fault d.steps) answer result) d.why
+        (subst (λ (f : Option PrintFault). EndsRun form.is_strict s.is_refused s.save_ending f answer result) d.fault ends))
 
     pub session_ran : RunsSession form is_typed image session input old result new
     session_ran = record {

@@ -22,19 +22,19 @@ use Rattle.script8.specs.declared.replies.Reply.{Reply}
 use Rattle.volume_image.specs.Image.{IsImageOf}
 use Rattle.volume_commands.specs.Saving.{TouchesOnly, Writes}
 use Rattle.volume_commands.specs.declared.images.Image.{Image}
-use Rattle.script_commands.specs.Steps.{Step, AreDone, AreKept, AreUnsaved, GetsImage, IsFileOf, IsPlaceToldOnce, StaysUnsaved, changes, has_cut, has_refusal, has_saved, has_unsynced, is_refusal, is_unknown, last_image, or_else, printed_text, reply_text, unprinted, unsaved}
+use Rattle.script_commands.specs.Steps.{Step, AreDone, AreKept, AreUnsaved, GetsImage, IsFileOf, IsPlaceToldOnce, StaysUnsaved, changes, has_cut, has_refusal, has_saved, has_unsynced, is_refusal, is_unknown, last_image, or_else, printed_text, reply_text, print_fault, save_ending}
 use Rattle.script_commands.specs.declared.progress.Progress.{Progress}
 
 -- a run that began with an image, after these calls, has come so far
 pub record HasDone (start : Image) (old : List Event) (p : Progress) (new : List Event) : Type 0 where
   pub steps : List Step
   pub done : AreDone p.is_typed start steps old new
-  pub image : p.unsaved ≡ None → p.image ≡ last_image start steps
-  pub place : p.unsaved ≡ None → p.is_place_told ≡ has_saved steps
-  pub sync : p.unsaved ≡ None → p.is_sync_told ≡ has_unsynced steps
+  pub image : p.save_ending ≡ None → p.image ≡ last_image start steps
+  pub place : p.save_ending ≡ None → p.is_place_told ≡ has_saved steps
+  pub sync : p.save_ending ≡ None → p.is_sync_told ≡ has_unsynced steps
   pub refused : p.is_refused ≡ has_refusal steps
-  pub why : p.unsaved ≡ unsaved steps
-  pub fault : p.fault ≡ unprinted steps
+  pub why : p.save_ending ≡ save_ending steps
+  pub fault : p.fault ≡ print_fault steps
   pub cut : p.is_cut ≡ has_cut steps
   pub waiting : reply_text steps ≡ printed_text steps ++ p.lines.items
   pub text : output_text new ≡ output_text old ++ printed_text steps
@@ -87,7 +87,7 @@ PrintsLines (byte ∷ bytes) (Err fault) old new = new ≡ print_call false (pip
 
 -- lines of an answer may be printed: where each change is to be kept, the file has an image first
 pub record MayPrint (is_refused : Bool) (p : Progress) (lines : List ℕ) : Type 0 where
-  pub saved : p.unsaved ≡ None
+  pub saved : p.save_ending ≡ None
   pub entry : Option Entry
   pub answer : Result Reply SessionFault
   pub are : lines ≡ answer_lines entry answer

@@ -32,7 +32,7 @@ use Rattle.volume_commands.specs.Reading.{FindsVolume, Looks, Opens}
 use Rattle.volume_commands.specs.Saving.{IsDone}
 use Rattle.volume_commands.specs.Work.{Then, Purely}
 use Rattle.volume_commands.specs.declared.images.Image.{Image}
-use Rattle.script_commands.specs.Steps.{Step, AreDone, AreKept, AreUnsaved, has_cut, has_refusal, last_image, printed_text, reply_text, unprinted, unsaved}
+use Rattle.script_commands.specs.Steps.{Step, AreDone, AreKept, AreUnsaved, has_cut, has_refusal, last_image, printed_text, reply_text, print_fault, save_ending}
 
 -- ## The image
 
@@ -95,7 +95,7 @@ EndsRun is_strict is_refused why fault answer = IsEndedBy (ending_of (is_strict 
 
 -- What a run of a script over a session does. The reader's bytes are its script, and the lines of its answers are printed, but for some
 -- where standard output takes no more. The file has the image of the volume at the end, where it is to be saved and could be. Where each change
--- is to be kept, it had an image before each reply that tells of one.
+-- is to be kept, it had an image before each reply after which this may be another.
 pub record RunsSession (form : RunForm) (is_typed : Bool) (image : Image) (session : SessionView) (input : Option (List ℕ)) (old : List Event) (result : Result (Unit {0}) Ending) (new : List Event) : Type 0 where
   pub steps : List Step
   pub done : AreDone is_typed image steps old new
@@ -105,14 +105,14 @@ pub record RunsSession (form : RunForm) (is_typed : Bool) (image : Image) (sessi
   pub told : RunsText 16777216 (state_of session) (state_of end) input left (Some (output_text old)) (Some (output_text old ++ reply_text steps)) answer
   pub waiting : List ℕ
   pub printed : reply_text steps ≡ printed_text steps ++ waiting
-  pub all : unprinted steps ≡ None → waiting ≡ []
+  pub all : print_fault steps ≡ None → waiting ≡ []
   pub text : output_text new ≡ output_text old ++ printed_text steps
   pub never : form.saving ≡ Never → AreUnsaved steps
   pub kept : form.saving ≡ Always → AreKept image steps
-  pub saved : form.saving ≢ Never → unsaved steps ≡ None → IsImageOf (last_image image steps).bytes.items end.volume.blocks
-  pub stopped : answer ≡ Err Writer → (unsaved steps ≢ None) ⊎ (unprinted steps ≢ None)
+  pub saved : form.saving ≢ Never → save_ending steps ≡ None → IsImageOf (last_image image steps).bytes.items end.volume.blocks
+  pub stopped : answer ≡ Err Writer → (save_ending steps ≢ None) ⊎ (print_fault steps ≢ None)
   pub cut : has_cut steps ≡ true → (count : ℕ) × TakesBytes input left count × (MOST < count)
-  pub ends : EndsRun form.is_strict (has_refusal steps) (unsaved steps) (unprinted steps) answer result
+  pub ends : EndsRun form.is_strict (has_refusal steps) (save_ending steps) (print_fault steps) answer result
 
 -- A script runs over a session of an image's volume, unless memory is wanted, or the image is refused.
 abbrev pub RunsOver : RunForm → Bool → Image → Option (List ℕ) → List Event → Result (Unit {0}) Ending → List Event → Type 0

@@ -79,26 +79,26 @@ printed_text (Shows form ∷ earlier) = printed_text earlier
 printed_text (Cuts ∷ earlier) = printed_text earlier
 
 -- why the image file could not get an image, if it could not
-abbrev pub unsaved : List Step → Option Ending
-unsaved [] = None
-unsaved (Saves image durability ∷ earlier) = unsaved earlier
-unsaved (Fails ending ∷ earlier) = Some ending
-unsaved (Replies entry answer ∷ earlier) = unsaved earlier
-unsaved (Prints bytes ∷ earlier) = unsaved earlier
-unsaved (Refuses fault bytes ∷ earlier) = unsaved earlier
-unsaved (Shows form ∷ earlier) = unsaved earlier
-unsaved (Cuts ∷ earlier) = unsaved earlier
+abbrev pub save_ending : List Step → Option Ending
+save_ending [] = None
+save_ending (Saves image durability ∷ earlier) = save_ending earlier
+save_ending (Fails ending ∷ earlier) = Some ending
+save_ending (Replies entry answer ∷ earlier) = save_ending earlier
+save_ending (Prints bytes ∷ earlier) = save_ending earlier
+save_ending (Refuses fault bytes ∷ earlier) = save_ending earlier
+save_ending (Shows form ∷ earlier) = save_ending earlier
+save_ending (Cuts ∷ earlier) = save_ending earlier
 
 -- why standard output took no more, if it took no more
-abbrev pub unprinted : List Step → Option PrintFault
-unprinted [] = None
-unprinted (Saves image durability ∷ earlier) = unprinted earlier
-unprinted (Fails ending ∷ earlier) = unprinted earlier
-unprinted (Replies entry answer ∷ earlier) = unprinted earlier
-unprinted (Prints bytes ∷ earlier) = unprinted earlier
-unprinted (Refuses fault bytes ∷ earlier) = Some fault
-unprinted (Shows form ∷ earlier) = unprinted earlier
-unprinted (Cuts ∷ earlier) = unprinted earlier
+abbrev pub print_fault : List Step → Option PrintFault
+print_fault [] = None
+print_fault (Saves image durability ∷ earlier) = print_fault earlier
+print_fault (Fails ending ∷ earlier) = print_fault earlier
+print_fault (Replies entry answer ∷ earlier) = print_fault earlier
+print_fault (Prints bytes ∷ earlier) = print_fault earlier
+print_fault (Refuses fault bytes ∷ earlier) = Some fault
+print_fault (Shows form ∷ earlier) = print_fault earlier
+print_fault (Cuts ∷ earlier) = print_fault earlier
 
 -- an answer is a refusal, or a job that ended with a fault
 abbrev pub is_refusal : Result Reply SessionFault → Bool
@@ -193,12 +193,12 @@ StaysUnsaved before ending old new = ((ending ≡ Fault Memory) × (new ≡ old)
     ⊎ (((ending ≡ NotWritten content.Image unwritten.AsItWas) × (new ≡ old))
     ⊎ ((file : List ℕ) × Writes content.Image before.place.path.bytes.items file old (Err ending) new))
 
--- what a step did after earlier ones, from the calls before it to those after it: where a save failed, none is tried again; what is
--- printed are all lines that wait
+-- What a step did after earlier ones, from the calls before it to those after it. Where a save failed, none is tried again. All lines
+-- that wait are printed at once.
 abbrev pub Does : Bool → Image → List Step → Step → List Event → List Event → Type 0
-Does is_typed start earlier (Saves image durability) old new = (unsaved earlier ≡ None)
+Does is_typed start earlier (Saves image durability) old new = (save_ending earlier ≡ None)
     × GetsImage (has_saved earlier) (has_unsynced earlier) (last_image start earlier) image durability old new
-Does is_typed start earlier (Fails ending) old new = (unsaved earlier ≡ None) × StaysUnsaved (last_image start earlier) ending old new
+Does is_typed start earlier (Fails ending) old new = (save_ending earlier ≡ None) × StaysUnsaved (last_image start earlier) ending old new
 Does is_typed start earlier (Replies entry answer) old new = new ≡ old
 Does is_typed start earlier (Prints bytes) old new = (reply_text earlier ≡ printed_text earlier ++ bytes) × (new ≡ print_call true 0 bytes ∷ old)
 Does is_typed start earlier (Refuses fault bytes) old new = new ≡ print_call false (pipe_number fault) bytes ∷ old

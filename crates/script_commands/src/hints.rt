@@ -2,8 +2,8 @@
 
 use outcome::command_hint;
 
-/// What is printed for a line of a script that is none. Of these forms, one a line after the first, it is that of the command which its
-/// first word names, in letters of either size, with what it does; else all commands.
+/// What is printed for a line of a script that is none. It is the form of the command that its first word names, in letters of either
+/// size, with what it does. The forms stand one a line, after a first line. Of no command it is the hint on all.
 pub(crate) fn line_hint(forms: &'static str, line: &[u8]) -> &'static str {
     let word = first_word(line);
     for form in forms.lines().skip(1) {

@@ -12,7 +12,7 @@ ghost use Rattle.volume_commands.specs.Laws.{KeepsFiles};
 ghost use Rattle.volume_commands.specs.declared.images.Image.{Image};
 ghost use Rattle.script_commands.specs.Laws.{IsInPlace, IsKeptBefore, IsOneOf};
 ghost use Rattle.script_commands.specs.Scripts.{RunsScript};
-ghost use Rattle.script_commands.specs.Steps.{Step, Replies, AreDone, AreKept, changes, unsaved};
+ghost use Rattle.script_commands.specs.Steps.{Step, Replies, AreDone, AreKept, changes, save_ending};
 
 use volume_commands::laws::kept_files;
 
@@ -31,10 +31,10 @@ pub fn kept_changes()
         → changes answer ≡ true → IsKeptBefore is_typed start earlier old }
 {}
 
-/// A crash at any moment of the steps leaves what it might have left before, or one of the files that they wrote, whole, unless the file
-/// is written in its place.
+/// A crash at any moment of the steps leaves what it might have left before, or one of the files that they wrote, whole. A file that is
+/// written in its place is not promised so.
 pub fn crashes()
-    ensures { (is_typed : Bool) (start : Image) (steps : List Step) (old new : List Event) → AreDone is_typed start steps old new → unsaved steps ≡ None
+    ensures { (is_typed : Bool) (start : Image) (steps : List Step) (old new : List Event) → AreDone is_typed start steps old new → save_ending steps ≡ None
         → (place : Place) (found : Option (List ℕ)) → Leaves (ever place (about start.place.path.bytes.items new)) found
         → Leaves (ever place (about start.place.path.bytes.items old)) found ⊎ (IsOneOf found steps ⊎ IsInPlace is_typed start steps old) }
 {}

@@ -9,7 +9,7 @@ use crate::progress::Progress;
 use hosts::{Host, PrintFault};
 
 /// How many bytes of lines wait at most.
-pub(crate) const ROOM: usize = 8192;
+pub(crate) const ROOM: usize = 8_192;
 
 /// Has the lines of an answer wait to be printed. Where they have no room, those that wait are printed first.
 pub(crate) fn add_lines<H: Host>(
@@ -97,7 +97,7 @@ pub(crate) fn print_waiting<H: Host>(
     ensures typed { progress.new.is_typed ≡ progress.old.is_typed }
     ensures cut { progress.new.is_cut ≡ progress.old.is_cut }
     ensures image { progress.new.image ≡ progress.old.image }
-    ensures unsaved { progress.new.unsaved ≡ progress.old.unsaved }
+    ensures save_ending { progress.new.save_ending ≡ progress.old.save_ending }
     ensures refused { progress.new.is_refused ≡ progress.old.is_refused }
 {
     match print_bytes(host, &progress.lines) {

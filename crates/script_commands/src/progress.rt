@@ -34,7 +34,7 @@ pub(crate) struct Progress {
     pub(crate) is_refused: bool,
 
     /// Why the image could not be saved.
-    pub(crate) unsaved: Option<Ending>,
+    pub(crate) save_ending: Option<Ending>,
 
     /// Why standard output took no more.
     pub(crate) fault: Option<PrintFault>,
@@ -53,7 +53,7 @@ impl Progress {
           is_sync_told = false;
           is_cut = false;
           is_refused = false;
-          unsaved = None;
+          save_ending = None;
           fault = None;
         } }
     {
@@ -66,7 +66,7 @@ impl Progress {
             is_sync_told: false,
             is_cut: false,
             is_refused: false,
-            unsaved: None,
+            save_ending: None,
             fault: None,
         }
     }

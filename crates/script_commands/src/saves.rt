@@ -34,9 +34,9 @@ pub(crate) fn keep<H: Host>(
     ensures done { (start : ImageState) (old : List Event)
         → HasDone start old progress.old (H.history host.old) → HasDone start old progress.new (H.history host.new) }
     ensures image { result ≡ true → IsImageOf progress.new.image.bytes.items store.now.blocks }
-    ensures failed { result ≡ false → progress.new.unsaved ≡ None → ⊥ }
-    ensures saved { result ≡ true → progress.new.unsaved ≡ None }
-    ensures earlier { progress.new.unsaved ≡ None → progress.old.unsaved ≡ None }
+    ensures failed { result ≡ false → progress.new.save_ending ≡ None → ⊥ }
+    ensures saved { result ≡ true → progress.new.save_ending ≡ None }
+    ensures earlier { progress.new.save_ending ≡ None → progress.old.save_ending ≡ None }
     ensures fault { progress.new.fault ≡ progress.old.fault }
     ensures output { output (H.history host.new) ≡ output (H.history host.old) }
     ensures lines { progress.new.lines ≡ progress.old.lines }
@@ -44,13 +44,13 @@ pub(crate) fn keep<H: Host>(
     ensures typed { progress.new.is_typed ≡ progress.old.is_typed }
     ensures cut { progress.new.is_cut ≡ progress.old.is_cut }
 {
-    if progress.unsaved.is_some() {
+    if progress.save_ending.is_some() {
         return false;
     }
     match save(host, alloc, progress, spare, store) {
         Ok(()) => true,
         Err(ending) => {
-            progress.unsaved = Some(ending);
+            progress.save_ending = Some(ending);
             false
         }
     }
@@ -200,9 +200,9 @@ pub(crate) fn save_last<H: Host>(
 )
     ensures done { (start : ImageState) (old : List Event)
         → HasDone start old progress.old (H.history host.old) → HasDone start old progress.new (H.history host.new) }
-    ensures image { (progress.old.saving ≡ saving.Never → ⊥) → progress.new.unsaved ≡ None
+    ensures image { (progress.old.saving ≡ saving.Never → ⊥) → progress.new.save_ending ≡ None
         → IsImageOf progress.new.image.bytes.items store.now.blocks }
-    ensures earlier { progress.new.unsaved ≡ None → progress.old.unsaved ≡ None }
+    ensures earlier { progress.new.save_ending ≡ None → progress.old.save_ending ≡ None }
     ensures fault { progress.new.fault ≡ progress.old.fault }
     ensures output { output (H.history host.new) ≡ output (H.history host.old) }
     ensures lines { progress.new.lines ≡ progress.old.lines }

@@ -209,7 +209,7 @@ fn print_last<H: Host>(host: &mut H, progress: &mut Progress)
     ensures image { progress.new.image ≡ progress.old.image }
     ensures saving { progress.new.saving ≡ progress.old.saving }
     ensures typed { progress.new.is_typed ≡ progress.old.is_typed }
-    ensures unsaved { progress.new.unsaved ≡ progress.old.unsaved }
+    ensures save_ending { progress.new.save_ending ≡ progress.old.save_ending }
     ensures refused { progress.new.is_refused ≡ progress.old.is_refused }
     ensures cut { progress.new.is_cut ≡ progress.old.is_cut }
     ensures text { output_text (H.history host.new) ++ progress.new.lines.items
@@ -228,7 +228,7 @@ fn end_script(
     is_strict: bool,
     answer: Result<(), SessionFault>,
 ) -> Result<(), Ending>
-    ensures { EndsRun is_strict progress.is_refused progress.unsaved progress.fault answer result }
+    ensures { EndsRun is_strict progress.is_refused progress.save_ending progress.fault answer result }
 {
     let Progress {
         image: _,
@@ -239,10 +239,10 @@ fn end_script(
         is_sync_told: _,
         is_cut: _,
         is_refused,
-        unsaved,
+        save_ending,
         fault,
     } = progress;
-    if let Some(ending) = unsaved {
+    if let Some(ending) = save_ending {
         return Err(ending);
     }
     match answer {

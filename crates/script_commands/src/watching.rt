@@ -108,7 +108,7 @@ impl<'a, H: Host> Watcher<MemoryVolume> for Run<'a, H> {
 
     ghost may_print = { λ r lines. MayPrint r.is_refusal r.progress lines };
 
-    ghost has_ended = { λ r. (r.progress.unsaved ≡ None → ⊥) ⊎ (r.progress.fault ≡ None → ⊥) };
+    ghost has_ended = { λ r. (r.progress.save_ending ≡ None → ⊥) ⊎ (r.progress.fault ≡ None → ⊥) };
 
     fn begins(&mut self, lines: &[u8]) {
         if let Some(forms) = self.forms {
@@ -119,7 +119,7 @@ impl<'a, H: Host> Watcher<MemoryVolume> for Run<'a, H> {
     fn goes_on(&mut self, store: &MemoryVolume, answer: &Result<Reply, SessionFault>) -> bool {
         self.is_refusal = answer.is_err();
         self.is_bad_line = is_bad_line(answer);
-        if self.progress.unsaved.is_some() {
+        if self.progress.save_ending.is_some() {
             return false;
         }
         if self.progress.saving != Saving::Always || !may_have_changed(answer) {
