@@ -1,8 +1,8 @@
 #!/usr/bin/env python3
 """check_arguments.py: what a public function is given, its contract speaks of. A contract that leaves an argument out lets a body take any other.
 
-It fails where a public function that has clauses has an argument that none of them names, or else the contract of its trait. It fails too where
-FREE lists one that is named, or that is no more. Those of FREE give memory alone. The last line is 'N passed, M failed'.
+It fails where a public function that has clauses has an argument that none of them names. It fails too where FREE lists one that is named, or that is
+no more. Those of FREE give memory alone, or what the host of a test holds. Functions of a trait are not looked at. The last line is 'N passed, M failed'.
 """
 import os
 import re
@@ -15,7 +15,7 @@ sys.path.insert(0, TOP)
 from tests.contracts import shown
 from tests.rattle_sources import APART, Function, Source, closing, crate_of, files_of, source
 
-# Arguments of which nothing can be said: an allocator, the system's runtime, and what lets time pass.
+# Arguments of which no clause speaks: an allocator, the system's runtime, and the caller, who has no contract.
 LENT = {"alloc", "rt", "caller"}
 FREE = {
     ("fake_host", "new", "memory"),
