@@ -9,7 +9,7 @@ use Rattle.hosts.specs.Streams.{errors, failures, last_fault, asked_name, path_o
 use Rattle.hosts.specs.declared.faults.Durability.{Durability}
 use Rattle.hosts.specs.declared.faults.HostFault.{HostFault}
 use Rattle.hosts.specs.declared.faults.HostFault.TheVariants as host
-use Rattle.host_images.specs.declared.faults.Unwritten.TheVariants.{AsItWas}
+use Rattle.hosts.specs.declared.faults.Unwritten.TheVariants.{AsItWas}
 use Rattle.script8.specs.declared.faults.SessionFault.TheVariants.{Memory}
 use Rattle.outcome.specs.declared.contents.Content.{Content}
 use Rattle.outcome.specs.declared.contents.Content.TheVariants.{Image}

@@ -32,16 +32,6 @@ pub fn ending_of_print(fault: PrintFault) -> Ending
     }
 }
 
-/// How a command ends if its file for this is not written, and what that holds (this project's profile).
-pub fn ending_of_write(content: Content, left: Unwritten) -> Ending
-    ensures { result ≡ spec.ending_of_write content left }
-{
-    match left {
-        Unwritten::AsItWas => Ending::NotWritten(content, host_images::Unwritten::AsItWas),
-        Unwritten::InPart => Ending::NotWritten(content, host_images::Unwritten::InPart),
-    }
-}
-
 /// How a command ends if its file for this can't be held or made, and is as it was (this project's profile).
 pub fn ending_of_file(content: Content, fault: HostFault) -> Ending
     ensures { result ≡ ending_of_file content fault }
@@ -50,7 +40,7 @@ pub fn ending_of_file(content: Content, fault: HostFault) -> Ending
         HostFault::Busy => Ending::Busy(content),
         HostFault::Memory => Ending::Fault(SessionFault::Memory),
         HostFault::Absent | HostFault::Unwritable | HostFault::Failed => {
-            Ending::NotWritten(content, host_images::Unwritten::AsItWas)
+            Ending::NotWritten(content, Unwritten::AsItWas)
         }
     }
 }
@@ -63,7 +53,7 @@ pub fn ending_of_first(fault: HostFault) -> Ending
         HostFault::Busy => Ending::Line(ProgramLine::HostExists),
         HostFault::Memory => Ending::Fault(SessionFault::Memory),
         HostFault::Absent | HostFault::Unwritable | HostFault::Failed => {
-            Ending::NotWritten(Content::Image, host_images::Unwritten::AsItWas)
+            Ending::NotWritten(Content::Image, Unwritten::AsItWas)
         }
     }
 }
