@@ -92,11 +92,11 @@ noted-lock false ok path old = refl
 
 holds-at : (name : List ℕ) (place : ImagePlace) (is_held : Bool) (old new : List Event) → HoldsAt name place is_held old new → ChangesNothing old new
 holds-at name place true old new (has, ok, p) = λ path. ap (λ (events : List Event). about path events) p ∙ noted-lock has ok path (hold_calls name place.path.bytes.items has old)
-holds-at name place false old new (idle, failed) = idle.files
+holds-at name place false old new (idle, failed, why) = idle.files
 
 holds-never : (name : List ℕ) → NeverChanges (Holds name)
 holds-never name old (Ok place) new p = holds-at name place place.is_held old new p
-holds-never name old (Err ending) new (fault, unheld, idle, failed) = idle.files
+holds-never name old (Err ending) new (fault, unheld, idle, failed, why) = idle.files
 
 pub opens-never : (form : ImageForm) → NeverChanges (Opens form)
 opens-never form = then-never (Holds form.file.bytes.items) (λ place. Then (Looks (looked_name place form.file.bytes.items) form.file.bytes.items) (λ file. Purely (MakesImage place form.layout file.items)))

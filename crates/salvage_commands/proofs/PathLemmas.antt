@@ -102,7 +102,7 @@ apart laid path false is other = is
 
 lays-stays : (path laid bytes : List ℕ) → path ≢ laid → Stays path (LaysFirst laid bytes)
 lays-stays path laid bytes other old (Ok it) new p = p.only.others path (apart laid path (bytes_eq laid path) refl other)
-lays-stays path laid bytes other old (Err ending) new (why, is, laid_by, cause) = laid_by.only.others path (apart laid path (bytes_eq laid path) refl other)
+lays-stays path laid bytes other old (Err ending) new (why, is, laid_by, cause, number) = laid_by.only.others path (apart laid path (bytes_eq laid path) refl other)
 
 piece-stays : (path folder image : List ℕ) (scan : Scan) (piece : Piece) → path ≢ folder ++ codes "/" ++ piece_name piece → Stays path (WritesPiece folder image scan piece)
 piece-stays path folder image scan piece other =

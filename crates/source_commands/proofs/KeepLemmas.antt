@@ -159,7 +159,7 @@ by-never content name file old ending new (fault, ends, unmade) is = other-endin
 file-never : (content : Content) (name file : List ℕ) → Never (MakesFile content name file)
 file-never content name file old ending new (inl (path, has, ok, p)) is = writes-never content path file (with_lock_note content has ok (hold_calls name path has old)) ending new p is
 file-never content name file old ending new (inr (inl (between, idle, failed, absent, p))) is = by-never content name file between ending new p is
-file-never content name file old ending new (inr (inr (fault, unheld, idle, failed))) is = unheld-never content fault ending unheld is
+file-never content name file old ending new (inr (inr (fault, unheld, idle, failed, why))) is = unheld-never content fault ending unheld is
 
 writes-if : (is : Bool) (content : Content) (name bytes : List ℕ) → Never (WritesIf is content name bytes)
 writes-if true content name bytes old ending new p is = prints-never bytes old ending new p is

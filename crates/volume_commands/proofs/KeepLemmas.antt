@@ -83,11 +83,11 @@ noted-lock false ok path old = refl
 
 held-at : (name path : List ℕ) (place : ImagePlace) (is_held : Bool) (old new : List Event) → HoldsAt name place is_held old new → about path new ≡ about path old
 held-at name path place true old new (has, ok, p) = same path p ∙ noted-lock has ok path (hold_calls name place.path.bytes.items has old)
-held-at name path place false old new (idle, failed) = idle.files path
+held-at name path place false old new (idle, failed, why) = idle.files path
 
 holds-keeps : (name : List ℕ) → KeepsFiles (Holds name)
 holds-keeps name old (Ok place) new p path = held-at name path place place.is_held old new p
-holds-keeps name old (Err ending) new (fault, unheld, idle, failed) path = idle.files path
+holds-keeps name old (Err ending) new (fault, unheld, idle, failed, why) path = idle.files path
 
 pub opens-keeps : (form : ImageForm) → KeepsFiles (Opens form)
 opens-keeps form = then-keeps (Holds form.file.bytes.items) (λ place. Then (Looks (looked_name place form.file.bytes.items) form.file.bytes.items) (λ file. Purely (MakesImage place form.layout file.items)))
