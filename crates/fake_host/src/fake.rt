@@ -7,7 +7,7 @@ use hosts::notes::{
     ALONE, CLAIM, DROP_BESIDE, DROP_CLAIM, DROP_SECONDS, FINISH_OVER, FREE, HOLD, LEADS, LINK_NEW,
     LOCK_BESIDE, LOOK, MAKE_BESIDE, MAKE_FOLDER, OWN_BESIDE, PRINT, RENAME, RESOLVE, SECONDS,
     SYNC_BESIDE, SYNC_FOLDER, TAKE_INPUT, TELL, TERMINAL, THERE, WORDS, WRITE_BESIDE, WRITE_OVER,
-    number,
+    fault_number, number,
 };
 use hosts::{Host, HostFault, LinkFault, PrintFault, Record, RenameFault, Stream};
 use std::alloc::Global;
@@ -40,22 +40,36 @@ impl Host for Fake {
             Ok(it) => self
                 .log
                 .note(&[RESOLVE, 1, 0], name.as_bytes(), it.as_bytes()),
-            Err(_) => self.log.note(&[RESOLVE, 0, 0], name.as_bytes(), &[]),
+            Err(fault) => self
+                .log
+                .note(&[RESOLVE, 0, fault_number(fault)], name.as_bytes(), &[]),
         }
         done
     }
 
     fn hold(&mut self, _alloc: Global, path: &str) -> Result<bool, HostFault> {
         let done = self.memory.answer(true);
-        self.log
-            .note(&[HOLD, number(&done), 0], path.as_bytes(), &[]);
+        match &done {
+            Ok(has_lock) => self
+                .log
+                .note(&[HOLD, 1, u64::from(*has_lock)], path.as_bytes(), &[]),
+            Err(fault) => self
+                .log
+                .note(&[HOLD, 0, fault_number(fault)], path.as_bytes(), &[]),
+        }
         done
     }
 
     fn drop_seconds(&mut self, path: &str) -> Result<(), HostFault> {
         let done = self.memory.pass();
-        self.log
-            .note(&[DROP_SECONDS, number(&done), 0], path.as_bytes(), &[]);
+        match &done {
+            Ok(()) => self.log.note(&[DROP_SECONDS, 1, 0], path.as_bytes(), &[]),
+            Err(fault) => self.log.note(
+                &[DROP_SECONDS, 0, fault_number(fault)],
+                path.as_bytes(),
+                &[],
+            ),
+        }
         done
     }
 
@@ -63,7 +77,9 @@ impl Host for Fake {
         let done = self.memory.look(alloc, most);
         match &done {
             Ok(it) => self.log.note(&[LOOK, 1, 0], path.as_bytes(), it),
-            Err(_) => self.log.note(&[LOOK, 0, 0], path.as_bytes(), &[]),
+            Err(fault) => self
+                .log
+                .note(&[LOOK, 0, fault_number(fault)], path.as_bytes(), &[]),
         }
         done
     }
@@ -72,7 +88,9 @@ impl Host for Fake {
         let done = self.memory.look(alloc, most);
         match &done {
             Ok(it) => self.log.note(&[LOOK, 1, 0], name.as_bytes(), it),
-            Err(_) => self.log.note(&[LOOK, 0, 0], name.as_bytes(), &[]),
+            Err(fault) => self
+                .log
+                .note(&[LOOK, 0, fault_number(fault)], name.as_bytes(), &[]),
         }
         done
     }
@@ -81,7 +99,9 @@ impl Host for Fake {
         let done = self.memory.take_input(alloc, most);
         match &done {
             Ok(it) => self.log.note(&[TAKE_INPUT, 1, 0], &[], it),
-            Err(_) => self.log.note(&[TAKE_INPUT, 0, 0], &[], &[]),
+            Err(fault) => self
+                .log
+                .note(&[TAKE_INPUT, 0, fault_number(fault)], &[], &[]),
         }
         done
     }
@@ -107,8 +127,14 @@ impl Host for Fake {
 
     fn make_beside(&mut self, alloc: Global, path: &str) -> Result<(), HostFault> {
         let done = self.memory.make_beside(alloc);
-        self.log
-            .note(&[MAKE_BESIDE, number(&done), 0], path.as_bytes(), &[]);
+        match &done {
+            Ok(()) => self.log.note(&[MAKE_BESIDE, 1, 0], path.as_bytes(), &[]),
+            Err(fault) => self.log.note(
+                &[MAKE_BESIDE, 0, fault_number(fault)],
+                path.as_bytes(),
+                &[],
+            ),
+        }
         done
     }
 
@@ -161,8 +187,8 @@ impl Host for Fake {
         let done = self.memory.link();
         match &done {
             Ok(()) => self.log.note(&[LINK_NEW, 1, 0], path.as_bytes(), &[]),
-            Err(LinkFault::Exists) => self.log.note(&[LINK_NEW, 0, 0], path.as_bytes(), &[]),
-            Err(LinkFault::NoLinks) => self.log.note(&[LINK_NEW, 0, 1], path.as_bytes(), &[]),
+            Err(LinkFault::Exists) => self.log.note(&[LINK_NEW, 0, 1], path.as_bytes(), &[]),
+            Err(LinkFault::NoLinks) => self.log.note(&[LINK_NEW, 0, 2], path.as_bytes(), &[]),
             Err(LinkFault::Failed) => self.log.note(&[LINK_NEW, 0, 0], path.as_bytes(), &[]),
         }
         done
@@ -213,7 +239,9 @@ impl Host for Fake {
         let done = self.memory.path(alloc, name);
         match &done {
             Ok(it) => self.log.note(&[FREE, 1, 0], name.as_bytes(), it.as_bytes()),
-            Err(_) => self.log.note(&[FREE, 0, 0], name.as_bytes(), &[]),
+            Err(fault) => self
+                .log
+                .note(&[FREE, 0, fault_number(fault)], name.as_bytes(), &[]),
         }
         done
     }
@@ -227,8 +255,14 @@ impl Host for Fake {
 
     fn make_folder(&mut self, name: &str) -> Result<(), HostFault> {
         let done = self.memory.pass();
-        self.log
-            .note(&[MAKE_FOLDER, number(&done), 0], name.as_bytes(), &[]);
+        match &done {
+            Ok(()) => self.log.note(&[MAKE_FOLDER, 1, 0], name.as_bytes(), &[]),
+            Err(fault) => self.log.note(
+                &[MAKE_FOLDER, 0, fault_number(fault)],
+                name.as_bytes(),
+                &[],
+            ),
+        }
         done
     }
 

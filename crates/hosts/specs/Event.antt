@@ -1,5 +1,7 @@
 -- The calls of a host, each with its answer.
-use Rattle.std.specs.Prelude.{ℕ, Bool, true, List, [], if◌then◌else◌}
+use Rattle.std.specs.Prelude.{ℕ, Bool, true, false, List, [], if◌then◌else◌}
+use Rattle.hosts.specs.declared.faults.HostFault.{HostFault}
+use Rattle.hosts.specs.Faults.{fault_number}
 
 -- what may change the file of a path, or the one beside it
 pub data Change : Type 0 where
@@ -63,24 +65,28 @@ event_at call name ok bytes = record { call = call; ok = ok; name = name; bytes 
 abbrev pub event_of_number : Call → List ℕ → Bool → ℕ → List ℕ → Event
 event_of_number call name ok number bytes = record { call = call; ok = ok; name = name; bytes = bytes; number = number }
 
--- a name with_lead to a path
-abbrev pub resolve_call : List ℕ → Bool → List ℕ → Event
-resolve_call name ok path = event_at Resolve name ok path
+-- a call failed, and `number` is why
+abbrev pub failed_call : Call → List ℕ → HostFault → Event
+failed_call call name fault = event_of_number call name false (fault_number fault) []
 
--- the file of a path was held, so no other program writes it
+-- a name led to a path
+abbrev pub resolve_call : List ℕ → List ℕ → Event
+resolve_call name path = event_at Resolve name true path
+
+-- the file of a path was held, so no other program writes it, and `has_lock` is 1 where its file system has locks
 abbrev pub hold_call : List ℕ → Bool → Event
-hold_call path ok = event_at Hold path ok []
+hold_call path has_lock = event_of_number Hold path true (number_of has_lock) []
 
-abbrev pub drop_seconds_call : List ℕ → Bool → Event
-drop_seconds_call path ok = event_at DropSeconds path ok []
+abbrev pub drop_seconds_call : List ℕ → Event
+drop_seconds_call path = event_at DropSeconds path true []
 
 -- a file was read, and held these bytes, or began with them where they are one more than the most that were asked for
-abbrev pub look_call : List ℕ → Bool → List ℕ → Event
-look_call name ok bytes = event_at Look name ok bytes
+abbrev pub look_call : List ℕ → List ℕ → Event
+look_call name bytes = event_at Look name true bytes
 
 -- standard input was read, and gave these bytes, or began with them where they are one more than the most that were asked for
-abbrev pub input_call : Bool → List ℕ → Event
-input_call ok bytes = event_at TakeInput [] ok bytes
+abbrev pub input_call : List ℕ → Event
+input_call bytes = event_at TakeInput [] true bytes
 
 -- it was asked whether a new file may take the path with nothing lost, and `number` is the answer
 abbrev pub alone_call : List ℕ → Bool → ℕ → Event
@@ -90,8 +96,8 @@ alone_call path ok is = event_of_number Alone path ok is []
 abbrev pub leads_call : List ℕ → Bool → Event
 leads_call path is = event_at Leads path is []
 
-abbrev pub make_call : List ℕ → Bool → Event
-make_call path ok = event_at (Alter MakeBeside) path ok []
+abbrev pub make_call : List ℕ → Event
+make_call path = event_at (Alter MakeBeside) path true []
 
 abbrev pub own_call : List ℕ → Bool → Event
 own_call path ok = event_at (Alter OwnBeside) path ok []
@@ -112,9 +118,9 @@ drop_call path ok = event_at (Alter DropBeside) path ok []
 abbrev pub rename_call : List ℕ → Bool → ℕ → Event
 rename_call path ok is_mount = event_of_number (Alter Rename) path ok is_mount []
 
--- `is_none` is 1 where the file system has no further names
+-- a call that failed has its fault's number
 abbrev pub link_call : List ℕ → Bool → ℕ → Event
-link_call path ok is_none = event_of_number (Alter LinkNew) path ok is_none []
+link_call path ok number = event_of_number (Alter LinkNew) path ok number []
 
 abbrev pub claim_call : List ℕ → Bool → Event
 claim_call path ok = event_at (Alter Claim) path ok []
@@ -131,15 +137,15 @@ write_over_call path ok at bytes = event_of_number (Alter WriteOver) path ok at 
 abbrev pub finish_over_call : List ℕ → Bool → ℕ → Event
 finish_over_call path ok size = event_of_number (Alter FinishOver) path ok size []
 
--- a name with_lead to a path that no file has
-abbrev pub free_call : List ℕ → Bool → List ℕ → Event
-free_call name ok path = event_at Free name ok path
+-- a name led to a path that no file has
+abbrev pub free_call : List ℕ → List ℕ → Event
+free_call name path = event_at Free name true path
 
 abbrev pub there_call : List ℕ → Bool → Event
 there_call name is = event_at There name is []
 
-abbrev pub folder_call : List ℕ → Bool → Event
-folder_call name ok = event_at MakeFolder name ok []
+abbrev pub folder_call : List ℕ → Event
+folder_call name = event_at MakeFolder name true []
 
 -- these bytes were written to standard output; `is_abandoned` is 1 where that is a pipe which nobody reads any more
 abbrev pub print_call : Bool → ℕ → List ℕ → Event

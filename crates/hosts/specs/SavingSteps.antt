@@ -33,12 +33,12 @@ pub record IsQuiet (path : List ℕ) (old new : List Event) : Type 0 where
 
 -- a new file of these bytes stands beside the path, on the disk
 abbrev pub ready_calls : List ℕ → List ℕ → List Event → List Event
-ready_calls path bytes old = sync_call path true ∷ write_call path true bytes ∷ lock_call path true ∷ own_call path true ∷ make_call path true ∷ old
+ready_calls path bytes old = sync_call path true ∷ write_call path true bytes ∷ lock_call path true ∷ own_call path true ∷ make_call path ∷ old
 
 -- the same of a path that no file has
 abbrev pub new_calls : List ℕ → List ℕ → List Event → List Event
-new_calls path bytes old = sync_call path true ∷ write_call path true bytes ∷ lock_call path true ∷ make_call path true ∷ old
+new_calls path bytes old = sync_call path true ∷ write_call path true bytes ∷ lock_call path true ∷ make_call path ∷ old
 
 -- a new file of these bytes stands beside the path
 abbrev pub laid_calls : List ℕ → List ℕ → List Event → List Event
-laid_calls path bytes old = write_call path true bytes ∷ lock_call path true ∷ make_call path true ∷ old
+laid_calls path bytes old = write_call path true bytes ∷ lock_call path true ∷ make_call path ∷ old

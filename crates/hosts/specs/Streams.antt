@@ -1,6 +1,8 @@
 -- What the calls of a host mean for its streams, and for what was asked of it.
 use Rattle.std.specs.Prelude.{ℕ, zero, suc, ◌+◌, Bool, true, false, List, [], ◌∷◌, ◌++◌}
-use Rattle.hosts.specs.Event.{Event, Call, Alter, Rename, LinkNew, Look, TakeInput, Alone, There, Free, Print, Tell, Terminal}
+use Rattle.hosts.specs.Event.{Event, Call, Alter, MakeBeside, DropBeside, Rename, LinkNew, Claim, DropClaim, SyncFolder, Look, TakeInput, Alone, Leads, LockBeside, There, Free, Print, Tell, Terminal}
+use Rattle.hosts.specs.Faults.{fault_number}
+use Rattle.hosts.specs.declared.faults.HostFault.TheVariants as host
 
 abbrev pub with_printed : Call → Event → List (Bool × List ℕ) → List (Bool × List ℕ)
 with_printed Print e before = (e.ok, e.bytes) ∷ before
@@ -85,11 +87,38 @@ may_replace (e ∷ earlier) = with_alone e.call e.ok e.number (may_replace earli
 
 abbrev pub with_links : Call → Bool → ℕ → Bool → Bool
 with_links (Alter LinkNew) true number before = true
-with_links (Alter LinkNew) false zero before = true
-with_links (Alter LinkNew) false (suc number) before = false
+with_links (Alter LinkNew) false (suc (suc zero)) before = false
+with_links (Alter LinkNew) false number before = true
 with_links _ ok number before = before
 
 -- whether, as the host said last, the file system has further names for a file
 abbrev pub has_links : List Event → Bool
 has_links [] = true
 has_links (e ∷ earlier) = with_links e.call e.ok e.number (has_links earlier)
+
+-- A call that failed says why. Where a file has the path, by which another program made it meanwhile, that is busy. The empty file of a path
+-- that can't be taken away may not be written. Of other calls on a file that is made it is only known that they failed, and one that takes
+-- the file beside it away says nothing.
+abbrev pub with_fault : Call → Bool → ℕ → ℕ → ℕ
+with_fault There true number before = fault_number host.Busy
+with_fault There false number before = before
+with_fault Terminal ok number before = before
+with_fault Print ok number before = before
+with_fault Tell ok number before = before
+with_fault Leads ok number before = before
+with_fault (Alter DropBeside) ok number before = before
+with_fault (Alter SyncFolder) ok number before = before
+with_fault (Alter LinkNew) false (suc zero) before = fault_number host.Busy
+with_fault (Alter LinkNew) false number before = fault_number host.Failed
+with_fault (Alter Claim) false number before = fault_number host.Busy
+with_fault (Alter DropClaim) false number before = fault_number host.Unwritable
+with_fault (Alter MakeBeside) false number before = number
+with_fault (Alter change) false number before = fault_number host.Failed
+with_fault LockBeside false number before = fault_number host.Failed
+with_fault _ true number before = before
+with_fault _ false number before = number
+
+-- why the newest call that failed did
+abbrev pub last_fault : List Event → ℕ
+last_fault [] = 0
+last_fault (e ∷ earlier) = with_fault e.call e.ok e.number (last_fault earlier)

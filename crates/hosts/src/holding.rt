@@ -1,7 +1,8 @@
-ghost use Rattle.std.specs.Prelude.{◌≡◌, ◌<◌, ℕ, List, [], ◌∷◌, true, IfOk, OnErr};
+ghost use Rattle.std.specs.Prelude.{◌≡◌, ◌<◌, ℕ, List, [], ◌∷◌, IfOk, IfErr, OnErr};
 ghost use Rattle.hosts.specs.Event.{resolve_call, hold_call, drop_seconds_call};
 ghost use Rattle.hosts.specs.Place.{about};
-ghost use Rattle.hosts.specs.Streams.{output, errors, read, failures};
+ghost use Rattle.hosts.specs.Faults.{fault_number};
+ghost use Rattle.hosts.specs.Streams.{output, errors, read, failures, last_fault};
 
 use crate::{Host, HostFault};
 use std::alloc::Global;
@@ -19,8 +20,9 @@ pub struct Held {
 /// `Unwritable` where it may not be written, or is a pipe. No file changes.
 pub fn hold_file<H: Host>(host: &mut H, alloc: Global, name: &str) -> Result<Held, HostFault>
     ensures holds { IfOk result (λ held. H.history host.new
-        ≡ drop_seconds_call held.path.bytes.items true ∷ hold_call held.path.bytes.items true ∷ resolve_call name.now true held.path.bytes.items ∷ H.history host.old) }
+        ≡ drop_seconds_call held.path.bytes.items ∷ hold_call held.path.bytes.items held.has_lock ∷ resolve_call name.now held.path.bytes.items ∷ H.history host.old) }
     ensures cause { OnErr result (failures (H.history host.old) < failures (H.history host.new)) }
+    ensures why { IfErr result (λ fault. fault_number fault ≡ last_fault (H.history host.new)) }
     ensures files { (path : List ℕ) → about path (H.history host.new) ≡ about path (H.history host.old) }
     ensures output { output (H.history host.new) ≡ output (H.history host.old) }
     ensures errors { errors (H.history host.new) ≡ errors (H.history host.old) }

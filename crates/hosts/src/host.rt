@@ -1,5 +1,5 @@
 ghost use Rattle.std.specs.Prelude.{◌≡◌, ◌≤◌, ◌+◌, List, [], ◌∷◌, length, true, false, is_ok, IfOk, MatchResult};
-ghost use Rattle.hosts.specs.Event.{Event, number_of, resolve_call, hold_call, drop_seconds_call, look_call, input_call, alone_call, leads_call, make_call, own_call, lock_call, write_call, sync_call, drop_call, rename_call, link_call, claim_call, drop_claim_call, sync_folder_call, write_over_call, finish_over_call, free_call, there_call, folder_call, print_call, tell_call, terminal_call, seconds_call, words_call};
+ghost use Rattle.hosts.specs.Event.{Event, Alter, Resolve, Hold, DropSeconds, Look, TakeInput, MakeBeside, Free, MakeFolder, number_of, failed_call, resolve_call, hold_call, drop_seconds_call, look_call, input_call, alone_call, leads_call, make_call, own_call, lock_call, write_call, sync_call, drop_call, rename_call, link_call, claim_call, drop_claim_call, sync_folder_call, write_over_call, finish_over_call, free_call, there_call, folder_call, print_call, tell_call, terminal_call, seconds_call, words_call};
 ghost use Rattle.hosts.specs.Faults.{link_number, mount_number, pipe_number, stream_number};
 
 use crate::{HostFault, LinkFault, PrintFault, RenameFault, Stream};
@@ -15,37 +15,41 @@ pub trait Host {
     /// The path of the file that a name leads to, through links.
     fn resolve(&mut self, alloc: Global, name: &str) -> Result<String, HostFault>
         ensures { MatchResult result
-            (λ path. history self.new ≡ resolve_call name.now true path.bytes.items ∷ history self.old)
-            (λ _. history self.new ≡ resolve_call name.now false [] ∷ history self.old) };
+            (λ path. history self.new ≡ resolve_call name.now path.bytes.items ∷ history self.old)
+            (λ fault. history self.new ≡ failed_call Resolve name.now fault ∷ history self.old) };
 
     /// Holds the file of a path, so no other program writes it, until the program ends. It must still have that path once it is held, and be
     /// no pipe. The answer says whether its file system has locks. The memory for the names beside it is taken here.
     fn hold(&mut self, alloc: Global, path: &str) -> Result<bool, HostFault>
-        ensures { history self.new ≡ hold_call path.now (is_ok result) ∷ history self.old };
+        ensures { MatchResult result
+            (λ has_lock. history self.new ≡ hold_call path.now has_lock ∷ history self.old)
+            (λ fault. history self.new ≡ failed_call Hold path.now fault ∷ history self.old) };
 
     /// Takes away the names beside the held file's path that it has too, since the program that made it was ended before it could.
     fn drop_seconds(&mut self, path: &str) -> Result<(), HostFault>
-        ensures { history self.new ≡ drop_seconds_call path.now (is_ok result) ∷ history self.old };
+        ensures { MatchResult result
+            (λ _. history self.new ≡ drop_seconds_call path.now ∷ history self.old)
+            (λ fault. history self.new ≡ failed_call DropSeconds path.now fault ∷ history self.old) };
 
     /// What the held file holds, or one byte more than `most` where it has more than these.
     fn look_held(&mut self, alloc: Global, path: &str, most: usize) -> Result<Vec<u8>, HostFault>
         ensures call { MatchResult result
-            (λ bytes. history self.new ≡ look_call path.now true bytes.items ∷ history self.old)
-            (λ _. history self.new ≡ look_call path.now false [] ∷ history self.old) }
+            (λ bytes. history self.new ≡ look_call path.now bytes.items ∷ history self.old)
+            (λ fault. history self.new ≡ failed_call Look path.now fault ∷ history self.old) }
         ensures most { IfOk result (λ bytes. length bytes.items ≤ most + 1) };
 
     /// What a file holds that is not held, or one byte more than `most` where it has more than these.
     fn look(&mut self, alloc: Global, name: &str, most: usize) -> Result<Vec<u8>, HostFault>
         ensures call { MatchResult result
-            (λ bytes. history self.new ≡ look_call name.now true bytes.items ∷ history self.old)
-            (λ _. history self.new ≡ look_call name.now false [] ∷ history self.old) }
+            (λ bytes. history self.new ≡ look_call name.now bytes.items ∷ history self.old)
+            (λ fault. history self.new ≡ failed_call Look name.now fault ∷ history self.old) }
         ensures most { IfOk result (λ bytes. length bytes.items ≤ most + 1) };
 
     /// What standard input gives to its end, or one byte more than `most` where it gives more than these.
     fn take_input(&mut self, alloc: Global, most: usize) -> Result<Vec<u8>, HostFault>
         ensures call { MatchResult result
-            (λ bytes. history self.new ≡ input_call true bytes.items ∷ history self.old)
-            (λ _. history self.new ≡ input_call false [] ∷ history self.old) }
+            (λ bytes. history self.new ≡ input_call bytes.items ∷ history self.old)
+            (λ fault. history self.new ≡ failed_call TakeInput [] fault ∷ history self.old) }
         ensures most { IfOk result (λ bytes. length bytes.items ≤ most + 1) };
 
     /// Whether a new file may take the path of the held one with nothing lost: it is no folder or device, and has no further name.
@@ -61,7 +65,9 @@ pub trait Host {
     /// Makes an empty file beside a path, by the first of a thousand names that none has. Where the path is that of the held file, no memory
     /// is taken.
     fn make_beside(&mut self, alloc: Global, path: &str) -> Result<(), HostFault>
-        ensures { history self.new ≡ make_call path.now (is_ok result) ∷ history self.old };
+        ensures { MatchResult result
+            (λ _. history self.new ≡ make_call path.now ∷ history self.old)
+            (λ fault. history self.new ≡ failed_call (Alter MakeBeside) path.now fault ∷ history self.old) };
 
     /// Gives the file beside it the owner and the permissions of the held one.
     fn own_beside(&mut self, path: &str) -> Result<(), HostFault>
@@ -118,8 +124,8 @@ pub trait Host {
     /// The path that a name leads to which no file has, by 40 links at most: `Busy` where a file is at the end of them.
     fn free_path(&mut self, alloc: Global, name: &str) -> Result<String, HostFault>
         ensures { MatchResult result
-            (λ path. history self.new ≡ free_call name.now true path.bytes.items ∷ history self.old)
-            (λ _. history self.new ≡ free_call name.now false [] ∷ history self.old) };
+            (λ path. history self.new ≡ free_call name.now path.bytes.items ∷ history self.old)
+            (λ fault. history self.new ≡ failed_call Free name.now fault ∷ history self.old) };
 
     /// Whether a name is there, as that of a link too.
     fn is_there(&mut self, name: &str) -> bool
@@ -127,7 +133,9 @@ pub trait Host {
 
     /// Makes a folder, unless there is one of that name.
     fn make_folder(&mut self, name: &str) -> Result<(), HostFault>
-        ensures { history self.new ≡ folder_call name.now (is_ok result) ∷ history self.old };
+        ensures { MatchResult result
+            (λ _. history self.new ≡ folder_call name.now ∷ history self.old)
+            (λ fault. history self.new ≡ failed_call MakeFolder name.now fault ∷ history self.old) };
 
     /// Writes bytes to standard output, all of them.
     fn print(&mut self, bytes: &[u8]) -> Result<(), PrintFault>

@@ -1,10 +1,11 @@
-ghost use Rattle.std.specs.Prelude.{◌≡◌, ◌<◌, ◌⊎◌, ℕ, List, [], ◌∷◌, true, false, OnErr, OnOk};
+ghost use Rattle.std.specs.Prelude.{◌≡◌, ◌<◌, ◌⊎◌, ℕ, List, [], ◌∷◌, true, false, IfErr, OnErr, OnOk};
 ghost use Rattle.std.specs.Str.{bytes_eq};
 ghost use Rattle.hosts.specs.Event.{there_call};
+ghost use Rattle.hosts.specs.Faults.{fault_number};
 ghost use Rattle.hosts.specs.Place.{about};
 ghost use Rattle.hosts.specs.Saving.{Lays, replacements};
 ghost use Rattle.hosts.specs.SavingSteps.{IsQuiet, laid_calls};
-ghost use Rattle.hosts.specs.Streams.{output, errors, read, failures};
+ghost use Rattle.hosts.specs.Streams.{output, errors, read, failures, last_fault};
 
 use crate::making::take_path;
 use crate::saving::give_up;
@@ -24,6 +25,7 @@ pub fn lay<H: Host>(
     ensures lays { Lays result bytes.now (about name.now (H.history host.old)) (about name.now (H.history host.new)) }
     ensures cause { OnErr result ((failures (H.history host.old) < failures (H.history host.new))
         ⊎ (H.history host.new ≡ there_call name.now true ∷ H.history host.old)) }
+    ensures why { IfErr result (λ fault. fault_number fault ≡ last_fault (H.history host.new)) }
     ensures others { (other : List ℕ) → bytes_eq name.now other ≡ false
         → about other (H.history host.new) ≡ about other (H.history host.old) }
     ensures output { output (H.history host.new) ≡ output (H.history host.old) }
@@ -74,6 +76,7 @@ fn prepare_laid<H: Host>(
 ) -> Result<(), HostFault>
     ensures ready { OnOk result (H.history host.new ≡ laid_calls name.now bytes.now (H.history host.old)) }
     ensures quiet { OnErr result (IsQuiet name.now (H.history host.old) (H.history host.new)) }
+    ensures why { IfErr result (λ fault. fault_number fault ≡ last_fault (H.history host.new)) }
 {
     host.make_beside(alloc, name)?;
     if host.lock_beside(name).is_err() {

@@ -1,9 +1,10 @@
-ghost use Rattle.std.specs.Prelude.{◌≡◌, ◌<◌, ℕ, List, [], ◌∷◌, false, OnErr, OnOk};
+ghost use Rattle.std.specs.Prelude.{◌≡◌, ◌<◌, ℕ, List, [], ◌∷◌, false, IfErr, OnErr, OnOk};
 ghost use Rattle.std.specs.Str.{bytes_eq};
+ghost use Rattle.hosts.specs.Faults.{fault_number};
 ghost use Rattle.hosts.specs.Place.{about};
 ghost use Rattle.hosts.specs.Saving.{Makes, AnyMomentOf, replacements};
 ghost use Rattle.hosts.specs.SavingSteps.{Takes, IsQuiet, new_calls};
-ghost use Rattle.hosts.specs.Streams.{output, errors, read, failures, path_of_name, asked_name, has_links};
+ghost use Rattle.hosts.specs.Streams.{output, errors, read, failures, last_fault, path_of_name, asked_name, has_links};
 
 use crate::saving::give_up;
 use crate::{Durability, Host, HostFault, LinkFault};
@@ -23,6 +24,7 @@ pub fn make<H: Host>(
     ensures makes { Makes result bytes.now (about (path_of_name (H.history host.new)) (H.history host.old)) (about (path_of_name (H.history host.new)) (H.history host.new)) }
     ensures any_moment { AnyMomentOf (has_links (H.history host.new)) bytes.now (about (path_of_name (H.history host.new)) (H.history host.old)) (about (path_of_name (H.history host.new)) (H.history host.new)) }
     ensures cause { OnErr result (failures (H.history host.old) < failures (H.history host.new)) }
+    ensures why { IfErr result (λ fault. fault_number fault ≡ last_fault (H.history host.new)) }
     ensures others { (other : List ℕ) → bytes_eq (path_of_name (H.history host.new)) other ≡ false
         → about other (H.history host.new) ≡ about other (H.history host.old) }
     ensures output { output (H.history host.new) ≡ output (H.history host.old) }
@@ -48,6 +50,7 @@ pub fn make_at<H: Host>(
     ensures makes { Makes result bytes.now (about path.now (H.history host.old)) (about path.now (H.history host.new)) }
     ensures any_moment { AnyMomentOf (has_links (H.history host.new)) bytes.now (about path.now (H.history host.old)) (about path.now (H.history host.new)) }
     ensures cause { OnErr result (failures (H.history host.old) < failures (H.history host.new)) }
+    ensures why { IfErr result (λ fault. fault_number fault ≡ last_fault (H.history host.new)) }
     ensures others { (other : List ℕ) → bytes_eq path.now other ≡ false
         → about other (H.history host.new) ≡ about other (H.history host.old) }
     ensures output { output (H.history host.new) ≡ output (H.history host.old) }
@@ -91,6 +94,7 @@ pub(crate) fn take_path<H: Host>(host: &mut H, path: &str) -> Result<(), HostFau
     ensures replaced { replacements (about path.now (H.history host.new)) ≡ replacements (about path.now (H.history host.old)) }
     ensures takes { Takes result (about path.now (H.history host.old)) (about path.now (H.history host.new)) }
     ensures cause { OnErr result (failures (H.history host.old) < failures (H.history host.new)) }
+    ensures why { IfErr result (λ fault. fault_number fault ≡ last_fault (H.history host.new)) }
     ensures others { (other : List ℕ) → bytes_eq path.now other ≡ false
         → about other (H.history host.new) ≡ about other (H.history host.old) }
     ensures output { output (H.history host.new) ≡ output (H.history host.old) }
@@ -126,6 +130,7 @@ fn prepare_new<H: Host>(
 ) -> Result<(), HostFault>
     ensures ready { OnOk result (H.history host.new ≡ new_calls path.now bytes.now (H.history host.old)) }
     ensures quiet { OnErr result (IsQuiet path.now (H.history host.old) (H.history host.new)) }
+    ensures why { IfErr result (λ fault. fault_number fault ≡ last_fault (H.history host.new)) }
 {
     host.make_beside(alloc, path)?;
     if host.lock_beside(path).is_err() {

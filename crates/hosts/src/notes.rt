@@ -1,5 +1,8 @@
 //! The numbers of the calls by which a `Record` notes them, as the definition `calls` lists them.
 ghost use Rattle.std.specs.Prelude.{◌≡◌, is_ok, if◌then◌else◌};
+ghost use Rattle.hosts.specs.Faults.{fault_number};
+
+use crate::HostFault;
 
 pub const RESOLVE: u64 = 0;
 
@@ -64,5 +67,18 @@ pub fn number<T, E>(done: &Result<T, E>) -> u64
     match done {
         Ok(_) => 1,
         Err(_) => 0,
+    }
+}
+
+/// Why a call failed.
+pub fn fault_number(fault: &HostFault) -> u64
+    ensures { result ≡ fault_number fault.now }
+{
+    match fault {
+        HostFault::Failed => 0,
+        HostFault::Busy => 1,
+        HostFault::Memory => 2,
+        HostFault::Absent => 3,
+        HostFault::Unwritable => 4,
     }
 }

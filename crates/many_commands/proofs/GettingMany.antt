@@ -145,7 +145,7 @@ gives-each form blocks is_told all done are_there (one ∷ wishes) =
 
 folder-never : (folder : List ℕ) → NeverChanges (MakesFolder folder)
 folder-never folder old (Ok it) new p = λ path. ap (λ (events : List Event). about path events) p
-folder-never folder old (Err ending) new p = λ path. ap (λ (events : List Event). about path events) p.1
+folder-never folder old (Err ending) new (fault, is, p) = λ path. ap (λ (events : List Event). about path events) p
 
 with-progress : {A : Type 0} (form : GetManyForm) (work : Bool → List Event → Result A Ending → List Event → Type 0) → ((is_told : Bool) → Keeps form (work is_told)) → Keeps form (WithProgress work)
 with-progress form work n old result new p =

@@ -13,8 +13,6 @@ use Rattle.outcome.specs.declared.endings.Ending.{Ending}
 use Rattle.outcome.specs.declared.endings.Ending.TheVariants.{Line, Fault, Failure, Busy, NotWritten, FullOutput, NoReader, Misuse}
 use Rattle.outcome.specs.declared.notes.PlainNote.{PlainNote}
 use Rattle.archive_files.specs.declared.faults.ArchiveFault.{ArchiveFault}
-use Rattle.program_reports.specs.declared.programs.ProgramLine.TheVariants as line
-use Rattle.script8.specs.declared.faults.SessionFault.TheVariants as fault
 use Rattle.program_tasks.specs.declared.forms.ImageForm.{ImageForm}
 use Rattle.volume_commands.specs.Answers.{Answers, Refuses}
 use Rattle.volume_commands.specs.Notes.{Tells}
@@ -75,55 +73,9 @@ answers-never gives size old (Err ending) new (fault, gave, p) = refuses-never f
 
 pub looks-never : (name shown : List ℕ) → NeverChanges (Looks name shown)
 looks-never name shown old (Ok bytes) new p = λ path. ap (λ (events : List Event). about path events) p.1
-looks-never name shown old (Err (Line (line.Created n))) new p = absurd p
-looks-never name shown old (Err (Line line.HostRead)) new (inl p) = λ path. ap (λ (events : List Event). about path events) p
-looks-never name shown old (Err (Line line.HostRead)) new (inr (bytes, many, ok, p)) = λ path. ap (λ (events : List Event). about path events) p
-looks-never name shown old (Err (Line line.HostWrite)) new p = absurd p
-looks-never name shown old (Err (Line line.HostBusy)) new p = absurd p
-looks-never name shown old (Err (Line line.NoWord)) new p = absurd p
-looks-never name shown old (Err (Line (line.NoStart n))) new p = absurd p
-looks-never name shown old (Err (Line (line.Names n why))) new p = absurd p
-looks-never name shown old (Err (Line (line.Renamed one other))) new p = absurd p
-looks-never name shown old (Err (Line line.Exists)) new p = absurd p
-looks-never name shown old (Err (Line line.CopyExists)) new p = absurd p
-looks-never name shown old (Err (Line (line.Squeezed n))) new p = absurd p
-looks-never name shown old (Err (Line (line.Got got n))) new p = absurd p
-looks-never name shown old (Err (Line line.HostExists)) new p = absurd p
-looks-never name shown old (Err (Line line.SameName)) new p = absurd p
-looks-never name shown old (Err (Line (line.OnlyBlocks n))) new p = absurd p
-looks-never name shown old (Err (Line (line.Images n refused))) new p = absurd p
-looks-never name shown old (Err (Line (line.Disk fault))) new p = absurd p
-looks-never name shown old (Err (Line line.NothingToRun)) new p = absurd p
-looks-never name shown old (Err (Line (line.Halted cell ac l))) new p = absurd p
-looks-never name shown old (Err (Line (line.Unassigned cell word))) new p = absurd p
-looks-never name shown old (Err (Line (line.KeysEnd cell))) new p = absurd p
-looks-never name shown old (Err (Line (line.Limit cell))) new p = absurd p
-looks-never name shown old (Err (Line (line.Steps ended cell))) new p = absurd p
-looks-never name shown old (Err (Line (line.Start cell))) new p = absurd p
-looks-never name shown old (Err (Line (line.Core fault))) new p = absurd p
-looks-never name shown old (Err (Line (line.Rim fault))) new p = absurd p
-looks-never name shown old (Err (Line (line.Image fault))) new p = absurd p
-looks-never name shown old (Err (Line (line.Directory fault))) new p = absurd p
-looks-never name shown old (Err (Fault fault.BadLine)) new p = absurd p
-looks-never name shown old (Err (Fault fault.NoJob)) new p = absurd p
-looks-never name shown old (Err (Fault fault.TooManyJobs)) new p = absurd p
-looks-never name shown old (Err (Fault (fault.File why))) new p = absurd p
-looks-never name shown old (Err (Fault (fault.Asm why))) new p = absurd p
-looks-never name shown old (Err (Fault (fault.Tape why))) new p = absurd p
-looks-never name shown old (Err (Fault fault.BadText)) new p = absurd p
-looks-never name shown old (Err (Fault fault.Reader)) new p = absurd p
-looks-never name shown old (Err (Fault fault.Writer)) new p = absurd p
-looks-never name shown old (Err (Fault fault.Memory)) new (inl p) = λ path. ap (λ (events : List Event). about path events) p
-looks-never name shown old (Err (Fault fault.Memory)) new (inr (bytes, many, p)) = λ path. ap (λ (events : List Event). about path events) p
-looks-never name shown old (Err (Fault fault.TooManyBreaks)) new p = absurd p
-looks-never name shown old (Err Failure) new p = absurd p
-looks-never name shown old (Err (Busy content.Image)) new p = λ path. ap (λ (events : List Event). about path events) p
-looks-never name shown old (Err (Busy content.Tape)) new p = absurd p
-looks-never name shown old (Err (Busy content.Listing)) new p = absurd p
-looks-never name shown old (Err (NotWritten it left)) new p = absurd p
-looks-never name shown old (Err FullOutput) new p = absurd p
-looks-never name shown old (Err NoReader) new p = absurd p
-looks-never name shown old (Err Misuse) new p = absurd p
+looks-never name shown old (Err ending) new (inl (fault, is, p)) = λ path. ap (λ (events : List Event). about path events) p
+looks-never name shown old (Err ending) new (inr (bytes, many, inl (is, ok, p))) = λ path. ap (λ (events : List Event). about path events) p
+looks-never name shown old (Err ending) new (inr (bytes, many, inr (is, p))) = λ path. ap (λ (events : List Event). about path events) p
 
 finds-never : (volumes : Volumes) (body : List ℕ) → NeverChanges (FindsIn volumes body)
 finds-never (One layout) body old result new p = same old new p.1
@@ -139,12 +91,12 @@ noted-lock true ok path old = refl
 noted-lock false ok path old = refl
 
 holds-at : (name : List ℕ) (place : ImagePlace) (is_held : Bool) (old new : List Event) → HoldsAt name place is_held old new → ChangesNothing old new
-holds-at name place true old new (has, ok, p) = λ path. ap (λ (events : List Event). about path events) p ∙ noted-lock has ok path (hold_calls name place.path.bytes.items old)
-holds-at name place false old new (idle, failed) = idle.files
+holds-at name place true old new (has, ok, p) = λ path. ap (λ (events : List Event). about path events) p ∙ noted-lock has ok path (hold_calls name place.path.bytes.items has old)
+holds-at name place false old new (idle, failed, why) = idle.files
 
 holds-never : (name : List ℕ) → NeverChanges (Holds name)
 holds-never name old (Ok place) new p = holds-at name place place.is_held old new p
-holds-never name old (Err ending) new (unheld, idle, failed) = idle.files
+holds-never name old (Err ending) new (fault, unheld, idle, failed, why) = idle.files
 
 pub opens-never : (form : ImageForm) → NeverChanges (Opens form)
 opens-never form = then-never (Holds form.file.bytes.items) (λ place. Then (Looks (looked_name place form.file.bytes.items) form.file.bytes.items) (λ file. Purely (MakesImage place form.layout file.items)))

@@ -112,7 +112,7 @@ both-sound is_all file body old new is_sound (inr it) sound =
 -- ## The one file that is asked for
 
 abbrev HasReadSound : Bool → Option Layout → List ℕ → List Event → List Event → Type 0
-HasReadSound is_all given name old new = (bytes : List ℕ) × IsSoundFile is_all given bytes × (read new ≡ look_call name true bytes ∷ read old)
+HasReadSound is_all given name old new = (bytes : List ℕ) × IsSoundFile is_all given bytes × (read new ≡ look_call name bytes ∷ read old)
 
 printed : (report : Report) (old new : List Event) → PrintsReport report old (Ok tt) new → (report.is_sound ≡ true) × (read new ≡ read old)
 printed report old new (inl ends) = absurd ends
@@ -142,7 +142,7 @@ one-sound : (is_all : Bool) (given : Option Layout) (name : List ℕ) (old new :
 one-sound is_all given name old new (inl ends) = absurd ends
 one-sound is_all given name old new (inr it) =
     let sound = file-sound is_all name (volumes_in given it.given.items) (body_of given it.given.items) it.between new it.after in
-    (it.given.items, sound.0, sound.1 ∙ reads (look_call name true it.given.items ∷ old) it.between it.done.1)
+    (it.given.items, sound.0, sound.1 ∙ reads (look_call name it.given.items ∷ old) it.between it.done.1)
 
 -- ## Several files
 
@@ -158,7 +158,7 @@ unread file ending old new is_sound (inr it) sound = unsound-line (line_in endin
 next-read : (is_all : Bool) (given : Option Layout) (name : List ℕ) (old new : List Event) (is_sound : Bool) → ReportsNext (kind_of_check is_all) given name old (Ok is_sound) new → is_sound ≡ true → HasReadSound is_all given name old new
 next-read is_all given name old new is_sound (Ok bytes, between, looks, reports) sound =
     let are = volumes-sound is_all name (volumes_in given bytes.items) (body_of given bytes.items) between new is_sound reports sound in
-    (bytes.items, are.0, are.1 ∙ reads (look_call name true bytes.items ∷ old) between looks.1)
+    (bytes.items, are.0, are.1 ∙ reads (look_call name bytes.items ∷ old) between looks.1)
 next-read is_all given name old new is_sound (Err ending, between, looks, reports) sound = absurd (unread name ending between new is_sound reports sound)
 
 with-others : (is_all : Bool) (given : Option Layout) (name : List ℕ) (old new : List Event) → HasReadSound is_all given name old new

@@ -1,10 +1,11 @@
 -- The command that writes several files of the volume in an image file to a folder of the host.
 use Rattle.std.specs.Prelude.{◌≡◌, ◌⊎◌, ◌<◌, ◌&&◌, ◌==◌, ℕ, ◌+◌, Bool, true, false, not, if◌then◌else◌, Option, None, Some, Result, Ok, Err, List, [], ◌∷◌, ◌++◌, codes, decimal, length, slice_get, String}
 use Rattle.std.specs.Global.{Vec, Global}
-use Rattle.hosts.specs.Event.{Event, folder_call, there_call}
+use Rattle.hosts.specs.Event.{Event, MakeFolder, failed_call, folder_call, there_call}
+use Rattle.hosts.specs.Faults.{fault_number}
 use Rattle.hosts.specs.Place.{about}
 use Rattle.hosts.specs.Saving.{Lays, replacements}
-use Rattle.hosts.specs.Streams.{errors, failures}
+use Rattle.hosts.specs.Streams.{errors, failures, last_fault}
 use Rattle.hosts.specs.declared.faults.HostFault.{HostFault}
 use Rattle.hosts.specs.declared.faults.HostFault.TheVariants as host
 use Rattle.char_pack.specs.declared.forms.GetForm.{GetForm}
@@ -65,7 +66,7 @@ IsRefused path old new = (failures old < failures new) ⊎ (new ≡ there_call p
 -- the file of a path is to have these bytes
 abbrev pub LaysFile : List ℕ → List ℕ → Bool → List Event → Result (Unit {0}) HostFault → List Event → Type 0
 LaysFile path bytes is_forced old (Ok it) new = HasLaid path bytes is_forced (Ok it) old new
-LaysFile path bytes is_forced old (Err fault) new = HasLaid path bytes is_forced (Err fault) old new × IsRefused path old new
+LaysFile path bytes is_forced old (Err fault) new = HasLaid path bytes is_forced (Err fault) old new × IsRefused path old new × (fault_number fault ≡ last_fault new)
 
 -- lines are printed, and it is answered whether a file is there
 abbrev pub PrintsAnswer : Bool → List ℕ → List Event → Result Bool Ending → List Event → Type 0
@@ -136,10 +137,18 @@ GivesEach form blocks is_told all done are_there (one ∷ wishes) = Then (GivesW
 
 -- ## The command
 
+-- a folder can't be made
+abbrev pub ending_of_folder : HostFault → Ending
+ending_of_folder host.Memory = Fault Memory
+ending_of_folder host.Busy = Line line.HostWrite
+ending_of_folder host.Absent = Line line.HostWrite
+ending_of_folder host.Unwritable = Line line.HostWrite
+ending_of_folder host.Failed = Line line.HostWrite
+
 -- the folder is made, unless there is one of its name
 abbrev pub MakesFolder : List ℕ → List Event → Result (Unit {0}) Ending → List Event → Type 0
-MakesFolder folder old (Ok it) new = new ≡ folder_call folder true ∷ old
-MakesFolder folder old (Err ending) new = ((ending ≡ Line line.HostWrite) ⊎ (ending ≡ Fault Memory)) × (new ≡ folder_call folder false ∷ old)
+MakesFolder folder old (Ok it) new = new ≡ folder_call folder ∷ old
+MakesFolder folder old (Err ending) new = (fault : HostFault) × (ending ≡ ending_of_folder fault) × (new ≡ failed_call MakeFolder folder fault ∷ old)
 
 -- the files of a volume, unless memory is wanted for them
 abbrev pub AreFilesOn : List (List ℕ) → Result (Vec VolumeFile) Ending → Type 0

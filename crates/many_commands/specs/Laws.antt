@@ -79,4 +79,4 @@ IsSoundFile is_all given file = AreSoundIn is_all (volumes_in given file) (body_
 -- each of these files was read, in their order and nothing else, and each volume in it is sound; by what was read before and after
 abbrev pub AreSound : Bool → Option Layout → List (List ℕ) → List Event → List Event → Type 0
 AreSound is_all layout [] old new = new ≡ old
-AreSound is_all layout (name ∷ names) old new = (file : List ℕ) × IsSoundFile is_all layout file × AreSound is_all layout names (look_call name true file ∷ old) new
+AreSound is_all layout (name ∷ names) old new = (file : List ℕ) × IsSoundFile is_all layout file × AreSound is_all layout names (look_call name file ∷ old) new

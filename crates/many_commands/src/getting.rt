@@ -1,16 +1,14 @@
 //! The command that writes several files of the volume in an image file to a folder of the host, each whole or not at all.
-ghost use Rattle.std.specs.Prelude.{◌≡◌, ◌⊎◌, ◌<◌, ◌&&◌, ◌++◌, codes, decimal, false, length, map, slice_get, true, IfOk};
+ghost use Rattle.std.specs.Prelude.{◌≡◌, ◌<◌, ◌&&◌, ◌++◌, codes, decimal, false, length, map, slice_get, true, IfOk};
 ghost use Rattle.script8.specs.Replies.{fault_line};
 ghost use Rattle.os8_dir.specs.declared.file_faults.FileFault.TheVariants.{NotFound};
-ghost use Rattle.outcome.specs.declared.endings.Ending.TheVariants.{Line, Fault};
-ghost use Rattle.program_reports.specs.declared.programs.ProgramLine.TheVariants.{HostWrite};
 ghost use Rattle.script8.specs.declared.faults.SessionFault.TheVariants as session;
 ghost use Rattle.many_commands.specs.Reporting.{named_lines};
 ghost use Rattle.volume_commands.specs.Work.{Then};
 ghost use Rattle.host_progress.specs.Progressing.{TellsProgress, WithProgress};
 ghost use Rattle.many_commands.specs.GettingMany as spec;
 ghost use Rattle.many_commands.specs.Wishing.{AreWishes};
-ghost use Rattle.many_commands.specs.GettingMany.{AreFilesOn, GetsMany, GivesAsked, GivesEach, GivesFile, GivesWish, MakesFolder, PrintsAnswer, RefusesWord};
+ghost use Rattle.many_commands.specs.GettingMany.{AreFilesOn, GetsMany, GivesAsked, GivesEach, GivesFile, GivesWish, MakesFolder, ending_of_folder, PrintsAnswer, RefusesWord};
 
 use crate::giving::{give_file, refuse};
 use crate::reports::end_sound;
@@ -79,7 +77,7 @@ fn make_folder<H: Host>(host: &mut H, folder: &str) -> Result<(), Ending>
 
 /// How the command ends if its folder is not made (this project's profile).
 fn ending_of_folder(fault: HostFault) -> Ending
-    ensures { (result ≡ Line HostWrite) ⊎ (result ≡ Fault session.Memory) }
+    ensures { result ≡ ending_of_folder fault }
 {
     match fault {
         HostFault::Memory => Ending::Fault(SessionFault::Memory),

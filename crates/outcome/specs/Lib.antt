@@ -1,7 +1,6 @@
 pub mod Contents
 pub mod Endings
 pub mod Hints
-pub mod Kinds
 pub mod Notes
 pub mod Outcomes
 pub mod Streams

@@ -1,7 +1,7 @@
 -- The table of outcomes: what each stream gets at the end of a command, and the exit status (this project's profile).
 use Rattle.std.specs.Prelude.{ℕ, Bool, true, false, List, [], ◌++◌, Result, Ok, Err}
-use Rattle.host_images.specs.declared.faults.Unwritten.{Unwritten}
-use Rattle.host_images.specs.declared.faults.Unwritten.TheVariants as unwritten
+use Rattle.hosts.specs.declared.faults.Unwritten.{Unwritten}
+use Rattle.hosts.specs.declared.faults.Unwritten.TheVariants as unwritten
 use Rattle.script8.specs.Replies.{fault_line}
 use Rattle.script8.specs.declared.faults.SessionFault.{SessionFault}
 use Rattle.script8.specs.declared.faults.SessionFault.TheVariants.{BadLine, NoJob, TooManyJobs, File, Asm, Tape, BadText, Reader, Writer, Memory, TooManyBreaks}

@@ -11,7 +11,7 @@ use archive_files::ArchiveFault;
 use bin_tape::TapeFault;
 use core_image::CoreFault;
 use disk_layouts::DiskFault;
-use host_images::Unwritten;
+use hosts::Unwritten;
 use program_reports::{ProgramLine, RimTextFault, SourceFault};
 use script8::SessionFault;
 use std::alloc::AllocError;

@@ -5,7 +5,6 @@
 mod contents;
 mod endings;
 mod hints;
-mod kinds;
 mod notes;
 mod outcomes;
 mod rooms;
@@ -14,7 +13,6 @@ mod streams;
 pub use contents::Content;
 pub use endings::Ending;
 pub use hints::{command_hint, image_note, kind_note, start_note};
-pub use kinds::{ending_of_lay, ending_of_output, ending_of_read, ending_of_write};
 pub use notes::{FileNote, NameNote, Note, PlainNote};
 pub use outcomes::{Outcome, Stream, outcome_of};
 pub use rooms::{LineRoom, no_memory_line};

@@ -10,7 +10,7 @@ use crate::contents::Content;
 use crate::endings::Ending;
 use crate::notes::FileNote;
 use crate::rooms::LineRoom;
-use host_images::Unwritten;
+use hosts::Unwritten;
 use program_reports::ProgramLine;
 use script8::SessionFault;
 

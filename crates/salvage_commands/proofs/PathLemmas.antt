@@ -9,15 +9,12 @@ use Rattle.image_volumes.specs.Volumes.{volumes_in}
 use Rattle.image_volumes.specs.declared.volumes.Volumes.{Volumes}
 use Rattle.image_volumes.specs.declared.volumes.Volumes.TheVariants.{One, Both}
 use Rattle.outcome.specs.Hints.{image_note}
-use Rattle.outcome.specs.declared.contents.Content.TheVariants as content
 use Rattle.outcome.specs.declared.endings.Ending.{Ending}
 use Rattle.outcome.specs.declared.endings.Ending.TheVariants.{Line, Fault, Failure, Busy, NotWritten, FullOutput, NoReader, Misuse}
 use Rattle.outcome.specs.declared.notes.PlainNote.{PlainNote}
 use Rattle.archive_files.specs.declared.faults.ArchiveFault.{ArchiveFault}
 use Rattle.archive_many.specs.declared.faults.BlocksFault.{BlocksFault}
 use Rattle.archive_many.specs.declared.faults.BlocksFault.TheVariants.{Archive, NoBlocks}
-use Rattle.program_reports.specs.declared.programs.ProgramLine.TheVariants as line
-use Rattle.script8.specs.declared.faults.SessionFault.TheVariants as fault
 use Rattle.program_tasks.specs.declared.forms.ImageForm.{ImageForm}
 use Rattle.volume_commands.specs.Answers.{Answers, AreLines, Refuses}
 use Rattle.volume_commands.specs.Notes.{Tells}
@@ -76,55 +73,9 @@ answers-stays path gives size old (Err ending) new (why, gave, p) = refuses-stay
 
 looks-stays : (path name shown : List ℕ) → Stays path (Looks name shown)
 looks-stays path name shown old (Ok bytes) new p = same path p.1
-looks-stays path name shown old (Err (Line (line.Created n))) new p = absurd p
-looks-stays path name shown old (Err (Line line.HostRead)) new (inl p) = same path p
-looks-stays path name shown old (Err (Line line.HostRead)) new (inr (bytes, many, ok, p)) = same path p
-looks-stays path name shown old (Err (Line line.HostWrite)) new p = absurd p
-looks-stays path name shown old (Err (Line line.HostBusy)) new p = absurd p
-looks-stays path name shown old (Err (Line line.NoWord)) new p = absurd p
-looks-stays path name shown old (Err (Line (line.NoStart n))) new p = absurd p
-looks-stays path name shown old (Err (Line (line.Names n why))) new p = absurd p
-looks-stays path name shown old (Err (Line (line.Renamed one other))) new p = absurd p
-looks-stays path name shown old (Err (Line line.Exists)) new p = absurd p
-looks-stays path name shown old (Err (Line line.CopyExists)) new p = absurd p
-looks-stays path name shown old (Err (Line (line.Squeezed n))) new p = absurd p
-looks-stays path name shown old (Err (Line (line.Got got n))) new p = absurd p
-looks-stays path name shown old (Err (Line line.HostExists)) new p = absurd p
-looks-stays path name shown old (Err (Line line.SameName)) new p = absurd p
-looks-stays path name shown old (Err (Line (line.OnlyBlocks n))) new p = absurd p
-looks-stays path name shown old (Err (Line (line.Images n refused))) new p = absurd p
-looks-stays path name shown old (Err (Line (line.Disk fault))) new p = absurd p
-looks-stays path name shown old (Err (Line line.NothingToRun)) new p = absurd p
-looks-stays path name shown old (Err (Line (line.Halted cell ac l))) new p = absurd p
-looks-stays path name shown old (Err (Line (line.Unassigned cell word))) new p = absurd p
-looks-stays path name shown old (Err (Line (line.KeysEnd cell))) new p = absurd p
-looks-stays path name shown old (Err (Line (line.Limit cell))) new p = absurd p
-looks-stays path name shown old (Err (Line (line.Steps ended cell))) new p = absurd p
-looks-stays path name shown old (Err (Line (line.Start cell))) new p = absurd p
-looks-stays path name shown old (Err (Line (line.Core fault))) new p = absurd p
-looks-stays path name shown old (Err (Line (line.Rim fault))) new p = absurd p
-looks-stays path name shown old (Err (Line (line.Image fault))) new p = absurd p
-looks-stays path name shown old (Err (Line (line.Directory fault))) new p = absurd p
-looks-stays path name shown old (Err (Fault fault.BadLine)) new p = absurd p
-looks-stays path name shown old (Err (Fault fault.NoJob)) new p = absurd p
-looks-stays path name shown old (Err (Fault fault.TooManyJobs)) new p = absurd p
-looks-stays path name shown old (Err (Fault (fault.File why))) new p = absurd p
-looks-stays path name shown old (Err (Fault (fault.Asm why))) new p = absurd p
-looks-stays path name shown old (Err (Fault (fault.Tape why))) new p = absurd p
-looks-stays path name shown old (Err (Fault fault.BadText)) new p = absurd p
-looks-stays path name shown old (Err (Fault fault.Reader)) new p = absurd p
-looks-stays path name shown old (Err (Fault fault.Writer)) new p = absurd p
-looks-stays path name shown old (Err (Fault fault.Memory)) new (inl p) = same path p
-looks-stays path name shown old (Err (Fault fault.Memory)) new (inr (bytes, many, p)) = same path p
-looks-stays path name shown old (Err (Fault fault.TooManyBreaks)) new p = absurd p
-looks-stays path name shown old (Err Failure) new p = absurd p
-looks-stays path name shown old (Err (Busy content.Image)) new p = same path p
-looks-stays path name shown old (Err (Busy content.Tape)) new p = absurd p
-looks-stays path name shown old (Err (Busy content.Listing)) new p = absurd p
-looks-stays path name shown old (Err (NotWritten it left)) new p = absurd p
-looks-stays path name shown old (Err FullOutput) new p = absurd p
-looks-stays path name shown old (Err NoReader) new p = absurd p
-looks-stays path name shown old (Err Misuse) new p = absurd p
+looks-stays path name shown old (Err ending) new (inl (fault, is, p)) = same path p
+looks-stays path name shown old (Err ending) new (inr (bytes, many, inl (is, ok, p))) = same path p
+looks-stays path name shown old (Err ending) new (inr (bytes, many, inr (is, p))) = same path p
 
 finds-stays : (path : List ℕ) (volumes : Volumes) (body : List ℕ) → Stays path (FindsIn volumes body)
 finds-stays path (One layout) body old result new p = same path p.1
@@ -151,7 +102,7 @@ apart laid path false is other = is
 
 lays-stays : (path laid bytes : List ℕ) → path ≢ laid → Stays path (LaysFirst laid bytes)
 lays-stays path laid bytes other old (Ok it) new p = p.only.others path (apart laid path (bytes_eq laid path) refl other)
-lays-stays path laid bytes other old (Err ending) new (why, is, laid_by, cause) = laid_by.only.others path (apart laid path (bytes_eq laid path) refl other)
+lays-stays path laid bytes other old (Err ending) new (why, is, laid_by, cause, number) = laid_by.only.others path (apart laid path (bytes_eq laid path) refl other)
 
 piece-stays : (path folder image : List ℕ) (scan : Scan) (piece : Piece) → path ≢ folder ++ codes "/" ++ piece_name piece → Stays path (WritesPiece folder image scan piece)
 piece-stays path folder image scan piece other =

@@ -2,9 +2,10 @@
 use Rattle.std.specs.Prelude.{◌≡◌, ◌⊎◌, ◌<◌, ℕ, Result, Ok, Err, codes, String, List, [], ◌∷◌, ◌++◌, length, true}
 use Rattle.std.specs.Global.{Global, Vec}
 use Rattle.hosts.specs.Event.{Event, there_call}
+use Rattle.hosts.specs.Faults.{fault_number}
 use Rattle.hosts.specs.Place.{about}
 use Rattle.hosts.specs.Saving.{Lays, replacements}
-use Rattle.hosts.specs.Streams.{errors, failures}
+use Rattle.hosts.specs.Streams.{errors, failures, last_fault}
 use Rattle.hosts.specs.declared.faults.HostFault.{HostFault}
 use Rattle.hosts.specs.declared.faults.HostFault.TheVariants as host
 use Rattle.script8.specs.declared.faults.SessionFault.TheVariants.{Memory}
@@ -62,7 +63,8 @@ IsCause path old new = (failures old < failures new) ⊎ (new ≡ there_call pat
 
 abbrev pub LaysFirst : List ℕ → List ℕ → List Event → Result (Unit {0}) Ending → List Event → Type 0
 LaysFirst path file old (Ok it) new = LaysBy (Ok it) path file old new
-LaysFirst path file old (Err ending) new = (fault : HostFault) × (ending ≡ ending_of_laid fault) × LaysBy (Err fault) path file old new × IsCause path old new
+LaysFirst path file old (Err ending) new =
+    (fault : HostFault) × (ending ≡ ending_of_laid fault) × LaysBy (Err fault) path file old new × IsCause path old new × (fault_number fault ≡ last_fault new)
 
 -- ## All pieces
 

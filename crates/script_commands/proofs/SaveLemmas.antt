@@ -9,7 +9,7 @@ use Rattle.hosts.specs.declared.faults.Durability.TheVariants.{Certain, Unknown}
 use Rattle.hosts.specs.declared.faults.Unwritten.{Unwritten}
 use Rattle.hosts.specs.declared.faults.Unwritten.TheVariants.{AsItWas, InPart}
 use Rattle.outcome.specs.declared.contents.Content.TheVariants as content
-use Rattle.volume_commands.specs.Faults.{ending_of_write}
+use Rattle.outcome.specs.declared.endings.Ending.TheVariants.{NotWritten}
 use Rattle.volume_commands.specs.Saving.{IsPlaceTold, TouchesOnly, Writes}
 use Rattle.volume_commands.specs.declared.images.Image.{Image}
 use Rattle.script_commands.specs.Steps.{GetsImage, IsPlaceToldOnce, IsSyncToldOnce}
@@ -58,6 +58,6 @@ in_place false file old new it = refl
 
 -- a file that could not be written
 pub left_so : (is_told : Bool) (path file : List ℕ) (left : Unwritten) (old new : List Event) → SavesFile (Err left) (may_replace new) file (about path old) (about path new) → AnyMomentOf (may_replace new) file (about path old) (about path new)
-    → failures old < failures new → IsPlaceToldOnce is_told (errors old) (errors new) → TouchesOnly path old new → Writes content.Image path file old (Err (ending_of_write content.Image left)) new
+    → failures old < failures new → IsPlaceToldOnce is_told (errors old) (errors new) → TouchesOnly path old new → Writes content.Image path file old (Err (NotWritten content.Image left)) new
 left_so is_told path file AsItWas old new saves moments cause note only = (refl, record { same = saves; moments = moments; cause = cause; place = once_told is_told (errors old) (errors new) note; only = only })
 left_so is_told path file InPart old new saves moments cause note only = (refl, record { in_place = in_place (may_replace new) file (about path old) (about path new) saves; cause = cause; place = once_told is_told (errors old) (errors new) note; only = only })

@@ -8,7 +8,7 @@ use Rattle.hosts.specs.Streams.{errors, may_replace}
 use Rattle.hosts.specs.declared.faults.Durability.{Durability}
 use Rattle.hosts.specs.declared.faults.Durability.TheVariants.{Certain, Unknown}
 use Rattle.hosts.specs.declared.faults.PrintFault.{PrintFault}
-use Rattle.host_images.specs.declared.faults.Unwritten.TheVariants as unwritten
+use Rattle.hosts.specs.declared.faults.Unwritten.TheVariants as unwritten
 use Rattle.disk_layouts.specs.Files.{Disk, HasLaid}
 use Rattle.script8.specs.Replies.{answer_lines}
 use Rattle.script8.specs.declared.entries.Entry.{Entry}

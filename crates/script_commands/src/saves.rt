@@ -10,7 +10,6 @@ ghost use Rattle.outcome.specs.Contents.{content_name};
 ghost use Rattle.outcome.specs.Notes.{file_text};
 ghost use Rattle.outcome.specs.declared.contents.Content.TheVariants as content;
 ghost use Rattle.outcome.specs.declared.notes.FileNote.TheVariants.{InPlace};
-ghost use Rattle.volume_commands.specs.Faults.{ending_of_write};
 ghost use Rattle.volume_commands.specs.Saving.{IsPlaceTold};
 ghost use Rattle.volume_commands.specs.declared.images.Image.{Image as ImageState};
 ghost use Rattle.volume_image.specs.Image.{IsImageOf};
@@ -113,14 +112,14 @@ fn write_image<H: Host>(
     ensures { WritesImage is_told image.old bytes.now result image.new (H.history host.old) (H.history host.new) }
 {
     if !image.place.is_held {
-        return Err(ending_of_save(Unwritten::AsItWas));
+        return Err(Ending::NotWritten(Content::Image, Unwritten::AsItWas));
     }
     let path = image.place.path.as_str();
     match &mut image.disk {
         None => write_bytes(host, alloc, path, bytes, is_told),
         Some(disk) => {
             if !disk.lay(bytes) {
-                return Err(ending_of_save(Unwritten::AsItWas));
+                return Err(Ending::NotWritten(Content::Image, Unwritten::AsItWas));
             }
             write_bytes(host, alloc, path, disk.bytes(), is_told)
         }
@@ -139,7 +138,7 @@ fn write_bytes<H: Host>(
 {
     match save_noted(host, alloc, path, bytes, is_told) {
         Ok(durability) => Ok(durability),
-        Err(left) => Err(ending_of_save(left)),
+        Err(left) => Err(Ending::NotWritten(Content::Image, left)),
     }
 }
 
@@ -218,16 +217,6 @@ fn tell_of_sync<H: Host>(host: &mut H, is_told: bool)
 {
     if !is_told {
         let _ = host.tell(FileNote::NoSync.text(Content::Image));
-    }
-}
-
-/// How a run ends whose image is not written, and what its file holds (this project's profile).
-fn ending_of_save(left: Unwritten) -> Ending
-    ensures { result ≡ ending_of_write content.Image left }
-{
-    match left {
-        Unwritten::AsItWas => Ending::NotWritten(Content::Image, host_images::Unwritten::AsItWas),
-        Unwritten::InPart => Ending::NotWritten(Content::Image, host_images::Unwritten::InPart),
     }
 }
 

@@ -132,16 +132,6 @@ writes-never content path file old FullOutput new p is = p
 writes-never content path file old NoReader new p is = p
 writes-never content path file old Misuse new p is = p
 
-unheld-never : (content : Content) (ending : Ending) → IsUnheldFile content (Err ending) → is_refusal ending ≡ true → ⊥
-unheld-never content (Line it) p is = p
-unheld-never content (Fault it) p is = never is
-unheld-never content Failure p is = p
-unheld-never content (Busy it) p is = never is
-unheld-never content (NotWritten it left) p is = never is
-unheld-never content FullOutput p is = p
-unheld-never content NoReader p is = p
-unheld-never content Misuse p is = p
-
 file-ending : (content : Content) (fault : HostFault) → is_refusal (ending_of_file content fault) ≡ false
 file-ending content host.Busy = refl
 file-ending content host.Memory = refl
@@ -157,13 +147,19 @@ archive-ending (archive.Refused fault) = refl
 other-ending : (ending other : Ending) → ending ≡ other → is_refusal other ≡ false → is_refusal ending ≡ true → ⊥
 other-ending ending other is none some = never (sym none ∙ ap is_refusal (sym is) ∙ some)
 
+unheld-never : (content : Content) (fault : HostFault) (ending : Ending) → IsUnheldFile content fault (Err ending) → is_refusal ending ≡ true → ⊥
+unheld-never content host.Busy ending refl is = never is
+unheld-never content host.Memory ending refl is = never is
+unheld-never content host.Unwritable ending refl is = never is
+unheld-never content host.Failed ending refl is = never is
+
 by-never : (content : Content) (name file : List ℕ) → Never (MakesBy content (ending_of_file content) name file)
 by-never content name file old ending new (fault, ends, unmade) is = other-ending ending (ending_of_file content fault) ends (file-ending content fault) is
 
 file-never : (content : Content) (name file : List ℕ) → Never (MakesFile content name file)
-file-never content name file old ending new (inl (path, has, ok, p)) is = writes-never content path file (with_lock_note content has ok (hold_calls name path old)) ending new p is
-file-never content name file old ending new (inr (inl (between, idle, failed, p))) is = by-never content name file between ending new p is
-file-never content name file old ending new (inr (inr (unheld, idle, failed))) is = unheld-never content ending unheld is
+file-never content name file old ending new (inl (path, has, ok, p)) is = writes-never content path file (with_lock_note content has ok (hold_calls name path has old)) ending new p is
+file-never content name file old ending new (inr (inl (between, idle, failed, absent, p))) is = by-never content name file between ending new p is
+file-never content name file old ending new (inr (inr (fault, unheld, idle, failed, why))) is = unheld-never content fault ending unheld is
 
 writes-if : (is : Bool) (content : Content) (name bytes : List ℕ) → Never (WritesIf is content name bytes)
 writes-if true content name bytes old ending new p is = prints-never bytes old ending new p is

@@ -1,6 +1,6 @@
 -- The command that takes files out of the volume in an image file.
-use Rattle.std.specs.Prelude.{◌≡◌, ◌⊎◌, ℕ, Bool, nat_lt, if◌then◌else◌, Option, None, Some, Result, Ok, Err, List, [], ◌∷◌, ◌++◌, length, map, slice_get}
-use Rattle.hosts.specs.Event.{Event, tell_call}
+use Rattle.std.specs.Prelude.{◌≡◌, ◌⊎◌, ℕ, Result, Ok, Err, List, [], ◌∷◌, ◌++◌, length, map}
+use Rattle.hosts.specs.Event.{Event}
 use Rattle.script8.specs.Replies.{line_of, line_reply_text}
 use Rattle.script8.specs.declared.faults.SessionFault.TheVariants.{File, Memory}
 use Rattle.script8.specs.declared.replies.LineReply.TheVariants.{Deleted}

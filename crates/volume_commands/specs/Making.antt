@@ -2,19 +2,21 @@
 use Rattle.std.specs.Prelude.{◌≡◌, ◌⊎◌, ◌<◌, ℕ, Bool, true, false, Result, Ok, Err, List}
 use Rattle.std.specs.Global.{Vec}
 use Rattle.hosts.specs.Event.{Event}
+use Rattle.hosts.specs.Faults.{fault_number}
 use Rattle.hosts.specs.Place.{about}
 use Rattle.hosts.specs.Saving.{Makes, AnyMomentOf}
-use Rattle.hosts.specs.Streams.{errors, failures, asked_name, path_of_name, has_links}
+use Rattle.hosts.specs.Streams.{errors, failures, last_fault, asked_name, path_of_name, has_links}
 use Rattle.hosts.specs.declared.faults.Durability.{Durability}
 use Rattle.hosts.specs.declared.faults.HostFault.{HostFault}
 use Rattle.hosts.specs.declared.faults.HostFault.TheVariants as host
-use Rattle.host_images.specs.declared.faults.Unwritten.TheVariants.{AsItWas}
+use Rattle.hosts.specs.declared.faults.Unwritten.TheVariants.{AsItWas}
 use Rattle.script8.specs.declared.faults.SessionFault.TheVariants.{Memory}
 use Rattle.outcome.specs.declared.contents.Content.{Content}
 use Rattle.outcome.specs.declared.contents.Content.TheVariants.{Image}
 use Rattle.outcome.specs.declared.endings.Ending.{Ending}
 use Rattle.outcome.specs.declared.endings.Ending.TheVariants.{Line, Fault, Busy, NotWritten}
-use Rattle.disk_layouts.specs.Files.{IsBlankTape}
+use Rattle.disk_layouts.specs.Files.{IsBlankTape, MakesTape}
+use Rattle.disk_layouts.specs.declared.faults.DiskFault.{DiskFault}
 use Rattle.volume_image.specs.Image.{Creates, IsImageOf}
 use Rattle.volume_image.specs.Stores.{InMemory}
 use Rattle.volume_image.specs.declared.faults.ImageFault.{ImageFault}
@@ -55,12 +57,13 @@ pub record HasMade (content : Content) (name file : List ℕ) (old new : List Ev
   pub sync : IsSyncTold content durability (errors old) (errors new)
   pub only : TouchesOnly (path_of_name new) old new
 
--- no file is made, since a call failed
+-- no file is made, since a call failed by this fault
 pub record HasNotMade (name file : List ℕ) (fault : HostFault) (old new : List Event) : Type 0 where
   pub asked : asked_name new ≡ name
   pub unmade : Makes (Err fault) file (about (path_of_name new) old) (about (path_of_name new) new)
   pub moments : AnyMomentOf (has_links new) file (about (path_of_name new) old) (about (path_of_name new) new)
   pub cause : failures old < failures new
+  pub why : fault_number fault ≡ last_fault new
   pub tells : errors new ≡ errors old
   pub only : TouchesOnly (path_of_name new) old new
 
@@ -73,31 +76,28 @@ MakesBy content ends name file old (Err ending) new = (fault : HostFault) × (en
 abbrev pub MakesFirst : List ℕ → List ℕ → List Event → Result (Unit {0}) Ending → List Event → Type 0
 MakesFirst = MakesBy Image ending_of_first
 
--- why the file of a name can't be held to be written
-abbrev pub IsUnheldFile : Content → Result (Unit {0}) Ending → Type 0
-IsUnheldFile content (Ok it) = ⊥
-IsUnheldFile content (Err (Busy it)) = it ≡ content
-IsUnheldFile content (Err (Fault Memory)) = Unit {0}
-IsUnheldFile content (Err (NotWritten it AsItWas)) = it ≡ content
-IsUnheldFile content (Err _) = ⊥
+-- by which fault a command ends so, whose file of a name is there and can't be held to be written
+abbrev pub IsUnheldFile : Content → HostFault → Result (Unit {0}) Ending → Type 0
+IsUnheldFile content host.Absent result = ⊥
+IsUnheldFile content fault result = result ≡ Err (ending_of_file content fault)
 
 -- A file of a name, which is for this, is to have these bytes: one that is there is held, and gets them as any image file does. Where there
--- is none, one is made. Else a call failed, and nothing is changed.
+-- is none, one is made. Else a call failed by another fault, and nothing is changed.
 abbrev pub MakesFile : Content → List ℕ → List ℕ → List Event → Result (Unit {0}) Ending → List Event → Type 0
 MakesFile content name file old result new =
-    ((path : List ℕ) × (has_lock : Bool) × (ok : Bool) × Writes content path file (with_lock_note content has_lock ok (hold_calls name path old)) result new)
-    ⊎ (((between : List Event) × IsIdle old between × (failures old < failures between) × MakesBy content (ending_of_file content) name file between result new)
-    ⊎ (IsUnheldFile content result × IsIdle old new × (failures old < failures new)))
+    ((path : List ℕ) × (has_lock : Bool) × (ok : Bool) × Writes content path file (with_lock_note content has_lock ok (hold_calls name path has_lock old)) result new)
+    ⊎ (((between : List Event) × IsIdle old between × (failures old < failures between) × (last_fault between ≡ fault_number host.Absent) × MakesBy content (ending_of_file content) name file between result new)
+    ⊎ ((fault : HostFault) × IsUnheldFile content fault result × IsIdle old new × (failures old < failures new) × (last_fault new ≡ fault_number fault)))
 
 -- the image of an empty volume of so many blocks
 abbrev pub IsBlankImage : ℕ → Result (Vec ℕ) Ending → Type 0
 IsBlankImage blocks (Ok bytes) = (volume : InMemory) × Creates blocks (Ok volume) × IsImageOf bytes.items volume.blocks
 IsBlankImage blocks (Err ending) = (fault : ImageFault) × (ending ≡ Line (line.Image fault)) × (Creates blocks (Err fault) ⊎ (fault ≡ image.Memory))
 
--- the file of a DECtape with an empty volume; only memory can be wanted for it
+-- the file of a DECtape with an empty volume
 abbrev pub IsBlankTapeFile : Result (Vec ℕ) Ending → Type 0
 IsBlankTapeFile (Ok file) = (bytes : List ℕ) × (volume : InMemory) × Creates TAPE_BLOCKS (Ok volume) × IsImageOf bytes volume.blocks × IsBlankTape bytes file.items
-IsBlankTapeFile (Err ending) = Unit {0}
+IsBlankTapeFile (Err ending) = IsBlankImage TAPE_BLOCKS (Err ending) ⊎ ((image : List ℕ) × (fault : DiskFault) × (ending ≡ Line (line.Disk fault)) × MakesTape image (Err fault))
 
 -- whether a file of these bytes is to be the first of its name
 abbrev pub MakesIf : Bool → List ℕ → List ℕ → List Event → Result (Unit {0}) Ending → List Event → Type 0

@@ -2,7 +2,9 @@
 use Rattle.std.specs.Prelude.{◌≡◌, ◌≢◌, ◌⊎◌, ◌<◌, ◌≤◌, ℕ, Bool, true, false, Option, None, Some, Result, Ok, Err, List, [], ◌∷◌, length, codes}
 use Rattle.std.specs.Global.{Vec}
 use Rattle.std.specs.Str.{bytes_eq}
-use Rattle.hosts.specs.Event.{Event, input_call, tell_call}
+use Rattle.hosts.specs.Event.{Event, TakeInput, failed_call, input_call, tell_call}
+use Rattle.hosts.specs.declared.faults.HostFault.{HostFault}
+use Rattle.hosts.specs.declared.faults.HostFault.TheVariants as host
 use Rattle.os8_dir.specs.Names.{parsed_name}
 use Rattle.os8_dir.specs.declared.file_faults.FileFault.TheVariants.{NothingWritten}
 use Rattle.script8.specs.Replies.{line_of, line_reply_text}
@@ -30,17 +32,27 @@ use Rattle.volume_commands.specs.Answers.{AreLines, Refuses}
 use Rattle.volume_commands.specs.Saving.{Stores}
 use Rattle.volume_commands.specs.declared.images.Image.{Image}
 
--- why standard input is not read: its call failed; or it has more bytes than are read, and a note said so, or memory was wanted for that
+-- standard input can't be read
+abbrev pub ending_of_input : HostFault → Ending
+ending_of_input host.Memory = Fault Memory
+ending_of_input host.Busy = Fault Reader
+ending_of_input host.Absent = Fault Reader
+ending_of_input host.Unwritable = Fault Reader
+ending_of_input host.Failed = Fault Reader
+
+-- it has more bytes than are read, of which a note is printed unless memory is wanted for it
+abbrev pub IsLongInput : List Event → Ending → List Event → Type 0
+IsLongInput old ending new =
+    ((ending ≡ Fault Reader) × (ok : Bool) × (new ≡ tell_call ok (name_text TooLong (codes "standard input")) ∷ old)) ⊎ ((ending ≡ Fault Memory) × (new ≡ old))
+
+-- why standard input is not read: its call failed, by this fault; or it has more bytes than are read
 abbrev pub IsUntaken : List Event → Ending → List Event → Type 0
-IsUntaken old (Fault Reader) new = (new ≡ input_call false [] ∷ old)
-    ⊎ ((bytes : List ℕ) × (MOST < length bytes) × (ok : Bool) × (new ≡ tell_call ok (name_text TooLong (codes "standard input")) ∷ input_call true bytes ∷ old))
-IsUntaken old (Fault Memory) new = (new ≡ input_call false [] ∷ old)
-    ⊎ ((bytes : List ℕ) × (MOST < length bytes) × (new ≡ input_call true bytes ∷ old))
-IsUntaken old _ new = ⊥
+IsUntaken old ending new = ((fault : HostFault) × (ending ≡ ending_of_input fault) × (new ≡ failed_call TakeInput [] fault ∷ old))
+    ⊎ ((bytes : List ℕ) × (MOST < length bytes) × IsLongInput (input_call bytes ∷ old) ending new)
 
 -- standard input is read to its end, and has no more bytes than are read
 abbrev pub TakesInput : List Event → Result (Vec ℕ) Ending → List Event → Type 0
-TakesInput old (Ok bytes) new = (length bytes.items ≤ MOST) × (new ≡ input_call true bytes.items ∷ old)
+TakesInput old (Ok bytes) new = (length bytes.items ≤ MOST) × (new ≡ input_call bytes.items ∷ old)
 TakesInput old (Err ending) new = IsUntaken old ending new
 
 abbrev pub ReadsIf : Bool → List ℕ → List Event → Result (Vec ℕ) Ending → List Event → Type 0

@@ -1,9 +1,12 @@
 -- How an image file is held and read.
-use Rattle.std.specs.Prelude.{◌≡◌, ◌⊎◌, ◌<◌, ◌≤◌, ℕ, ◌%◌, nat_eq, Bool, true, false, if◌then◌else◌, Option, None, Some, Result, Ok, Err, List, [], ◌∷◌, length}
+use Rattle.std.specs.Prelude.{◌≡◌, ◌⊎◌, ◌<◌, ◌≤◌, ℕ, ◌%◌, nat_eq, Bool, true, false, if◌then◌else◌, Option, None, Some, Result, Ok, Err, List, ◌∷◌, length}
 use Rattle.std.specs.Global.{Vec}
-use Rattle.hosts.specs.Event.{Event, resolve_call, hold_call, drop_seconds_call, look_call, tell_call}
+use Rattle.hosts.specs.Event.{Event, Look, failed_call, resolve_call, hold_call, drop_seconds_call, look_call, tell_call}
+use Rattle.hosts.specs.Faults.{fault_number}
 use Rattle.hosts.specs.Place.{about}
-use Rattle.hosts.specs.Streams.{output, errors, read, failures}
+use Rattle.hosts.specs.Streams.{output, errors, read, failures, last_fault}
+use Rattle.hosts.specs.declared.faults.HostFault.{HostFault}
+use Rattle.hosts.specs.declared.faults.HostFault.TheVariants as host
 use Rattle.image_volumes.specs.Margins.{body_of}
 use Rattle.image_volumes.specs.Volumes.{volumes_in}
 use Rattle.image_volumes.specs.declared.volumes.Volumes.{Volumes}
@@ -39,47 +42,52 @@ pub record IsIdle (old new : List Event) : Type 0 where
   pub reads : read new ≡ read old
 
 -- the file that a name leads to was held, at this path, the newest call first
-abbrev pub hold_calls : List ℕ → List ℕ → List Event → List Event
-hold_calls name path old = drop_seconds_call path true ∷ hold_call path true ∷ resolve_call name true path ∷ old
+abbrev pub hold_calls : List ℕ → List ℕ → Bool → List Event → List Event
+hold_calls name path has_lock old = drop_seconds_call path ∷ hold_call path has_lock ∷ resolve_call name path ∷ old
 
 -- a note was printed where the file system of a file for this has no locks
 abbrev pub with_lock_note : Content → Bool → Bool → List Event → List Event
 with_lock_note content true ok old = old
 with_lock_note content false ok old = tell_call ok (file_text NoLock (content_name content)) ∷ old
 
--- why an image file can't be held
-abbrev pub IsUnheld : Ending → Type 0
-IsUnheld (Busy Image) = Unit {0}
-IsUnheld (Line HostRead) = Unit {0}
-IsUnheld (Fault Memory) = Unit {0}
-IsUnheld _ = ⊥
+-- an image can't be held, or can't be read
+abbrev pub ending_of_image : HostFault → Ending
+ending_of_image host.Busy = Busy Image
+ending_of_image host.Memory = Fault Memory
+ending_of_image host.Absent = Line HostRead
+ending_of_image host.Unwritable = Line HostRead
+ending_of_image host.Failed = Line HostRead
 
--- An image file is held before it is read. One that may not be written is not held, and a call failed; where another program holds it
--- the command ends.
+-- by which fault a command ends so, whose image file is not held, nor read
+abbrev pub IsUnheld : HostFault → Ending → Type 0
+IsUnheld host.Unwritable ending = ⊥
+IsUnheld fault ending = ending ≡ ending_of_image fault
+
+-- An image file is held before it is read. One that may not be written is not held; by another fault of a call the command ends.
 abbrev pub HoldsAt : List ℕ → ImagePlace → Bool → List Event → List Event → Type 0
-HoldsAt name place true old new = (has_lock : Bool) × (ok : Bool) × (new ≡ with_lock_note Image has_lock ok (hold_calls name place.path.bytes.items old))
-HoldsAt name place false old new = IsIdle old new × (failures old < failures new)
+HoldsAt name place true old new = (has_lock : Bool) × (ok : Bool) × (new ≡ with_lock_note Image has_lock ok (hold_calls name place.path.bytes.items has_lock old))
+HoldsAt name place false old new = IsIdle old new × (failures old < failures new) × (last_fault new ≡ fault_number host.Unwritable)
 
 abbrev pub Holds : List ℕ → List Event → Result ImagePlace Ending → List Event → Type 0
 Holds name old (Ok place) new = HoldsAt name place place.is_held old new
-Holds name old (Err ending) new = IsUnheld ending × IsIdle old new × (failures old < failures new)
+Holds name old (Err ending) new = (fault : HostFault) × IsUnheld fault ending × IsIdle old new × (failures old < failures new) × (last_fault new ≡ fault_number fault)
 
 -- the path of a file that is held, else its name
 abbrev pub looked_name : ImagePlace → List ℕ → List ℕ
 looked_name place name = if place.is_held then place.path.bytes.items else name
 
--- why a file is not read: its call failed; or it has more bytes than are read, and a note said so, or memory was wanted for that
+-- bytes are more than are read, of which a note is printed unless memory is wanted for it
+abbrev pub IsTooLong : List ℕ → List Event → Ending → List Event → Type 0
+IsTooLong shown old ending new = ((ending ≡ Line HostRead) × (ok : Bool) × (new ≡ tell_call ok (name_text TooLong shown) ∷ old)) ⊎ ((ending ≡ Fault Memory) × (new ≡ old))
+
+-- why a file is not read: its call failed, by this fault; or it has more bytes than are read
 abbrev pub IsUnread : List ℕ → List ℕ → List Event → Ending → List Event → Type 0
-IsUnread name shown old (Busy Image) new = new ≡ look_call name false [] ∷ old
-IsUnread name shown old (Line HostRead) new = (new ≡ look_call name false [] ∷ old)
-    ⊎ ((bytes : List ℕ) × (MOST < length bytes) × (ok : Bool) × (new ≡ tell_call ok (name_text TooLong shown) ∷ look_call name true bytes ∷ old))
-IsUnread name shown old (Fault Memory) new = (new ≡ look_call name false [] ∷ old)
-    ⊎ ((bytes : List ℕ) × (MOST < length bytes) × (new ≡ look_call name true bytes ∷ old))
-IsUnread name shown old _ new = ⊥
+IsUnread name shown old ending new = ((fault : HostFault) × (ending ≡ ending_of_image fault) × (new ≡ failed_call Look name fault ∷ old))
+    ⊎ ((bytes : List ℕ) × (MOST < length bytes) × IsTooLong shown (look_call name bytes ∷ old) ending new)
 
 -- a file is read whole, and has no more bytes than are read
 abbrev pub Looks : List ℕ → List ℕ → List Event → Result (Vec ℕ) Ending → List Event → Type 0
-Looks name shown old (Ok bytes) new = (length bytes.items ≤ MOST) × (new ≡ look_call name true bytes.items ∷ old)
+Looks name shown old (Ok bytes) new = (length bytes.items ≤ MOST) × (new ≡ look_call name bytes.items ∷ old)
 Looks name shown old (Err ending) new = IsUnread name shown old ending new
 
 -- an image is the whole file, or the volume that lies in it as a disk or a DECtape

@@ -1,22 +1,11 @@
 -- What steps of reading do. No contract of a public function cites these.
-use Rattle.std.specs.Prelude.{◌≡◌, ◌≤◌, ◌<◌, ℕ, Bool, Result, Ok, Err, List, ◌∷◌, length}
+use Rattle.std.specs.Prelude.{◌≡◌, ◌≤◌, ◌<◌, ℕ, Result, Ok, Err, List, length}
 use Rattle.std.specs.Global.{Vec}
-use Rattle.hosts.specs.Event.{Event, tell_call}
+use Rattle.hosts.specs.Event.{Event}
 use Rattle.hosts.specs.declared.faults.HostFault.{HostFault}
 use Rattle.script8.specs.declared.readings.TheConstants.{MOST}
-use Rattle.script8.specs.declared.faults.SessionFault.TheVariants.{Memory}
-use Rattle.program_reports.specs.declared.programs.ProgramLine.TheVariants.{HostRead}
-use Rattle.outcome.specs.Notes.{name_text}
-use Rattle.outcome.specs.declared.notes.NameNote.TheVariants.{TooLong}
 use Rattle.outcome.specs.declared.endings.Ending.{Ending}
-use Rattle.outcome.specs.declared.endings.Ending.TheVariants.{Line, Fault}
-use Rattle.volume_commands.specs.Faults.{ending_of_image}
-
--- bytes are too many, of which a note is printed unless memory is wanted for it
-abbrev pub IsTooLong : List ℕ → List Event → Ending → List Event → Type 0
-IsTooLong name old (Line HostRead) new = (ok : Bool) × (new ≡ tell_call ok (name_text TooLong name) ∷ old)
-IsTooLong name old (Fault Memory) new = new ≡ old
-IsTooLong name old _ new = ⊥
+use Rattle.volume_commands.specs.Reading.{IsTooLong, ending_of_image}
 
 -- what is answered of bytes that were read, or not
 abbrev pub IsAnswer : List ℕ → Result (Vec ℕ) HostFault → List Event → Result (Vec ℕ) Ending → List Event → Type 0

@@ -7,7 +7,7 @@ use Rattle.hosts.specs.Saving.{KeepsFile, StaysAsItWas, AnyMomentOf}
 use Rattle.hosts.specs.Streams.{output, errors, read, failures, may_replace}
 use Rattle.hosts.specs.declared.faults.Durability.{Durability}
 use Rattle.hosts.specs.declared.faults.Durability.TheVariants.{Certain, Unknown}
-use Rattle.host_images.specs.declared.faults.Unwritten.TheVariants as unwritten
+use Rattle.hosts.specs.declared.faults.Unwritten.TheVariants as unwritten
 use Rattle.disk_layouts.specs.Disks.{image_size}
 use Rattle.disk_layouts.specs.Files.{Disk, HasLaid}
 use Rattle.outcome.specs.Contents.{content_name}

@@ -2,6 +2,7 @@
 ghost use Rattle.std.specs.Prelude.{◌≡◌};
 ghost use Rattle.volume_commands.specs.Faults as spec;
 ghost use Rattle.volume_commands.specs.Making.{ending_of_file, ending_of_first};
+ghost use Rattle.volume_commands.specs.Reading.{ending_of_image};
 
 use hosts::{HostFault, PrintFault, Unwritten};
 use outcome::{Content, Ending};
@@ -10,7 +11,7 @@ use script8::SessionFault;
 
 /// How a command ends if its image can't be held, or can't be read (this project's profile).
 pub fn ending_of_image(fault: HostFault) -> Ending
-    ensures { result ≡ spec.ending_of_image fault }
+    ensures { result ≡ ending_of_image fault }
 {
     match fault {
         HostFault::Busy => Ending::Busy(Content::Image),
@@ -31,16 +32,6 @@ pub fn ending_of_print(fault: PrintFault) -> Ending
     }
 }
 
-/// How a command ends if its file for this is not written, and what that holds (this project's profile).
-pub fn ending_of_write(content: Content, left: Unwritten) -> Ending
-    ensures { result ≡ spec.ending_of_write content left }
-{
-    match left {
-        Unwritten::AsItWas => Ending::NotWritten(content, host_images::Unwritten::AsItWas),
-        Unwritten::InPart => Ending::NotWritten(content, host_images::Unwritten::InPart),
-    }
-}
-
 /// How a command ends if its file for this can't be held or made, and is as it was (this project's profile).
 pub fn ending_of_file(content: Content, fault: HostFault) -> Ending
     ensures { result ≡ ending_of_file content fault }
@@ -49,7 +40,7 @@ pub fn ending_of_file(content: Content, fault: HostFault) -> Ending
         HostFault::Busy => Ending::Busy(content),
         HostFault::Memory => Ending::Fault(SessionFault::Memory),
         HostFault::Absent | HostFault::Unwritable | HostFault::Failed => {
-            Ending::NotWritten(content, host_images::Unwritten::AsItWas)
+            Ending::NotWritten(content, Unwritten::AsItWas)
         }
     }
 }
@@ -62,7 +53,7 @@ pub fn ending_of_first(fault: HostFault) -> Ending
         HostFault::Busy => Ending::Line(ProgramLine::HostExists),
         HostFault::Memory => Ending::Fault(SessionFault::Memory),
         HostFault::Absent | HostFault::Unwritable | HostFault::Failed => {
-            Ending::NotWritten(Content::Image, host_images::Unwritten::AsItWas)
+            Ending::NotWritten(Content::Image, Unwritten::AsItWas)
         }
     }
 }

@@ -5,7 +5,6 @@ ghost use Rattle.hosts.specs.Streams.{output};
 ghost use Rattle.volume_commands.specs.Reading.{Opens, MakesImage};
 ghost use Rattle.volume_commands.specs.Saving.{Saves};
 
-use crate::faults::ending_of_write;
 use crate::reading::{ImagePlace, hold, look};
 use crate::saving::write_file;
 use disk_layouts::{DiskFile, Layout};
@@ -52,7 +51,7 @@ impl Image {
             return Ok(());
         }
         if !place.is_held {
-            return Err(ending_of_write(Content::Image, Unwritten::AsItWas));
+            return Err(Ending::NotWritten(Content::Image, Unwritten::AsItWas));
         }
         let path = place.path.as_str();
         match disk {
@@ -60,7 +59,7 @@ impl Image {
             Some(disk) => {
                 let mut disk = disk;
                 if !disk.lay(bytes) {
-                    return Err(ending_of_write(Content::Image, Unwritten::AsItWas));
+                    return Err(Ending::NotWritten(Content::Image, Unwritten::AsItWas));
                 }
                 write_file(host, alloc, Content::Image, path, disk.bytes())
             }

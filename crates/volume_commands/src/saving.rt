@@ -6,7 +6,6 @@ ghost use Rattle.hosts.specs.Streams.{output, errors, read, failures, may_replac
 ghost use Rattle.hosts.specs.Saving.{SavesFile, AnyMomentOf};
 ghost use Rattle.volume_commands.specs.Saving.{Writes, IsPlaceTold};
 
-use crate::faults::ending_of_write;
 use crate::notes::tell;
 use hosts::{Durability, Host, Unwritten, save_file};
 use outcome::{Content, Ending, FileNote};
@@ -35,7 +34,7 @@ pub(crate) fn write_file<H: Host>(
                 Ok(())
             }
         },
-        Err(left) => Err(ending_of_write(content, left)),
+        Err(left) => Err(Ending::NotWritten(content, left)),
     }
 }
 
