@@ -16,7 +16,7 @@ use Rattle.archive_files.specs.declared.faults.ArchiveFault.{ArchiveFault}
 use Rattle.program_tasks.specs.declared.forms.ImageForm.{ImageForm}
 use Rattle.volume_commands.specs.Answers.{Answers, Refuses}
 use Rattle.volume_commands.specs.Notes.{Tells}
-use Rattle.volume_commands.specs.Reading.{FindsIn, FindsOne, Holds, HoldsAt, Looks, LooksAt, MakesImage, Opens, hold_calls, looked_name, with_lock_note}
+use Rattle.volume_commands.specs.Reading.{IsUnread, FindsIn, FindsOne, Holds, HoldsAt, Looks, LooksAt, MakesImage, Opens, hold_calls, looked_name, with_lock_note}
 use Rattle.volume_commands.specs.Saving.{Prints, SavesIf, Stores, Writes}
 use Rattle.volume_commands.specs.Work.{Then, Purely}
 use Rattle.volume_commands.specs.declared.images.Image.{Image}
@@ -72,6 +72,7 @@ answers-never gives size old (Err ending) new (fault, gave, p) = refuses-never f
 -- ## What is read
 
 pub looks-never : (name shown : List ℕ) → NeverChanges (Looks name shown)
+unfolding IsUnread
 looks-never name shown old (Ok bytes) new p = λ path. ap (λ (events : List Event). about path events) p.1
 looks-never name shown old (Err ending) new (inl (fault, is, p)) = λ path. ap (λ (events : List Event). about path events) p
 looks-never name shown old (Err ending) new (inr (bytes, many, inl (is, ok, p))) = λ path. ap (λ (events : List Event). about path events) p

@@ -18,7 +18,7 @@ use Rattle.archive_many.specs.declared.faults.BlocksFault.TheVariants.{Archive, 
 use Rattle.program_tasks.specs.declared.forms.ImageForm.{ImageForm}
 use Rattle.volume_commands.specs.Answers.{Answers, AreLines, Refuses}
 use Rattle.volume_commands.specs.Notes.{Tells}
-use Rattle.volume_commands.specs.Reading.{FindsIn, FindsOne, Looks, LooksAt}
+use Rattle.volume_commands.specs.Reading.{IsUnread, FindsIn, FindsOne, Looks, LooksAt}
 use Rattle.volume_commands.specs.Saving.{Prints}
 use Rattle.volume_commands.specs.ShowingParts.{RefusesBlocks}
 use Rattle.volume_commands.specs.Work.{Then, Purely}
@@ -72,6 +72,7 @@ answers-stays path gives size old (Err ending) new (why, gave, p) = refuses-stay
 -- ## What is read
 
 looks-stays : (path name shown : List ℕ) → Stays path (Looks name shown)
+unfolding IsUnread
 looks-stays path name shown old (Ok bytes) new p = same path p.1
 looks-stays path name shown old (Err ending) new (inl (fault, is, p)) = same path p
 looks-stays path name shown old (Err ending) new (inr (bytes, many, inl (is, ok, p))) = same path p

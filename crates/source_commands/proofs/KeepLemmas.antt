@@ -147,11 +147,14 @@ archive-ending (archive.Refused fault) = refl
 other-ending : (ending other : Ending) → ending ≡ other → is_refusal other ≡ false → is_refusal ending ≡ true → ⊥
 other-ending ending other is none some = never (sym none ∙ ap is_refusal (sym is) ∙ some)
 
+same-ending : (ending other : Ending) → Err {T = Unit {0}} ending ≡ Err other → ending ≡ other
+same-ending ending other is = cc
+
 unheld-never : (content : Content) (fault : HostFault) (ending : Ending) → IsUnheldFile content fault (Err ending) → is_refusal ending ≡ true → ⊥
-unheld-never content host.Busy ending refl is = never is
-unheld-never content host.Memory ending refl is = never is
-unheld-never content host.Unwritable ending refl is = never is
-unheld-never content host.Failed ending refl is = never is
+unheld-never content host.Busy ending p is = other-ending ending (ending_of_file content host.Busy) (same-ending ending (ending_of_file content host.Busy) p) (file-ending content host.Busy) is
+unheld-never content host.Memory ending p is = other-ending ending (ending_of_file content host.Memory) (same-ending ending (ending_of_file content host.Memory) p) (file-ending content host.Memory) is
+unheld-never content host.Unwritable ending p is = other-ending ending (ending_of_file content host.Unwritable) (same-ending ending (ending_of_file content host.Unwritable) p) (file-ending content host.Unwritable) is
+unheld-never content host.Failed ending p is = other-ending ending (ending_of_file content host.Failed) (same-ending ending (ending_of_file content host.Failed) p) (file-ending content host.Failed) is
 
 by-never : (content : Content) (name file : List ℕ) → Never (MakesBy content (ending_of_file content) name file)
 by-never content name file old ending new (fault, ends, unmade) is = other-ending ending (ending_of_file content fault) ends (file-ending content fault) is

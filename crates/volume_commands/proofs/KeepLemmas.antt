@@ -17,7 +17,7 @@ use Rattle.volume_commands.specs.Answers.{Refuses}
 use Rattle.volume_commands.specs.Laws.{KeepsFiles}
 use Rattle.volume_commands.specs.Notes.{Tells}
 use Rattle.volume_commands.specs.Putting.{TakesInput}
-use Rattle.volume_commands.specs.Reading.{FindsIn, FindsOne, Holds, HoldsAt, Looks, LooksAt, MakesImage, Opens, hold_calls, looked_name, with_lock_note}
+use Rattle.volume_commands.specs.Reading.{IsUnread, FindsIn, FindsOne, Holds, HoldsAt, Looks, LooksAt, MakesImage, Opens, hold_calls, looked_name, with_lock_note}
 use Rattle.volume_commands.specs.Saving.{Prints}
 use Rattle.volume_commands.specs.Work.{Then, Purely}
 use Rattle.volume_commands.specs.declared.reading.ImagePlace.{ImagePlace}
@@ -57,6 +57,7 @@ refuses-keeps path why size old ending new p = tells-keeps path (image_note size
 -- ## What is read
 
 pub looks-keeps : (name shown : List ℕ) → KeepsFiles (Looks name shown)
+unfolding IsUnread
 looks-keeps name shown old (Ok bytes) new p path = same path p.1
 looks-keeps name shown old (Err ending) new (inl (fault, is, p)) path = same path p
 looks-keeps name shown old (Err ending) new (inr (bytes, many, inl (is, ok, p))) path = same path p

@@ -81,7 +81,7 @@ abbrev pub IsTooLong : List ℕ → List Event → Ending → List Event → Typ
 IsTooLong shown old ending new = ((ending ≡ Line HostRead) × (ok : Bool) × (new ≡ tell_call ok (name_text TooLong shown) ∷ old)) ⊎ ((ending ≡ Fault Memory) × (new ≡ old))
 
 -- why a file is not read: its call failed, by this fault; or it has more bytes than are read
-abbrev pub IsUnread : List ℕ → List ℕ → List Event → Ending → List Event → Type 0
+unfoldable pub IsUnread : List ℕ → List ℕ → List Event → Ending → List Event → Type 0
 IsUnread name shown old ending new = ((fault : HostFault) × (ending ≡ ending_of_image fault) × (new ≡ failed_call Look name fault ∷ old))
     ⊎ ((bytes : List ℕ) × (MOST < length bytes) × IsTooLong shown (look_call name bytes ∷ old) ending new)
 

@@ -1,6 +1,5 @@
 use Rattle.std.proofs.Common.{rules, inl, inr, refl, subst, Err}
 use Rattle.volume_commands.specs.Copying.{MakesCopy}
-use Rattle.volume_commands.specs.Reading.{LooksAt}
 use Rattle.archive_files.specs.Asking.{target_of}
 use Rattle.volume_commands.proofs.WorkLemmas.{ends_with}
 use Rattle.volume_commands.proofs.copying.copy_between.Goals as goal
@@ -13,6 +12,3 @@ returns-in_err-line g c = inr (record { given = c.in_ok-from.from; between = g.H
 
 pub returns : goal.returns
 returns g c = inr (record { given = c.in_ok-from.from; between = g.H.Host.history c.look_at.new.host; done = c.in_ok-from.ensures.looks; after = inr (record { given = c.in_ok-new.new; between = g.H.Host.history c.image_with.new.host; done = search rules; after = inr (record { given = c.in_ok-line.line; between = g.H.Host.history c.image_with.new.host; done = (c.in_ok-line.ensures, refl); after = rw c.deref-2.ensures.value at (rw c.deref-3.ensures.value at c.store.ensures) }) }) })
-
-pub returns-in_err-from : goal.returns-in_err-from
-returns-in_err-from g c = inl (ends_with (LooksAt c.args.form.now.image) _ _ _ _ c.in_err-from.ensures.looks c.from_residual.ensures)
