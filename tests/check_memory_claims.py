@@ -23,6 +23,10 @@ PLACES: dict[str, dict[str, tuple[int, str]]] = {
     "archive_files/src/deleting.rt": {
         "delete": (1, "the file service's own, on a line after its pattern"),
     },
+    "block_scan/src/segments.rt": {
+        "scratch_volume": (1, "a volume of as many blocks as another can fail for nothing else"),
+        "no_directory": (1, "a volume in memory refuses no read"),
+    },
     "volume_index/src/choosing.rt": {
         "is_chosen": (1, "`chosen`'s own, in the arm of its pattern"),
         "text_holds": (1, "the text of a file can fail for nothing else"),

@@ -1,6 +1,6 @@
 #!/usr/bin/env python3
 """compare_scans.py [--program FILE] [--volumes N] [--seed S]: makes N random volumes without a directory, 400 where nothing is said. They hold whole
-texts, core images, BIN and RIM tapes of one block and of several, parts of them, leader, zeros and blocks of any words, in any order. It compares
+texts, core images, BIN and RIM tapes of one block and of several, parts of them, segments of directories, leader, zeros and blocks of any words. It compares
 what `scan` prints of each with a plain reader that is written from the definitions alone. It compares the files that `scan --into` writes with what
 `get --blocks` gives of the same blocks. The same number is the same volumes each time. The last line is 'N passed, M failed'.
 """
@@ -19,7 +19,7 @@ from tests.model.tape import tape_of
 from tests.model.words import BLOCK_FRAMES, BLOCK_WORDS, packed, stored_text
 
 SHOWN = 3
-ENDS: dict[str, tuple[str, list[str]]] = {"TEXT": ("txt", ["--text"]), "CORE": ("core", []), "BIN": ("bin", []), "RIM": ("rim", [])}
+ENDS: dict[str, tuple[str, list[str]]] = {"TEXT": ("txt", ["--text"]), "CORE": ("core", []), "BIN": ("bin", []), "RIM": ("rim", []), "DIR": ("dir", [])}
 
 
 def text_words(random: Random) -> list[int]:
@@ -51,9 +51,23 @@ def rim_words(random: Random) -> list[int]:
     return packed(random.choice([long, rim_frames(random)]))
 
 
+def segment_words(random: Random) -> list[int]:
+    """A segment of a directory of few blocks, in some of which a word is wrong."""
+    info, size = random.choice([0, 1, 10]), random.choice([1, 2, 5])
+    words = [-random.choice([size, size, 0, 9]) % 4096, 7 + random.randrange(3), random.choice([0, 0, 2, 6, 7]), 0, -info % 4096]
+    for _ in range(size):
+        lot = [random.randrange(1, 4096) for _ in range(4 + info)] if random.random() < 0.8 else [0]
+        words += [*lot, -random.choice([0, 1, 1, 2]) % 4096]
+    if random.random() < 0.2:
+        words[random.randrange(5)] = random.randrange(4096)
+    return words + [0] * (BLOCK_WORDS - len(words))
+
+
 def piece_words(random: Random) -> list[int]:
     """The words of whole blocks of any kind."""
-    kind = random.randrange(8)
+    kind = random.randrange(10)
+    if kind > 7:
+        return segment_words(random)
     if kind < 2:
         return text_words(random)
     if kind == 2:

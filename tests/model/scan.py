@@ -1,8 +1,9 @@
-"""What the blocks of a volume hold by their content alone, by its definitions: whole texts, core images, BIN tapes and RIM tapes."""
+"""What the blocks of a volume hold by their content alone, by its definitions: whole texts, core images, BIN and RIM tapes, segments of directories."""
 from typing import Callable, Optional
 from tests.model.index import TEXT, core_start, is_rim
 from tests.model.tape import meaning_of
-from tests.model.words import BLOCK_FRAMES, BLOCK_WORDS, frames_of
+from tests.model.volume import FIRST_ENTRY
+from tests.model.words import BLOCK_FRAMES, BLOCK_WORDS, Name, frames_of
 
 MOST_SHOWN = 40
 Piece = tuple[str, int, int]
@@ -67,6 +68,30 @@ def programs_in(words: list[int]) -> list[Piece]:
     return found
 
 
+def is_segment(words: list[int], blocks: int) -> bool:
+    """Whether a block can be read as a segment of a directory for so many blocks, and as the only one, and has a file."""
+    count, place, link, info, at, names = -words[0] % 4096, words[1], words[2], -words[4] % 4096, FIRST_ENTRY, list[Name]()
+    if link > 6 or info > 10 or not 7 <= place <= blocks:
+        return False
+    for _ in range(count):
+        size = 2 if at < BLOCK_WORDS and words[at] == 0 else 5 + info
+        if at + size > BLOCK_WORDS:
+            return False
+        length = -words[at + size - 1] % 4096
+        name = (words[at], words[at + 1], words[at + 2], words[at + 3]) if size > 2 and length else None
+        if place + length > blocks or name in names:
+            return False
+        names += [name] if name else []
+        at, place = at + size, place + length
+    return bool(names)
+
+
+def segments_in(words: list[int]) -> list[Piece]:
+    """The segments of directories after block 6."""
+    blocks = [words[k : k + BLOCK_WORDS] for k in range(0, len(words), BLOCK_WORDS)]
+    return [("DIR", place, 1) for place in range(7, len(blocks)) if is_segment(blocks[place], len(blocks))]
+
+
 def line_of(frames: list[int], piece: Piece) -> str:
     kind, place, size = piece
     if kind != "TEXT":
@@ -85,4 +110,4 @@ def scanned(words: list[int]) -> list[str]:
     """The lines of all pieces of a volume."""
     frames = frames_of(words)
     blocks = [frames[k : k + BLOCK_FRAMES] for k in range(0, len(frames), BLOCK_FRAMES)]
-    return [line_of(frames, piece) for piece in texts_in(blocks) + programs_in(words)]
+    return [line_of(frames, piece) for piece in texts_in(blocks) + programs_in(words) + segments_in(words)]

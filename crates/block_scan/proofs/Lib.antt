@@ -4,3 +4,4 @@ mod FoundLemmas
 mod ProgramLemmas
 mod TailLemmas
 mod ChanceLemmas
+mod SegmentLemmas

@@ -1,5 +1,6 @@
--- What holds of the texts that are found.
-use Rattle.std.specs.Prelude.{◌≡◌, ◌⊎◌, ℕ, ◌+◌, ◌/◌, ◌<◌, ◌≤◌, Bool, true, false, List, [], ◌∷◌, ◌++◌, length, take, drop}
+-- What holds of the texts, of the programs and of the segments of directories that are found.
+use Rattle.std.specs.Prelude.{◌≡◌, ◌⊎◌, ℕ, ◌+◌, ◌/◌, ◌<◌, ◌≤◌, Bool, true, false, Some, Ok, slice_get, List, [], ◌∷◌, ◌++◌, length, take, drop}
+use Rattle.os8_dir.specs.Entries.{DirectoryState}
 use Rattle.os8_dir.specs.Files.{join_blocks}
 use Rattle.file_kind.specs.Texts.{is_text}
 use Rattle.word12.specs.declared.sizes.TheConstants.{BLOCK}
@@ -7,8 +8,10 @@ use Rattle.block_scan.specs.Passages.{passage}
 use Rattle.block_scan.specs.Programs.{AreProgramsOf, Heads, frames_from, is_blank, words_from}
 use Rattle.block_scan.specs.Pieces.{texts_from}
 use Rattle.block_scan.specs.declared.passages.Passage.TheVariants.{Goes, Ends}
+use Rattle.block_scan.specs.Segments.{first_file, may_be_segment, segment_alone, segments_among}
 use Rattle.block_scan.specs.declared.kinds.ProgramKind.{ProgramKind}
 use Rattle.block_scan.specs.declared.programs.Program.{Program}
+use Rattle.block_scan.specs.declared.segments.Segment.{Segment}
 use Rattle.block_scan.specs.declared.texts.TextPiece.{TextPiece}
 
 -- frames among which a text ends are a text
@@ -67,3 +70,29 @@ abbrev pub EachProgramIsFound : Type 0
 EachProgramIsFound = (words : List ℕ) (programs : List Program) (kind : ProgramKind) (place size : ℕ) → AreProgramsOf words programs
     → place + size ≤ length words / BLOCK → 0 < size → is_blank (frames_from words place) ≡ false
     → Heads kind (words_from words place) (frames_from words place) size → HasBlock programs place
+
+-- a block after those of the directory can be read as a segment of one of this volume, and its first file has this name
+pub record IsSegment (blocks : List (List ℕ)) (segment : Segment) : Type 0 where
+  pub words : List ℕ
+  pub there : slice_get blocks segment.place ≡ Some words
+  pub may_be : may_be_segment segment.place words ≡ true
+  pub directory : DirectoryState
+  pub read : segment_alone (length blocks) words ≡ Ok directory
+  pub named : first_file directory.entries ≡ Some segment.name
+
+abbrev pub AreSegments : List (List ℕ) → List Segment → Type 0
+AreSegments blocks [] = Unit {0}
+AreSegments blocks (segment ∷ segments) = IsSegment blocks segment × AreSegments blocks segments
+
+-- this is one of the segments
+abbrev pub HasSegment : List Segment → Segment → Type 0
+HasSegment [] segment = ⊥
+HasSegment (first ∷ segments) segment = (first ≡ segment) ⊎ HasSegment segments segment
+
+-- what is listed as a segment can be read as one
+abbrev pub EachSegmentIsOne : Type 0
+EachSegmentIsOne = (blocks : List (List ℕ)) → AreSegments blocks (segments_among blocks)
+
+-- what can be read as a segment is listed
+abbrev pub EachSegmentIsFound : Type 0
+EachSegmentIsFound = (blocks : List (List ℕ)) (segment : Segment) → IsSegment blocks segment → HasSegment (segments_among blocks) segment

@@ -1,5 +1,5 @@
-//! What holds of the texts and of the programs that are found.
-ghost use Rattle.block_scan.specs.Laws.{EachPieceIsText, EachProgramGoesOn, EachProgramIsFound, EachProgramIsOne, EachTextIsFound, PassageIsText};
+//! What holds of the texts, of the programs and of the segments of directories that are found.
+ghost use Rattle.block_scan.specs.Laws.{EachPieceIsText, EachProgramGoesOn, EachProgramIsFound, EachProgramIsOne, EachSegmentIsFound, EachSegmentIsOne, EachTextIsFound, PassageIsText};
 
 use bin_tape::laws::longer_tape;
 
@@ -35,4 +35,14 @@ pub fn programs_are_there()
 /// that is listed, or inside it.
 pub fn programs_are_found()
     ensures { EachProgramIsFound }
+{}
+
+/// A law: each block that is listed as a segment of a directory can be read there as one, and its first file has the name that is given.
+pub fn segments_are_there()
+    ensures { EachSegmentIsOne }
+{}
+
+/// A law: each block after those of the directory that can be read as a segment with a file is listed.
+pub fn segments_are_found()
+    ensures { EachSegmentIsFound }
 {}

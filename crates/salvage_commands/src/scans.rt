@@ -14,8 +14,8 @@ use std::alloc::Global;
 use volume_commands::{look_at, print, refuse_image};
 use volume_salvage::{Piece, Scan, form_of, piece_name, scan_image};
 
-/// Lists the pieces that the blocks of the volume in an image file hold, whatever its directory says: whole texts, core images, BIN tapes
-/// and RIM tapes. No file changes.
+/// Lists the pieces that the blocks of the volume in an image file hold, whatever its directory says: whole texts, core images, BIN tapes,
+/// RIM tapes, and segments of directories. No file changes.
 pub fn scan_blocks<H: Host>(host: &mut H, alloc: Global, form: &ImageForm) -> Result<(), Ending>
     ensures { ShowsPieces form.now (H.history host.old) result (H.history host.new) }
 {

@@ -6,9 +6,11 @@ use Rattle.char_pack.specs.declared.forms.GetForm.{GetForm}
 use Rattle.char_pack.specs.declared.forms.GetForm.TheVariants as form
 use Rattle.block_scan.specs.Pieces.{texts_among}
 use Rattle.block_scan.specs.Programs.{AreProgramsOf}
+use Rattle.block_scan.specs.Segments.{segments_among}
 use Rattle.block_scan.specs.declared.kinds.ProgramKind.{ProgramKind}
 use Rattle.block_scan.specs.declared.kinds.ProgramKind.TheVariants as program
 use Rattle.block_scan.specs.declared.programs.Program.{Program}
+use Rattle.block_scan.specs.declared.segments.Segment.{Segment as Found}
 use Rattle.block_scan.specs.declared.texts.TextPiece.{TextPiece}
 use Rattle.volume_image.specs.Image.{IsImageOf}
 use Rattle.os8_dir.specs.Files.{run}
@@ -16,7 +18,7 @@ use Rattle.archive_files.specs.declared.faults.ArchiveFault.{ArchiveFault}
 use Rattle.volume_salvage.specs.Salvaging.{IsNoImage}
 use Rattle.volume_salvage.specs.declared.pieces.Piece.{Piece}
 use Rattle.volume_salvage.specs.declared.pieces.PieceKind.{PieceKind}
-use Rattle.volume_salvage.specs.declared.pieces.PieceKind.TheVariants.{Text, Core, Bin, Rim}
+use Rattle.volume_salvage.specs.declared.pieces.PieceKind.TheVariants.{Text, Core, Bin, Rim, Segment}
 use Rattle.volume_salvage.specs.declared.scans.Scan.{Scan}
 use Rattle.volume_salvage.specs.declared.scan_lines.TheConstants.{MOST_SHOWN}
 
@@ -54,16 +56,19 @@ piece_kind program.Rim = Rim
 abbrev pub piece_of_program : Program → Piece
 piece_of_program program = record { kind = piece_kind program.kind; place = program.place; size = program.size }
 
--- the whole texts, and then the programs
-abbrev pub pieces_of : List TextPiece → List Program → List Piece
-pieces_of texts programs = map piece_of_text texts ++ map piece_of_program programs
+abbrev pub piece_of_segment : Found → Piece
+piece_of_segment segment = record { kind = Segment; place = segment.place; size = 1 }
 
--- what the blocks of a volume hold: its frames, its whole texts and its programs
+-- the whole texts, then the programs, and then the segments
+abbrev pub pieces_of : List TextPiece → List Program → List Found → List Piece
+pieces_of texts programs segments = (map piece_of_text texts ++ map piece_of_program programs) ++ map piece_of_segment segments
+
+-- what the blocks of a volume hold: its frames, its whole texts, its programs, and segments of directories
 pub record IsScan (blocks : List (List ℕ)) (scan : Scan) : Type 0 where
   pub programs : List Program
   pub are : AreProgramsOf (run blocks 0 (length blocks)) programs
   pub frames_are : scan.frames.items ≡ frames (run blocks 0 (length blocks))
-  pub pieces_are : scan.pieces.items ≡ pieces_of (texts_among scan.frames.items) programs
+  pub pieces_are : scan.pieces.items ≡ pieces_of (texts_among scan.frames.items) programs (segments_among blocks)
 
 pub record IsScanOf (image : List ℕ) (scan : Scan) : Type 0 where
   pub blocks : List (List ℕ)
@@ -77,6 +82,7 @@ kind_text Text = codes "TEXT"
 kind_text Core = codes "CORE"
 kind_text Bin = codes "BIN"
 kind_text Rim = codes "RIM"
+kind_text Segment = codes "DIR"
 
 -- of a text what its first line begins with, after a blank
 abbrev pub detail : List ℕ → Piece → PieceKind → List ℕ
@@ -84,6 +90,7 @@ detail all piece Text = 0o40 ∷ first_line (from_graphic (drop (BLOCK_FRAMES * 
 detail all piece Core = []
 detail all piece Bin = []
 detail all piece Rim = []
+detail all piece Segment = []
 
 -- what a piece is, its first block, and how many it has
 abbrev pub piece_head : Piece → List ℕ
@@ -106,6 +113,7 @@ extension Text = codes "txt"
 extension Core = codes "core"
 extension Bin = codes "bin"
 extension Rim = codes "rim"
+extension Segment = codes "dir"
 
 -- the name of a piece's file of the host: the four digits of its block, and what it is
 abbrev pub piece_name : Piece → List ℕ
@@ -118,6 +126,7 @@ piece_form Text = form.Text
 piece_form Core = form.Frames
 piece_form Bin = form.Frames
 piece_form Rim = form.Frames
+piece_form Segment = form.Frames
 
 -- what is answered where an image is to be scanned: bytes that are none are refused
 abbrev pub Scans : List ℕ → Result Scan ArchiveFault → Type 0

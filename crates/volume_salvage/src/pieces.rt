@@ -1,10 +1,10 @@
 //! Pieces of a volume: what they are, and what they are called.
 ghost use Rattle.std.specs.Prelude.{◌≡◌, IfOk};
 ghost use Rattle.volume_salvage.specs.Scanning as spec;
-ghost use Rattle.volume_salvage.specs.Scanning.{extension, piece_form, piece_kind, piece_of_program, piece_of_text};
+ghost use Rattle.volume_salvage.specs.Scanning.{extension, piece_form, piece_kind, piece_of_program, piece_of_segment, piece_of_text};
 
 use archive_files::GetForm;
-use block_scan::{Program, ProgramKind, TextPiece};
+use block_scan::{Program, ProgramKind, Segment, TextPiece};
 use std::alloc::{AllocError, Global};
 
 /// What a piece of a volume holds.
@@ -21,6 +21,9 @@ pub enum PieceKind {
 
     /// A RIM tape.
     Rim,
+
+    /// A segment of a directory.
+    Segment,
 }
 
 /// A piece of a volume: what it holds, its first block, and how many blocks it has.
@@ -56,6 +59,7 @@ fn extension_of(kind: PieceKind) -> &'static str
         PieceKind::Core => "core",
         PieceKind::Bin => "bin",
         PieceKind::Rim => "rim",
+        PieceKind::Segment => "dir",
     }
 }
 
@@ -65,7 +69,7 @@ pub fn form_of(kind: PieceKind) -> GetForm
 {
     match kind {
         PieceKind::Text => GetForm::Text,
-        PieceKind::Core | PieceKind::Bin | PieceKind::Rim => GetForm::Frames,
+        PieceKind::Core | PieceKind::Bin | PieceKind::Rim | PieceKind::Segment => GetForm::Frames,
     }
 }
 
@@ -77,6 +81,17 @@ pub(crate) fn text_piece(text: TextPiece) -> Piece
         kind: PieceKind::Text,
         place: text.place,
         size: text.size,
+    }
+}
+
+/// A segment as a piece.
+pub(crate) fn segment_piece(segment: Segment) -> Piece
+    ensures { result ≡ piece_of_segment segment }
+{
+    Piece {
+        kind: PieceKind::Segment,
+        place: segment.place,
+        size: 1,
     }
 }
 

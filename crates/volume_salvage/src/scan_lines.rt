@@ -61,6 +61,7 @@ fn kind_text(kind: PieceKind) -> &'static [u8]
         PieceKind::Core => b"CORE",
         PieceKind::Bin => b"BIN",
         PieceKind::Rim => b"RIM",
+        PieceKind::Segment => b"DIR",
     }
 }
 
@@ -73,7 +74,7 @@ fn put_detail(frames: &[u8], piece: Piece, out: &mut Vec<u8>) -> Result<(), Allo
             out.push(b' ')?;
             put_first_line(from_graphic(frames_from(frames, piece.place)), out)
         }
-        PieceKind::Core | PieceKind::Bin | PieceKind::Rim => Ok(()),
+        PieceKind::Core | PieceKind::Bin | PieceKind::Rim | PieceKind::Segment => Ok(()),
     }
 }
 

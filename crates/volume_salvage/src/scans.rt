@@ -2,14 +2,14 @@
 ghost use Rattle.std.specs.Prelude.{◌≡◌, ◌++◌, IfOk, OnOk, map};
 ghost use Rattle.char_pack.specs.Packing.{frames as frames_in};
 ghost use Rattle.volume_image.specs.Volume.{IsVolume};
-ghost use Rattle.volume_salvage.specs.Scanning.{IsScan, Scans, piece_line, piece_of_program, piece_of_text, scan_text};
+ghost use Rattle.volume_salvage.specs.Scanning.{IsScan, Scans, piece_line, piece_of_program, piece_of_segment, piece_of_text, scan_text};
 
-use crate::pieces::{Piece, program_piece, text_piece};
+use crate::pieces::{Piece, program_piece, segment_piece, text_piece};
 use crate::salvages::volume_of;
 use crate::scan_lines::{put_piece, put_pieces};
 use crate::words::words_at;
 use archive_files::ArchiveFault;
-use block_scan::{Program, TextPiece, programs_in, texts_in};
+use block_scan::{Program, Segment, TextPiece, programs_in, segments_in, texts_in};
 use char_pack::Frames;
 use std::alloc::{AllocError, Global};
 use volume_image::{BlockStore, MemoryVolume};
@@ -21,7 +21,7 @@ pub struct Scan {
     /// The frames of all its blocks.
     pub frames: Vec<u8>,
 
-    /// Its whole texts, and then its core images, BIN tapes and RIM tapes, each in order of their blocks.
+    /// Its whole texts, then its core images, BIN tapes and RIM tapes, and then segments of directories, each in order of their blocks.
     pub pieces: Vec<Piece>,
 }
 
@@ -46,9 +46,9 @@ impl Scan {
     }
 }
 
-/// What the blocks of an image hold, whatever its directory says: the whole texts, and the core images, BIN tapes and RIM tapes. Their
-/// forms are those of the OS/8 Software Support Manual, the PAL III Symbolic Assembler manual and the Small Computer Handbook; where
-/// they are looked for is this project's profile. Bytes that are no image are refused.
+/// What the blocks of an image hold, whatever its directory says: the whole texts, the core images, BIN tapes and RIM tapes, and segments of
+/// directories. Their forms are those of the OS/8 Software Support Manual, the PAL III Symbolic Assembler manual and the Small Computer
+/// Handbook; where they are looked for is this project's profile. Bytes that are no image are refused.
 pub fn scan_image(alloc: Global, image: &[u8]) -> Result<Scan, ArchiveFault>
     ensures { Scans image.now result }
 {
@@ -68,9 +68,11 @@ fn scan_volume(alloc: Global, volume: &MemoryVolume) -> Result<Scan, AllocError>
     let frames = frames_of(alloc, &words)?;
     let texts = texts_in(alloc, &frames)?;
     let programs = programs_in(alloc, &words)?;
+    let segments = segments_in(alloc, volume)?;
     let mut pieces = Vec::new(alloc);
     put_text_pieces(&texts, &mut pieces)?;
     put_program_pieces(&programs, &mut pieces)?;
+    put_segment_pieces(&segments, &mut pieces)?;
     Ok(Scan { frames, pieces })
 }
 
@@ -100,6 +102,18 @@ fn put_program_pieces(programs: &[Program], out: &mut Vec<Piece>) -> Result<(), 
     let mut rest = programs;
     while let [program, others @ ..] = rest {
         out.push(program_piece(*program))?;
+        rest = others;
+    }
+    Ok(())
+}
+
+/// Appends segments as pieces.
+fn put_segment_pieces(segments: &[Segment], out: &mut Vec<Piece>) -> Result<(), AllocError>
+    ensures { OnOk result (out.new.items ≡ out.old.items ++ map piece_of_segment segments.now) }
+{
+    let mut rest = segments;
+    while let [segment, others @ ..] = rest {
+        out.push(segment_piece(*segment))?;
         rest = others;
     }
     Ok(())
