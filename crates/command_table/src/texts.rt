@@ -197,7 +197,7 @@ pub fn texts_of(verb: Verb) -> Texts {
         },
         Verb::Scan => Texts {
             about: "List the texts and programs that the blocks of a volume hold, by their content",
-            long_about: "Prints what the blocks of the OS/8 volume in the file IMAGE hold, by their content alone, whatever its{n}directory says: the whole texts, with the first line of each, and then the core images, BIN tapes and{n}RIM tapes, each with its first block and how many there are. With --into each is also written to a{n}new file of FOLDER. The image is not written.",
+            long_about: "Prints what the blocks of the OS/8 volume in the file IMAGE hold, by their content alone, whatever its{n}directory says: the whole texts, with the first line of each, and then the core images, BIN tapes,{n}RIM tapes and segments of directories, each with its first block and how many there are. With --into{n}each is also written to a new file of FOLDER. The image is not written.",
             examples: "Examples:\n  pdp8 scan damaged.img\n  pdp8 scan damaged.img --into found",
         },
     }

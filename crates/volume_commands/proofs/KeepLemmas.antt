@@ -86,7 +86,7 @@ held-at : (name path : List ℕ) (place : ImagePlace) (is_held : Bool) (old new 
 held-at name path place true old new (has, ok, p) = same path p ∙ noted-lock has ok path (hold_calls name place.path.bytes.items has old)
 held-at name path place false old new (idle, failed, why) = idle.files path
 
-holds-keeps : (name : List ℕ) → KeepsFiles (Holds name)
+pub holds-keeps : (name : List ℕ) → KeepsFiles (Holds name)
 holds-keeps name old (Ok place) new p path = held-at name path place place.is_held old new p
 holds-keeps name old (Err ending) new (fault, unheld, idle, failed, why) path = idle.files path
 
