@@ -83,6 +83,7 @@ looks-stays path name shown old (Err (Line line.HostWrite)) new p = absurd p
 looks-stays path name shown old (Err (Line line.HostBusy)) new p = absurd p
 looks-stays path name shown old (Err (Line line.NoWord)) new p = absurd p
 looks-stays path name shown old (Err (Line (line.NoStart n))) new p = absurd p
+looks-stays path name shown old (Err (Line (line.Reserved n))) new p = absurd p
 looks-stays path name shown old (Err (Line (line.Names n why))) new p = absurd p
 looks-stays path name shown old (Err (Line (line.Renamed one other))) new p = absurd p
 looks-stays path name shown old (Err (Line line.Exists)) new p = absurd p

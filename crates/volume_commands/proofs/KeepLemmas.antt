@@ -67,6 +67,7 @@ looks-keeps name shown old (Err (Line line.HostWrite)) new p path = absurd p
 looks-keeps name shown old (Err (Line line.HostBusy)) new p path = absurd p
 looks-keeps name shown old (Err (Line line.NoWord)) new p path = absurd p
 looks-keeps name shown old (Err (Line (line.NoStart n))) new p path = absurd p
+looks-keeps name shown old (Err (Line (line.Reserved n))) new p path = absurd p
 looks-keeps name shown old (Err (Line (line.Names n why))) new p path = absurd p
 looks-keeps name shown old (Err (Line (line.Renamed one other))) new p path = absurd p
 looks-keeps name shown old (Err (Line line.Exists)) new p path = absurd p
