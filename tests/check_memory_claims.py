@@ -73,6 +73,13 @@ PLACES: dict[str, dict[str, tuple[int, str]]] = {
     "os8_files/src/service/changes.rt": {
         "changed_directory": (1, "`without_file`, `with_new_file` and `moved_down` can fail for nothing else"),
     },
+    "pal8_source/src/pools.rt": {
+        "flags_of": (1, "a flag for each cell of core, asked for once"),
+    },
+    "pal8_source/src/sources.rt": {
+        "all_but": (1, "a flag for each cell of core, asked for once"),
+        "kept_cells": (1, "a flag for each cell of core, asked for once"),
+    },
     "tape_source/src/sources.rt": {
         "words_in": (1, "a word or none for each cell of core, asked for once"),
     },

@@ -163,6 +163,7 @@ AsksFor which values (Rim tape form) = (which ≡ verb.Rim) × IsTapeOrInput val
 AsksFor which values (Source form) = (which ≡ verb.Source) × IsTapeOrInput values form.tape
     × (map cell_of (values_of (codes "start") values) ≡ map (λ start. Some start) form.starts.items)
     × (first_of (codes "names") values ≡ option_map (λ names. names.bytes.items) form.names)
+    × (form.is_pal8 ≡ is_set (codes "pal8") values)
 AsksFor which values (Run image form) = (which ≡ verb.Run) × IsChanged values image × (form.saving ≡ saving_of values)
     × (form.is_strict ≡ is_set (codes "strict") values)
 AsksFor which values (Create form blocks) = (which ≡ verb.Create) × IsCreateForm values form

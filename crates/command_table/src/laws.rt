@@ -23,7 +23,7 @@ pub fn plain_words()
         (in_place (codes "TAPE") image ∷ in_place (codes "NAME") file ∷ []) ∷ []) }
     ensures rim { (tape : List ℕ) → AreTaken (codes "rim") ([] ∷ (in_place (codes "TAPE") tape ∷ alone (codes "bin") ∷ []) ∷ []) }
     ensures source { (tape start names : List ℕ) → AreTaken (codes "source") ([] ∷ (in_place (codes "TAPE") tape ∷ []) ∷
-        (with_value (codes "start") start ∷ []) ∷ (with_value (codes "names") names ∷ []) ∷ []) }
+        (with_value (codes "start") start ∷ []) ∷ (with_value (codes "names") names ∷ []) ∷ (alone (codes "pal8") ∷ []) ∷ []) }
     ensures run { (image text : List ℕ) → AreTaken (codes "run") (after (in_place (codes "IMAGE") image) ([] ∷
         (alone (codes "look") ∷ []) ∷ (alone (codes "keep") ∷ []) ∷ (alone (codes "strict") ∷ []) ∷
         (alone (codes "look") ∷ alone (codes "keep") ∷ []) ∷ (with_value (codes "volume") text ∷ []) ∷ (alone (codes "dectape") ∷ []) ∷

@@ -247,6 +247,7 @@ pub const SOURCE: &[Argument] = rows! {
     "NAME" may Kind::Word, "", "The name of the file on the volume";
     "start" option Kind::Many(Form::Cell), "FAAAA", "A cell at which the program starts, in octal, as 10200 or 1:0200; it may be given several times";
     "names" option Kind::One(Form::Text), "FILE", "A file of names, a line FAAAA NAME for each cell that gets one";
+    "pal8" flag Kind::Flag, "", "Write PAL8, the language of OS/8's assembler";
     "volume" 'v' option Kind::One(Form::Volume), "N", "The volume of an RK05 disk, 1 or 2, where TAPE is the file of one";
     "dectape" flag Kind::Flag, "", "TAPE is the file of a DECtape, of 129 words a block";
 };

@@ -90,6 +90,7 @@ pub fn source(alloc: Global, found: &ArgMatches<'_>) -> Read<Task>
         tape: tape_if_given(alloc, found, Verb::Source)?,
         starts: cells_of(alloc, found, Verb::Source, "start")?,
         names: value_if_given(alloc, found, Verb::Source, "names")?,
+        is_pal8: flag(found, Verb::Source, "pal8"),
     }))
 }
 

@@ -25,6 +25,7 @@ ending_of_archive (archive.Refused fault) = Fault fault
 abbrev pub ending_of_source : SourceFault → Ending
 ending_of_source source.NoWord = Line line.NoWord
 ending_of_source (source.NoStart start) = Line (line.NoStart start)
+ending_of_source (source.Reserved cell) = Line (line.Reserved cell)
 ending_of_source (source.Names number why) = Line (line.Names number why)
 ending_of_source (source.Session fault) = Fault fault
 

@@ -81,6 +81,7 @@ impl From<SourceFault> for Ending {
         match fault {
             SourceFault::NoWord => Ending::Line(ProgramLine::NoWord),
             SourceFault::NoStart(start) => Ending::Line(ProgramLine::NoStart(start)),
+            SourceFault::Reserved(cell) => Ending::Line(ProgramLine::Reserved(cell)),
             SourceFault::Names(line, why) => Ending::Line(ProgramLine::Names(line, why)),
             SourceFault::Session(fault) => Ending::Fault(fault),
         }

@@ -138,14 +138,14 @@ module _
     names-keeps (Some file) old (Ok (Some names)) new p path = looks-keeps file.bytes.items file.bytes.items old (Ok names) new p path
     names-keeps (Some file) old (Err ending) new p path = looks-keeps file.bytes.items file.bytes.items old (Err ending) new p path
 
-    gives-keeps : (frames starts : List ℕ) (names : Option (List ℕ)) → KeepsFiles (GivesSource frames starts names)
-    gives-keeps frames starts names old (Ok text) new p path = same path p.1
-    gives-keeps frames starts names old (Err ending) new (why, is, p) path = frames-refused path frames _ old ending new p
+    gives-keeps : (pal8 : Bool) (frames starts : List ℕ) (names : Option (List ℕ)) → KeepsFiles (GivesSource pal8 frames starts names)
+    gives-keeps pal8 frames starts names old (Ok text) new p path = same path p.1
+    gives-keeps pal8 frames starts names old (Err ending) new (why, is, p) path = frames-refused path frames _ old ending new p
 
     pub source-keeps : (form : SourceForm) → KeepsFiles (WritesSource form)
     source-keeps form =
         let named : Option (Vec ℕ) → Option (List ℕ) = option_map (λ names. names.items) in
-        then-keeps (ReadsNames form.names) (λ names. Then (ReadsGiven form.tape) (λ program. Then (GivesSource program.frames.items (starts_or form.starts.items program.start) (named names)) (λ text. Prints text.items)))
-        (names-keeps form.names) (λ names. then-keeps (ReadsGiven form.tape) (λ program. Then (GivesSource program.frames.items (starts_or form.starts.items program.start) (named names)) (λ text. Prints text.items))
-        (given-keeps form.tape) (λ program. then-keeps (GivesSource program.frames.items (starts_or form.starts.items program.start) (named names)) (λ text. Prints text.items)
-        (gives-keeps program.frames.items (starts_or form.starts.items program.start) (named names)) (λ text. prints-keeps text.items)))
+        then-keeps (ReadsNames form.names) (λ names. Then (ReadsGiven form.tape) (λ program. Then (GivesSource form.is_pal8 program.frames.items (starts_or form.starts.items program.start) (named names)) (λ text. Prints text.items)))
+        (names-keeps form.names) (λ names. then-keeps (ReadsGiven form.tape) (λ program. Then (GivesSource form.is_pal8 program.frames.items (starts_or form.starts.items program.start) (named names)) (λ text. Prints text.items))
+        (given-keeps form.tape) (λ program. then-keeps (GivesSource form.is_pal8 program.frames.items (starts_or form.starts.items program.start) (named names)) (λ text. Prints text.items)
+        (gives-keeps form.is_pal8 program.frames.items (starts_or form.starts.items program.start) (named names)) (λ text. prints-keeps text.items)))

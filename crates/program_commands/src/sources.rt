@@ -1,11 +1,12 @@
 //! Sources of tapes.
 ghost use Rattle.std.specs.Prelude.{◌≡◌, option_map};
-ghost use Rattle.program_commands.specs.Sources.{GivesSource, ReadsNames, WritesSource, starts_or};
+ghost use Rattle.program_commands.specs.Sources.{GivesSource, IsTextOf, ReadsNames, WritesSource, starts_or};
 
 use crate::kinds::refuse_frames;
 use crate::programs::{Program, given_program};
 use hosts::Host;
 use outcome::Ending;
+use pal8_source::pal8_source;
 use program_reports::{SourceFault, source_lines};
 use program_tasks::SourceForm;
 use std::alloc::Global;
@@ -18,7 +19,7 @@ pub fn write_source<H: Host>(host: &mut H, alloc: Global, form: &SourceForm) -> 
 {
     let names = given_names(host, alloc, &form.names)?;
     let program = given_program(host, alloc, &form.tape)?;
-    let text = program_source(host, alloc, &program, &form.starts, &names)?;
+    let text = program_source(host, alloc, &program, form, &names)?;
     print(host, &text)
 }
 
@@ -44,17 +45,24 @@ fn program_source<H: Host>(
     host: &mut H,
     alloc: Global,
     program: &Program,
-    starts: &[Cell],
+    form: &SourceForm,
     names: &Option<Vec<u8>>,
 ) -> Result<Vec<u8>, Ending>
-    ensures { GivesSource program.now.frames.items (starts_or starts.now program.now.start) (option_map (λ names. names.items) names.now) (H.history host.old) result (H.history host.new) }
+    ensures { GivesSource form.now.is_pal8 program.now.frames.items (starts_or form.now.starts.items program.now.start) (option_map (λ names. names.items) names.now) (H.history host.old) result (H.history host.new) }
 {
-    if starts.is_empty() {
+    if form.starts.is_empty() {
         if let Some(start) = program.start {
-            return source_of(host, alloc, &program.frames, &[start], names);
+            return source_of(host, alloc, &program.frames, &[start], names, form.is_pal8);
         }
     }
-    source_of(host, alloc, &program.frames, starts, names)
+    source_of(
+        host,
+        alloc,
+        &program.frames,
+        &form.starts,
+        names,
+        form.is_pal8,
+    )
 }
 
 /// The source of frames. What they are is printed where they are no tape.
@@ -64,14 +72,30 @@ fn source_of<H: Host>(
     frames: &[u8],
     starts: &[Cell],
     names: &Option<Vec<u8>>,
+    is_pal8: bool,
 ) -> Result<Vec<u8>, Ending>
-    ensures { GivesSource frames.now starts.now (option_map (λ names. names.items) names.now) (H.history host.old) result (H.history host.new) }
+    ensures { GivesSource is_pal8 frames.now starts.now (option_map (λ names. names.items) names.now) (H.history host.old) result (H.history host.new) }
 {
-    match source_lines(alloc, frames, starts, names) {
+    match text_of(alloc, frames, starts, names, is_pal8) {
         Ok(text) => Ok(text),
-        Err(fault) => {
-            let ending = Ending::from(SourceFault::from(fault));
-            Err(refuse_frames(host, alloc, frames, ending))
-        }
+        Err(fault) => Err(refuse_frames(host, alloc, frames, Ending::from(fault))),
     }
+}
+
+/// The PAL8 source of frames, or the PAL III source.
+fn text_of(
+    alloc: Global,
+    frames: &[u8],
+    starts: &[Cell],
+    names: &Option<Vec<u8>>,
+    is_pal8: bool,
+) -> Result<Vec<u8>, SourceFault>
+    ensures { IsTextOf is_pal8 frames.now starts.now (option_map (λ names. names.items) names.now) result }
+{
+    if is_pal8 {
+        let text = pal8_source(alloc, frames, starts, names)?;
+        return Ok(text);
+    }
+    let text = source_lines(alloc, frames, starts, names)?;
+    Ok(text)
 }

@@ -84,6 +84,7 @@ program_text line.HostWrite = codes "? HOST WRITE"
 program_text line.HostBusy = codes "? HOST BUSY"
 program_text line.NoWord = codes "? SOURCE 1 NO WORD"
 program_text (line.NoStart cell) = codes "? SOURCE 2 NO WORD AT " ++ octal5 cell
+program_text (line.Reserved cell) = codes "? SOURCE 3 RESERVED NAME AT " ++ octal5 cell
 program_text (line.Names number why) = names_text number why
 program_text (line.Renamed old new) = codes "RENAMED " ++ name_text old ++ codes " " ++ name_text new
 program_text line.Exists = codes "? RENAME 1 FILE EXISTS"

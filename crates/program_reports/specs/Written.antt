@@ -7,7 +7,9 @@ use Rattle.tape_source.specs.declared.faults.ListFault.TheVariants as list
 use Rattle.script8.specs.declared.faults.SessionFault.TheVariants.{Tape, Reader, Writer, Memory}
 use Rattle.script8.specs.Reading.{IsRead}
 use Rattle.program_reports.specs.declared.sources.SourceFault.{SourceFault}
-use Rattle.program_reports.specs.declared.sources.SourceFault.TheVariants.{NoWord, NoStart, Names, Session}
+use Rattle.pal8_source.specs.declared.faults.Pal8Fault.{Pal8Fault}
+use Rattle.pal8_source.specs.declared.faults.Pal8Fault.TheVariants as pal8
+use Rattle.program_reports.specs.declared.sources.SourceFault.TheVariants.{NoWord, NoStart, Names, Reserved, Session}
 
 -- why a tape has no source, as a fault of what is written
 abbrev pub fault_of_list : ListFault → SourceFault
@@ -16,6 +18,10 @@ fault_of_list list.NoWord = NoWord
 fault_of_list (list.NoStart start) = NoStart start
 fault_of_list (list.Names line why) = Names line why
 fault_of_list list.Memory = Session Memory
+
+abbrev pub fault_of_pal8 : Pal8Fault → SourceFault
+fault_of_pal8 (pal8.List fault) = fault_of_list fault
+fault_of_pal8 (pal8.Reserved cell) = Reserved cell
 
 -- a text is the source of frames: with the instructions that a program reaches, where its starts are given, else with all words as such
 abbrev pub IsPlainText : List ℕ → List ℕ → List ℕ → Type 0
@@ -44,6 +50,7 @@ PutsSource frames starts names w w' (Ok nothing) = (text : List ℕ) × IsSource
 PutsSource frames starts names w w' (Err NoWord) = IsTextFault frames starts names list.NoWord × Keeps w w'
 PutsSource frames starts names w w' (Err (NoStart start)) = IsTextFault frames starts names (list.NoStart start) × Keeps w w'
 PutsSource frames starts names w w' (Err (Names line why)) = IsTextFault frames starts names (list.Names line why) × Keeps w w'
+PutsSource frames starts names w w' (Err (Reserved cell)) = ⊥
 PutsSource frames starts names w w' (Err (Session (Tape fault))) = IsTextFault frames starts names (list.Tape fault) × Keeps w w'
 PutsSource frames starts names w w' (Err (Session Memory)) = Keeps w w'
 PutsSource frames starts names w w' (Err (Session Writer)) = (text : List ℕ) × IsSourceText frames starts names text

@@ -37,6 +37,9 @@ pub enum ProgramLine {
     /// The tape gives this cell no word, at which the program of a source is to start.
     NoStart(Cell),
 
+    /// The name of this cell is a word of the language in which a source is to be.
+    Reserved(Cell),
+
     /// This line of the names of cells is the first that is refused, counted from 1, and why.
     Names(u64, Unnamed),
 
@@ -135,6 +138,10 @@ fn put_line(text: &mut TextLine, line: ProgramLine)
         ProgramLine::NoWord => put(text, b"? SOURCE 1 NO WORD"),
         ProgramLine::NoStart(cell) => {
             put(text, b"? SOURCE 2 NO WORD AT ");
+            put_cell(text, cell);
+        }
+        ProgramLine::Reserved(cell) => {
+            put(text, b"? SOURCE 3 RESERVED NAME AT ");
             put_cell(text, cell);
         }
         ProgramLine::Names(line, why) => put_names(text, line, why),

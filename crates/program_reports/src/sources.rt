@@ -3,9 +3,10 @@ ghost use Rattle.tape_source.specs.Sources.{IsFlowFault, IsNamedFault};
 ghost use Rattle.script8.specs.Reading.{TakesBytes};
 ghost use Rattle.script8.specs.declared.faults.SessionFault.TheVariants as fault;
 ghost use Rattle.program_reports.specs.declared.sources.SourceFault.TheVariants.{Session};
-ghost use Rattle.program_reports.specs.Written.{IsNamedText, IsPlainText, IsSourceText, IsTextFault, PutsSource, WritesSource, fault_of_list};
+ghost use Rattle.program_reports.specs.Written.{IsNamedText, IsPlainText, IsSourceText, IsTextFault, PutsSource, WritesSource, fault_of_list, fault_of_pal8};
 
 use crate::listings::write_out;
+use pal8_source::Pal8Fault;
 use script8::{SessionFault, read_all};
 use source_names::LineRefusal;
 use std::alloc::Global;
@@ -24,6 +25,9 @@ pub enum SourceFault {
 
     /// This line of the names is the first that is refused, counted from 1, and why.
     Names(u64, LineRefusal),
+
+    /// The name of this cell is a word of PAL8, in which the source is to be.
+    Reserved(Cell),
 
     /// The frames are no tape; or the reader, the writer or memory failed.
     Session(SessionFault),
@@ -47,6 +51,17 @@ impl From<ListFault> for SourceFault {
             ListFault::NoStart(start) => SourceFault::NoStart(start),
             ListFault::Names(line, why) => SourceFault::Names(line, why),
             ListFault::Memory => SourceFault::Session(SessionFault::Memory),
+        }
+    }
+}
+
+impl From<Pal8Fault> for SourceFault {
+    ghost from_gives = { λ pal8 fault. fault ≡ fault_of_pal8 pal8 };
+
+    fn from(fault: Pal8Fault) -> SourceFault {
+        match fault {
+            Pal8Fault::List(fault) => SourceFault::from(fault),
+            Pal8Fault::Reserved(cell) => SourceFault::Reserved(cell),
         }
     }
 }

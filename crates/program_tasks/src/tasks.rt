@@ -88,6 +88,9 @@ pub struct SourceForm {
 
     /// The file of the host that names cells, if one is named.
     pub names: Option<String>,
+
+    /// Whether the source is PAL8, else it is PAL III.
+    pub is_pal8: bool,
 }
 
 /// How the processor runs with the Teletype that the terminal is (this project's profile).

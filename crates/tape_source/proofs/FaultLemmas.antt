@@ -7,7 +7,8 @@ use Rattle.source_names.specs.Names.{AreNames, Reading, read_of}
 use Rattle.source_names.specs.declared.faults.NamesFault.{NamesFault}
 use Rattle.source_names.specs.declared.faults.NamesFault.TheVariants.{At}
 use Rattle.tape_source.specs.Sources.{AllGiven, IsFlowFault, IsListFault, IsNamedFault}
-use Rattle.tape_source.specs.Steps.{HoldsMap, IsNoSource, IsRefused, IsUnread}
+use Rattle.tape_source.specs.Steps.{HoldsMap, IsRefused, IsUnread}
+use Rattle.tape_source.specs.Saying.{IsNoSource}
 use Rattle.tape_source.specs.declared.faults.ListFault.{ListFault}
 use Rattle.tape_source.specs.declared.faults.ListFault.TheVariants.{Tape, NoWord, NoStart, Names, Memory}
 

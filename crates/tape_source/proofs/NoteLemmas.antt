@@ -4,7 +4,8 @@ use Rattle.flow8.specs.Flow.{word_in}
 use Rattle.source_notes.specs.Notes as notes
 use Rattle.source_notes.specs.Notes.{Notes, is_flagged}
 use Rattle.tape_source.specs.Looks.{AreNotes, Look, with_notes, plain, with_names}
-use Rattle.tape_source.specs.Steps.{SameLook, look_with}
+use Rattle.tape_source.specs.Steps.{look_with}
+use Rattle.tape_source.specs.Saying.{SameLook}
 
 -- notes of a list of words tell the same as those of what it holds
 pub same_notes : (n : Notes) (words : List (Option ℕ)) (code : List Bool) (map : ℕ → Option ℕ) → n.words ≡ words → n.code ≡ code → ((cell : ℕ) → word_in words cell ≡ map cell)

@@ -11,7 +11,7 @@ use Rattle.flow8.specs.Exits.{address_of_reference, referred_cell}
 use Rattle.tape_source.specs.References.{operation_name, is_reference}
 use Rattle.source_notes.specs.Notes.{note_lines}
 use Rattle.tape_source.specs.Looks.{Look, AreNotes, is_tagged, IsNaming}
-use Rattle.tape_source.specs.Steps.{SameLook}
+use Rattle.tape_source.specs.Saying.{SameLook}
 use Rattle.tape_source.specs.Statements.{datum, instruction_by, reference, is_named, statement}
 use Rattle.tape_source.specs.Lines.{with_lead, line_end, field_line, origin_line, comment, tag_part, word_line, cell_lines, lines_of, source_with}
 use Rattle.tape_source.specs.Sources.{IsReadAs, Says, words_of_tape}

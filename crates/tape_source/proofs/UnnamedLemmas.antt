@@ -6,7 +6,7 @@ use Rattle.source_names.specs.declared.faults.NamesFault.{NamesFault}
 use Rattle.tape_source.specs.Lines.{line_end, source_with}
 use Rattle.tape_source.specs.Looks.{AreNotes, GivesNoName, Look, as_shown, is_tagged, or_tag, with_names}
 use Rattle.tape_source.specs.Sources.{words_of_tape}
-use Rattle.tape_source.specs.Steps.{SameLook}
+use Rattle.tape_source.specs.Saying.{SameLook}
 use Rattle.tape_source.specs.Tags.{is_given, is_referred, tag}
 use Rattle.tape_source.proofs.ShownLemmas.{same_lines}
 use Rattle.tape_source.proofs.TapeLemmas.{below_pairs}

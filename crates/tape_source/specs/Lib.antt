@@ -9,3 +9,4 @@ pub mod Sources
 pub mod Defined
 pub mod Fewest
 pub mod Steps
+pub mod Saying

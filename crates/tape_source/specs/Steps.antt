@@ -1,17 +1,16 @@
--- What the parts of a source are, for private clauses.
+-- What the parts of a source are.
 use Rattle.std.specs.Prelude.{◌≡◌, ℕ, ◌<◌, Bool, false, ◌&&◌, ◌||◌, slice_index_or, Option, Some, None, Err, is_some, List, []}
 use Rattle.word12.specs.declared.sizes.TheConstants.{CORE}
-use Rattle.bin_tape.specs.Items.{Item, IsPrefix, tape_map}
+use Rattle.bin_tape.specs.Items.{Item, tape_map}
 use Rattle.bin_tape.specs.Fault.{IsFault}
 use Rattle.flow8.specs.Flow.{word_in}
 use Rattle.source_notes.specs.Notes as notes
 use Rattle.source_notes.specs.Notes.{Notes, is_flagged}
 use Rattle.tape_source.specs.Tags.{is_given, is_referred}
-use Rattle.tape_source.specs.Looks.{Look, AreNotes, IsNaming, names_in, name_or_tag}
+use Rattle.tape_source.specs.Looks.{Look, names_in, name_or_tag}
 use Rattle.source_names.specs.Names.{read_of}
 use Rattle.source_names.specs.declared.faults.NamesFault.TheVariants.{At}
-use Rattle.tape_source.specs.Lines.{source_with}
-use Rattle.tape_source.specs.Sources.{Says, words_below, words_of_tape}
+use Rattle.tape_source.specs.Sources.{words_below, words_of_tape}
 use Rattle.tape_source.specs.declared.faults.ListFault.{ListFault}
 use Rattle.tape_source.specs.declared.faults.ListFault.TheVariants.{Tape, NoWord, NoStart, Names, Memory}
 
@@ -68,21 +67,6 @@ look_with names n is_code = record {
   has_gap = λ cell. gap_of n cell;
 }
 
--- two looks show the same of each cell
-pub record SameLook (one other : Look) : Type 0 where
-  pub names : (cell : ℕ) → cell < CORE → one.name cell ≡ other.name cell
-  pub named : (cell : ℕ) → cell < CORE → one.has_name cell ≡ other.has_name cell
-  pub code : (cell : ℕ) → cell < CORE → one.is_code cell ≡ other.is_code cell
-  pub above : (cell : ℕ) → cell < CORE → one.above cell ≡ other.above cell
-  pub remark : (cell : ℕ) → cell < CORE → one.remark cell ≡ other.remark cell
-  pub gaps : (cell : ℕ) → cell < CORE → one.has_gap cell ≡ other.has_gap cell
-
--- a text says these words, and looks like each look that shows the same as this one
-abbrev pub SaysWords : List (Option ℕ) → Look → List ℕ → Type 0
-SaysWords words look text =
-    (other : Look) (items : List Item) → IsPrefix items → HoldsMap items words → SameLook look other → AreNotes other → IsNaming other.name
-    → (text ≡ source_with other (words_of_tape items)) × Says text items
-
 -- why frames give no words
 abbrev pub IsUnread : List ℕ → ListFault → Type 0
 IsUnread frames (Tape fault) = IsFault frames fault
@@ -98,11 +82,3 @@ IsRefused words text NoWord = ⊥
 IsRefused words text (NoStart start) = ⊥
 IsRefused words text (Names line why) = read_of words text ≡ Err (At line why)
 IsRefused words text Memory = Unit {0}
-
--- why words have no source
-abbrev pub IsNoSource : List (Option ℕ) → ListFault → Type 0
-IsNoSource words (Tape fault) = ⊥
-IsNoSource words NoWord = (items : List Item) → IsPrefix items → HoldsMap items words → (cell : ℕ) → tape_map items cell ≡ None
-IsNoSource words (NoStart start) = ⊥
-IsNoSource words (Names line why) = ⊥
-IsNoSource words Memory = Unit {0}

@@ -20,5 +20,12 @@ mod statements;
 mod tags;
 
 pub use faults::ListFault;
-pub use sources::{named_source_from, named_source_of, source_from, source_of};
-pub use statements::put_instruction;
+pub use lines::{is_next, put_comment, put_field, put_origin, put_tag};
+pub use notes::{put_above, put_gap, put_remark};
+pub use references::operation_name;
+pub use sources::{
+    all_code, first_without, named_source_from, named_source_of, names_in, source_from, source_of,
+    words_of,
+};
+pub use statements::{put_datum, put_indirection, put_instruction, put_piece, put_statement};
+pub use tags::{Tags, tags_of};

@@ -40,7 +40,7 @@ pub fn put_cell(
 }
 
 /// Appends a field where it changes.
-fn put_field(text: &mut Vec<u8>, before: Option<Cell>, cell: Cell) -> Result<(), AllocError>
+pub fn put_field(text: &mut Vec<u8>, before: Option<Cell>, cell: Cell) -> Result<(), AllocError>
     ensures { OnOk result (text.new.items ≡ text.old.items
         ++ (if nat_eq (cell / FIELD) (next_field before) then [] else field_line cell)) }
 {
@@ -54,7 +54,7 @@ fn put_field(text: &mut Vec<u8>, before: Option<Cell>, cell: Cell) -> Result<(),
 }
 
 /// Appends an origin where the cell isn't the next.
-fn put_origin(text: &mut Vec<u8>, before: Option<Cell>, cell: Cell) -> Result<(), AllocError>
+pub fn put_origin(text: &mut Vec<u8>, before: Option<Cell>, cell: Cell) -> Result<(), AllocError>
     ensures { OnOk result (text.new.items ≡ text.old.items
         ++ (if is_next before cell then [] else origin_line cell)) }
 {
@@ -92,7 +92,7 @@ fn put_word(
 }
 
 /// Appends a cell's tag and a comma, if it has one.
-fn put_tag(text: &mut Vec<u8>, tags: &Tags<'_>, cell: Cell) -> Result<(), AllocError>
+pub fn put_tag(text: &mut Vec<u8>, tags: &Tags<'_>, cell: Cell) -> Result<(), AllocError>
     requires { length tags.now.flags.now ≡ CORE }
     ensures { OnOk result (text.new.items ≡ text.old.items
         ++ tag_part (name_or_tag (name_by tags.now.names.now)) (is_flagged tags.now.flags.now) cell) }
@@ -105,7 +105,7 @@ fn put_tag(text: &mut Vec<u8>, tags: &Tags<'_>, cell: Cell) -> Result<(), AllocE
 }
 
 /// Appends a tab, and the comment up to the word.
-fn put_comment(text: &mut Vec<u8>, cell: Cell, word: Word) -> Result<(), AllocError>
+pub fn put_comment(text: &mut Vec<u8>, cell: Cell, word: Word) -> Result<(), AllocError>
     ensures { OnOk result (text.new.items ≡ text.old.items ++ 0o11 ∷ comment cell word) }
 {
     let [field, a, b, c, d] = cell.octal5();
@@ -126,7 +126,7 @@ fn field_after(before: Option<Cell>) -> u8
 }
 
 /// Whether a word for the cell needs no origin after a word for the cell before.
-fn is_next(before: Option<Cell>, cell: Cell) -> bool
+pub fn is_next(before: Option<Cell>, cell: Cell) -> bool
     ensures { result ≡ is_next before cell }
 {
     match before {

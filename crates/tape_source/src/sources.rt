@@ -5,7 +5,8 @@ ghost use Rattle.bin_tape.specs.Map.{IsMapFault, IsMapOf};
 ghost use Rattle.bin_tape.specs.Writing.{newest_cell};
 ghost use Rattle.flow8.specs.Flow.{word_in};
 ghost use Rattle.source_names.specs.Names.{AreNames};
-ghost use Rattle.tape_source.specs.Steps.{HoldsMap, IsNoSource, IsRefused, IsUnread, SaysWords, look_with};
+ghost use Rattle.tape_source.specs.Steps.{HoldsMap, IsRefused, IsUnread, look_with};
+ghost use Rattle.tape_source.specs.Saying.{IsNoSource, SaysWords};
 ghost use Rattle.tape_source.specs.Tags.{is_flagged};
 ghost use Rattle.tape_source.specs.Lines.{lines_of};
 ghost use Rattle.tape_source.specs.Sources.{AllGiven, IsFirstWithout, IsFlowFault, IsListFault, IsNamedFault, IsNamedSourceFrom, IsNamedSourceOf, IsSourceFrom, IsSourceOf, with_word, words_of_tape};
@@ -105,7 +106,7 @@ pub fn named_source_from(
 }
 
 /// The names that a text gives cells with these words, or the first line that is refused.
-fn names_in(alloc: Global, words: &[Option<Word>], text: &[u8]) -> Result<CellNames, ListFault>
+pub fn names_in(alloc: Global, words: &[Option<Word>], text: &[u8]) -> Result<CellNames, ListFault>
     requires { length words.now ≡ CORE }
     ensures names { IfOk result (λ names. AreNames (word_in words.now) text.now names) }
     ensures fault { IfErr result (λ fault. IsRefused (word_in words.now) text.now fault) }
@@ -118,7 +119,7 @@ fn names_in(alloc: Global, words: &[Option<Word>], text: &[u8]) -> Result<CellNa
 }
 
 /// The first of these cells that has no word.
-fn first_without(words: &[Option<Word>], starts: &[Cell]) -> Option<Cell>
+pub fn first_without(words: &[Option<Word>], starts: &[Cell]) -> Option<Cell>
     requires { length words.now ≡ CORE }
     ensures { MatchOption result (AllGiven (word_in words.now) starts.now)
         (IsFirstWithout (word_in words.now) starts.now) }
@@ -133,7 +134,7 @@ fn first_without(words: &[Option<Word>], starts: &[Cell]) -> Option<Cell>
 
 /// All cells are taken for instructions.
 #[tactic(auto, using(crate::proofs::TapeLemmas::told_all))]
-fn all_code(alloc: Global, count: usize) -> Result<Vec<bool>, AllocError>
+pub fn all_code(alloc: Global, count: usize) -> Result<Vec<bool>, AllocError>
     ensures code { IfOk result (λ code. (cell : ℕ) → cell < count → is_flagged code.items cell ≡ true) }
     ensures size { IfOk result (λ code. vec_len code ≡ count) }
 {
@@ -169,7 +170,7 @@ fn source_with(
 }
 
 /// The last word that a tape gives each cell.
-fn words_of(alloc: Global, frames: &[u8]) -> Result<Vec<Option<Word>>, ListFault>
+pub fn words_of(alloc: Global, frames: &[u8]) -> Result<Vec<Option<Word>>, ListFault>
     ensures size { IfOk result (λ words. vec_len words ≡ CORE) }
     ensures words { IfOk result (λ words. IsMapOf frames.now words.items) }
     ensures fault { IfErr result (λ fault. IsUnread frames.now fault) }

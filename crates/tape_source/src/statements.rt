@@ -36,25 +36,31 @@ pub fn put_statement(
     if code[cell.index()] {
         return put_instruction_by(text, tags, cell, word);
     }
-    put_datum(text, tags, cell, word)
+    put_datum(text, b'\t', tags, cell, word)
 }
 
-/// Appends a datum, after a tab: the tag of the cell whose address it is in its own field, where that is tagged, else its number. A zero
+/// Appends a datum, after a byte: the tag of the cell whose address it is in its own field, where that is tagged, else its number. A zero
 /// is a number.
-fn put_datum(text: &mut Vec<u8>, tags: &Tags<'_>, cell: Cell, word: Word) -> Result<(), AllocError>
+pub fn put_datum(
+    text: &mut Vec<u8>,
+    byte: u8,
+    tags: &Tags<'_>,
+    cell: Cell,
+    word: Word,
+) -> Result<(), AllocError>
     requires { length tags.now.flags.now ≡ CORE }
     ensures { OnOk result (text.new.items ≡ text.old.items
-        ++ with_lead 9 (datum (name_or_tag (name_by tags.now.names.now)) (is_flagged tags.now.flags.now)
+        ++ with_lead byte (datum (name_or_tag (name_by tags.now.names.now)) (is_flagged tags.now.flags.now)
         cell word)) }
 {
     if word.get() == 0 {
-        return put_number(text, word);
+        return put_piece(text, byte, &word.octal4());
     }
     let named = Cell::at(cell.field(), word);
     if tags.flags[named.index()] {
-        return put_tag(text, b'\t', tags.names, named);
+        return put_tag(text, byte, tags.names, named);
     }
-    put_number(text, word)
+    put_piece(text, byte, &word.octal4())
 }
 
 /// Appends the instruction of a cell's word as a source spells it, after a tab. It is a memory reference, by the tag of the cell that
@@ -147,8 +153,8 @@ fn put_reference(
     Ok(())
 }
 
-/// Appends `I` where a word is indirect.
-fn put_indirection(text: &mut Vec<u8>, word: Word) -> Result<(), AllocError>
+/// Appends a blank and `I` where a word is indirect.
+pub fn put_indirection(text: &mut Vec<u8>, word: Word) -> Result<(), AllocError>
     ensures { OnOk result (text.new.items ≡ text.old.items
         ++ with_lead 0o40 (if nat_eq (word / 0o400 % 2) 1 then codes "I" ∷ [] else [])) }
 {

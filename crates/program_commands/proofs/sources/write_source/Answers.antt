@@ -16,10 +16,10 @@ returns-in_err-text g c = inr (record {
     between = g.H.Host.history c.given_program.new.host;
     done = c.in_ok-program.ensures;
     after = inl (ends_with
-        (GivesSource c.in_ok-program.program.frames.items (starts_or c.args.form.now.starts.items c.in_ok-program.program.start) (option_map (λ names. names.items) c.in_ok-names.names)) _ _ _ _
-        (rw c.deref.ensures.value at c.in_err-text.ensures) c.from_residual-in_err-text.ensures);
+        (GivesSource c.args.form.now.is_pal8 c.in_ok-program.program.frames.items (starts_or c.args.form.now.starts.items c.in_ok-program.program.start) (option_map (λ names. names.items) c.in_ok-names.names)) _ _ _ _
+        c.in_err-text.ensures c.from_residual-in_err-text.ensures);
   });
 })
 
 pub returns : goal.returns
-returns g c = inr (record { given = c.in_ok-names.names; between = g.H.Host.history c.given_names.new.host; done = c.in_ok-names.ensures; after = inr (record { given = c.in_ok-program.program; between = g.H.Host.history c.given_program.new.host; done = c.in_ok-program.ensures; after = inr (record { given = c.in_ok-text.text; between = g.H.Host.history c.program_source.new.host; done = search rules; after = rw c.deref-2.ensures.value at c.print.ensures }) }) })
+returns g c = inr (record { given = c.in_ok-names.names; between = g.H.Host.history c.given_names.new.host; done = c.in_ok-names.ensures; after = inr (record { given = c.in_ok-program.program; between = g.H.Host.history c.given_program.new.host; done = c.in_ok-program.ensures; after = inr (record { given = c.in_ok-text.text; between = g.H.Host.history c.program_source.new.host; done = search rules; after = rw c.deref.ensures.value at c.print.ensures }) }) })

@@ -6,7 +6,8 @@ use Rattle.source_names.specs.Names.{AreNames}
 use Rattle.source_notes.specs.Notes.{is_flagged}
 use Rattle.tape_source.specs.Looks.{AreNotes, names_in, with_notes, with_names}
 use Rattle.tape_source.specs.Sources.{AllGiven, IsFirstWithout}
-use Rattle.tape_source.specs.Steps.{HoldsMap, SameLook, look_with}
+use Rattle.tape_source.specs.Steps.{HoldsMap, look_with}
+use Rattle.tape_source.specs.Saying.{SameLook}
 use Rattle.tape_source.proofs.FaultLemmas.{no_source, refused, unread}
 use Rattle.tape_source.proofs.FlowLemmas.{map_is}
 use Rattle.tape_source.proofs.NoteLemmas.{named_notes, same_named, same_notes}

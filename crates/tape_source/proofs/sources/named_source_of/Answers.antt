@@ -5,7 +5,8 @@ use Rattle.flow8.specs.Flow.{word_in}
 use Rattle.source_names.specs.Names.{AreNames}
 use Rattle.source_notes.specs.Notes.{is_flagged}
 use Rattle.tape_source.specs.Looks.{names_in, plain, with_names}
-use Rattle.tape_source.specs.Steps.{HoldsMap, SameLook, look_with}
+use Rattle.tape_source.specs.Steps.{HoldsMap, look_with}
+use Rattle.tape_source.specs.Saying.{SameLook}
 use Rattle.tape_source.proofs.FaultLemmas.{no_source, refused, unread}
 use Rattle.tape_source.proofs.FlowLemmas.{map_is}
 use Rattle.tape_source.proofs.NoteLemmas.{named_notes, plain_notes, same_named, same_plain}

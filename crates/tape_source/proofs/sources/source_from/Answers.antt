@@ -3,7 +3,8 @@ use Rattle.bin_tape.specs.Items.{tape_map}
 use Rattle.flow8.specs.Flow.{IsFlow, Reaches, word_in}
 use Rattle.tape_source.specs.Sources.{IsFirstWithout}
 use Rattle.tape_source.specs.Looks.{AreNotes, with_notes}
-use Rattle.tape_source.specs.Steps.{HoldsMap, SameLook, look_with}
+use Rattle.tape_source.specs.Steps.{HoldsMap, look_with}
+use Rattle.tape_source.specs.Saying.{SameLook}
 use Rattle.tape_source.specs.Tags.{is_flagged}
 use Rattle.tape_source.proofs.TagLemmas.{tag_naming}
 use Rattle.tape_source.proofs.FlowLemmas.{map_is}

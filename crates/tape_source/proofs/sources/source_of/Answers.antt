@@ -1,7 +1,8 @@
 use Rattle.std.proofs.Common.{None, subst, sym}
 use Rattle.source_notes.specs.Notes.{is_flagged}
 use Rattle.tape_source.specs.Looks.{plain}
-use Rattle.tape_source.specs.Steps.{HoldsMap, SameLook, look_with}
+use Rattle.tape_source.specs.Steps.{HoldsMap, look_with}
+use Rattle.tape_source.specs.Saying.{SameLook}
 use Rattle.tape_source.proofs.NoteLemmas.{plain_notes, same_plain}
 use Rattle.tape_source.proofs.TagLemmas.{tag_naming}
 use Rattle.tape_source.proofs.sources.source_of.Goals as goal

@@ -1,0 +1,7 @@
+pub mod MapLemmas
+pub mod FaultLemmas
+pub mod ShownLemmas
+pub mod LowestLemmas
+pub mod PoolLemmas
+pub mod TextLemmas
+pub mod LineLemmas
