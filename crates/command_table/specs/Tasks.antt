@@ -302,9 +302,3 @@ abbrev pub IsPastClap : TaskFault → Type 0
 IsPastClap (Words error) = ⊥
 IsPastClap Memory = ⊤
 IsPastClap (Refused line refusal) = ⊤
-
--- the line on usage that a fault has
-abbrev pub usage_of : TaskFault → Option Text
-usage_of (Words error) = None
-usage_of Memory = None
-usage_of (Refused line refusal) = Some line.now

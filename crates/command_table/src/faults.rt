@@ -1,7 +1,6 @@
 //! Why a command line asks for nothing.
-ghost use Rattle.std.specs.Prelude.{◌≡◌, option_map};
+ghost use Rattle.std.specs.Prelude.{◌≡◌};
 ghost use Rattle.command_table.specs.Tasks.{IsFaultOf};
-ghost use Rattle.command_table.specs.Tasks as spec;
 ghost use Rattle.command_table.specs.declared.faults.TaskFault.TheVariants.{Memory};
 
 use crate::refusals::Refusal;
@@ -23,18 +22,6 @@ pub enum TaskFault {
     /// 3: its arguments are refused, with the line on the usage of its subcommand.
     #[error("{1}")]
     Refused(&'static str, Refusal),
-}
-
-impl TaskFault {
-    /// The line on usage after a refusal of what `clap` takes; none where `clap` has one of its own, or memory ran out.
-    pub fn usage(&self) -> Option<&'static str>
-        ensures { option_map (λ line. line.now) result ≡ spec.usage_of self.now }
-    {
-        match self {
-            TaskFault::Words(_) | TaskFault::Memory => None,
-            TaskFault::Refused(usage, _) => Some(usage),
-        }
-    }
 }
 
 impl From<AllocError> for TaskFault {

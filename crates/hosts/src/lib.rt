@@ -9,7 +9,6 @@ pub mod laws;
 mod laying;
 mod making;
 pub mod notes;
-mod output;
 mod record;
 mod saving;
 
@@ -18,6 +17,5 @@ pub use holding::{Held, hold_file};
 pub use host::Host;
 pub use laying::lay;
 pub use making::{make, make_at};
-pub use output::Output;
 pub use record::Record;
 pub use saving::{save, save_file, write_over};
