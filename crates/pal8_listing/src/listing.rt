@@ -18,10 +18,10 @@ use std::alloc::{AllocError, Global};
 /// The listing of sources of the host that are assembled as one, and their tape; or their first fault, with its place.
 ///
 /// Each line of each source stands after the cell and the word of the first of the statements that begin in it. These have five digits and four, and
-/// where there are none as many blanks stand. Further words stand below the line. `@` stands right after a word that is a memory reference through a link. A statement that isn't selected, a word
-/// that isn't punched, and what stands after PAUSE have blanks. After an empty line come the cells of the pools with their values, by rising
-/// cell, if there are any. After another one come the source's own names, in their order, each with its last value (PAL8, the assembler of OS/8, in
-/// this project's profile). `Memory` is answered where memory runs out.
+/// where there are none as many blanks stand. Further words stand below the line. `@` stands right after a word that is a memory reference through a
+/// link. A statement that isn't selected, a word that isn't punched, and what stands after PAUSE have blanks. After an empty line come the cells of
+/// the pools with their values, by rising cell, if there are any. After another one come the source's own names, in their order, each with its last
+/// value. Sources are read by these options (PAL8, the assembler of OS/8, in this project's profile). `Memory` is answered where memory runs out.
 pub fn list_sources(
     alloc: Global,
     options: Options,
