@@ -1,8 +1,8 @@
 #!/usr/bin/env python3
 """compare_pal8_faults.py [--program FILE] [--sources N] [--seed S]: assembles sources of PAL8 with faults by the program `pdp8`. There are N random
 ones, 2000 where nothing is said, N that are random bytes nearly, and N that are several texts with PAUSE in all places. It compares the first fault
-that is printed and the further ones, each with its text, its line and its column, with the plain model's. Of several texts it compares the tape or
-the numbered line, too. The same number is the same sources each time. The last line is 'N passed, M failed'.
+that is printed and the further ones, each with its text, its line and its column, with the plain model's. Where there is none it compares the
+listing. Of several texts it compares the tape or the numbered line, too. The same number is the same sources each time. The last line is 'N passed, M failed'.
 """
 import os
 import subprocess
@@ -15,7 +15,7 @@ TOP = os.path.dirname(os.path.dirname(os.path.dirname(os.path.abspath(__file__))
 sys.path.insert(0, TOP)
 from tests.model.compare_indexes import program_and_seeds
 from tests.model.compare_pal8_sources import PIECES, Maker, nearly_bytes, options_by
-from tests.model.pal8 import Options, answer, headlines
+from tests.model.pal8 import Options, answer, headlines, listing
 
 SHOWN = 3
 MOST = 20
@@ -73,23 +73,24 @@ def several_texts(seed: int) -> list[bytes]:
     return [text.replace(b"\n", b"\r\n") for text in texts] if random.random() < 0.1 else texts
 
 
-def printed(program: str, texts: list[bytes], options: Options) -> tuple[list[str], str]:
+def printed(program: str, texts: list[bytes], options: Options) -> tuple[list[str], str, str]:
     """The text, where there are several, the line, the column and the code of each fault that the program prints, and the lines of the tape or the
-    numbered line."""
+    numbered line, and the listing."""
     names = [f"S{k}" for k in range(len(texts))]
     with tempfile.TemporaryDirectory(prefix="pdp8-faults-") as folder:
         for name, text in zip(names, texts):
             with open(f"{folder}/{name}", "wb") as file:
                 file.write(text)
-        done = subprocess.run([program, "assemble", "--pal8", *options.words(), *names, "--output", "T"], cwd=folder, capture_output=True, timeout=300)
+        done = subprocess.run([program, "assemble", "--pal8", *options.words(), *names, "--list", "L", "--output", "T"], cwd=folder, capture_output=True, timeout=300)
+        listed = open(f"{folder}/L", encoding="latin1", newline="").read() if os.path.exists(f"{folder}/L") else ""
         if done.returncode == 0 and not done.stderr and len(texts) > 1:
-            return [], subprocess.run([program, "tape", "T"], cwd=folder, capture_output=True, timeout=300).stdout.decode("latin1")
+            return [], subprocess.run([program, "tape", "T"], cwd=folder, capture_output=True, timeout=300).stdout.decode("latin1"), listed
     lines = [it for it in done.stderr.decode("latin1").splitlines() if not it.startswith("note: S")]
     if not lines:
-        return [], ""
+        return [], "", listed
     rest = lines[5:] if len(lines) > 4 else []
     first = 0 if len(texts) > 1 else 1
-    return [":".join(line[1:].split(":")[first:4]) for line in [lines[0], *rest[::3]]], lines[3] + "\n"
+    return [":".join(line[1:].split(":")[first:4]) for line in [lines[0], *rest[::3]]], lines[3] + "\n", listed
 
 
 def main() -> int:
@@ -98,15 +99,16 @@ def main() -> int:
     for seed in seeds:
         options = options_by(seed)
         for texts in ([Faulty(seed).source()], [nearly_bytes(seed)], several_texts(seed)):
-            came, last = printed(program, texts, options)
+            came, last, listed = printed(program, texts, options)
             wanted = headlines(texts, MOST, options)
-            is_same = came == wanted and (len(texts) == 1 or last == answer(*texts, options=options))
+            wanted_listing = "" if wanted else listing(texts, options)
+            is_same = came == wanted and (len(texts) == 1 or last == answer(*texts, options=options)) and listed == wanted_listing
             if is_same:
                 passed += 1
                 continue
             failed += 1
             if failed <= SHOWN:
-                print(f"seed {seed}: {options.words()} {texts!r}:\n    wanted {wanted} {answer(*texts, options=options)}\n    came {came} {last}")
+                print(f"seed {seed}: {options.words()} {texts!r}:\n    wanted {wanted} {answer(*texts, options=options)}\n    came {came} {last}{listed}{wanted_listing}")
     print(f"{passed} passed, {failed} failed")
     return 1 if failed or not passed else 0
 

@@ -480,6 +480,7 @@ class Source:
         self.location, self.shift, self.field, self.is_punched, self.is_expunged = 0o200, 0, 0, True, False
         self.last_fixed: list[str] = []
         self.fields = self.moves = 0
+        self.lines_before: list[int] = []
         self.last_line, self.last_place = self.first_faults()
 
     def first_faults(self) -> tuple[int, Place]:
@@ -488,6 +489,7 @@ class Source:
         lines = 0
         for number, text in enumerate(self.texts):
             is_last = number == len(self.texts) - 1
+            self.lines_before.append(lines)
             whole = text if is_last or not text or text.endswith("\r") else text + "\r"
             read = whole.count("\r")
             for statement in statements(whole):
@@ -735,6 +737,8 @@ class Words:
         self.asks: list[Ask] = []
         self.punched_asks: list[Ask] = []
         self.words: list[tuple[int, int]] = []
+        self.rows: list[tuple[int, int, str]] = []
+        self.is_link = False
         self.clashes: Optional[Fault] = None
         for k, now in enumerate(source.judged):
             counts = len(self.asks), len(self.punched_asks)
@@ -749,6 +753,8 @@ class Words:
                 continue
             cell = 0o10000 * now.in_field + now.location
             self.words += [(cell + n, word) for n, word in enumerate(words) if now.is_punched]
+            mark = "@" if self.is_link and now.body.form == "word" else ""
+            self.rows += [(now.number, now.line - source.lines_before[now.number], word_columns(cell + n, word) + mark) for n, word in enumerate(words) if now.is_punched]
             self.clashes = self.clashes or self.clash(now)
         if goes_on:
             return
@@ -815,10 +821,15 @@ class Words:
                 return 0o200 * (now.place // 0o200) + self.ask_here(inner, now)
             return now.place if term == "." else self.last_value(term, now, k)
 
+        address = 0
         if isinstance(value, Expression):
-            return sum_of(value, of_term)
-        address = 0 if value.address is None else sum_of(value.address, of_term)
+            total = sum_of(value, of_term)
+            self.is_link = False
+            return total
+        if value.address is not None:
+            address = sum_of(value.address, of_term)
         word = self.source.direct(value, address, now)
+        self.is_link = word is None
         if word is not None:
             return word
         if value.is_indirect or value.operation & 0o400:
@@ -853,6 +864,46 @@ def pairs(texts: Texts, options: Options = PLAIN) -> list[tuple[int, int]]:
     """The pairs of a source's tape: its words, and then its pools by rising cell; or its first fault."""
     words = Words(Source(texts, options=options))
     return words.words + words.pool()
+
+
+# Listings
+
+
+def word_columns(cell: int, word: int) -> str:
+    """The field and the location of a cell, and a word at it."""
+    return f"{cell:05o}  {word:04o}"
+
+
+def own_names(source: Source) -> dict[str, int]:
+    """The names that a source defines, each with the value of its last definition, which may be late."""
+    names = {name for now in source.judged for name, _ in now.definitions} | {now.body.name for now in source.judged if now.is_late}
+    values = dict[str, int]()
+    for name in names:
+        k = source.last_definition(name, len(source.judged))
+        assert k is not None
+        is_late = source.judged[k].is_late and source.judged[k].body.name == name
+        value = source.late_value(k) if is_late else source.definition_before(name, source.judged[: k + 1])
+        assert value is not None
+        values[name] = value
+    return values
+
+
+def listing(texts: Texts, options: Options = PLAIN) -> str:
+    """Each line after the columns of the first word of the statements that begin in it, the other ones below; the pools; the names. In place of the
+    first blank after the word of a reference through a link stands `@`."""
+    source = Source(texts, options=options)
+    words = Words(source)
+    listed = ""
+    for number, text in enumerate(texts):
+        lines = text.decode("latin1").replace("\r", "").split("\n")
+        for k, line in enumerate(lines[:-1] if not lines[-1] else lines):
+            columns = [it for where, at, it in words.rows if (where, at) == (number, k + 1)]
+            listed += f"{columns[0] if columns else '':16}{line}" if columns or line else ""
+            listed += "\n" + "".join(f"{it}\n" for it in columns[1:])
+    pool = [word_columns(cell, word) + "\n" for cell, word in words.pool()]
+    values = own_names(source)
+    names = [f"{name:6}  {values[name]:04o}\n" for name in sorted(values, key=name_number)]
+    return "".join([listed, *(["\n"] if pool else []), *pool, "\n", *names])
 
 
 # Further faults

@@ -1,6 +1,7 @@
 pub mod ByteLemmas
 pub mod LawLemmas
 pub mod MakingLemmas
+pub mod MarkLemmas
 pub mod ReachLemmas
 pub mod SkippingLemmas
 pub mod SourceLemmas

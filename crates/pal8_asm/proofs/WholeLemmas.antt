@@ -6,7 +6,11 @@ use Rattle.pal8_pools.specs.Pooled.{PoolTable}
 use Rattle.pal8_asm.specs.Sources.{at_place}
 use Rattle.pal8_asm.specs.Tapes.{TapeWords, without_clash, words_of_entries}
 use Rattle.pal8_asm.specs.Assembled.{result_of_text, dollar_in, has_words, result_if_any_word, result_with_words, result_of_source}
-use Rattle.pal8_asm.specs.Assembling.{Assembles, IsAssembled, IsMade, MakesWords, Progress, ReadsText, is_late}
+use Rattle.pal8_asm.specs.Assembling.{Assembles, IsAssembled, IsMade, MakesWords, Progress, ReadsText, is_late, remainder_of}
+use Rattle.pal8_asm.specs.Marks.{HasParts}
+use Rattle.pal8_asm.specs.MarkSteps.{HasWhole, TakesParts}
+use Rattle.pal8_asm.specs.declared.assembling.Parts.{Parts}
+use Rattle.pal8_asm.specs.declared.assembling.Whole.{Whole}
 use Rattle.pal8_asm.specs.Steps.{AddsPool}
 use Rattle.pal8_asm.specs.declared.faults.AsmFault.{AsmFault}
 use Rattle.pal8_asm.specs.declared.faults.AsmFault.TheVariants.{At, Memory}
@@ -46,7 +50,7 @@ module _ (options : Options) (text : List ℕ) (a : Progress) where
       ∙ ap (λ o. Err (at_place (dollar_in o) code.NW)) reads.1
 
   -- all is well
-  pub all_words : (end : Place) (pools : PoolTable) (pairs pairs' : List (ℕ × ℕ)) → ReadsText options text (Ok end) a → (made : IsMade whole pools pairs) → has_words pairs ≡ true
+  abbrev pub all_words : (end : Place) (pools : PoolTable) (pairs pairs' : List (ℕ × ℕ)) → ReadsText options text (Ok end) a → (made : IsMade whole pools pairs) → has_words pairs ≡ true
       → AddsPool made.made.asks made.made.punched pairs pairs' → IsAssembled (result_of_text options text) pairs'
   all_words end pools pairs pairs' reads made some adds = record {
     made = made.made;
@@ -56,3 +60,21 @@ module _ (options : Options) (text : List ℕ) (a : Progress) where
     are = adds.are ∙ ap (λ l. l ++ adds.pool) made.words;
     is_pool = adds.is_pool;
   }
+
+-- the parts of a text that was read and assembled
+pub parts_have : (options : Options) (text : List ℕ) (whole : Whole) (parts : Parts) → HasWhole options text whole → TakesParts (remainder_of whole.assembler) whole.pairs.items whole.word_count parts
+    → HasParts options text parts
+parts_have options text whole parts has takes = record {
+  assembled = record {
+    made = has.assembled.made;
+    is_whole = has.assembled.is_whole;
+    pool = has.assembled.pool;
+    are = takes.pairs_are ∙ has.assembled.are;
+    is_pool = has.assembled.is_pool;
+  };
+  count = takes.count_is ∙ has.count;
+  left = remainder_of whole.assembler;
+  leaves = has.leaves;
+  marks = takes.marks;
+  names = takes.names;
+}

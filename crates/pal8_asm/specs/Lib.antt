@@ -3,7 +3,9 @@ pub mod Sources
 pub mod Assembled
 pub mod Tapes
 pub mod Kept
+pub mod Marks
 pub mod Laws
 pub mod Reaching
 pub mod Assembling
 pub mod Steps
+pub mod MarkSteps

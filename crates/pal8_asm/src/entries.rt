@@ -1,8 +1,11 @@
-ghost use Rattle.std.specs.Prelude.{◌≡◌, ◌+◌, ◌*◌, ◌%◌, ◌<◌, ◌≤◌, ◌++◌, [], ◌∷◌, OnOk, IfSome, Ok, Some, None, ℕ, Result, length, replicate, vec_len, vec_capacity};
+ghost use Rattle.std.specs.Prelude.{◌≡◌, ◌+◌, ◌*◌, ◌%◌, ◌<◌, ◌≤◌, ◌++◌, [], ◌∷◌, OnOk, IfOk, IfSome, Ok, Some, None, ℕ, Result, length, replicate, vec_len, vec_capacity};
 ghost use Rattle.word12.specs.declared.sizes.TheConstants.{FIELD, CORE};
 ghost use Rattle.pal8_sym.specs.SourceNames.{names_of, own_value};
 ghost use Rattle.pal8_asm.specs.Tapes.{TapeWords, late_values, with_entries as with_entries_made};
+ghost use Rattle.std.specs.Ordering.{nat_cmp};
+ghost use Rattle.std.specs.BTreeMap.{get};
 ghost use Rattle.pal8_asm.specs.Assembling.{is_late};
+ghost use Rattle.pal8_asm.specs.Marks.{last_values, marks_of};
 ghost use Rattle.pal8_asm.specs.Steps.{IsMaking, Makes, entry_meaning, open_of};
 ghost use Rattle.pal8_asm.specs.declared.faults.Fault.{Fault};
 ghost use Rattle.pal8_grammar.specs.declared.steps.Step.{Step};
@@ -10,6 +13,7 @@ ghost use Rattle.pal8_asm.specs.Places.{text_size};
 ghost use Rattle.pal8_asm.specs.Sources.{Entry, entry_at, entry_with, fixed_value, late_at, next_spot, number, number_or, with_values, resolved_step, text_words, with_entries, with_late_by, with_late_entry, word_each, words_in};
 
 use crate::late::LateValues;
+use crate::marks::{Mark, marks_of};
 use crate::tags::has_later;
 use crate::words::make_all;
 use crate::{AsmFault, Fault, KnownNames, Options, Place};
@@ -20,6 +24,7 @@ use pal8_pools::Pools;
 use pal8_sym::SourceNames;
 use pal8_values::{Frames, Spot, here_of};
 use std::alloc::{AllocError, Global};
+use std::collections::BTreeMap;
 use std::marker::Model;
 use word12::{Cell, Word};
 
@@ -403,5 +408,26 @@ impl Entries {
             &self.heads,
             &self.steps,
         )
+    }
+
+    /// The marks of the punched words, in the order of the source.
+    pub(crate) fn marks(&self, alloc: Global) -> Result<Vec<Mark>, AllocError>
+        ensures { IfOk result (λ marks. marks.items ≡ marks_of self.now) }
+    {
+        marks_of(alloc, &self.heads, &self.steps)
+    }
+
+    /// What the source's own names stand for at last, by their numbers.
+    pub(crate) fn last_values(
+        &self,
+        alloc: Global,
+        names: &KnownNames,
+    ) -> Result<BTreeMap<u64, Word>, AllocError>
+        ensures { IfOk result (λ values. (n : ℕ) → get nat_cmp values n ≡ last_values (own_value names.now.table) (is_late names.now) self.now n) }
+    {
+        let mut late = LateValues::new(alloc);
+        late.find(names, &self.heads, &self.steps)?;
+        let values = late.with_own(names)?;
+        Ok(values)
     }
 }

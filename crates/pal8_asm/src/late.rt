@@ -1,4 +1,7 @@
-ghost use Rattle.std.specs.Prelude.{◌≡◌, ◌<◌, ◌+◌, ◌++◌, ◌≤◌, OnOk, IfSome, if◌then◌else◌, ℕ, List, None, length, vec_len, vec_capacity};
+ghost use Rattle.std.specs.Prelude.{◌≡◌, ◌<◌, ◌+◌, ◌++◌, ◌≤◌, OnOk, IfOk, IfSome, if◌then◌else◌, nat_eq, ℕ, List, Some, None, length, vec_len, vec_capacity};
+ghost use Rattle.std.specs.Ordering.{nat_cmp};
+ghost use Rattle.std.specs.BTreeMap.{get};
+ghost use Rattle.pal_sym.specs.Values.{if_none};
 ghost use Rattle.pal8_sym.specs.SourceNames.{own_value, with_own};
 ghost use Rattle.pal8_values.specs.Answering.{Answers};
 ghost use Rattle.pal8_asm.specs.Assembling.{is_late};
@@ -191,4 +194,25 @@ impl LateValues {
         }
         Ok(())
     }
+
+    /// What the source's own names stand for at last: those of late definitions by their values, which are these, and the others by the table.
+    pub(crate) fn with_own(self, names: &KnownNames) -> Result<BTreeMap<u64, Word>, AllocError>
+        ensures { IfOk result (λ values. (n : ℕ) → get nat_cmp values n ≡ if_none (late_of self n) (own_value names.now.table n)) }
+    {
+        let mut values = self.values;
+        for (name, value) in names.table.own_values() {
+            put_if_new(&mut values, *name, *value)?;
+        }
+        Ok(values)
+    }
+}
+
+/// Puts a value of a name that has none.
+fn put_if_new(values: &mut BTreeMap<u64, Word>, name: u64, value: Word) -> Result<(), AllocError>
+    ensures { OnOk result ((n : ℕ) → get nat_cmp values.new n ≡ if_none (get nat_cmp values.old n) (if nat_eq name n then Some value else None)) }
+{
+    if !values.contains_key(&name) {
+        values.insert(name, value)?;
+    }
+    Ok(())
 }

@@ -1,21 +1,25 @@
-ghost use Rattle.std.specs.Prelude.{◌≡◌, ◌≤◌, ℕ, is_some, None, List, [], ◌∷◌, length, slice_index};
+ghost use Rattle.std.specs.Prelude.{◌≡◌, ◌≤◌, ℕ, IfOk, is_some, None, List, [], ◌∷◌, length, slice_index};
 ghost use Rattle.pal_lex.specs.Text.{text_of};
 ghost use Rattle.pal_lex.specs.Text.{limit};
 ghost use Rattle.pal8_lex.specs.Reading.{HasRead, anew};
 ghost use Rattle.pal8_asm.specs.Sources.{first_left, place_after, with_end};
 ghost use Rattle.pal8_sym.specs.SourceNames.{own_value};
 ghost use Rattle.pal8_pools.specs.Pooled.{Holds};
+ghost use Rattle.std.specs.Ordering.{nat_cmp};
+ghost use Rattle.std.specs.BTreeMap.{get};
+ghost use Rattle.pal8_asm.specs.Marks.{last_values, marks_of};
 ghost use Rattle.pal8_asm.specs.Tapes.{without_clash, words_of_entries};
 ghost use Rattle.pal8_asm.specs.Steps.{Closes, HasTaken, IsOnTheWay, Pushes, ReadsOn, TakesByte};
 ghost use Rattle.pal8_asm.specs.Assembling.{MakesWords, ReadsText, is_late, remainder_of};
 ghost use Rattle.pal8_asm.specs.declared.options.Options.{Options};
 
-use crate::{AsmFault, Assembler, Code, Fault, Place};
+use crate::{AsmFault, Assembler, Code, Fault, Mark, Place};
 use pal8_clash::WordCells;
 use pal8_lex::{End, Lexer};
 use pal8_pools::Pools;
 use pal8_values::Frames;
-use std::alloc::Global;
+use std::alloc::{AllocError, Global};
+use std::collections::BTreeMap;
 use word12::{Cell, Word};
 
 /// For how many lines room is made before they are read.
@@ -190,5 +194,20 @@ impl Assembler {
             Some(fault) => Err(AsmFault::At(fault.code, fault.place)),
             None => Ok(pairs),
         }
+    }
+
+    /// The marks of the punched words, in the order of the source.
+    pub fn marks(&self, alloc: Global) -> Result<Vec<Mark>, AllocError>
+        ensures { IfOk result (λ marks. marks.items ≡ marks_of self.now.entries) }
+    {
+        self.entries.marks(alloc)
+    }
+
+    /// What the source's own names stand for at last, by the numbers that their six sixbit codes make. A late definition counts as others do (PAL8,
+    /// in this project's profile).
+    pub fn last_values(&self, alloc: Global) -> Result<BTreeMap<u64, Word>, AllocError>
+        ensures { IfOk result (λ values. (n : ℕ) → get nat_cmp values n ≡ last_values (own_value self.now.names.table) (is_late self.now.names) self.now.entries n) }
+    {
+        self.entries.last_values(alloc, &self.names)
     }
 }

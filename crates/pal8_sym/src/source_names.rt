@@ -99,6 +99,13 @@ impl SourceNames {
         }
     }
 
+    /// The names that the source gave a value, by their numbers, each with the last one.
+    pub fn own_values(&self) -> &BTreeMap<u64, Word>
+        ensures { result.now ≡ self.now.own }
+    {
+        &self.own
+    }
+
     /// The last value that the source gave a name.
     pub fn own_value(&self, name: Name) -> Option<Word>
         ensures value { result ≡ own_value self.now name }

@@ -21,4 +21,4 @@ pub use fault_lines::fault_text;
 pub use faults::{Fault, SourceFault};
 pub use further::further_faults;
 pub use signs::sign_text;
-pub use tapes::tape_of;
+pub use tapes::{frames_of, tape_of, with_place};

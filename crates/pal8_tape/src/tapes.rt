@@ -39,7 +39,7 @@ pub fn tape_of(alloc: Global, options: Options, sources: &[&[u8]]) -> Result<Vec
 }
 
 /// The frames of the tape of the pairs of sources.
-fn frames_of(
+pub fn frames_of(
     alloc: Global,
     options: Options,
     sources: &[&[u8]],
@@ -53,8 +53,8 @@ fn frames_of(
     Ok(frames)
 }
 
-/// A fault of sources with its place.
-fn with_place(
+/// A fault of sources with its place, by the join of these and the first fault of that. Where memory ran out it is `Memory`.
+pub fn with_place(
     alloc: Global,
     options: Options,
     sources: &[&[u8]],

@@ -10,6 +10,7 @@ use Rattle.source_listing.specs.Listings.{IsListed}
 use Rattle.source_listing.specs.declared.listing.ListingForm.{ListingForm}
 use Rattle.source_listing.specs.declared.listing.ListingForm.TheVariants.{Symbols, Cross}
 use Rattle.pal8_asm.specs.declared.options.Options.{Options}
+use Rattle.pal8_listing.specs.Listings as pal8_listing
 use Rattle.pal8_tape.specs.Answers as pal8
 use Rattle.pal8_tape.specs.declared.faults.SourceFault as pal8_fault
 use Rattle.pal8_tape.specs.declared.faults.SourceFault.TheVariants as pal8_is
@@ -68,13 +69,19 @@ options_of form = record {
   has_stays = form.has_stays;
 }
 
--- PAL8 sources are assembled as one, or their faults are printed
-abbrev pub MakesPal8 : Options → List (Bor (List ℕ)) → List (Bor (List ℕ)) → List Event → Result Assembled Ending → List Event → Type 0
-MakesPal8 options sources names old (Ok made) new = pal8.IsTape options sources made.tape.items × (made.listing ≡ None) × (new ≡ old)
-MakesPal8 options sources names old (Err ending) new = (fault : pal8_fault.SourceFault) × pal8.IsTold options sources fault × RefusesPal8 options sources names fault old ending new
+-- the listing of PAL8 sources, if it is asked for
+abbrev pub IsPal8Listing : Bool → Options → List (Bor (List ℕ)) → Option (Vec ℕ) → Type 0
+IsPal8Listing true options sources None = ⊥
+IsPal8Listing true options sources (Some listing) = pal8_listing.IsListed options sources listing.items
+IsPal8Listing false options sources listing = listing ≡ None
+
+-- PAL8 sources are assembled as one, and listed if that is asked for; or their faults are printed
+abbrev pub MakesPal8 : Bool → Options → List (Bor (List ℕ)) → List (Bor (List ℕ)) → List Event → Result Assembled Ending → List Event → Type 0
+MakesPal8 is_listed options sources names old (Ok made) new = pal8.IsTape options sources made.tape.items × IsPal8Listing is_listed options sources made.listing × (new ≡ old)
+MakesPal8 is_listed options sources names old (Err ending) new = (fault : pal8_fault.SourceFault) × pal8.IsTold options sources fault × RefusesPal8 options sources names fault old ending new
 
 abbrev pub MakesIf : Bool → AssembleForm → List (Bor (List ℕ)) → List (Bor (List ℕ)) → List Event → Result Assembled Ending → List Event → Type 0
-MakesIf true form sources names old result new = MakesPal8 (options_of form) sources names old result new
+MakesIf true form sources names old result new = MakesPal8 (is_some form.list) (options_of form) sources names old result new
 MakesIf false form sources names old result new = MakesPal3 (is_some form.list) form.is_cross sources names old result new
 
 -- what texts come to in the language that is asked for

@@ -139,7 +139,14 @@ fn assembled_sources<H: Host>(
     ensures { MakesIf form.now.is_pal8 form.now sources.now names.now (H.history host.old) result (H.history host.new) }
 {
     if form.is_pal8 {
-        return pal8_assembled(host, alloc, options_of(form), sources, names);
+        return pal8_assembled(
+            host,
+            alloc,
+            options_of(form),
+            form.list.is_some(),
+            sources,
+            names,
+        );
     }
     if form.list.is_some() {
         return listed_sources(host, alloc, form.is_cross, sources, names);
@@ -220,20 +227,43 @@ fn options_of(form: &AssembleForm) -> Options
     }
 }
 
-/// What PAL8 sources are assembled to.
+/// What PAL8 sources are assembled to, with their listing if it is asked for.
 fn pal8_assembled<H: Host>(
+    host: &mut H,
+    alloc: Global,
+    options: Options,
+    is_listed: bool,
+    sources: &[&[u8]],
+    names: &[&str],
+) -> Result<Assembled, Ending>
+    ensures { MakesPal8 is_listed options sources.now names.now (H.history host.old) result (H.history host.new) }
+{
+    if is_listed {
+        return listed_pal8(host, alloc, options, sources, names);
+    }
+    match tape_of(alloc, options, sources) {
+        Ok(tape) => Ok(Assembled {
+            tape,
+            listing: None,
+        }),
+        Err(fault) => Err(refuse_pal8(host, alloc, options, sources, names, fault)),
+    }
+}
+
+/// What PAL8 sources are assembled to, with their listing.
+fn listed_pal8<H: Host>(
     host: &mut H,
     alloc: Global,
     options: Options,
     sources: &[&[u8]],
     names: &[&str],
 ) -> Result<Assembled, Ending>
-    ensures { MakesPal8 options sources.now names.now (H.history host.old) result (H.history host.new) }
+    ensures { MakesPal8 true options sources.now names.now (H.history host.old) result (H.history host.new) }
 {
-    match tape_of(alloc, options, sources) {
-        Ok(tape) => Ok(Assembled {
-            tape,
-            listing: None,
+    match pal8_listing::list_sources(alloc, options, sources) {
+        Ok(listing) => Ok(Assembled {
+            tape: listing.tape,
+            listing: Some(listing.text),
         }),
         Err(fault) => Err(refuse_pal8(host, alloc, options, sources, names, fault)),
     }

@@ -15,3 +15,5 @@ mod tables;
 mod word_ends;
 
 pub use listing::{Listing, ListingForm, list_sources};
+pub use rows::{put_below, put_margin, put_word, split};
+pub use tables::put_symbol;

@@ -1,6 +1,6 @@
 //! The lines of a listing.
 ghost use Rattle.std.specs.Prelude.{◌≡◌, ◌++◌, ◌+◌, ◌≤◌, [], List, take, drop, IfOk, OnOk};
-ghost use Rattle.source_listing.specs.Rows.{Row, first_end, two_ends, rows, own_ends, later_ends, all_rows, word_text, below_text, line_text, last_text, rows_text};
+ghost use Rattle.source_listing.specs.Rows.{Row, first_end, two_ends, rows, own_ends, later_ends, all_rows, word_text, below_text, margin, line_text, last_text, rows_text};
 
 use std::alloc::{AllocError, Global};
 use word12::{Cell, Word};
@@ -51,7 +51,7 @@ fn later_ends<'a>(counts: &[usize], ends: &'a [bool]) -> &'a [bool]
 }
 
 /// So many from the beginning, or all, and those after them.
-pub(crate) fn split<T>(items: &[T], count: usize) -> (&[T], &[T])
+pub fn split<T>(items: &[T], count: usize) -> (&[T], &[T])
     ensures first { result.0.now ≡ take count items.now }
     ensures others { result.1.now ≡ drop count items.now }
 {
@@ -138,9 +138,7 @@ fn put_line(text: &mut Vec<u8>, line: &[u8], pairs: &[(Cell, Word)]) -> Result<(
 {
     match pairs {
         [] => {
-            if !line.is_empty() {
-                text.extend_from_slice(b"                ")?;
-            }
+            put_margin(text, line)?;
             text.extend_from_slice(line)?;
             text.extend_from_slice(b"\n")?;
             Ok(())
@@ -155,8 +153,18 @@ fn put_line(text: &mut Vec<u8>, line: &[u8], pairs: &[(Cell, Word)]) -> Result<(
     }
 }
 
-/// Puts words that stand below the first of a line.
-fn put_below(text: &mut Vec<u8>, pairs: &[(Cell, Word)]) -> Result<(), AllocError>
+/// Puts what stands before a line with no word: as many blanks as the columns have, and nothing before an empty line.
+pub fn put_margin(text: &mut Vec<u8>, line: &[u8]) -> Result<(), AllocError>
+    ensures { OnOk result (text.new.items ≡ text.old.items ++ margin line.now) }
+{
+    if !line.is_empty() {
+        text.extend_from_slice(b"                ")?;
+    }
+    Ok(())
+}
+
+/// Puts words on lines of their own, as those that stand below the first of a line.
+pub fn put_below(text: &mut Vec<u8>, pairs: &[(Cell, Word)]) -> Result<(), AllocError>
     ensures { OnOk result (text.new.items ≡ text.old.items ++ below_text pairs.now) }
 {
     let mut rest = pairs;
@@ -168,8 +176,8 @@ fn put_below(text: &mut Vec<u8>, pairs: &[(Cell, Word)]) -> Result<(), AllocErro
     Ok(())
 }
 
-/// Puts a cell and its word in octal.
-fn put_word(text: &mut Vec<u8>, cell: Cell, word: Word) -> Result<(), AllocError>
+/// Puts a cell and its word in octal: the five digits of the cell and the four of the word.
+pub fn put_word(text: &mut Vec<u8>, cell: Cell, word: Word) -> Result<(), AllocError>
     ensures { OnOk result (text.new.items ≡ text.old.items ++ word_text (cell, word)) }
 {
     text.push(b'0' + cell.field())?;

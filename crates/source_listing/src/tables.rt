@@ -38,8 +38,8 @@ pub(crate) fn is_permanent(name: u64) -> bool
     Symbols::permanent(SymbolName::from_number(name)).is_some()
 }
 
-/// Puts a name with its value.
-pub(crate) fn put_symbol(text: &mut Vec<u8>, name: u64, value: u16) -> Result<(), AllocError>
+/// Puts a name, by the number that its six sixbit codes make, with its value in four octal digits.
+pub fn put_symbol(text: &mut Vec<u8>, name: u64, value: u16) -> Result<(), AllocError>
     ensures { OnOk result (text.new.items ≡ text.old.items ++ symbol_text (name, value)) }
 {
     text.extend_from_slice(&name_text(name))?;

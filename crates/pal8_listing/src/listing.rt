@@ -1,0 +1,84 @@
+//! Sources to a listing.
+ghost use Rattle.std.specs.Prelude.{◌≡◌, ◌++◌, IfOk, IfErr, OnOk};
+ghost use Rattle.pal_lex.specs.Text.{text_of};
+ghost use Rattle.pal8_asm.specs.Marks.{HasParts};
+ghost use Rattle.pal8_join.specs.Joins.{bytes_in, counts_of, joined_bytes};
+ghost use Rattle.pal8_tape.specs.Answers.{IsTape, IsTold};
+ghost use Rattle.pal8_listing.specs.Listings.{IsListed};
+
+use crate::names::{put_names, put_pool};
+use crate::rows::put_rows;
+use crate::words::listed_words;
+use pal8_asm::{Options, Parts, assemble_parts};
+use pal8_join::{Join, join_all};
+use pal8_tape::{SourceFault, frames_of, with_place};
+use source_listing::{Listing, split};
+use std::alloc::{AllocError, Global};
+
+/// The listing of sources of the host that are assembled as one, and their tape; or their first fault, with its place.
+///
+/// Each line of each source stands after the cell and the word of the first of the statements that begin in it. These have five digits and four, and
+/// where there are none as many blanks stand. Further words stand below the line. `@` stands right after a word that is a memory reference through a
+/// link. A statement that isn't selected, a word that isn't punched, and what stands after PAUSE have blanks. After an empty line come the cells of
+/// the pools with their values, by rising cell, if there are any. After another one come the source's own names, in their order, each with its last
+/// value. Sources are read by these options (PAL8, the assembler of OS/8, in this project's profile). `Memory` is answered where memory runs out.
+pub fn list_sources(
+    alloc: Global,
+    options: Options,
+    sources: &[&[u8]],
+) -> Result<Listing, SourceFault>
+    ensures listing { IfOk result (λ listing. IsListed options sources.now listing.text.items) }
+    ensures tape { IfOk result (λ listing. IsTape options sources.now listing.tape.items) }
+    ensures fault { IfErr result (λ fault. IsTold options sources.now fault) }
+{
+    let join = join_all(alloc, options, sources)?;
+    match assemble_parts(alloc, options, &join.text) {
+        Ok(parts) => {
+            let listing = listing_of(alloc, options, sources, &join, &parts)?;
+            Ok(listing)
+        }
+        Err(fault) => Err(with_place(alloc, options, sources, &join, fault)),
+    }
+}
+
+/// The listing and the tape of sources with these parts.
+fn listing_of(
+    alloc: Global,
+    options: Options,
+    sources: &[&[u8]],
+    join: &Join,
+    parts: &Parts,
+) -> Result<Listing, AllocError>
+    requires text { join.now.text.items ≡ joined_bytes options (bytes_in sources.now) }
+    requires counts { join.now.counts.items ≡ counts_of options (bytes_in sources.now) }
+    requires parts { HasParts options (text_of (joined_bytes options (bytes_in sources.now))) parts.now }
+    ensures listing { IfOk result (λ listing. IsListed options sources.now listing.text.items) }
+    ensures tape { IfOk result (λ listing. IsTape options sources.now listing.tape.items) }
+{
+    let tape = frames_of(alloc, options, sources, &parts.pairs)?;
+    let text = text_of(alloc, options, sources, join, parts)?;
+    Ok(Listing { text, tape })
+}
+
+/// The listing of sources with these parts.
+fn text_of(
+    alloc: Global,
+    options: Options,
+    sources: &[&[u8]],
+    join: &Join,
+    parts: &Parts,
+) -> Result<Vec<u8>, AllocError>
+    requires text { join.now.text.items ≡ joined_bytes options (bytes_in sources.now) }
+    requires counts { join.now.counts.items ≡ counts_of options (bytes_in sources.now) }
+    requires parts { HasParts options (text_of (joined_bytes options (bytes_in sources.now))) parts.now }
+    ensures { IfOk result (λ text. IsListed options sources.now text.items) }
+{
+    let (pairs, pool) = split(&parts.pairs, parts.word_count);
+    let words = listed_words(alloc, pairs, &parts.marks)?;
+    let mut text = Vec::new(alloc);
+    put_rows(alloc, &mut text, sources, &join.counts, &join.text, &words)?;
+    put_pool(&mut text, pool)?;
+    text.extend_from_slice(b"\n")?;
+    put_names(&mut text, &parts.names)?;
+    Ok(text)
+}
