@@ -147,10 +147,14 @@ archive-ending (archive.Refused fault) = refl
 other-ending : (ending other : Ending) → ending ≡ other → is_refusal other ≡ false → is_refusal ending ≡ true → ⊥
 other-ending ending other is none some = never (sym none ∙ ap is_refusal (sym is) ∙ some)
 
-same-ending : (ending other : Ending) → Err {T = Unit {0}} ending ≡ Err other → ending ≡ other
+abbrev refused : Ending → Result (Unit {0}) Ending
+refused ending = Err ending
+
+same-ending : (ending other : Ending) → refused ending ≡ refused other → ending ≡ other
 same-ending ending other is = cc
 
 unheld-never : (content : Content) (fault : HostFault) (ending : Ending) → IsUnheldFile content fault (Err ending) → is_refusal ending ≡ true → ⊥
+unheld-never content host.Absent ending p is = absurd p
 unheld-never content host.Busy ending p is = other-ending ending (ending_of_file content host.Busy) (same-ending ending (ending_of_file content host.Busy) p) (file-ending content host.Busy) is
 unheld-never content host.Memory ending p is = other-ending ending (ending_of_file content host.Memory) (same-ending ending (ending_of_file content host.Memory) p) (file-ending content host.Memory) is
 unheld-never content host.Unwritable ending p is = other-ending ending (ending_of_file content host.Unwritable) (same-ending ending (ending_of_file content host.Unwritable) p) (file-ending content host.Unwritable) is
