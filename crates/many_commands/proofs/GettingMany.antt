@@ -1,6 +1,5 @@
 -- The command that gets several files changes the paths of its folder alone, and replaces none unless that is asked for.
-use Rattle.std.proofs.Common.{◌≡◌, ◌∙◌, ◌⊎◌, ◌++◌, ◌∷◌, ◌&&◌, ◌+◌, ℕ, Bool, true, false, codes, decimal, Option, None, Some, Result, Ok, Err, List, [], ap, inl, inr, length, refl, slice_get, subst, sym}
-use Rattle.std.specs.Global.{Vec}
+use Rattle.std.proofs.Common.{◌≡◌, ◌∙◌, ◌++◌, ◌∷◌, ◌&&◌, ◌+◌, ℕ, Bool, true, false, codes, decimal, Option, None, Some, Result, Ok, Err, List, [], ap, inl, inr, length, refl, slice_get, subst}
 use Rattle.std.specs.Str.{bytes_eq}
 use Rattle.std.proofs.lemmas.Slice.Eq.{bytes_eq-Decides}
 use Rattle.hosts.specs.Event.{Event}
@@ -23,7 +22,7 @@ use Rattle.volume_commands.specs.Answers.{Answers, AreLines}
 use Rattle.volume_commands.specs.Reading.{LooksAt}
 use Rattle.volume_commands.specs.Saving.{Prints}
 use Rattle.volume_commands.specs.Work.{Then, Purely}
-use Rattle.many_commands.specs.GettingMany.{AreFilesOn, GetsMany, GivesAsked, GivesEach, GivesFile, GivesWish, HasLaid, IsPath, LaysAndTells, LaysFile, MakesFolder, PrintsAnswer, RefusesWord, ReplacesIf, TakesFile, IsHostName, TellsLaid, count_after, path_in}
+use Rattle.many_commands.specs.GettingMany.{AreFilesOn, GetsMany, GivesAsked, GivesEach, GivesFile, GivesWish, HasLaid, IsPath, LaysAndTells, LaysFile, MakesFolder, PrintsAnswer, RefusesWord, ReplacesIf, TakesFile, IsHostName, TellsLaid, count_after}
 use Rattle.many_commands.specs.Laws.{ChangesIn, ChangesNothing, IsIn, NeverChanges, NeverReplaces}
 use Rattle.host_progress.specs.Progressing.{TellsProgress, WithProgress}
 use Rattle.many_commands.specs.Reporting.{EndsSound, named_lines}

@@ -2,8 +2,6 @@
 use Rattle.std.proofs.Common.{ℕ, Bool, true, false, Option, None, Some, Result, Ok, Err, List, inl, inr, length, map, bytes_eq, codes}
 use Rattle.hosts.specs.Event.{Event}
 use Rattle.outcome.specs.declared.endings.Ending.{Ending}
-use Rattle.outcome.specs.declared.endings.Ending.TheVariants as ending
-use Rattle.script8.specs.declared.faults.SessionFault.TheVariants as session
 use Rattle.archive_files.specs.Asking.{Target, AtBlock, target_of}
 use Rattle.archive_files.specs.declared.faults.ArchiveFault.{ArchiveFault}
 use Rattle.archive_files.specs.declared.faults.CopyFault.{CopyFault}
@@ -137,26 +135,9 @@ copies-leave form = then-leaves (Purely (MeansFile form.file)) (λ file. Then (O
 
 takes-input-never : NeverChanges TakesInput
 takes-input-never old (Ok bytes) new p = same _ new p.1
-takes-input-never old (Err (ending.Fault session.BadLine)) new p = absurd p
-takes-input-never old (Err (ending.Fault session.NoJob)) new p = absurd p
-takes-input-never old (Err (ending.Fault session.TooManyJobs)) new p = absurd p
-takes-input-never old (Err (ending.Fault (session.File why))) new p = absurd p
-takes-input-never old (Err (ending.Fault (session.Asm why))) new p = absurd p
-takes-input-never old (Err (ending.Fault (session.Tape why))) new p = absurd p
-takes-input-never old (Err (ending.Fault session.BadText)) new p = absurd p
-takes-input-never old (Err (ending.Fault session.Reader)) new (inl p) = same _ new p
-takes-input-never old (Err (ending.Fault session.Reader)) new (inr (bytes, many, ok, p)) = same _ new p
-takes-input-never old (Err (ending.Fault session.Writer)) new p = absurd p
-takes-input-never old (Err (ending.Fault session.Memory)) new (inl p) = same _ new p
-takes-input-never old (Err (ending.Fault session.Memory)) new (inr (bytes, many, p)) = same _ new p
-takes-input-never old (Err (ending.Fault session.TooManyBreaks)) new p = absurd p
-takes-input-never old (Err (ending.Line it)) new p = absurd p
-takes-input-never old (Err ending.Failure) new p = absurd p
-takes-input-never old (Err (ending.Busy it)) new p = absurd p
-takes-input-never old (Err (ending.NotWritten it left)) new p = absurd p
-takes-input-never old (Err ending.FullOutput) new p = absurd p
-takes-input-never old (Err ending.NoReader) new p = absurd p
-takes-input-never old (Err ending.Misuse) new p = absurd p
+takes-input-never old (Err ending) new (inl (fault, is, p)) = same _ new p
+takes-input-never old (Err ending) new (inr (bytes, many, inl (is, ok, p))) = same _ new p
+takes-input-never old (Err ending) new (inr (bytes, many, inr (is, p))) = same _ new p
 
 reads-if : (is : Bool) (name : List ℕ) → NeverChanges (ReadsIf is name)
 reads-if true name old result new p = takes-input-never old result new p

@@ -1,5 +1,5 @@
 -- The command that writes several files of the volume in an image file to a folder of the host.
-use Rattle.std.specs.Prelude.{◌≡◌, ◌⊎◌, ◌<◌, ◌&&◌, ◌==◌, ℕ, ◌+◌, Bool, true, false, not, if◌then◌else◌, Option, None, Some, Result, Ok, Err, List, [], ◌∷◌, ◌++◌, codes, decimal, length, slice_get, String}
+use Rattle.std.specs.Prelude.{◌≡◌, ◌⊎◌, ◌<◌, ◌&&◌, ℕ, ◌+◌, Bool, true, false, not, if◌then◌else◌, Option, None, Some, Result, Ok, Err, List, [], ◌∷◌, ◌++◌, codes, decimal, length, slice_get, String}
 use Rattle.std.specs.Global.{Vec, Global}
 use Rattle.hosts.specs.Event.{Event, MakeFolder, failed_call, folder_call, there_call}
 use Rattle.hosts.specs.Faults.{fault_number}
