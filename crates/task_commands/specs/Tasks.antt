@@ -33,6 +33,7 @@ use Rattle.many_commands.specs.Volumes.{ReportsOne}
 use Rattle.many_commands.specs.declared.reports.ReportKind.TheVariants as report
 use Rattle.choice_commands.specs.Copying.{CopiesMany}
 use Rattle.choice_commands.specs.Listing.{ListsSome}
+use Rattle.choice_commands.specs.Texts.{ShowsTexts}
 use Rattle.archive_commands.specs.Dumping.{Dumps}
 use Rattle.archive_commands.specs.Patching.{PatchesWord}
 use Rattle.archive_commands.specs.declared.patches.WordPatch.{WordPatch}
@@ -110,6 +111,7 @@ DoesTask (task.ListSome form) input = ListsSome form
 DoesTask (task.Get image file form) input = Shows (λ bytes. Gets bytes (wanted_file file) form) image
 DoesTask (task.GetBin image file) input = ShowsTape file image
 DoesTask (task.GetMany form) input = GetsMany form
+DoesTask (task.GetTexts form) input = ShowsTexts form.image form.is_all (map (λ name. name.bytes.items) form.names.items) form.places.items
 DoesTask (task.GetBlocks form) input = ShowsBlocks form
 DoesTask (task.Put form) input = Within form.image.wait (Puts form)
 DoesTask (task.PutMany form) input = Within form.image.wait (PutsMany form)

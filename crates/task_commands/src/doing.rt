@@ -6,7 +6,7 @@ ghost use Rattle.task_commands.specs.Tasks.{ChoosesStyle, DoesTask, ListsIndex, 
 
 use crate::changes::{Caller, Change, change_image};
 use archive_commands::{WordPatch, dump_blocks};
-use choice_commands::list_some;
+use choice_commands::{list_some, show_texts};
 use hosts::Host;
 use index_commands::index_images;
 use many_commands::{check_images, get_files, list_files, list_places};
@@ -66,6 +66,14 @@ pub fn do_task<H: Host, I: Read + Drop, C: Caller>(
         Task::Get(image, file, form) => get_file(&mut host, alloc, &image, file, form),
         Task::GetBin(image, file) => get_bin(&mut host, alloc, &image, file),
         Task::GetMany(form) => get_files(&mut host, alloc, &form),
+        Task::GetTexts(form) => show_texts(
+            &mut host,
+            alloc,
+            &form.image,
+            form.is_all,
+            &form.names,
+            &form.places,
+        ),
         Task::GetBlocks(form) => get_blocks(&mut host, alloc, &form),
         Task::Check(form) => check_images(&mut host, alloc, &form),
         Task::Index(form) => list_index(&mut host, alloc, form),
