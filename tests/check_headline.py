@@ -1,7 +1,7 @@
 #!/usr/bin/env python3
 """check_headline.py: writes target/headline.md, which lists every definition that the public clauses of `Session` and of its laws unfold to. They
 stand by the file of each, with the Rust types and constants that they name. Then comes what those of `Jobs` and of its laws unfold to besides, and what
-those of `run_words` do, which is the program but for scripts.
+those of `run_words` do, which is the whole program.
 
 It fails where that page lacks one of them, and where a type doesn't stand where it is imported from. It fails too where docs/PROVED.md names a file
 or a wrong body that isn't there. The last line is 'N passed, M failed'.
@@ -36,8 +36,8 @@ definitions in {files} files, with {types} more types and constants.
 
 """
 THIRD = """
-What the program does, but for the scripts of `run`, is the contract of `run_words`: from the words of a command line, the keys of a Teletype and the
-calls so far to the calls that are made and the exit status. It unfolds to these besides: {definitions} definitions in {files} files, with {types} more types and constants.
+What the whole program does is the contract of `run_words`: from the words of a command line, standard input and the calls so far to the calls that
+are made and the exit status. It unfolds to these besides: {definitions} definitions in {files} files, with {types} more types and constants.
 
 """
 

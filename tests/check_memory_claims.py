@@ -48,6 +48,12 @@ PLACES: dict[str, dict[str, tuple[int, str]]] = {
     "archive_files/src/opening.rt": {
         "image_of": (1, "`to_bytes` can fail for nothing else"),
     },
+    "script_commands/src/saves.rt": {
+        "save": (1, "`put_bytes` can fail for nothing else"),
+    },
+    "script_commands/src/scripts.rt": {
+        "new": (1, "room for lines, which is asked for once"),
+    },
     "archive_files/src/renaming.rt": {
         "give_name": (1, "the file service's own, on a line after its pattern"),
     },

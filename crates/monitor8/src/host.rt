@@ -1,11 +1,10 @@
 //! The program over the system that it runs in: the words of its command line, its streams, and the time between two tries.
 
-use crate::runs::run_image;
-use host_inputs::{tell_bad_argument, texts_of};
+use crate::arguments::tell_bad_argument;
 use hosts::Host;
 use outcome::{Ending, no_memory_line};
-use program_tasks::{ImageForm, RunForm};
 use script8::SessionFault;
+use std::alloc::{AllocError, Global};
 use std::env::{self, Env};
 use std::fs::{File, Files};
 use std::io::{ErrorKind, Input, IsTerminal};
@@ -40,8 +39,10 @@ where
     };
     match texts_of(alloc, &words) {
         Ok(texts) => {
+            let input = rt.reader();
+            let is_typed = input.is_terminal();
             let runtime = Runtime { rt };
-            let (_, status) = run_words(host, alloc, rooms, &texts, rt.reader(), &runtime);
+            let (_, status) = run_words(host, alloc, rooms, &texts, input, is_typed, &runtime);
             ExitCode::from(status)
         }
         Err(error) => ExitCode::from(end(&mut host, rooms, false, Err(Ending::from(error)))),
@@ -54,17 +55,9 @@ struct Runtime<'a, R> {
     rt: &'a R,
 }
 
-impl<'a, R: Files<File = File> + Input + Print + Eprint + Clock + AllocGlobal> Caller
-    for Runtime<'a, R>
-where
-    R::Reader: IsTerminal,
-{
+impl<'a, R: Clock> Caller for Runtime<'a, R> {
     fn pause(&self) {
         thread::sleep(self.rt, Duration::from_millis(TRY_TIME));
-    }
-
-    fn run_script(&self, image: &ImageForm, form: RunForm) -> Result<(), Ending> {
-        run_image(self.rt, image, form)
     }
 }
 
@@ -82,4 +75,13 @@ fn words_of<R: Env + Eprint + AllocGlobal>(rt: &R) -> Result<Vec<String>, Ending
     };
     let words = found?;
     Ok(words)
+}
+
+/// The texts of these words.
+fn texts_of(alloc: Global, words: &[String]) -> Result<Vec<&str>, AllocError> {
+    let mut texts: Vec<&str> = Vec::new(alloc);
+    for word in words {
+        texts.push(word.as_str())?;
+    }
+    Ok(texts)
 }

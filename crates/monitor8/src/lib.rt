@@ -1,10 +1,9 @@
-//! The whole programming system: what the command line asks for, over the files of the host and the session of `system_session`. It also shows
-//! the public calls of the crates below that a program may want.
+//! The whole programming system: what the command line asks for, over the system that it runs in. It also shows the public calls of the
+//! crates below that a program may want.
 #![tactic(auto)]
 
-mod hints;
+mod arguments;
 mod host;
-mod runs;
 
 pub use command_table::{TaskFault, plain_words, task};
 pub use host::program;

@@ -7,6 +7,7 @@ use Rattle.program_tasks.specs.declared.archives.LineForm.{LineForm}
 use Rattle.program_tasks.specs.declared.archives.LineForm.TheVariants.{Columns, Json}
 use Rattle.program_tasks.specs.declared.archives.PatchForm.{PatchForm}
 use Rattle.program_tasks.specs.declared.forms.ImageForm.{ImageForm}
+use Rattle.program_tasks.specs.declared.tasks.RunForm.{RunForm}
 use Rattle.program_tasks.specs.declared.tasks.TeletypeForm.{TeletypeForm}
 use Rattle.program_tasks.specs.declared.tasks.Task.{Task}
 use Rattle.program_tasks.specs.declared.tasks.Task.TheVariants as task
@@ -43,6 +44,7 @@ use Rattle.program_commands.specs.Rims.{WritesRim}
 use Rattle.program_commands.specs.Sources.{WritesSource}
 use Rattle.program_commands.specs.Tapes.{ListsTape}
 use Rattle.source_commands.specs.Assembling.{Assembles}
+use Rattle.script_commands.specs.Scripts.{OpensFor, RunsOver}
 use Rattle.tape_commands.specs.Profiles.{ProfilesTape}
 use Rattle.tape_commands.specs.Teletypes.{RunsTeletype}
 use Rattle.tape_commands.specs.Traces.{TracesTape}
@@ -89,46 +91,46 @@ ScansBlocks (Some folder) image = WritesPieces folder.bytes.items image
 abbrev pub RunsAtTeletype : TeletypeForm → Option (List ℕ) → List Event → Result (Unit {0}) Ending → List Event → Type 0
 RunsAtTeletype form keys old result new = (rest : Option (List ℕ)) × RunsTeletype form keys rest old result new
 
--- the host isn't asked
-abbrev pub AsksNothing : List Event → Result (Unit {0}) Ending → List Event → Type 0
-AsksNothing old result new = new ≡ old
+-- An image file is opened for a run, which is tried again while another program holds it. Then the input is run as a script over its volume.
+abbrev pub RunsImage : ImageForm → RunForm → Bool → Option (List ℕ) → List Event → Result (Unit {0}) Ending → List Event → Type 0
+RunsImage named form is_typed input = Then (Within named.wait (OpensFor form.saving named)) (λ image. RunsOver form is_typed image input)
 
--- A task is one command. The keys of a Teletype come from the input. A script is run by the caller, and the host isn't asked.
-abbrev pub DoesTask : Task → Option (List ℕ) → List Event → Result (Unit {0}) Ending → List Event → Type 0
-DoesTask (task.Tape tape) input = ListsTape tape
-DoesTask (task.Rim tape form) input = WritesRim form tape
-DoesTask (task.Source form) input = WritesSource form
-DoesTask (task.Assemble form) input = Within (seconds_for form.from) (Assembles form)
-DoesTask (task.Teletype form) input = RunsAtTeletype form input
-DoesTask (task.Trace form) input = TracesTape form
-DoesTask (task.Profile form) input = ProfilesTape form
-DoesTask (task.Create form blocks) input = Within form.wait (CreatesFile (IsBlankImage blocks) form blocks)
-DoesTask (task.CreateTape form) input = Within form.wait (CreatesFile IsBlankTapeFile form TAPE_BLOCKS)
-DoesTask (task.List image) input = ReportsOne report.Files image.layout image.file.bytes.items
-DoesTask (task.ListLong image year) input = ReportsOne (report.Places year) image.layout image.file.bytes.items
-DoesTask (task.ListSome form) input = ListsSome form
-DoesTask (task.Get image file form) input = Shows (λ bytes. Gets bytes (wanted_file file) form) image
-DoesTask (task.GetBin image file) input = ShowsTape file image
-DoesTask (task.GetMany form) input = GetsMany form
-DoesTask (task.GetBlocks form) input = ShowsBlocks form
-DoesTask (task.Put form) input = Within form.image.wait (Puts form)
-DoesTask (task.PutMany form) input = Within form.image.wait (PutsMany form)
-DoesTask (task.Delete form) input = Within form.image.wait (Deletes form)
-DoesTask (task.Rename image file new) input = Within image.wait (Renames (wanted_file file) new.bytes.items image)
-DoesTask (task.Copy form) input = Within form.to.wait (Copies form)
-DoesTask (task.CopyMany form) input = Within form.to.wait (CopiesMany form)
-DoesTask (task.Squeeze image) input = Within image.wait (Squeezes image)
-DoesTask (task.Check form) input = ChecksImages form
-DoesTask (task.Dump form) input = Dumps form.span form.is_sixbit form.image
-DoesTask (task.Patch form) input = Within form.image.wait (PatchesWord (word_patch form) form.image)
-DoesTask (task.Index form) input = ListsIndex form
-DoesTask (task.Rescue form) input = RescuesImage form.new.bytes.items form.image
-DoesTask (task.Scan form) input = ScansBlocks form.into form.image
-DoesTask (task.Run image form) input = AsksNothing
+-- A task is one command. The keys of a Teletype come from the input, and so does a script, which a person may type at a terminal.
+abbrev pub DoesTask : Task → Bool → Option (List ℕ) → List Event → Result (Unit {0}) Ending → List Event → Type 0
+DoesTask (task.Tape tape) is_typed input = ListsTape tape
+DoesTask (task.Rim tape form) is_typed input = WritesRim form tape
+DoesTask (task.Source form) is_typed input = WritesSource form
+DoesTask (task.Assemble form) is_typed input = Within (seconds_for form.from) (Assembles form)
+DoesTask (task.Teletype form) is_typed input = RunsAtTeletype form input
+DoesTask (task.Trace form) is_typed input = TracesTape form
+DoesTask (task.Profile form) is_typed input = ProfilesTape form
+DoesTask (task.Create form blocks) is_typed input = Within form.wait (CreatesFile (IsBlankImage blocks) form blocks)
+DoesTask (task.CreateTape form) is_typed input = Within form.wait (CreatesFile IsBlankTapeFile form TAPE_BLOCKS)
+DoesTask (task.List image) is_typed input = ReportsOne report.Files image.layout image.file.bytes.items
+DoesTask (task.ListLong image year) is_typed input = ReportsOne (report.Places year) image.layout image.file.bytes.items
+DoesTask (task.ListSome form) is_typed input = ListsSome form
+DoesTask (task.Get image file form) is_typed input = Shows (λ bytes. Gets bytes (wanted_file file) form) image
+DoesTask (task.GetBin image file) is_typed input = ShowsTape file image
+DoesTask (task.GetMany form) is_typed input = GetsMany form
+DoesTask (task.GetBlocks form) is_typed input = ShowsBlocks form
+DoesTask (task.Put form) is_typed input = Within form.image.wait (Puts form)
+DoesTask (task.PutMany form) is_typed input = Within form.image.wait (PutsMany form)
+DoesTask (task.Delete form) is_typed input = Within form.image.wait (Deletes form)
+DoesTask (task.Rename image file new) is_typed input = Within image.wait (Renames (wanted_file file) new.bytes.items image)
+DoesTask (task.Copy form) is_typed input = Within form.to.wait (Copies form)
+DoesTask (task.CopyMany form) is_typed input = Within form.to.wait (CopiesMany form)
+DoesTask (task.Squeeze image) is_typed input = Within image.wait (Squeezes image)
+DoesTask (task.Check form) is_typed input = ChecksImages form
+DoesTask (task.Dump form) is_typed input = Dumps form.span form.is_sixbit form.image
+DoesTask (task.Patch form) is_typed input = Within form.image.wait (PatchesWord (word_patch form) form.image)
+DoesTask (task.Index form) is_typed input = ListsIndex form
+DoesTask (task.Rescue form) is_typed input = RescuesImage form.new.bytes.items form.image
+DoesTask (task.Scan form) is_typed input = ScansBlocks form.into form.image
+DoesTask (task.Run image form) is_typed input = RunsImage image form is_typed input
 
 -- A task is done, and then what its end prints is printed: that is the status.
-pub record RunsTask (task : Task) (input : Option (List ℕ)) (old new : List Event) (status : ℕ) : Type 0 where
+pub record RunsTask (task : Task) (is_typed : Bool) (input : Option (List ℕ)) (old new : List Event) (status : ℕ) : Type 0 where
   pub work : Result (Unit {0}) Ending
   pub between : List Event
-  pub does : DoesTask task input old work between
+  pub does : DoesTask task is_typed input old work between
   pub ends : EndsSo (gives_data task) work between new status

@@ -51,7 +51,7 @@ RefusesWords (Words error) old new status = WantsMemory old new status ⊎ Shows
 RefusesWords (Refused usage refusal) old new status = WantsMemory old new status ⊎ IsMisuse old new status
 
 -- The words of a command line, the program's own name first, ask for a task, which is done; or they are refused, and nothing else is done.
-abbrev pub RunsWords : List Text → Option (List ℕ) → List Event → List Event → ℕ → Type 0
-RunsWords words input old new status =
-    ((task : Task) × Answers words (Ok task) × RunsTask task input old new status)
+abbrev pub RunsWords : List Text → Bool → Option (List ℕ) → List Event → List Event → ℕ → Type 0
+RunsWords words is_typed input old new status =
+    ((task : Task) × Answers words (Ok task) × RunsTask task is_typed input old new status)
     ⊎ ((fault : TaskFault) × Answers words (Err fault) × RefusesWords fault old new status)

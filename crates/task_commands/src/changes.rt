@@ -1,5 +1,6 @@
 //! Commands that write an image file, which are tried again while another program holds it.
 ghost use Rattle.std.specs.Prelude.{◌≡◌};
+ghost use Rattle.script_commands.specs.Scripts.{OpensFor};
 ghost use Rattle.task_commands.specs.Changes.{DoesChange, Within, seconds_of};
 
 use archive_commands::{WordPatch, patch_word};
@@ -10,12 +11,13 @@ use many_commands::put_files;
 use outcome::{Content, Ending};
 use program_tasks::{
     AssembleForm, CopyForm, CopyManyForm, CreateForm, DeleteForm, ImageForm, PutManyForm,
-    PutOneForm, RunForm,
+    PutOneForm, Saving,
 };
+use script_commands::open_image;
 use source_commands::assemble_files;
 use std::alloc::Global;
 use volume_commands::{
-    copy_file, create_image, create_tape, delete_files, put_file, rename_file, squeeze_files,
+    Image, copy_file, create_image, create_tape, delete_files, put_file, rename_file, squeeze_files,
 };
 
 /// How many times a second a command is tried again.
@@ -25,9 +27,6 @@ pub const TRIES: u128 = 20;
 pub trait Caller {
     /// Lets the twentieth part of a second pass, between two tries.
     fn pause(&self);
-
-    /// Runs the script on standard input over the volume of an image file.
-    fn run_script(&self, image: &ImageForm, form: RunForm) -> Result<(), Ending>;
 }
 
 /// A task that writes an image file.
@@ -68,6 +67,30 @@ pub fn change_image<H: Host, C: Caller>(
         }
     }
     change.make(host, alloc)
+}
+
+/// Opens the image in a file for a run of a script. It is tried again as a change is.
+pub fn open_within<H: Host, C: Caller>(
+    host: &mut H,
+    alloc: Global,
+    caller: &C,
+    image: &ImageForm,
+    saving: Saving,
+) -> Result<Image, Ending>
+    ensures { Within image.now.wait (OpensFor saving image.now) (H.history host.old) result (H.history host.new) }
+{
+    let most = TRIES * image.wait as u128;
+    let mut tries: u128 = 0;
+    while tries < most {
+        match open_image(host, alloc, image, saving) {
+            Err(Ending::Busy(Content::Image)) => {
+                caller.pause();
+                tries += 1;
+            }
+            found => return found,
+        }
+    }
+    open_image(host, alloc, image, saving)
 }
 
 impl Change {

@@ -1,19 +1,21 @@
 //! What a task does: the command that it is, and its end.
-ghost use Rattle.std.specs.Prelude.{◌≡◌, IfOk};
+ghost use Rattle.std.specs.Prelude.{◌≡◌, IfOk, is_some};
 ghost use Rattle.task_commands.specs.declared.changes.Change.TheVariants as change;
 ghost use Rattle.task_commands.specs.Tasks as spec;
-ghost use Rattle.task_commands.specs.Tasks.{ChoosesStyle, DoesTask, ListsIndex, RunsTask, ScansBlocks, word_patch};
+ghost use Rattle.task_commands.specs.Tasks.{ChoosesStyle, DoesTask, ListsIndex, RunsImage, RunsTask, ScansBlocks, word_patch};
 
-use crate::changes::{Caller, Change, change_image};
+use crate::changes::{Caller, Change, change_image, open_within};
 use archive_commands::{WordPatch, dump_blocks};
 use choice_commands::list_some;
+use command_table::SCRIPT_LINES;
 use hosts::Host;
 use index_commands::index_images;
 use many_commands::{check_images, get_files, list_files, list_places};
 use outcome::{Ending, gives_data};
 use program_commands::{list_tape, write_rim, write_source};
-use program_tasks::{IndexForm, LineForm, PatchForm, ScanForm, Task};
+use program_tasks::{ImageForm, IndexForm, LineForm, PatchForm, RunForm, ScanForm, Task};
 use salvage_commands::{rescue_image, scan_blocks, scan_into};
+use script_commands::run_over;
 use std::alloc::{AllocError, Global};
 use std::io::Read;
 use tape_commands::{profile_tape, run_teletype, trace_tape};
@@ -21,20 +23,21 @@ use volume_commands::{Rooms, end, file_asked, get_bin, get_blocks, get_file};
 use volume_index::IndexStyle;
 
 /// Does a task, and prints what its end asks for. The answer is the exit status: 0, 1 after a fault, 141 where nobody reads standard output,
-/// and 2 for words that a command refuses (this project's profile). The keys of a Teletype are read from the input; a
-/// script is run by the caller.
+/// and 2 for words that a command refuses (this project's profile). The keys of a Teletype, or a script, are read from the
+/// input; a person may type them at a terminal.
 pub fn run_task<H: Host, I: Read + Drop, C: Caller>(
     host: H,
     alloc: Global,
     rooms: Rooms,
     input: I,
+    is_typed: bool,
     caller: &C,
     task: Task,
 ) -> (H, u8)
-    ensures { RunsTask task (I.remaining input) (H.history host) (H.history result.0) result.1 }
+    ensures { RunsTask task is_typed (I.remaining input) (H.history host) (H.history result.0) result.1 }
 {
     let is_data = gives_data(&task);
-    let (host, work) = do_task(host, alloc, input, caller, task);
+    let (host, work) = do_task(host, alloc, input, is_typed, caller, task);
     let mut host = host;
     let status = end(&mut host, rooms, is_data, work);
     (host, status)
@@ -45,17 +48,21 @@ pub fn do_task<H: Host, I: Read + Drop, C: Caller>(
     host: H,
     alloc: Global,
     input: I,
+    is_typed: bool,
     caller: &C,
     task: Task,
 ) -> (H, Result<(), Ending>)
-    ensures { DoesTask task (I.remaining input) (H.history host) result.1 (H.history result.0) }
+    ensures { DoesTask task is_typed (I.remaining input) (H.history host) result.1 (H.history result.0) }
 {
     let mut host = host;
     let mut keys = input;
     let work = match task {
         Task::Teletype(form) => return run_teletype(host, alloc, &mut keys, &form),
         Task::Trace(form) => return trace_tape(host, alloc, &form),
-        Task::Run(image, form) => caller.run_script(&image, form),
+        Task::Run(image, form) => {
+            let work = run_image(&mut host, alloc, keys, is_typed, caller, &image, form);
+            return (host, work);
+        }
         Task::Profile(form) => profile_tape(&mut host, alloc, &form),
         Task::Tape(tape) => list_tape(&mut host, alloc, &tape),
         Task::Rim(tape, form) => write_rim(&mut host, alloc, &tape, form),
@@ -90,6 +97,32 @@ pub fn do_task<H: Host, I: Read + Drop, C: Caller>(
         Task::Assemble(form) => change_image(&mut host, alloc, caller, &Change::Assemble(form)),
     };
     (host, work)
+}
+
+/// Runs the script of a reader over the volume of an image file, which is waited for while another program holds it.
+fn run_image<H: Host, I: Read + Drop, C: Caller>(
+    host: &mut H,
+    alloc: Global,
+    input: I,
+    is_typed: bool,
+    caller: &C,
+    named: &ImageForm,
+    form: RunForm,
+) -> Result<(), Ending>
+    ensures { RunsImage named.now form is_typed (I.remaining input) (H.history host.old) result (H.history host.new) }
+{
+    let image = open_within(host, alloc, caller, named, form.saving)?;
+    run_over(host, alloc, input, image, form, forms_for(is_typed))
+}
+
+/// The forms of a script's lines, which a person at a terminal is shown.
+fn forms_for(is_typed: bool) -> Option<&'static str>
+    ensures { is_some result ≡ is_typed }
+{
+    if is_typed {
+        return Some(SCRIPT_LINES);
+    }
+    None
 }
 
 /// The index of the images that are given.

@@ -1,6 +1,5 @@
-use Rattle.std.proofs.Common.{refl}
 use Rattle.task_commands.proofs.doing.do_task.Goals as goal
-use Rattle.task_commands.proofs.doing.do_task.Goals.{in-Run, in-Profile, in-Tape, in-Rim, in-Source, in-List, in-ListLong, in-ListSome, in-Get, in-GetBin, in-GetMany, in-GetBlocks, in-Check, in-Index, in-Dump, in-Scan, in-Rescue, in-Create, in-CreateTape, in-Put, in-PutMany, in-Delete, in-Rename, in-Copy, in-CopyMany, in-Squeeze, in-Patch, in-Assemble}
+use Rattle.task_commands.proofs.doing.do_task.Goals.{in-Profile, in-Tape, in-Rim, in-Source, in-List, in-ListLong, in-ListSome, in-Get, in-GetBin, in-GetMany, in-GetBlocks, in-Check, in-Index, in-Dump, in-Scan, in-Rescue, in-Create, in-CreateTape, in-Put, in-PutMany, in-Delete, in-Rename, in-Copy, in-CopyMany, in-Squeeze, in-Patch, in-Assemble}
 
 pub returns-in-Teletype : goal.returns-in-Teletype
 returns-in-Teletype g c = rw c.in-Teletype.is (g.I.Read.remaining c.run_teletype.new.keys, c.run_teletype.ensures)
@@ -8,9 +7,11 @@ returns-in-Teletype g c = rw c.in-Teletype.is (g.I.Read.remaining c.run_teletype
 pub returns-in-Trace : goal.returns-in-Trace
 returns-in-Trace g c = rw c.in-Trace.is c.trace_tape.ensures
 
+pub returns-in-Run : goal.returns-in-Run
+returns-in-Run g c = rw c.in-Run.is c.run_image-work.ensures
+
 pub returns : goal.returns
 returns g c = elim c.match-task.branch [
-  | in-Run w ↦ rw (w.in-Run.is, w.host-is) refl
   | in-Profile w ↦ rw (w.in-Profile.is, w.host-is, w.work-is) w.profile_tape-work.ensures
   | in-Tape w ↦ rw (w.in-Tape.is, w.host-is, w.work-is) w.list_tape-work.ensures
   | in-Rim w ↦ rw (w.in-Rim.is, w.host-is, w.work-is) w.write_rim-work.ensures

@@ -1,0 +1,156 @@
+-- The laws of runs.
+use Rattle.std.proofs.Common.{◌≡◌, ◌∙◌, ◌⊎◌, ◌++◌, ℕ, Bool, true, false, List, [], ◌∷◌, Option, None, Some, Result, Ok, Err, ap, refl, sym, subst, inl, inr, length}
+use Rattle.hosts.specs.Event.{Event}
+use Rattle.disk_layouts.specs.Files.{Disk}
+use Rattle.hosts.specs.Place.{Place, Leaves, Allows, Just, Remainder, Step as HostStep, about, ever}
+use Rattle.hosts.specs.Saving.{IsOldOrNew}
+use Rattle.hosts.specs.Streams.{may_replace}
+use Rattle.hosts.specs.declared.faults.Durability.{Durability}
+use Rattle.volume_commands.specs.declared.reading.ImagePlace.{ImagePlace}
+use Rattle.archive_files.specs.declared.faults.ArchiveFault.{ArchiveFault}
+use Rattle.outcome.specs.declared.endings.Ending.{Ending}
+use Rattle.program_tasks.specs.declared.forms.ImageForm.{ImageForm}
+use Rattle.program_tasks.specs.declared.tasks.RunForm.{RunForm}
+use Rattle.program_tasks.specs.declared.tasks.Saving.{Saving}
+use Rattle.program_tasks.specs.declared.tasks.Saving.TheVariants.{Never}
+use Rattle.script8.specs.declared.entries.Entry.{Entry}
+use Rattle.script8.specs.declared.faults.SessionFault.{SessionFault}
+use Rattle.script8.specs.declared.replies.Reply.{Reply}
+use Rattle.system_session.specs.Session.{SessionView}
+use Rattle.volume_commands.specs.Answers.{Answers, Refuses}
+use Rattle.volume_commands.specs.Laws.{KeepsFiles}
+use Rattle.volume_commands.specs.Reading.{Looks}
+use Rattle.volume_commands.specs.Work.{Then, Purely}
+use Rattle.volume_commands.specs.declared.images.Image.{Image}
+use Rattle.script_commands.specs.Laws.{IsInPlace, IsKeptBefore, IsOneOf, file_of}
+use Rattle.script_commands.specs.Scripts.{MountsSession, OnlyReads, OpensFor, RunsScript, RunsSession}
+use Rattle.script_commands.specs.Steps.{Step, Saves, Fails, Replies, Prints, Refuses as RefusesPrint, Shows, Cuts, AreDone, AreKept, AreUnsaved, GetsImage, IsFileOf, changes, has_saved, has_unsynced, last_image, save_ending}
+
+same : {old new : List Event} (path : List ℕ) → new ≡ old → about path new ≡ about path old
+same path is = ap (λ (events : List Event). about path events) is
+
+then-keeps : {A B : Type 0} (first : List Event → Result A Ending → List Event → Type 0) (next : A → List Event → Result B Ending → List Event → Type 0)
+    → KeepsFiles first → ((given : A) → KeepsFiles (next given)) → KeepsFiles (Then first next)
+then-keeps first next f n old (Ok r) new (inl ends) path = absurd ends
+then-keeps first next f n old (Err e) new (inl ends) path = f old (Err e) new ends path
+then-keeps first next f n old result new (inr it) path = n it.given it.between result new it.after path ∙ f old (Ok it.given) it.between it.done path
+
+purely-keeps : {A : Type 0} (gives : Result A Ending → Type 0) → KeepsFiles (Purely gives)
+purely-keeps gives old result new p path = same path p.1
+
+-- ## A run that saves nothing
+
+steps-keep : (is_typed : Bool) (start : Image) (steps : List Step) (old new : List Event) (path : List ℕ) → AreDone is_typed start steps old new → AreUnsaved steps → about path new ≡ about path old
+steps-keep is_typed start [] old new path done none = same path done
+steps-keep is_typed start (Saves image durability ∷ earlier) old new path done none = absurd none
+steps-keep is_typed start (Fails ending ∷ earlier) old new path done none = absurd none
+steps-keep is_typed start (Replies entry answer ∷ earlier) old new path (mid, done, is) none = same path is ∙ steps-keep is_typed start earlier old mid path done none
+steps-keep is_typed start (Prints bytes ∷ earlier) old new path (mid, done, (all, is)) none = same path is ∙ steps-keep is_typed start earlier old mid path done none
+steps-keep is_typed start (RefusesPrint why bytes ∷ earlier) old new path (mid, done, is) none = same path is ∙ steps-keep is_typed start earlier old mid path done none
+steps-keep is_typed start (Shows form ∷ earlier) old new path (mid, done, (typed, ok, is)) none = same path is ∙ steps-keep is_typed start earlier old mid path done none
+steps-keep is_typed start (Cuts ∷ earlier) old new path (mid, done, (ok, is)) none = same path is ∙ steps-keep is_typed start earlier old mid path done none
+
+session-keeps : (form : RunForm) (is_typed : Bool) (image : Image) (session : SessionView) (input : Option (List ℕ)) → form.saving ≡ Never → KeepsFiles (RunsSession form is_typed image session input)
+session-keeps form is_typed image session input never old result new p path = steps-keep is_typed image p.steps old new path p.done (p.never never)
+
+-- what the crates below know of their steps is handed in
+module _
+    (looks-keeps : (name shown : List ℕ) → KeepsFiles (Looks name shown))
+    (refuses-keeps : (why : ArchiveFault) (size : ℕ) (old : List Event) (ending : Ending) (new : List Event) → Refuses why size old ending new → (path : List ℕ) → about path new ≡ about path old)
+  where
+    answers-keeps : {A : Type 0} (gives : Result A ArchiveFault → Type 0) (size : ℕ) → KeepsFiles (Answers gives size)
+    answers-keeps gives size old (Ok it) new p path = same path p.1
+    answers-keeps gives size old (Err ending) new (why, gave, p) path = refuses-keeps why size old ending new p path
+
+    reads-keeps : (named : ImageForm) → KeepsFiles (OnlyReads named)
+    reads-keeps named = then-keeps _ _ (looks-keeps named.file.bytes.items named.file.bytes.items) (λ file. purely-keeps _)
+
+    opens-keeps : (saving : Saving) (named : ImageForm) → saving ≡ Never → KeepsFiles (OpensFor saving named)
+    opens-keeps saving named never = subst (λ (s : Saving). KeepsFiles (OpensFor s named)) (sym never) (reads-keeps named)
+
+    pub script-keeps : (named : ImageForm) (form : RunForm) (is_typed : Bool) (input : Option (List ℕ)) → form.saving ≡ Never → KeepsFiles (RunsScript named form is_typed input)
+    script-keeps named form is_typed input never = then-keeps _ _ (opens-keeps form.saving named never)
+        (λ image. then-keeps _ _ (purely-keeps _) (λ room. then-keeps _ _ (answers-keeps (MountsSession image.bytes.items) (length image.bytes.items)) (λ session. session-keeps form is_typed image session input never)))
+
+-- ## Replies
+
+pub kept-before : (is_typed : Bool) (start : Image) (later earlier : List Step) (entry : Option Entry) (answer : Result Reply SessionFault) (old new : List Event)
+    → AreDone is_typed start (later ++ Replies entry answer ∷ earlier) old new → AreKept start (later ++ Replies entry answer ∷ earlier) → changes answer ≡ true → IsKeptBefore is_typed start earlier old
+kept-before is_typed start [] earlier entry answer old new done kept changed = record { moment = done.0; done = done.1; blocks = (kept.0 changed).0; saved = (kept.0 changed).1 }
+kept-before is_typed start (Saves image durability ∷ later) earlier entry answer old new done kept changed = kept-before is_typed start later earlier entry answer old done.0 done.1 kept changed
+kept-before is_typed start (Fails ending ∷ later) earlier entry answer old new done kept changed = kept-before is_typed start later earlier entry answer old done.0 done.1 kept changed
+kept-before is_typed start (Replies e a ∷ later) earlier entry answer old new done kept changed = kept-before is_typed start later earlier entry answer old done.0 done.1 kept.1 changed
+kept-before is_typed start (Prints bytes ∷ later) earlier entry answer old new done kept changed = kept-before is_typed start later earlier entry answer old done.0 done.1 kept changed
+kept-before is_typed start (RefusesPrint why bytes ∷ later) earlier entry answer old new done kept changed = kept-before is_typed start later earlier entry answer old done.0 done.1 kept changed
+kept-before is_typed start (Shows form ∷ later) earlier entry answer old new done kept changed = kept-before is_typed start later earlier entry answer old done.0 done.1 kept changed
+kept-before is_typed start (Cuts ∷ later) earlier entry answer old new done kept changed = kept-before is_typed start later earlier entry answer old done.0 done.1 kept changed
+
+-- ## Crashes
+
+-- the place of the image is one all the run
+same-place : (is_typed : Bool) (start : Image) (steps : List Step) (old new : List Event) → AreDone is_typed start steps old new → (last_image start steps).place ≡ start.place
+same-place is_typed start [] old new done = refl
+same-place is_typed start (Saves image durability ∷ earlier) old new (mid, done, (none, got)) = got.place ∙ same-place is_typed start earlier old mid done
+same-place is_typed start (Fails ending ∷ earlier) old new (mid, done, it) = same-place is_typed start earlier old mid done
+same-place is_typed start (Replies entry answer ∷ earlier) old new (mid, done, it) = same-place is_typed start earlier old mid done
+same-place is_typed start (Prints bytes ∷ earlier) old new (mid, done, it) = same-place is_typed start earlier old mid done
+same-place is_typed start (RefusesPrint why bytes ∷ earlier) old new (mid, done, it) = same-place is_typed start earlier old mid done
+same-place is_typed start (Shows form ∷ earlier) old new (mid, done, it) = same-place is_typed start earlier old mid done
+same-place is_typed start (Cuts ∷ earlier) old new (mid, done, it) = same-place is_typed start earlier old mid done
+
+file-is : (before : Option Disk) (image file : List ℕ) (after : Option Disk) → IsFileOf before image file after → file_of after image ≡ file
+file-is None image file after (is, none) = rw none (sym is)
+file-is (Some disk) image file after (laid, has, is, some) = rw some (sym is)
+
+abbrev is-there : Option Ending → Type 0
+is-there None = ⊥
+is-there (Some it) = Unit {0}
+
+-- what a crash may find
+abbrev pub CrashLeaves : (is_typed : Bool) (start : Image) (steps : List Step) (old : List Event) (place : Place) (found : Option (List ℕ)) → Type 0
+CrashLeaves is_typed start steps old place found = Leaves (ever place (about start.place.path.bytes.items old)) found ⊎ (IsOneOf found steps ⊎ IsInPlace is_typed start steps old)
+
+in-place-later : (is_typed : Bool) (start : Image) (step : Step) (steps : List Step) (old : List Event) → IsInPlace is_typed start steps old → IsInPlace is_typed start (step ∷ steps) old
+in-place-later is_typed start step steps old p = record { later = step ∷ p.later; earlier = p.earlier; parts = ap (λ (s : List Step). step ∷ s) p.parts; moment = p.moment; done = p.done; over = p.over }
+
+later-leaves : (is_typed : Bool) (start : Image) (step : Step) (steps : List Step) (old : List Event) (place : Place) (found : Option (List ℕ)) → (IsOneOf found steps → IsOneOf found (step ∷ steps)) → CrashLeaves is_typed start steps old place found → CrashLeaves is_typed start (step ∷ steps) old place found
+later-leaves is_typed start step steps old place found one (inl left) = inl left
+later-leaves is_typed start step steps old place found one (inr (inl it)) = inr (inl (one it))
+later-leaves is_typed start step steps old place found one (inr (inr it)) = inr (inr (in-place-later is_typed start step steps old it))
+
+still : (path : List ℕ) (mid new : List Event) (place : Place) (found : Option (List ℕ)) → about path new ≡ about path mid → Leaves (ever place (about path new)) found → Leaves (ever place (about path mid)) found
+still path mid new place found is left = subst (λ (s : List HostStep). Leaves (ever place s) found) is left
+
+saves-leaves : (is_typed : Bool) (start image : Image) (durability : Durability) (earlier : List Step) (old mid new : List Event) (place : Place) (found : Option (List ℕ)) → AreDone is_typed start earlier old mid → save_ending earlier ≡ None
+    → GetsImage (has_saved earlier) (has_unsynced earlier) (last_image start earlier) image durability mid new
+    → (Leaves (ever place (about start.place.path.bytes.items mid)) found → CrashLeaves is_typed start earlier old place found)
+    → Leaves (ever place (about start.place.path.bytes.items new)) found → CrashLeaves is_typed start (Saves image durability ∷ earlier) old place found
+saves-leaves is_typed start image durability earlier old mid new place found done none got again left = saves (subst (λ (p : ImagePlace). IsOldOrNew got.file (ever place (about p.path.bytes.items mid)) (ever place (about p.path.bytes.items new)) ⊎ (may_replace new ≡ false)) (same-place is_typed start earlier old mid done) (got.moments place)) where
+  path : List ℕ
+  path = start.place.path.bytes.items
+
+  before : Leaves (ever place (about path mid)) found → CrashLeaves is_typed start (Saves image durability ∷ earlier) old place found
+  before l = later-leaves is_typed start (Saves image durability) earlier old place found inr (again l)
+
+  one : Allows (Just (Some got.file)) found ⊎ Leaves (ever place (about path mid)) found → CrashLeaves is_typed start (Saves image durability ∷ earlier) old place found
+  one (inl is) = inr (inl (inl (is ∙ ap (λ (f : List ℕ). Some f) (sym (file-is (last_image start earlier).disk image.bytes.items got.file image.disk got.is)))))
+  one (inr l) = before l
+
+  saves : IsOldOrNew got.file (ever place (about path mid)) (ever place (about path new)) ⊎ (may_replace new ≡ false) → CrashLeaves is_typed start (Saves image durability ∷ earlier) old place found
+  saves (inl (inl old-one)) = before (subst (λ (l : List Remainder). Leaves l found) old-one left)
+  saves (inl (inr new-one)) = one (subst (λ (l : List Remainder). Leaves l found) new-one left)
+  saves (inr over) = inr (inr (record { later = []; earlier = Saves image durability ∷ earlier; parts = refl; moment = new; done = (mid, done, (none, got)); over = over }))
+
+pub crash-leaves : (is_typed : Bool) (start : Image) (steps : List Step) (old new : List Event) → AreDone is_typed start steps old new → save_ending steps ≡ None
+    → (place : Place) (found : Option (List ℕ)) → Leaves (ever place (about start.place.path.bytes.items new)) found → CrashLeaves is_typed start steps old place found
+crash-leaves is_typed start [] old new done none place found left = inl (still start.place.path.bytes.items old new place found (same start.place.path.bytes.items done) left)
+crash-leaves is_typed start (Saves image durability ∷ earlier) old new (mid, done, (none', got)) none place found left =
+    saves-leaves is_typed start image durability earlier old mid new place found done none' got (λ l. crash-leaves is_typed start earlier old mid done none place found l) left
+crash-leaves is_typed start (Fails ending ∷ earlier) old new done none place found left = absurd (some-none ending none) where
+  some-none : (it : Ending) → Some it ≡ None → ⊥
+  some-none it gone = subst is-there gone tt
+crash-leaves is_typed start (Replies entry answer ∷ earlier) old new (mid, done, is) none place found left = later-leaves is_typed start (Replies entry answer) earlier old place found (λ it. it) (crash-leaves is_typed start earlier old mid done none place found (still start.place.path.bytes.items mid new place found (same start.place.path.bytes.items is) left))
+crash-leaves is_typed start (Prints bytes ∷ earlier) old new (mid, done, (all, is)) none place found left = later-leaves is_typed start (Prints bytes) earlier old place found (λ it. it) (crash-leaves is_typed start earlier old mid done none place found (still start.place.path.bytes.items mid new place found (same start.place.path.bytes.items is) left))
+crash-leaves is_typed start (RefusesPrint why bytes ∷ earlier) old new (mid, done, is) none place found left = later-leaves is_typed start (RefusesPrint why bytes) earlier old place found (λ it. it) (crash-leaves is_typed start earlier old mid done none place found (still start.place.path.bytes.items mid new place found (same start.place.path.bytes.items is) left))
+crash-leaves is_typed start (Shows form ∷ earlier) old new (mid, done, (typed, ok, is)) none place found left = later-leaves is_typed start (Shows form) earlier old place found (λ it. it) (crash-leaves is_typed start earlier old mid done none place found (still start.place.path.bytes.items mid new place found (same start.place.path.bytes.items is) left))
+crash-leaves is_typed start (Cuts ∷ earlier) old new (mid, done, (ok, is)) none place found left = later-leaves is_typed start Cuts earlier old place found (λ it. it) (crash-leaves is_typed start earlier old mid done none place found (still start.place.path.bytes.items mid new place found (same start.place.path.bytes.items is) left))

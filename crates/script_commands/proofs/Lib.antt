@@ -1,0 +1,6 @@
+mod InputLemmas
+mod LawLemmas
+mod RunLemmas
+mod SaveLemmas
+mod SessionLemmas
+mod WorkLemmas

@@ -1,0 +1,5 @@
+use Rattle.script_commands.proofs.LawLemmas.{script-keeps}
+use Rattle.script_commands.proofs.laws.unchanged_files.Goals as goal
+
+pub returns : goal.returns
+returns c = script-keeps c.kept_files.ensures.looks c.kept_files.ensures.refuses

@@ -1,0 +1,40 @@
+//! What a run of a script leaves as it was, and what a crash may leave, as laws.
+ghost use Rattle.std.specs.Prelude.{◌≡◌, ◌⊎◌, ◌∷◌, ◌++◌, ℕ, Bool, List, None, Option, Result, true};
+ghost use Rattle.hosts.specs.Event.{Event};
+ghost use Rattle.hosts.specs.Place.{Place, Leaves, about, ever};
+ghost use Rattle.program_tasks.specs.declared.forms.ImageForm.{ImageForm};
+ghost use Rattle.program_tasks.specs.declared.tasks.RunForm.{RunForm};
+ghost use Rattle.program_tasks.specs.declared.tasks.Saving.TheVariants.{Never};
+ghost use Rattle.script8.specs.declared.entries.Entry.{Entry};
+ghost use Rattle.script8.specs.declared.faults.SessionFault.{SessionFault};
+ghost use Rattle.script8.specs.declared.replies.Reply.{Reply};
+ghost use Rattle.volume_commands.specs.Laws.{KeepsFiles};
+ghost use Rattle.volume_commands.specs.declared.images.Image.{Image};
+ghost use Rattle.script_commands.specs.Laws.{IsInPlace, IsKeptBefore, IsOneOf};
+ghost use Rattle.script_commands.specs.Scripts.{RunsScript};
+ghost use Rattle.script_commands.specs.Steps.{Step, Replies, AreDone, AreKept, changes, save_ending};
+
+use volume_commands::laws::kept_files;
+
+/// Where the image is never to be saved, a run changes no file of the host, in whichever way it ends.
+pub fn unchanged_files()
+    ensures { (named : ImageForm) (form : RunForm) (is_typed : Bool) (input : Option (List ℕ)) → form.saving ≡ Never
+        → KeepsFiles (RunsScript named form is_typed input) }
+{
+    kept_files();
+}
+
+/// Where each change is to be kept, the file has an image before the lines of each answer after which this may be another one.
+pub fn kept_changes()
+    ensures { (is_typed : Bool) (start : Image) (later earlier : List Step) (entry : Option Entry) (answer : Result Reply SessionFault) (old new : List Event)
+        → AreDone is_typed start (later ++ Replies entry answer ∷ earlier) old new → AreKept start (later ++ Replies entry answer ∷ earlier)
+        → changes answer ≡ true → IsKeptBefore is_typed start earlier old }
+{}
+
+/// A crash at any moment of the steps leaves what it might have left before, or one of the files that they wrote, whole. A file that is
+/// written in its place is not promised so.
+pub fn crashes()
+    ensures { (is_typed : Bool) (start : Image) (steps : List Step) (old new : List Event) → AreDone is_typed start steps old new → save_ending steps ≡ None
+        → (place : Place) (found : Option (List ℕ)) → Leaves (ever place (about start.place.path.bytes.items new)) found
+        → Leaves (ever place (about start.place.path.bytes.items old)) found ⊎ (IsOneOf found steps ⊎ IsInPlace is_typed start steps old) }
+{}

@@ -1,0 +1,257 @@
+//! How the image file gets the images of a run, each note on it once.
+ghost use Rattle.std.specs.Prelude.{◌≡◌, ◌∷◌, ◌<◌, ◌≤◌, ℕ, List, None, true, false, OnErr, OnOk};
+ghost use Rattle.std.specs.Str.{bytes_eq};
+ghost use Rattle.hosts.specs.Event.{Event, tell_call};
+ghost use Rattle.hosts.specs.Place.{about};
+ghost use Rattle.hosts.specs.Saving.{SavesFile, AnyMomentOf};
+ghost use Rattle.hosts.specs.Streams.{output, errors, read, failures, may_replace};
+ghost use Rattle.program_tasks.specs.declared.tasks.Saving.TheVariants as saving;
+ghost use Rattle.outcome.specs.Contents.{content_name};
+ghost use Rattle.outcome.specs.Notes.{file_text};
+ghost use Rattle.outcome.specs.declared.contents.Content.TheVariants as content;
+ghost use Rattle.outcome.specs.declared.notes.FileNote.TheVariants.{InPlace};
+ghost use Rattle.volume_commands.specs.Faults.{ending_of_write};
+ghost use Rattle.volume_commands.specs.Saving.{IsPlaceTold};
+ghost use Rattle.volume_commands.specs.declared.images.Image.{Image as ImageState};
+ghost use Rattle.volume_image.specs.Image.{IsImageOf};
+ghost use Rattle.hosts.specs.declared.faults.Durability.TheVariants.{Unknown};
+ghost use Rattle.script_commands.specs.RunSteps.{Gets, HasDone, NotesSync, WritesFile, WritesImage};
+ghost use Rattle.script_commands.specs.Steps.{IsPlaceToldOnce, is_unknown, or_else};
+
+use crate::progress::Progress;
+use hosts::{Durability, Host, Unwritten, save_file};
+use outcome::{Content, Ending, FileNote};
+use program_tasks::Saving;
+use script8::SessionFault;
+use std::alloc::Global;
+use std::mem;
+use volume_commands::Image;
+use volume_image::MemoryVolume;
+use word12::{BLOCK, FIRST_FILE_BLOCK};
+
+/// How many bytes of an image stand before the blocks of files.
+const DIRECTORY: usize = FIRST_FILE_BLOCK * BLOCK * 2;
+
+/// Has the file hold the image of a store, if it is to be saved, and answers whether it does. Where a save failed, none is tried again.
+pub(crate) fn keep<H: Host>(
+    host: &mut H,
+    alloc: Global,
+    progress: &mut Progress,
+    spare: &mut Vec<u8>,
+    store: &MemoryVolume,
+) -> bool
+    requires { progress.old.saving ≡ saving.Never → ⊥ }
+    ensures done { (start : ImageState) (old : List Event)
+        → HasDone start old progress.old (H.history host.old) → HasDone start old progress.new (H.history host.new) }
+    ensures image { result ≡ true → IsImageOf progress.new.image.bytes.items store.now.blocks }
+    ensures failed { result ≡ false → progress.new.save_ending ≡ None → ⊥ }
+    ensures saved { result ≡ true → progress.new.save_ending ≡ None }
+    ensures earlier { progress.new.save_ending ≡ None → progress.old.save_ending ≡ None }
+    ensures fault { progress.new.fault ≡ progress.old.fault }
+    ensures output { output (H.history host.new) ≡ output (H.history host.old) }
+    ensures lines { progress.new.lines ≡ progress.old.lines }
+    ensures saving { progress.new.saving ≡ progress.old.saving }
+    ensures typed { progress.new.is_typed ≡ progress.old.is_typed }
+    ensures cut { progress.new.is_cut ≡ progress.old.is_cut }
+{
+    if progress.save_ending.is_some() {
+        return false;
+    }
+    match save(host, alloc, progress, spare, store) {
+        Ok(()) => true,
+        Err(ending) => {
+            progress.save_ending = Some(ending);
+            false
+        }
+    }
+}
+
+/// Has the file hold the image of a store, unless it has it.
+fn save<H: Host>(
+    host: &mut H,
+    alloc: Global,
+    progress: &mut Progress,
+    spare: &mut Vec<u8>,
+    store: &MemoryVolume,
+) -> Result<(), Ending>
+    ensures gets { Gets progress.old result progress.new (H.history host.old) (H.history host.new) }
+    ensures image { OnOk result (IsImageOf progress.new.image.bytes.items store.now.blocks) }
+    ensures output { output (H.history host.new) ≡ output (H.history host.old) }
+    ensures same { progress.new ≡ record progress.old {
+      image = progress.new.image;
+      is_place_told = progress.new.is_place_told;
+      is_sync_told = progress.new.is_sync_told;
+    } }
+{
+    if store.put_bytes(spare).is_err() {
+        return Err(Ending::Fault(SessionFault::Memory));
+    }
+    if progress.image.bytes.as_slice() == spare.as_slice() {
+        return Ok(());
+    }
+    let durability = write_image(
+        host,
+        alloc,
+        &mut progress.image,
+        spare,
+        progress.is_place_told,
+    )?;
+    progress.is_sync_told = note_sync(host, durability, progress.is_sync_told);
+    progress.is_place_told = true;
+    mem::swap(&mut progress.image.bytes, spare);
+    Ok(())
+}
+
+/// Writes the file of an image that is to have these bytes, with all that it holds besides.
+fn write_image<H: Host>(
+    host: &mut H,
+    alloc: Global,
+    image: &mut Image,
+    bytes: &[u8],
+    is_told: bool,
+) -> Result<Durability, Ending>
+    ensures { WritesImage is_told image.old bytes.now result image.new (H.history host.old) (H.history host.new) }
+{
+    if !image.place.is_held {
+        return Err(ending_of_save(Unwritten::AsItWas));
+    }
+    let path = image.place.path.as_str();
+    match &mut image.disk {
+        None => write_bytes(host, alloc, path, bytes, is_told),
+        Some(disk) => {
+            if !disk.lay(bytes) {
+                return Err(ending_of_save(Unwritten::AsItWas));
+            }
+            write_bytes(host, alloc, path, disk.bytes(), is_told)
+        }
+    }
+}
+
+/// The same of bytes that are the whole file.
+fn write_bytes<H: Host>(
+    host: &mut H,
+    alloc: Global,
+    path: &str,
+    bytes: &[u8],
+    is_told: bool,
+) -> Result<Durability, Ending>
+    ensures { WritesFile is_told path.now bytes.now result (H.history host.old) (H.history host.new) }
+{
+    match save_noted(host, alloc, path, bytes, is_told) {
+        Ok(durability) => Ok(durability),
+        Err(left) => Err(ending_of_save(left)),
+    }
+}
+
+/// Has the held file of a path hold these bytes, as `hosts::save_file` does. Before that a note says, unless it was said, where it is
+/// written in its place.
+fn save_noted<H: Host>(
+    host: &mut H,
+    alloc: Global,
+    path: &str,
+    bytes: &[u8],
+    is_told: bool,
+) -> Result<Durability, Unwritten>
+    ensures saves { SavesFile result (may_replace (H.history host.new)) bytes.now (about path.now (H.history host.old)) (about path.now (H.history host.new)) }
+    ensures any_moment { AnyMomentOf (may_replace (H.history host.new)) bytes.now (about path.now (H.history host.old)) (about path.now (H.history host.new)) }
+    ensures cause { OnErr result (failures (H.history host.old) < failures (H.history host.new)) }
+    ensures errors { IsPlaceToldOnce is_told (errors (H.history host.old)) (errors (H.history host.new)) }
+    ensures others { (other : List ℕ) → bytes_eq path.now other ≡ false
+        → about other (H.history host.new) ≡ about other (H.history host.old) }
+    ensures output { output (H.history host.new) ≡ output (H.history host.old) }
+    ensures read { read (H.history host.new) ≡ read (H.history host.old) }
+{
+    note_place(host, path, is_told);
+    save_file(host, alloc, path, DIRECTORY, bytes)
+}
+
+/// Prints a note, unless that was done, where the file of a path is written in its place.
+fn note_place<H: Host>(host: &mut H, path: &str, is_told: bool)
+    ensures failures { failures (H.history host.old) ≤ failures (H.history host.new) }
+    ensures files { (path : List ℕ) → about path (H.history host.new) ≡ about path (H.history host.old) }
+    ensures errors { IsPlaceToldOnce is_told (errors (H.history host.old)) (errors (H.history host.new)) }
+    ensures output { output (H.history host.new) ≡ output (H.history host.old) }
+    ensures read { read (H.history host.new) ≡ read (H.history host.old) }
+{
+    if !is_told {
+        tell_of_place(host, path);
+    }
+}
+
+/// Prints a note where the file of a path is written in its place.
+fn tell_of_place<H: Host>(host: &mut H, path: &str)
+    ensures failures { failures (H.history host.old) ≤ failures (H.history host.new) }
+    ensures files { (path : List ℕ) → about path (H.history host.new) ≡ about path (H.history host.old) }
+    ensures errors { IsPlaceTold content.Image (errors (H.history host.old)) (errors (H.history host.new)) }
+    ensures output { output (H.history host.new) ≡ output (H.history host.old) }
+    ensures read { read (H.history host.new) ≡ read (H.history host.old) }
+{
+    match host.is_alone(path) {
+        Ok(true) => {}
+        Ok(false) => tell_in_place(host),
+        Err(_) => tell_in_place(host),
+    }
+}
+
+fn tell_in_place<H: Host>(host: &mut H)
+    ensures { (ok : _) × (H.history host.new ≡ tell_call ok (file_text InPlace (content_name content.Image)) ∷ H.history host.old) }
+{
+    let _ = host.tell(FileNote::InPlace.text(Content::Image));
+}
+
+/// Prints a note, unless that was done, where it isn't known whether a crash keeps the file, and answers whether it was done by then.
+fn note_sync<H: Host>(host: &mut H, durability: Durability, is_told: bool) -> bool
+    ensures notes { NotesSync is_told durability (H.history host.old) (H.history host.new) }
+    ensures told { result ≡ or_else (is_unknown durability) is_told }
+{
+    match durability {
+        Durability::Certain => is_told,
+        Durability::Unknown => {
+            tell_of_sync(host, is_told);
+            true
+        }
+    }
+}
+
+fn tell_of_sync<H: Host>(host: &mut H, is_told: bool)
+    ensures { NotesSync is_told Unknown (H.history host.old) (H.history host.new) }
+{
+    if !is_told {
+        let _ = host.tell(FileNote::NoSync.text(Content::Image));
+    }
+}
+
+/// How a run ends whose image is not written, and what its file holds (this project's profile).
+fn ending_of_save(left: Unwritten) -> Ending
+    ensures { result ≡ ending_of_write content.Image left }
+{
+    match left {
+        Unwritten::AsItWas => Ending::NotWritten(Content::Image, host_images::Unwritten::AsItWas),
+        Unwritten::InPart => Ending::NotWritten(Content::Image, host_images::Unwritten::InPart),
+    }
+}
+
+/// Ends a run with the store that it leaves.
+pub(crate) fn save_last<H: Host>(
+    host: &mut H,
+    alloc: Global,
+    progress: &mut Progress,
+    spare: &mut Vec<u8>,
+    store: &MemoryVolume,
+)
+    ensures done { (start : ImageState) (old : List Event)
+        → HasDone start old progress.old (H.history host.old) → HasDone start old progress.new (H.history host.new) }
+    ensures image { (progress.old.saving ≡ saving.Never → ⊥) → progress.new.save_ending ≡ None
+        → IsImageOf progress.new.image.bytes.items store.now.blocks }
+    ensures earlier { progress.new.save_ending ≡ None → progress.old.save_ending ≡ None }
+    ensures fault { progress.new.fault ≡ progress.old.fault }
+    ensures output { output (H.history host.new) ≡ output (H.history host.old) }
+    ensures lines { progress.new.lines ≡ progress.old.lines }
+    ensures saving { progress.new.saving ≡ progress.old.saving }
+    ensures typed { progress.new.is_typed ≡ progress.old.is_typed }
+    ensures cut { progress.new.is_cut ≡ progress.old.is_cut }
+{
+    if progress.saving != Saving::Never {
+        let _ = keep(host, alloc, progress, spare, store);
+    }
+}

@@ -1,0 +1,267 @@
+//! The command that runs a script.
+ghost use Rattle.std.specs.Prelude.{◌≡◌, ◌++◌, List, [], None, is_some, length, true, false};
+ghost use Rattle.hosts.specs.Event.{Event};
+ghost use Rattle.hosts.specs.Streams.{output_text};
+ghost use Rattle.volume_commands.specs.Answers.{Answers};
+ghost use Rattle.volume_commands.specs.declared.images.Image.{Image as ImageState};
+ghost use Rattle.script_commands.specs.RunSteps.{HasDone, TellsCut};
+ghost use Rattle.script_commands.specs.Scripts as spec;
+ghost use Rattle.script_commands.specs.Scripts.{IsRoom, MountsSession, OpensFor, OnlyReads, RunsOver, RunsScript, RunsSession, EndsRun};
+
+use crate::inputs::{CountedInput, Start};
+use crate::printing::{ROOM, print_waiting};
+use crate::progress::Progress;
+use crate::saves::save_last;
+use crate::watching::Run;
+use archive_files::ArchiveFault;
+use archive_files::parts::volume_of;
+use hosts::{Host, PrintFault};
+use os8_dir::DirFault;
+use outcome::{Ending, NameNote, Note};
+use program_tasks::{ImageForm, RunForm, Saving};
+use script8::SessionFault;
+use std::alloc::Global;
+use std::io::Read;
+use std::marker::Brand;
+use system_session::Session;
+use volume_commands::{Image, ImagePlace, look_file, refuse_image, tell_note, volume_in};
+use volume_image::MemoryVolume;
+
+/// Runs the script of a reader over the volume of an image file, and prints its replies. The image is written when it is to be, if it
+/// changed; the memory for that is taken before the script. Where the forms of lines are given, a person types the script, and is shown the
+/// form of a bad line.
+pub fn run_script<H: Host, I: Read + Drop>(
+    host: &mut H,
+    alloc: Global,
+    input: I,
+    named: &ImageForm,
+    form: RunForm,
+    forms: Option<&'static str>,
+) -> Result<(), Ending>
+    ensures { RunsScript named.now form (is_some forms.entry) (I.remaining input) (H.history host.old) result (H.history host.new) }
+{
+    let image = open_image(host, alloc, named, form.saving)?;
+    run_over(host, alloc, input, image, form, forms)
+}
+
+/// Opens the image in a file, which is held unless the image is never to be saved. A run over it may come later.
+pub fn open_image<H: Host>(
+    host: &mut H,
+    alloc: Global,
+    named: &ImageForm,
+    saving: Saving,
+) -> Result<Image, Ending>
+    ensures { OpensFor saving named.now (H.history host.old) result (H.history host.new) }
+{
+    match saving {
+        Saving::Never => read_image(host, alloc, named),
+        Saving::AtEnd | Saving::Always => Image::open(host, alloc, named),
+    }
+}
+
+/// The image in a file that is only read.
+fn read_image<H: Host>(host: &mut H, alloc: Global, named: &ImageForm) -> Result<Image, Ending>
+    ensures { OnlyReads named.now (H.history host.old) result (H.history host.new) }
+{
+    let file = look_file(host, alloc, named.file.as_str())?;
+    let bytes = volume_in(alloc, file, named.layout)?;
+    let place = ImagePlace {
+        path: String::new(alloc),
+        is_held: false,
+    };
+    Ok(Image {
+        place,
+        bytes,
+        disk: None,
+    })
+}
+
+/// Runs the script of a reader over the volume of an image that was opened for it, as `run_script` does.
+pub fn run_over<H: Host, I: Read + Drop>(
+    host: &mut H,
+    alloc: Global,
+    input: I,
+    image: Image,
+    form: RunForm,
+    forms: Option<&'static str>,
+) -> Result<(), Ending>
+    ensures { RunsOver form (is_some forms.entry) image (I.remaining input) (H.history host.old) result (H.history host.new) }
+{
+    let rooms = Rooms::new(alloc, &image.bytes)?;
+    let session = session_over(host, alloc, &image.bytes)?;
+    run_session::<H, I, Brand>(host, alloc, input, image, rooms, session, form, forms)
+}
+
+/// Room for what a run takes memory for.
+#[derive(Drop)]
+struct Rooms {
+    spare: Vec<u8>,
+    lines: Vec<u8>,
+    ghost empty: { lines.items ≡ [] },
+}
+
+impl Rooms {
+    /// Room for lines, and for another image as large as this one.
+    fn new(alloc: Global, image: &[u8]) -> Result<Rooms, Ending>
+        ensures { IsRoom result }
+    {
+        let spare = image.to_vec(alloc)?;
+        let lines = Vec::with_capacity(alloc, ROOM)?;
+        Ok(Rooms { spare, lines })
+    }
+}
+
+/// A session over the volume of an image. Where it is refused, what may help is printed.
+fn session_over<H: Host>(
+    host: &mut H,
+    alloc: Global,
+    image: &[u8],
+) -> Result<Session<MemoryVolume>, Ending>
+    ensures { Answers (MountsSession image.now) (length image.now) (H.history host.old) result (H.history host.new) }
+{
+    match mounted_session(alloc, image) {
+        Ok(session) => Ok(session),
+        Err(fault) => Err(refuse_image(host, image.len(), fault)),
+    }
+}
+
+fn mounted_session(alloc: Global, image: &[u8]) -> Result<Session<MemoryVolume>, ArchiveFault>
+    ensures { MountsSession image.now result }
+{
+    let volume = volume_of(alloc, image)?;
+    match Session::mount(alloc, volume) {
+        Ok(session) => Ok(session),
+        Err((_, DirFault::Memory)) => Err(ArchiveFault::Refused(SessionFault::Memory)),
+        Err((_, fault)) => Err(ArchiveFault::Directory(fault)),
+    }
+}
+
+/// Runs a script over a session, and ends with the image in the file, where it is to be there.
+fn run_session<H: Host, I: Read + Drop, B: Start>(
+    host: &mut H,
+    alloc: Global,
+    input: I,
+    image: Image,
+    rooms: Rooms,
+    session: Session<MemoryVolume>,
+    form: RunForm,
+    forms: Option<&'static str>,
+) -> Result<(), Ending>
+    requires input { I.remaining input ≡ B.bytes }
+    requires running { session.volume.stopped ≡ false }
+    ensures { RunsSession form (is_some forms.entry) image session (I.remaining input) (H.history host.old) result (H.history host.new) }
+{
+    let mut session = session;
+    let mut input: CountedInput<I, B> = CountedInput::new(input);
+    let Rooms { spare, lines } = rooms;
+    let progress = Progress::new(image, form.saving, forms.is_some(), lines);
+    let mut run = Run::new(host, alloc, progress, spare, forms);
+    let answer = session.run_watched(alloc, &mut input, &mut run);
+    let store = session.into_store();
+    let Run {
+        host,
+        alloc: _,
+        progress,
+        spare,
+        forms: _,
+        hint: _,
+        is_refusal: _,
+        is_bad_line: _,
+    } = run;
+    let mut progress = progress;
+    let mut spare = spare;
+    tell_of_limit(host, alloc, &mut progress, input.is_too_long());
+    save_last(host, alloc, &mut progress, &mut spare, &store);
+    print_last(host, &mut progress);
+    end_script(progress, form.is_strict, answer)
+}
+
+/// Prints a note where standard input has more bytes than are read.
+fn tell_of_limit<H: Host>(host: &mut H, alloc: Global, progress: &mut Progress, is_too_long: bool)
+    requires { progress.old.is_cut ≡ false }
+    ensures done { (start : ImageState) (old : List Event)
+        → HasDone start old progress.old (H.history host.old) → HasDone start old progress.new (H.history host.new) }
+    ensures output { output_text (H.history host.new) ≡ output_text (H.history host.old) }
+    ensures progress { progress.new ≡ record progress.old { is_cut = progress.new.is_cut } }
+    ensures cut { progress.new.is_cut ≡ true → is_too_long ≡ true }
+{
+    if is_too_long {
+        progress.is_cut = has_told_limit(host, alloc);
+    }
+}
+
+/// Prints a note that standard input has more bytes than are read, unless memory is wanted for it, and answers whether it did.
+fn has_told_limit<H: Host>(host: &mut H, alloc: Global) -> bool
+    ensures { TellsCut result (H.history host.old) (H.history host.new) }
+{
+    let note = Note::OnName(NameNote::TooLong, "standard input");
+    match tell_note(host, alloc, note) {
+        Ok(()) => true,
+        Err(_) => false,
+    }
+}
+
+/// Prints the lines that wait where a save ended the run. Standard output that took no more is not tried again.
+fn print_last<H: Host>(host: &mut H, progress: &mut Progress)
+    ensures done { (start : ImageState) (old : List Event)
+        → HasDone start old progress.old (H.history host.old) → HasDone start old progress.new (H.history host.new) }
+    ensures image { progress.new.image ≡ progress.old.image }
+    ensures saving { progress.new.saving ≡ progress.old.saving }
+    ensures typed { progress.new.is_typed ≡ progress.old.is_typed }
+    ensures save_ending { progress.new.save_ending ≡ progress.old.save_ending }
+    ensures refused { progress.new.is_refused ≡ progress.old.is_refused }
+    ensures cut { progress.new.is_cut ≡ progress.old.is_cut }
+    ensures text { output_text (H.history host.new) ++ progress.new.lines.items
+        ≡ output_text (H.history host.old) ++ progress.old.lines.items }
+    ensures waiting { progress.new.fault ≡ None → progress.new.lines.items ≡ [] }
+    ensures fault { progress.new.fault ≡ None → progress.old.fault ≡ None }
+{
+    if progress.fault.is_none() {
+        let _ = print_waiting(host, progress);
+    }
+}
+
+/// How a run ends that came so far, by what its session answered.
+fn end_script(
+    progress: Progress,
+    is_strict: bool,
+    answer: Result<(), SessionFault>,
+) -> Result<(), Ending>
+    ensures { EndsRun is_strict progress.is_refused progress.save_ending progress.fault answer result }
+{
+    let Progress {
+        image: _,
+        saving: _,
+        is_typed: _,
+        lines: _,
+        is_place_told: _,
+        is_sync_told: _,
+        is_cut: _,
+        is_refused,
+        save_ending,
+        fault,
+    } = progress;
+    if let Some(ending) = save_ending {
+        return Err(ending);
+    }
+    match answer {
+        Ok(()) => {
+            if is_strict && is_refused {
+                return Err(Ending::Failure);
+            }
+            Ok(())
+        }
+        Err(SessionFault::Writer) => Err(ending_of_output(fault)),
+        Err(_) => Err(Ending::Failure),
+    }
+}
+
+/// How a run ends whose output failed, by why its last print that failed did (this project's profile).
+fn ending_of_output(fault: Option<PrintFault>) -> Ending
+    ensures { result ≡ spec.ending_of_output fault }
+{
+    match fault {
+        Some(PrintFault::Abandoned) => Ending::NoReader,
+        _ => Ending::FullOutput,
+    }
+}
