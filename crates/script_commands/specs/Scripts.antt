@@ -1,5 +1,5 @@
 -- The command that runs a script over the volume of an image file.
-use Rattle.std.specs.Prelude.{◌≡◌, ◌≢◌, ◌⊎◌, ◌&&◌, ◌<◌, ℕ, List, [], ◌++◌, length, Bool, true, false, if◌then◌else◌, Option, None, Some, Result, Ok, Err}
+use Rattle.std.specs.Prelude.{◌≡◌, ◌≢◌, ◌⊎◌, ◌&&◌, ◌<◌, ℕ, List, [], ◌++◌, length, Bool, true, false, if◌then◌else◌, Option, None, Some, unwrap_or, Result, Ok, Err}
 use Rattle.std.specs.Global.{Vec}
 use Rattle.word12.specs.declared.sizes.TheConstants.{CORE}
 use Rattle.core_load.specs.Core.{zeros}
@@ -12,14 +12,14 @@ use Rattle.archive_files.specs.Opening.{IsUnopened}
 use Rattle.archive_files.specs.declared.faults.ArchiveFault.{ArchiveFault}
 use Rattle.hosts.specs.Event.{Event}
 use Rattle.hosts.specs.declared.faults.PrintFault.{PrintFault}
-use Rattle.hosts.specs.declared.faults.PrintFault.TheVariants.{Abandoned, Failed}
+use Rattle.hosts.specs.declared.faults.PrintFault.TheVariants.{Failed}
 use Rattle.hosts.specs.Streams.{output_text}
 use Rattle.program_tasks.specs.declared.forms.ImageForm.{ImageForm}
 use Rattle.program_tasks.specs.declared.tasks.RunForm.{RunForm}
 use Rattle.program_tasks.specs.declared.tasks.Saving.{Saving}
 use Rattle.program_tasks.specs.declared.tasks.Saving.TheVariants.{Never, AtEnd, Always}
 use Rattle.outcome.specs.declared.endings.Ending.{Ending}
-use Rattle.outcome.specs.declared.endings.Ending.TheVariants.{Fault, Failure, FullOutput, NoReader}
+use Rattle.outcome.specs.declared.endings.Ending.TheVariants.{Fault, Failure}
 use Rattle.script8.specs.Reading.{TakesBytes}
 use Rattle.script8.specs.declared.readings.TheConstants.{MOST}
 use Rattle.script8.specs.declared.faults.SessionFault.{SessionFault}
@@ -27,6 +27,7 @@ use Rattle.script8.specs.declared.faults.SessionFault.TheVariants.{Memory, Write
 use Rattle.system_session.specs.Script.{RunsText}
 use Rattle.system_session.specs.Session.{SessionView, state_of}
 use Rattle.volume_commands.specs.Answers.{Answers}
+use Rattle.volume_commands.specs.Faults.{ending_of_print}
 use Rattle.volume_commands.specs.Reading.{FindsVolume, Looks, Opens}
 use Rattle.volume_commands.specs.Saving.{IsDone}
 use Rattle.volume_commands.specs.Work.{Then, Purely}
@@ -76,17 +77,11 @@ MountsSession image (Err fault) = IsUnopened image fault
 
 -- ## The end
 
--- how a run ends whose output failed so: nobody reads the pipe that it is, or it takes no more
-abbrev pub ending_of_output : Option PrintFault → Ending
-ending_of_output (Some Abandoned) = NoReader
-ending_of_output (Some Failed) = FullOutput
-ending_of_output None = FullOutput
-
 -- how a run ends: its image could not be saved; or a reply was refused, where that is a fault; or its script broke off
 abbrev pub ending_of : Bool → Option Ending → Option PrintFault → Result (Unit {0}) SessionFault → Option Ending
 ending_of is_fault (Some ending) fault answer = Some ending
 ending_of is_fault None fault (Ok it) = if is_fault then Some Failure else None
-ending_of is_fault None fault (Err Writer) = Some (ending_of_output fault)
+ending_of is_fault None fault (Err Writer) = Some (ending_of_print (unwrap_or fault Failed))
 ending_of is_fault None fault (Err why) = Some Failure
 
 abbrev pub IsEndedBy : Option Ending → Result (Unit {0}) Ending → Type 0

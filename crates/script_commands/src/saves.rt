@@ -1,17 +1,11 @@
 //! How the image file gets the images of a run, each note on it once.
-ghost use Rattle.std.specs.Prelude.{◌≡◌, ◌∷◌, ◌<◌, ◌≤◌, ℕ, List, None, true, false, OnErr, OnOk};
+ghost use Rattle.std.specs.Prelude.{◌≡◌, ◌<◌, ◌≤◌, ℕ, List, None, true, false, OnErr, OnOk};
 ghost use Rattle.std.specs.Str.{bytes_eq};
-ghost use Rattle.hosts.specs.Event.{Event, tell_call};
+ghost use Rattle.hosts.specs.Event.{Event};
 ghost use Rattle.hosts.specs.Place.{about};
 ghost use Rattle.hosts.specs.Saving.{SavesFile, AnyMomentOf};
 ghost use Rattle.hosts.specs.Streams.{output, errors, read, failures, may_replace};
 ghost use Rattle.program_tasks.specs.declared.tasks.Saving.TheVariants as saving;
-ghost use Rattle.outcome.specs.Contents.{content_name};
-ghost use Rattle.outcome.specs.Notes.{file_text};
-ghost use Rattle.outcome.specs.declared.contents.Content.TheVariants as content;
-ghost use Rattle.outcome.specs.declared.notes.FileNote.TheVariants.{InPlace};
-ghost use Rattle.volume_commands.specs.Faults.{ending_of_write};
-ghost use Rattle.volume_commands.specs.Saving.{IsPlaceTold};
 ghost use Rattle.volume_commands.specs.declared.images.Image.{Image as ImageState};
 ghost use Rattle.volume_image.specs.Image.{IsImageOf};
 ghost use Rattle.hosts.specs.declared.faults.Durability.TheVariants.{Unknown};
@@ -25,12 +19,8 @@ use program_tasks::Saving;
 use script8::SessionFault;
 use std::alloc::Global;
 use std::mem;
-use volume_commands::Image;
+use volume_commands::{DIRECTORY, Image, ending_of_write, tell_of_place};
 use volume_image::MemoryVolume;
-use word12::{BLOCK, FIRST_FILE_BLOCK};
-
-/// How many bytes of an image stand before the blocks of files.
-const DIRECTORY: usize = FIRST_FILE_BLOCK * BLOCK * 2;
 
 /// Has the file hold the image of a store, if it is to be saved, and answers whether it does. Where a save failed, none is tried again.
 pub(crate) fn keep<H: Host>(
@@ -113,14 +103,14 @@ fn write_image<H: Host>(
     ensures { WritesImage is_told image.old bytes.now result image.new (H.history host.old) (H.history host.new) }
 {
     if !image.place.is_held {
-        return Err(ending_of_save(Unwritten::AsItWas));
+        return Err(ending_of_write(Content::Image, Unwritten::AsItWas));
     }
     let path = image.place.path.as_str();
     match &mut image.disk {
         None => write_bytes(host, alloc, path, bytes, is_told),
         Some(disk) => {
             if !disk.lay(bytes) {
-                return Err(ending_of_save(Unwritten::AsItWas));
+                return Err(ending_of_write(Content::Image, Unwritten::AsItWas));
             }
             write_bytes(host, alloc, path, disk.bytes(), is_told)
         }
@@ -139,7 +129,7 @@ fn write_bytes<H: Host>(
 {
     match save_noted(host, alloc, path, bytes, is_told) {
         Ok(durability) => Ok(durability),
-        Err(left) => Err(ending_of_save(left)),
+        Err(left) => Err(ending_of_write(Content::Image, left)),
     }
 }
 
@@ -174,29 +164,8 @@ fn note_place<H: Host>(host: &mut H, path: &str, is_told: bool)
     ensures read { read (H.history host.new) ≡ read (H.history host.old) }
 {
     if !is_told {
-        tell_of_place(host, path);
+        tell_of_place(host, Content::Image, path);
     }
-}
-
-/// Prints a note where the file of a path is written in its place.
-fn tell_of_place<H: Host>(host: &mut H, path: &str)
-    ensures failures { failures (H.history host.old) ≤ failures (H.history host.new) }
-    ensures files { (path : List ℕ) → about path (H.history host.new) ≡ about path (H.history host.old) }
-    ensures errors { IsPlaceTold content.Image (errors (H.history host.old)) (errors (H.history host.new)) }
-    ensures output { output (H.history host.new) ≡ output (H.history host.old) }
-    ensures read { read (H.history host.new) ≡ read (H.history host.old) }
-{
-    match host.is_alone(path) {
-        Ok(true) => {}
-        Ok(false) => tell_in_place(host),
-        Err(_) => tell_in_place(host),
-    }
-}
-
-fn tell_in_place<H: Host>(host: &mut H)
-    ensures { (ok : _) × (H.history host.new ≡ tell_call ok (file_text InPlace (content_name content.Image)) ∷ H.history host.old) }
-{
-    let _ = host.tell(FileNote::InPlace.text(Content::Image));
 }
 
 /// Prints a note, unless that was done, where it isn't known whether a crash keeps the file, and answers whether it was done by then.
@@ -218,16 +187,6 @@ fn tell_of_sync<H: Host>(host: &mut H, is_told: bool)
 {
     if !is_told {
         let _ = host.tell(FileNote::NoSync.text(Content::Image));
-    }
-}
-
-/// How a run ends whose image is not written, and what its file holds (this project's profile).
-fn ending_of_save(left: Unwritten) -> Ending
-    ensures { result ≡ ending_of_write content.Image left }
-{
-    match left {
-        Unwritten::AsItWas => Ending::NotWritten(Content::Image, host_images::Unwritten::AsItWas),
-        Unwritten::InPart => Ending::NotWritten(Content::Image, host_images::Unwritten::InPart),
     }
 }
 

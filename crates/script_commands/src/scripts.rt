@@ -5,7 +5,6 @@ ghost use Rattle.hosts.specs.Streams.{output_text};
 ghost use Rattle.volume_commands.specs.Answers.{Answers};
 ghost use Rattle.volume_commands.specs.declared.images.Image.{Image as ImageState};
 ghost use Rattle.script_commands.specs.RunSteps.{HasDone, TellsCut};
-ghost use Rattle.script_commands.specs.Scripts as spec;
 ghost use Rattle.script_commands.specs.Scripts.{IsRoom, MountsSession, OpensFor, OnlyReads, RunsOver, RunsScript, RunsSession, EndsRun};
 
 use crate::inputs::{CountedInput, Start};
@@ -24,7 +23,9 @@ use std::alloc::Global;
 use std::io::Read;
 use std::marker::Brand;
 use system_session::Session;
-use volume_commands::{Image, ImagePlace, look_file, refuse_image, tell_note, volume_in};
+use volume_commands::{
+    Image, ImagePlace, ending_of_print, look_file, refuse_image, tell_note, volume_in,
+};
 use volume_image::MemoryVolume;
 
 /// Runs the script of a reader over the volume of an image file, and prints its replies. The image is written when it is to be, if it
@@ -251,17 +252,7 @@ fn end_script(
             }
             Ok(())
         }
-        Err(SessionFault::Writer) => Err(ending_of_output(fault)),
+        Err(SessionFault::Writer) => Err(ending_of_print(fault.unwrap_or(PrintFault::Failed))),
         Err(_) => Err(Ending::Failure),
-    }
-}
-
-/// How a run ends whose output failed, by why its last print that failed did (this project's profile).
-fn ending_of_output(fault: Option<PrintFault>) -> Ending
-    ensures { result ≡ spec.ending_of_output fault }
-{
-    match fault {
-        Some(PrintFault::Abandoned) => Ending::NoReader,
-        _ => Ending::FullOutput,
     }
 }

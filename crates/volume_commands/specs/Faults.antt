@@ -1,25 +1,12 @@
--- How a command ends by the faults of its host (this project's profile). No contract of a public function cites these.
-use Rattle.hosts.specs.declared.faults.HostFault.{HostFault}
-use Rattle.hosts.specs.declared.faults.HostFault.TheVariants as host
+-- How a command ends by the faults of its host (this project's profile).
 use Rattle.hosts.specs.declared.faults.PrintFault.{PrintFault}
 use Rattle.hosts.specs.declared.faults.PrintFault.TheVariants as print
 use Rattle.hosts.specs.declared.faults.Unwritten.{Unwritten}
 use Rattle.hosts.specs.declared.faults.Unwritten.TheVariants as write
 use Rattle.host_images.specs.declared.faults.Unwritten.TheVariants as left
-use Rattle.script8.specs.declared.faults.SessionFault.TheVariants.{Memory}
-use Rattle.program_reports.specs.declared.programs.ProgramLine.TheVariants.{HostRead}
 use Rattle.outcome.specs.declared.contents.Content.{Content}
-use Rattle.outcome.specs.declared.contents.Content.TheVariants.{Image}
 use Rattle.outcome.specs.declared.endings.Ending.{Ending}
 use Rattle.outcome.specs.declared.endings.Ending.TheVariants as ending
-
--- an image can't be held, or can't be read
-abbrev pub ending_of_image : HostFault → Ending
-ending_of_image host.Busy = ending.Busy Image
-ending_of_image host.Memory = ending.Fault Memory
-ending_of_image host.Absent = ending.Line HostRead
-ending_of_image host.Unwritable = ending.Line HostRead
-ending_of_image host.Failed = ending.Line HostRead
 
 -- nobody reads the pipe that standard output is, or it takes no more
 abbrev pub ending_of_print : PrintFault → Ending

@@ -2,6 +2,7 @@
 ghost use Rattle.std.specs.Prelude.{◌≡◌};
 ghost use Rattle.volume_commands.specs.Faults as spec;
 ghost use Rattle.volume_commands.specs.Making.{ending_of_file, ending_of_first};
+ghost use Rattle.volume_commands.specs.ReadingSteps.{ending_of_image};
 
 use hosts::{HostFault, PrintFault, Unwritten};
 use outcome::{Content, Ending};
@@ -10,7 +11,7 @@ use script8::SessionFault;
 
 /// How a command ends if its image can't be held, or can't be read (this project's profile).
 pub fn ending_of_image(fault: HostFault) -> Ending
-    ensures { result ≡ spec.ending_of_image fault }
+    ensures { result ≡ ending_of_image fault }
 {
     match fault {
         HostFault::Busy => Ending::Busy(Content::Image),

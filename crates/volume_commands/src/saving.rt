@@ -14,7 +14,7 @@ use std::alloc::Global;
 use word12::{BLOCK, FIRST_FILE_BLOCK};
 
 /// How many bytes of an image stand before the blocks of files.
-const DIRECTORY: usize = FIRST_FILE_BLOCK * BLOCK * 2;
+pub const DIRECTORY: usize = FIRST_FILE_BLOCK * BLOCK * 2;
 
 /// Has the held file of a path, which is for this, hold these bytes: whole or not at all, or in its place, which a note says before. A note after that says
 /// where it isn't known whether a crash keeps them. No memory is taken.
@@ -60,8 +60,8 @@ fn save_noted<H: Host>(
     save_file(host, alloc, path, DIRECTORY, bytes)
 }
 
-/// Prints a note where a file for this is written in its place.
-fn tell_of_place<H: Host>(host: &mut H, content: Content, path: &str)
+/// Prints a note where the held file of a path, which is for this, is written in its place. No file changes.
+pub fn tell_of_place<H: Host>(host: &mut H, content: Content, path: &str)
     ensures failures { failures (H.history host.old) ≤ failures (H.history host.new) }
     ensures files { (path : List ℕ) → about path (H.history host.new) ≡ about path (H.history host.old) }
     ensures errors { IsPlaceTold content (errors (H.history host.old)) (errors (H.history host.new)) }
