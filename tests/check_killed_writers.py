@@ -29,6 +29,16 @@ BUSY = b"? HOST BUSY\n"
 WRITERS = 3
 # The files that stay on the volume after each round.
 NEWEST = 40
+# From where on the programs that are killed live as long again as on an idle machine.
+SLOWEST = 30.0
+
+
+def kill_after(run: subprocess.Popen[bytes], delay: float | None) -> None:
+    """Has a program killed after so many seconds, if it is to be. Nothing waits for that."""
+    if delay is not None:
+        timer = threading.Timer(delay, run.kill)
+        timer.daemon = True
+        timer.start()
 
 
 class Image:
@@ -48,8 +58,7 @@ class Image:
         while True:
             words = [PROGRAM, "put", self.name, "-", "--as", name, "--text"]
             run = subprocess.Popen(words, stdin=subprocess.PIPE, stdout=subprocess.PIPE, stderr=subprocess.DEVNULL)
-            if delay is not None:
-                threading.Timer(delay, run.kill).start()
+            kill_after(run, delay)
             try:
                 told, _ = run.communicate(text)
             except BrokenPipeError:
@@ -83,8 +92,7 @@ class Image:
         words, told, line = [PROGRAM, "run", "--keep", self.name], list[str](), b""
         run = subprocess.Popen(words, bufsize=0, stdin=subprocess.PIPE, stdout=subprocess.PIPE, stderr=subprocess.DEVNULL)
         assert run.stdin and run.stdout
-        if delay is not None:
-            threading.Timer(delay, run.kill).start()
+        kill_after(run, delay)
         try:
             for name, text in texts.items():
                 run.stdin.write(b"STORE %s %d\n" % (name.encode(), text.count(b"\n")) + text)
@@ -168,7 +176,8 @@ def main() -> int:
             for lane in lanes:
                 lane.join()
             first += count
-            image.slowness *= 1 if image.kept else 1.2
+            if not image.kept:
+                image.slowness = 1.0 if image.slowness > SLOWEST else image.slowness * 1.2
             image.thin()
         faults = list(image.judged())
     for fault in faults:
