@@ -64,7 +64,7 @@ PLACES: dict[str, dict[str, tuple[int, str]]] = {
     "disk_layouts/src/copies.rt": {
         "tape_volume": (1, "the image of a DECtape's volume, which is asked for once"),
     },
-    "program_reports/src/given.rt": {
+    "tape_reports/src/given.rt": {
         "flags_of": (1, "a flag for each cell of core, which is asked for once"),
     },
     "volume_salvage/src/salvages.rt": {

@@ -8,9 +8,11 @@ mod host;
 pub use command_table::{TaskFault, plain_words, task};
 pub use host::program;
 pub use program_reports::{
-    ProgramLine, RimTextFault, SourceFault, core_tape, first_cell, given_cells, put_program,
-    put_source, put_tape_text, rim_text, source_text, tape_text, with_line_feeds, with_prefix,
+    ProgramLine, RimTextFault, SourceFault, core_tape, put_program, with_line_feeds, with_prefix,
 };
 pub use program_tasks::Task;
 pub use script8::SessionFault;
 pub use system_session::{Ran, Session, laws};
+pub use tape_reports::{
+    first_cell, given_cells, put_source, put_tape_text, rim_text, source_text, tape_text,
+};

@@ -7,10 +7,10 @@ use Rattle.script8.specs.declared.faults.SessionFault.TheVariants.{Memory, Reade
 use Rattle.archive_files.specs.declared.faults.ArchiveFault.{ArchiveFault}
 use Rattle.archive_files.specs.declared.faults.ArchiveFault.TheVariants as archive
 use Rattle.program_reports.specs.declared.programs.ProgramLine.TheVariants as line
-use Rattle.program_reports.specs.declared.sources.SourceFault.{SourceFault}
-use Rattle.program_reports.specs.declared.sources.SourceFault.TheVariants as source
-use Rattle.program_reports.specs.declared.rims.RimTextFault.{RimTextFault}
-use Rattle.program_reports.specs.declared.rims.RimTextFault.TheVariants as rim
+use Rattle.program_reports.specs.declared.faults.SourceFault.{SourceFault}
+use Rattle.program_reports.specs.declared.faults.SourceFault.TheVariants as source
+use Rattle.program_reports.specs.declared.faults.RimTextFault.{RimTextFault}
+use Rattle.program_reports.specs.declared.faults.RimTextFault.TheVariants as rim
 use Rattle.outcome.specs.declared.endings.Ending.{Ending}
 use Rattle.outcome.specs.declared.endings.Ending.TheVariants.{Line, Fault}
 

@@ -7,7 +7,7 @@ use Rattle.rim_tape.specs.Fault.{IsFault}
 use Rattle.rim_tape.specs.declared.faults.RimFault.{RimFault}
 use Rattle.archive_files.specs.Asking.{target_of}
 use Rattle.archive_files.specs.Getting.{Gets}
-use Rattle.program_reports.specs.Rims.{IsRimWritten}
+use Rattle.tape_reports.specs.Rims.{IsRimWritten}
 use Rattle.program_reports.specs.declared.programs.ProgramLine.TheVariants as line
 use Rattle.program_tasks.specs.declared.forms.ImageForm.{ImageForm}
 use Rattle.program_tasks.specs.declared.forms.TapeForm.{TapeForm}

@@ -5,8 +5,8 @@ use Rattle.hosts.specs.Event.{Event}
 use Rattle.tape_source.specs.declared.faults.ListFault.{ListFault}
 use Rattle.pal8_source.specs.Sources.{IsPal8Fault, IsPal8Source}
 use Rattle.pal8_source.specs.declared.faults.Pal8Fault.{Pal8Fault}
-use Rattle.program_reports.specs.Written.{IsSourceText, IsTextFault, fault_of_list, fault_of_pal8}
-use Rattle.program_reports.specs.declared.sources.SourceFault.{SourceFault}
+use Rattle.tape_reports.specs.Written.{IsSourceText, IsTextFault, fault_of_list, fault_of_pal8}
+use Rattle.program_reports.specs.declared.faults.SourceFault.{SourceFault}
 use Rattle.program_tasks.specs.declared.tasks.SourceForm.{SourceForm}
 use Rattle.outcome.specs.Endings.{ending_of_source}
 use Rattle.outcome.specs.declared.endings.Ending.{Ending}

@@ -7,9 +7,10 @@ use crate::programs::{Program, given_program};
 use hosts::Host;
 use outcome::Ending;
 use pal8_source::pal8_source;
-use program_reports::{SourceFault, source_lines};
+use program_reports::SourceFault;
 use program_tasks::SourceForm;
 use std::alloc::Global;
+use tape_reports::{list_fault, pal8_fault, source_lines};
 use volume_commands::{look_file, print};
 use word12::Cell;
 
@@ -93,9 +94,13 @@ fn text_of(
     ensures { IsTextOf is_pal8 frames.now starts.now (option_map (λ names. names.items) names.now) result }
 {
     if is_pal8 {
-        let text = pal8_source(alloc, frames, starts, names)?;
-        return Ok(text);
+        return match pal8_source(alloc, frames, starts, names) {
+            Ok(text) => Ok(text),
+            Err(fault) => Err(pal8_fault(fault)),
+        };
     }
-    let text = source_lines(alloc, frames, starts, names)?;
-    Ok(text)
+    match source_lines(alloc, frames, starts, names) {
+        Ok(text) => Ok(text),
+        Err(fault) => Err(list_fault(fault)),
+    }
 }

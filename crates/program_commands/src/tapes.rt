@@ -5,9 +5,9 @@ use crate::kinds::refuse_frames;
 use crate::programs::given_program;
 use hosts::Host;
 use outcome::Ending;
-use program_reports::tape_lines;
 use program_tasks::TapeForm;
 use std::alloc::Global;
+use tape_reports::tape_lines;
 use volume_commands::print;
 
 /// Lists a tape; where none is named that of standard input. No file changes.

@@ -1,4 +1,2 @@
-pub mod StartLemmas
-pub mod LineLemmas
-mod LineEndLemmas
 mod PrefixLemmas
+mod LineEndLemmas

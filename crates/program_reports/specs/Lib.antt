@@ -1,10 +1,4 @@
-pub mod Listing
-pub mod Lists
 pub mod Program
-pub mod Starts
-pub mod Given
-pub mod LineEnds
-pub mod Written
-pub mod Rims
 pub mod Cores
 pub mod Prefixes
+pub mod LineEnds

@@ -14,7 +14,7 @@ use Rattle.terminal8.specs.declared.outcomes.TerminalFault.TheVariants.{Reader, 
 use Rattle.trace8.specs.declared.faults.TraceFault.{TraceFault}
 use Rattle.trace8.specs.declared.faults.TraceFault.TheVariants as trace
 use Rattle.program_reports.specs.Program.{program_line}
-use Rattle.program_reports.specs.Starts.{first_cell, start_cell}
+use Rattle.tape_reports.specs.Starts.{first_cell, start_cell}
 use Rattle.program_reports.specs.declared.programs.ProgramLine.{ProgramLine}
 use Rattle.program_reports.specs.declared.programs.ProgramLine.TheVariants.{Start, Steps}
 use Rattle.program_tasks.specs.declared.forms.TapeForm.{TapeForm}

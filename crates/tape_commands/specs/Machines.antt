@@ -9,7 +9,7 @@ use Rattle.core_load.specs.Load.{IsLoaded, LoadsTape}
 use Rattle.cpu8.specs.State.{State, new_machine, switches_set, after_start}
 use Rattle.hosts.specs.Event.{Event}
 use Rattle.script8.specs.declared.faults.SessionFault.TheVariants.{Memory}
-use Rattle.program_reports.specs.Starts.{first_cell, start_cell}
+use Rattle.tape_reports.specs.Starts.{first_cell, start_cell}
 use Rattle.program_reports.specs.declared.programs.ProgramLine.TheVariants.{NothingToRun, Start}
 use Rattle.outcome.specs.Endings.{ending_of_tape}
 use Rattle.outcome.specs.Hints.{start_note}

@@ -8,7 +8,7 @@ use Rattle.terminal8.specs.Terminal.{Terminal}
 use Rattle.terminal8.specs.declared.keyboards.Form.TheVariants.{Text}
 use Rattle.hosts.specs.Event.{Event}
 use Rattle.script8.specs.declared.faults.SessionFault.TheVariants.{Memory}
-use Rattle.program_reports.specs.Given.{AreGiven}
+use Rattle.tape_reports.specs.Given.{AreGiven}
 use Rattle.program_tasks.specs.declared.tasks.TraceForm.{TraceForm}
 use Rattle.outcome.specs.declared.endings.Ending.{Ending}
 use Rattle.outcome.specs.declared.endings.Ending.TheVariants.{Fault}

@@ -10,8 +10,9 @@ use cpu8::Machine;
 use hosts::Host;
 use outcome::{Ending, PlainNote, start_note};
 use program_commands::refuse_frames;
-use program_reports::{ProgramLine, first_cell, start_cell};
+use program_reports::ProgramLine;
 use std::alloc::Global;
+use tape_reports::{first_cell, start_cell};
 use word12::{Cell, Word};
 
 /// A machine that stands where the program of a tape is to begin: where that isn't given, at 00200 or else at the tape's first word, which is

@@ -11,9 +11,9 @@ use cpu8::Machine;
 use hosts::Host;
 use outcome::Ending;
 use program_commands::program_of;
-use program_reports::given_cells;
 use program_tasks::TraceForm;
 use std::alloc::Global;
+use tape_reports::given_cells;
 use terminal8::{Form, keys_of};
 use word12::Cell;
 

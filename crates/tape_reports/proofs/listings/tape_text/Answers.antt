@@ -1,0 +1,11 @@
+use Rattle.std.proofs.Common.{length, refl, arith}
+use Rattle.tape_reports.proofs.listings.tape_text.Goals as goal
+
+pub returns-clause-taken : goal.returns-clause-taken
+returns-clause-taken g c =
+    let within = c.in_ok-frames.ensures.within in (
+      length c.in_ok-frames.frames.items,
+      record { bytes = c.in_ok-frames.frames.items; taken = c.in_ok-frames.ensures.read.taken; count_is = refl },
+      omega (arith, within),
+      λ e. absurd (omega (arith, e, within)),
+    )
