@@ -5,7 +5,7 @@ use Rattle.std.specs.Prelude.{ℕ, ◌+◌, ◌*◌, ◌-◌, ◌%◌, ◌^◌, 
 abbrev pub digit_value : ℕ → ℕ
 digit_value digit = if nat_lt digit 0o72 then digit % 16 else (digit % 16 + 9) % 16
 
--- a number of so many digits with one more digit
+-- a number of at most 32 hexadecimal digits with one more; of 33 digits the first is left out
 abbrev pub with_digit : ℕ → ℕ → ℕ
 with_digit number digit = (number * 16 % 16 ^ 32 + digit_value digit) % 16 ^ 32
 

@@ -8,5 +8,5 @@ returns c = record {
   are_lines = c.in_ok-lines.ensures;
   by_digest = c.sort.new.lines.items;
   order = c.in_ok-sort.ensures;
-  same_is = c.in_ok-put_same.ensures ∙ near_is_shared c.in_ok-lines.lines.items c.sort.new.lines.items c.in_ok-sort.ensures;
+  same_is = (rw (c.new-same.ensures.items, c.deref.ensures.value) at c.in_ok-put_same.ensures) ∙ near_is_shared c.in_ok-lines.lines.items c.sort.new.lines.items c.in_ok-sort.ensures;
 }
