@@ -1,6 +1,5 @@
 -- The command that prints texts changes no file of the host.
-use Rattle.std.proofs.Common.{◌≡◌, ◌&&◌, ◌++◌, not, ℕ, Bool, true, inl, inr, Result, Ok, Err, List, [], ◌∷◌, length}
-use Rattle.hosts.specs.Event.{Event}
+use Rattle.std.proofs.Common.{◌≡◌, ◌&&◌, ◌++◌, not, ℕ, Bool, true, inl, inr, Ok, List, [], ◌∷◌, length}
 use Rattle.archive_many.specs.Opened.{OpensVolume}
 use Rattle.archive_many.specs.declared.opened.VolumeFile.{VolumeFile}
 use Rattle.archive_many.specs.declared.wishes.Wish.{Wish}
@@ -13,7 +12,7 @@ use Rattle.volume_commands.specs.Saving.{Prints}
 use Rattle.volume_commands.specs.Work.{Then, Purely}
 use Rattle.choice_commands.specs.Listing.{EndsWhere}
 use Rattle.choice_commands.specs.Texts.{AreAsked, AreSeveral, IsHostName, RefusesWish, ShowsEach, ShowsText, ShowsTexts, ShowsWish, TakesText, TellsNone, head_of, refusal_line}
-use Rattle.choice_commands.proofs.LawLemmas.{LooksKeep, PrintsKeep, RefusesKeep, Same, answers-keep, purely-keeps, same, then-keeps, told}
+use Rattle.choice_commands.proofs.LawLemmas.{LooksKeep, PrintsKeep, RefusesKeep, answers-keep, purely-keeps, same, then-keeps, told}
 
 shows-text : PrintsKeep → (several first : Bool) (blocks : List (List ℕ)) (file : VolumeFile) → KeepsFiles (ShowsText several first blocks file)
 shows-text prints several first blocks file =
@@ -27,7 +26,7 @@ shows-text prints several first blocks file =
 
 tells-none : (line : List ℕ) → KeepsFiles (TellsNone line)
 tells-none line old result new (is, inl (utf8, ok, p)) = told ok _ old new p
-tells-none line old result new (is, inr (no, p)) = same old new p
+tells-none line old result new (is, inr (other, p)) = same old new p
 
 refuses-wish : (words : List (List ℕ)) (one : Wish) → KeepsFiles (RefusesWish words one)
 refuses-wish words one =
