@@ -24,7 +24,7 @@ from tests.model.compare import outside
 from tests.model.compare_indexes import random_file
 from tests.model.disks import Held, held_image, wrong_size
 from tests.model.index import parts_of, volume_of
-from tests.model.keeper import TEXTS, Asked, Keeper, extension, given_of, host_name
+from tests.model.keeper import TEXTS, Asked, Keeper, extension, given_of, has_sign, host_name
 from tests.model.survey import damaged, surveyed
 from tests.model.volume import Unsound, Volume, made_image, read_volume, words_of_image
 from tests.model.words import octal, parsed_name, shown_name
@@ -82,7 +82,7 @@ class Case:
     def command(self) -> str:
         """Does a random command. Says how the program differs from the keeper, and nothing where it doesn't."""
         kinds = [self.put, self.get, self.delete, self.rename, self.copy, self.copy_many, self.told, self.get_many, self.put_many, self.others, self.reports]
-        return self.random.choice(kinds)()
+        return self.random.choice([*kinds, self.get_texts])()
 
     def put(self) -> str:
         random, image = self.random, self.random.choice(IMAGES)
@@ -168,6 +168,20 @@ class Case:
             return f"{' '.join(words)}\n    wanted {[*lines.values(), *refused]} {status}\n    got    {done.stdout!r} {done.returncode}"
         got = {it: read(f"{folder}/{it}") for it in os.listdir(folder)}
         return "" if got == files else f"{' '.join(words)}: the folder's files differ: {sorted(got)} in place of {sorted(files)}"
+
+    def get_texts(self) -> str:
+        """Prints texts one after another: of names and patterns, of files at blocks, and of all."""
+        random, image = self.random, self.random.choice(IMAGES)
+        volume = self.keeper.volumes[image]
+        asked = [random_pattern(random, volume) for _ in range(random.choice([0, 1, 2, 3]))]
+        places = [f"--at {random.choice([*volume.places.values(), 7, 4095])}" for _ in range(random.choice([0, 0, 1, 2]))]
+        is_all = not (asked or places) or random.random() < 0.2
+        if len(asked) + len(places) == 1 and not is_all and not any(has_sign(it) for it in asked):
+            asked = asked * 2
+            places = places * 2
+        words = ["get", image, *asked, *(word for it in places for word in it.split()), *(["--all"] if is_all else []), "--text"]
+        data, status = self.keeper.texts(image, [*asked, *places], is_all)
+        return self.differs_in_bytes([*words, *self.held[image].words()], b"", data, status)
 
     def put_many(self) -> str:
         """Puts files of the host, mostly of good names, some of which are no texts."""

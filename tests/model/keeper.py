@@ -246,6 +246,19 @@ class Keeper:
             names += found_names
         return list(dict.fromkeys(names)), lines
 
+    def texts(self, image: str, words: list[str], is_all: bool) -> tuple[bytes, int]:
+        """The texts of what is chosen, each once and after its name where there are several, and the lines of what is refused between them."""
+        volume, parts = self.volumes[image], [self.chosen(image, [], True)] if is_all else []
+        parts += [self.chosen(image, [word], False) for word in words]
+        text, shown, are_several = b"", list[Name](), len({it for names, _ in parts for it in names}) > 1
+        for names, lines in parts:
+            for name in (it for it in names if it not in shown):
+                head = f"==> {host_name(volume, name)} <==\n" if are_several else ""
+                text += (b"\n" if shown else b"") + head.encode("latin-1") + given_of(volume.files[name].words, True)
+                shown.append(name)
+            text += "".join(f"{line}\n" for line in lines).encode("latin-1")
+        return text, 1 if any(lines for _, lines in parts) else 0
+
 
 def extension(name: Name) -> str:
     return shown_word(name[3])

@@ -44,29 +44,29 @@ OpensKeep = (form : ImageForm) → KeepsFiles (Opens form)
 abbrev pub PrintsKeep : Type 0
 PrintsKeep = (bytes : List ℕ) → KeepsFiles (Prints bytes)
 
-abbrev Same : List Event → List Event → Type 0
+abbrev pub Same : List Event → List Event → Type 0
 Same old new = (path : List ℕ) → about path new ≡ about path old
 
 abbrev pub RefusesKeep : Type 0
 RefusesKeep = (fault : ArchiveFault) (size : ℕ) (old : List Event) (ending : Ending) (new : List Event) → Refuses fault size old ending new → (path : List ℕ) → about path new ≡ about path old
 
-same : (old new : List Event) → new ≡ old → Same old new
+pub same : (old new : List Event) → new ≡ old → Same old new
 same old new is = λ path. ap (λ (events : List Event). about path events) is
 
-told : (ok : Bool) (text : List ℕ) (old new : List Event) → new ≡ tell_call ok text ∷ old → Same old new
+pub told : (ok : Bool) (text : List ℕ) (old new : List Event) → new ≡ tell_call ok text ∷ old → Same old new
 told ok text old new is = λ path. ap (λ (events : List Event). about path events) is
 
-then-keeps : {A B : Type 0} (first : List Event → Result A Ending → List Event → Type 0) (next : A → List Event → Result B Ending → List Event → Type 0)
+pub then-keeps : {A B : Type 0} (first : List Event → Result A Ending → List Event → Type 0) (next : A → List Event → Result B Ending → List Event → Type 0)
     → KeepsFiles first → ((a : A) → KeepsFiles (next a)) → KeepsFiles (Then first next)
 then-keeps first next f n old (Ok r) new (inl ends) = absurd ends
 then-keeps first next f n old (Err e) new (inl ends) = f old (Err e) new ends
 then-keeps first next f n old (Ok r) new (inr it) = λ path. n it.given it.between (Ok r) new it.after path ∙ f old (Ok it.given) it.between it.done path
 then-keeps first next f n old (Err e) new (inr it) = λ path. n it.given it.between (Err e) new it.after path ∙ f old (Ok it.given) it.between it.done path
 
-purely-keeps : {A : Type 0} (gives : Result A Ending → Type 0) → KeepsFiles (Purely gives)
+pub purely-keeps : {A : Type 0} (gives : Result A Ending → Type 0) → KeepsFiles (Purely gives)
 purely-keeps gives old result new p = same old new p.1
 
-answers-keep : RefusesKeep → {A : Type 0} (gives : Result A ArchiveFault → Type 0) (size : ℕ) → KeepsFiles (Answers gives size)
+pub answers-keep : RefusesKeep → {A : Type 0} (gives : Result A ArchiveFault → Type 0) (size : ℕ) → KeepsFiles (Answers gives size)
 answers-keep law gives size old (Ok it) new p = same old new p.1
 answers-keep law gives size old (Err ending) new (fault, is, refuses) = law fault size old ending new refuses
 

@@ -1,5 +1,6 @@
--- A step that ends a command, by what `?` hands on.
-use Rattle.std.proofs.Common.{◌≡◌, sym, subst, Result, Ok, Err, IsErrAnd, List}
+-- A step that ends a command, by what `?` hands on; and the first items of lists.
+use Rattle.std.proofs.Common.{◌≡◌, ◌∙◌, ◌≤◌, ◌<◌, ◌-◌, refl, sym, subst, ap, arith, length, get_or, take, drop, Result, Ok, Err, IsErrAnd, List, [], ◌∷◌}
+use Rattle.std.proofs.lemmas.List.{take_all}
 use Rattle.std.specs.Result.{IsErr}
 use Rattle.hosts.specs.Event.{Event}
 use Rattle.outcome.specs.declared.endings.Ending.{Ending}
@@ -9,3 +10,13 @@ pub ends_with : {A B : Type 0} (first : List Event → Result A Ending → List 
     → first old (Err ending) new → IsErr result × IsErrAnd result (λ it. it ≡ ending) → Ends first old result new
 ends_with first old new (Ok it) ending done is = is.1
 ends_with first old new (Err it) ending done is = subst (λ e. first old (Err e) new) (sym is.1) done
+
+-- the first item and the others
+pub first-and-others : {X : Type 0} (xs : List X) (x : X) → 1 ≤ length xs → x ≡ get_or xs 0 x → xs ≡ x ∷ take (length xs - 1) (drop 1 xs)
+first-and-others [] x some is = absurd (omega (arith, some))
+first-and-others (y ∷ xs) x some is = ap (λ z. z ∷ xs) (sym is) ∙ ap (λ l. x ∷ l) (sym (take_all (length (y ∷ xs) - 1) xs (omega arith)))
+
+-- a list of no item
+pub no_item : {X : Type 0} (xs : List X) → length xs < 1 → xs ≡ []
+no_item [] few = refl
+no_item (x ∷ xs) few = absurd (omega (arith, few))

@@ -3,3 +3,4 @@ pub mod Listing
 pub mod Refusing
 pub mod RefusalSteps
 pub mod Copying
+pub mod Texts

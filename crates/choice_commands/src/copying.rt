@@ -118,7 +118,7 @@ fn find_all<H: Host>(
 }
 
 /// The files that are asked for.
-fn files_of(alloc: Global, wishes: &[Wish]) -> Result<Vec<VolumeFile>, AllocError>
+pub(crate) fn files_of(alloc: Global, wishes: &[Wish]) -> Result<Vec<VolumeFile>, AllocError>
     ensures { IfOk result (λ files. files.items ≡ found_files wishes.now) }
 {
     let mut files = Vec::new(alloc);

@@ -7,7 +7,9 @@ mod copying;
 pub mod laws;
 mod listing;
 mod refusing;
+mod texts;
 mod wishing;
 
 pub use copying::copy_files;
 pub use listing::list_some;
+pub use texts::show_texts;

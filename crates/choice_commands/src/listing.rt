@@ -46,7 +46,7 @@ fn list_wished<H: Host>(
 }
 
 /// How a command ends where all is found, or not.
-fn end_where(all_found: bool) -> Result<(), Ending>
+pub(crate) fn end_where(all_found: bool) -> Result<(), Ending>
     ensures { EndsWhere all_found result }
 {
     if all_found {
@@ -128,7 +128,7 @@ fn put_refusal(
 }
 
 /// Appends the line of the word at a place.
-fn put_word(
+pub(crate) fn put_word(
     alloc: Global,
     words: &[String],
     place: usize,
@@ -144,7 +144,12 @@ fn put_word(
 }
 
 /// Appends the line of a word, and why it is refused.
-fn put_line(alloc: Global, word: &str, why: FileFault, out: &mut Vec<u8>) -> Result<(), AllocError>
+pub(crate) fn put_line(
+    alloc: Global,
+    word: &str,
+    why: FileFault,
+    out: &mut Vec<u8>,
+) -> Result<(), AllocError>
     ensures { OnOk result (out.new.items ≡ out.old.items ++ refusal_of (Some word.now) why) }
 {
     let line = fault_text(alloc, why)?;

@@ -8,7 +8,7 @@ use Rattle.command_table.specs.declared.table.Verb.{Verb}
 use Rattle.command_table.specs.declared.table.Verb.TheVariants as verb
 use Rattle.command_table.specs.Found.{capitals, has, is_set, names_in, number_in, number_of, place_of, values_of}
 use Rattle.command_table.specs.Steps.{AllHold, Has, kind_at, IsWhole, Needs}
-use Rattle.command_table.specs.Refusals.{Bad, Saying, bad_block, blocks_missing, blocks_word, both_given, first_bad, input_twice, is_alone, missing, missing_of, moved_missing, names_input_twice, names_one, names_some, or_else, refusal_of, saying_of_bad, together, unexpected, extra_argument}
+use Rattle.command_table.specs.Refusals.{Bad, Saying, bad_block, blocks_missing, blocks_word, both_given, first_bad, input_twice, is_alone, missing, missing_of, moved_missing, names_input_twice, names_one, names_some, prints_texts, or_else, refusal_of, saying_of_bad, together, unexpected, extra_argument}
 use Rattle.command_table.specs.Tables.{Entry, entry_named, rows_for}
 use Rattle.command_table.specs.Tasks.{after}
 use Rattle.command_table.proofs.FoundLemmas.{all_well}
@@ -61,6 +61,12 @@ met : {X : Type 0} (b : Bool) (x : X) → (if b then None else Some x) ≡ None 
 met true x none = refl
 met false x none = absurd (cc)
 
+middle_true : (x y z : Bool) → (x || y || z) ≡ true → x ≡ false → z ≡ false → y ≡ true
+middle_true true y z is left right = absurd (true≢false left)
+middle_true false true z is left right = refl
+middle_true false false true is left right = absurd (true≢false right)
+middle_true false false false is left right = absurd (true≢false (sym is))
+
 right_true : (x y : Bool) → (x || y) ≡ true → x ≡ false → y ≡ true
 right_true true y is off = absurd (true≢false off)
 right_true false y is off = is
@@ -69,13 +75,13 @@ right_true false y is off = is
 
 -- one file to be got has a name where `--at` does not give it
 pub one_named : (values : List Row) → missing_of verb.Get values ≡ None → is_set (codes "blocks") values ≡ false → has (codes "into") values ≡ false
-    → has (codes "at") values ≡ false → Has (codes "NAME") values
-one_named values none no_blocks one free =
-    named (is_alone (codes "NAME") (codes "at") values) refl (both _ _ (both _ _ (both _ _ (right_true _ _ (met _ _ (passed _ _ _ (got _ no_blocks none)).1) one)).0).0).0
+    → prints_texts values ≡ false → has (codes "at") values ≡ false → Has (codes "NAME") values
+one_named values none no_blocks one no_texts free =
+    named (is_alone (codes "NAME") (codes "at") values) refl (both _ _ (both _ _ (both _ _ (middle_true _ _ _ (met _ _ (passed _ _ _ (got _ no_blocks none)).1) one no_texts)).0).0).0
   where
     got : (blocks : Bool) → blocks ≡ false → (if blocks then blocks_missing values
-        else if not (names_some values) then Some what.Name else if has (codes "into") values || names_one values then None else Some what.Into) ≡ None
-        → (if not (names_some values) then Some what.Name else if has (codes "into") values || names_one values then None else Some what.Into) ≡ None
+        else if not (names_some values) then Some what.Name else if has (codes "into") values || names_one values || prints_texts values then None else Some what.Into) ≡ None
+        → (if not (names_some values) then Some what.Name else if has (codes "into") values || names_one values || prints_texts values then None else Some what.Into) ≡ None
     got true is none = absurd (true≢false is)
     got false is none = none
 

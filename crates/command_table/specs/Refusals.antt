@@ -1,7 +1,7 @@
 -- What is refused of a command line that `clap` takes: the first that is wrong with it, in this order. First come two arguments that exclude
 -- each other, then one that is missing, then standard input named twice, and then an argument too many. Then comes a value that is none of its
 -- kind, by the order of the table. The two numbers of `get --blocks` come last.
-use Rattle.std.specs.Prelude.{◌+◌, ◌&&◌, ◌||◌, not, Bool, if◌then◌else◌, ℕ, nat_lt, codes, is_some, List, [], ◌∷◌, Option, None, Some, option_map, unwrap_or}
+use Rattle.std.specs.Prelude.{◌+◌, ◌&&◌, ◌||◌, not, Bool, false, if◌then◌else◌, ℕ, nat_eq, nat_lt, codes, is_some, List, [], ◌∷◌, Option, None, Some, option_map, unwrap_or}
 use Rattle.std.specs.Str.{bytes_eq}
 use Rattle.clap.specs.Words.{Row, Text, first_of}
 use Rattle.word12.specs.declared.sizes.TheConstants.{MOST_BLOCKS}
@@ -80,6 +80,27 @@ abbrev pub names_one : List Row → Bool
 names_one values = (is_alone (codes "NAME") (codes "at") values || is_alone (codes "at") (codes "NAME") values)
     && not (is_set (codes "all") values) && not (is_set (codes "force") values) && not (has (codes "text-of") values)
 
+-- the first block and their number, where blocks are got
+abbrev pub blocks_word : ℕ → List Row → Text
+blocks_word index values = unwrap_or (word_at (codes "NAME") index values) []
+
+-- a pattern, which may stand for several files
+abbrev pub has_sign : Text → Bool
+has_sign [] = false
+has_sign (character ∷ text) = nat_eq character 0o52 || nat_eq character 0o77 || has_sign text
+
+-- something is said of files for a folder
+abbrev pub says_of_folder : List Row → Bool
+says_of_folder values = has (codes "into") values || is_set (codes "force") values || has (codes "text-of") values
+
+-- texts are asked for, and not a tape
+abbrev pub asks_texts : List Row → Bool
+asks_texts values = is_set (codes "text") values && not (is_set (codes "tape") values) && not (is_set (codes "bin") values)
+
+-- the texts of several files are to be printed: of all, of those that are named, or of those that a pattern fits
+abbrev pub prints_texts : List Row → Bool
+prints_texts values = asks_texts values && not (says_of_folder values) && (not (names_one values) || has_sign (blocks_word 0 values))
+
 abbrev pub blocks_missing : List Row → Option What
 blocks_missing values =
     if not (has (codes "NAME") values) then Some what.FirstAndCount
@@ -147,7 +168,7 @@ missing_of verb.Create values = if has (codes "BLOCKS") values || is_set (codes 
 missing_of verb.Get values =
     if is_set (codes "blocks") values then blocks_missing values
     else if not (names_some values) then Some what.Name
-    else if has (codes "into") values || names_one values then None
+    else if has (codes "into") values || names_one values || prints_texts values then None
     else Some what.Into
 missing_of verb.Put values = if puts_many values && names_input (values_of (codes "FILE") values) then Some what.As else None
 missing_of verb.Delete values = if has (codes "NAME") values || has (codes "at") values then None else Some what.Name
@@ -200,10 +221,6 @@ bad_or row (Some text) rest = Some (row.title, why (form_of row.kind), text)
 abbrev pub first_bad : List Argument → List Row → Option Bad
 first_bad [] values = None
 first_bad (row ∷ rows) values = bad_or row (first_not (form_of row.kind) (values_of row.id values)) (first_bad rows values)
-
--- the first block and their number, where blocks are got
-abbrev pub blocks_word : ℕ → List Row → Text
-blocks_word index values = unwrap_or (word_at (codes "NAME") index values) []
 
 abbrev pub bad_block : List Row → Option Bad
 bad_block values =

@@ -24,7 +24,7 @@ use Rattle.program_tasks.specs.declared.tasks.RimForm.TheVariants.{Lines, Bin}
 use Rattle.program_tasks.specs.declared.tasks.Saving.{Saving}
 use Rattle.program_tasks.specs.declared.tasks.Saving.TheVariants.{AtEnd, Never, Always}
 use Rattle.program_tasks.specs.declared.tasks.Task.{Task}
-use Rattle.program_tasks.specs.declared.tasks.Task.TheVariants.{Tape, Rim, Source, Run, Create, CreateTape, ListLong, ListSome, Get, GetBin, GetMany, GetBlocks, Put, PutMany, Delete, Rename, Copy, CopyMany, Squeeze, Check, Dump, Patch, Index, Rescue, Scan, Assemble, Teletype, Trace, Profile}
+use Rattle.program_tasks.specs.declared.tasks.Task.TheVariants.{Tape, Rim, Source, Run, Create, CreateTape, ListLong, ListSome, Get, GetBin, GetMany, GetTexts, GetBlocks, Put, PutMany, Delete, Rename, Copy, CopyMany, Squeeze, Check, Dump, Patch, Index, Rescue, Scan, Assemble, Teletype, Trace, Profile}
 use Rattle.program_tasks.specs.declared.tasks.Task.TheVariants as task
 use Rattle.command_table.specs.declared.faults.TaskFault.{TaskFault}
 use Rattle.command_table.specs.declared.faults.TaskFault.TheVariants.{Words, Memory, Refused}
@@ -33,7 +33,7 @@ use Rattle.command_table.specs.declared.table.TheConstants.{MOST_IMAGES}
 use Rattle.command_table.specs.declared.table.Verb.{Verb}
 use Rattle.command_table.specs.declared.table.Verb.TheVariants as verb
 use Rattle.command_table.specs.Found.{IsReadAs, bits_of, cell_of, date_word, has, is_set, layout_of, name_in, names_in, number_in, number_of, place_of, span_of, values_of, wait_of, word_of, year_of}
-use Rattle.command_table.specs.Refusals.{blocks_word, input_count, puts_many, refusal_of, saying_of}
+use Rattle.command_table.specs.Refusals.{blocks_word, input_count, prints_texts, puts_many, refusal_of, saying_of}
 use Rattle.command_table.specs.Tables.{Entry, entry_named, pdp8}
 
 -- ## What it asks for
@@ -154,7 +154,7 @@ line_form values = if is_set (codes "json") values then Json else Columns
 
 -- one file is to be got
 abbrev pub GetsOne : List Row → Type 0
-GetsOne values = (is_set (codes "blocks") values ≡ false) × (has (codes "into") values ≡ false)
+GetsOne values = (is_set (codes "blocks") values ≡ false) × (has (codes "into") values ≡ false) × (prints_texts values ≡ false)
 
 -- the subcommand, with the values that were found for it, asks for the task
 abbrev pub AsksFor : Verb → List Row → Task → Type 0
@@ -187,6 +187,9 @@ AsksFor which values (GetMany form) = (which ≡ verb.Get) × (is_set (codes "bl
     × ArePlaces values form.places.items × (form.is_all ≡ is_set (codes "all") values)
     × (first_of (codes "into") values ≡ Some form.folder.bytes.items) × AreTexts values form.texts
     × (form.is_forced ≡ is_set (codes "force") values)
+AsksFor which values (GetTexts form) = (which ≡ verb.Get) × (is_set (codes "blocks") values ≡ false) × (prints_texts values ≡ true)
+    × IsSeen values form.image × (names_in (codes "NAME") values ≡ map (λ name. name.bytes.items) form.names.items)
+    × ArePlaces values form.places.items × (form.is_all ≡ is_set (codes "all") values)
 AsksFor which values (GetBlocks form) = (which ≡ verb.Get) × (is_set (codes "blocks") values ≡ true)
     × IsSeen values form.image × (number_in 0 4094 (blocks_word 0 values) ≡ Some form.first)
     × (number_in 1 MOST_BLOCKS (blocks_word 1 values) ≡ Some form.count) × (form.form ≡ get_form values)

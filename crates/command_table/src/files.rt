@@ -16,15 +16,15 @@ use crate::found::{
 };
 use crate::judging::blocks_word;
 use crate::lists::{blocks_of, info_of};
-use crate::missing::puts_many;
+use crate::missing::{prints_texts, puts_many};
 use crate::numbers::number_of;
 use crate::table::Verb;
 use crate::volumes::{changed_image, image_of};
 use char_pack::{GetForm, PutForm};
 use clap::ArgMatches;
 use program_tasks::{
-    BlocksForm, CopyForm, CopyManyForm, DeleteForm, FileForm, GetManyForm, ImageForm, PutManyForm,
-    PutOneForm, Task, TextsForm,
+    BlocksForm, CopyForm, CopyManyForm, DeleteForm, FileForm, GetManyForm, GetTextsForm, ImageForm,
+    PutManyForm, PutOneForm, Task, TextsForm,
 };
 use std::alloc::Global;
 use word12::MOST_BLOCKS;
@@ -39,6 +39,9 @@ pub fn get(alloc: Global, found: &ArgMatches<'_>) -> Read<Task>
     }
     if has(found, "into") {
         return get_many(alloc, found);
+    }
+    if prints_texts(found) {
+        return get_texts(alloc, found);
     }
     get_one(alloc, found)
 }
@@ -93,12 +96,31 @@ fn get_many(alloc: Global, found: &ArgMatches<'_>) -> Read<Task>
     }))
 }
 
+/// The texts that are to be printed.
+fn get_texts(alloc: Global, found: &ArgMatches<'_>) -> Read<Task>
+    requires needs { Needs verb.Get (values_in found.now) }
+    requires no_blocks { is_set (codes "blocks") (values_in found.now) ≡ false }
+    requires texts { refusals.prints_texts (values_in found.now) ≡ true }
+    ensures { IfOk result (IsAskedBy verb.Get (values_in found.now)) }
+{
+    let image = image_of(alloc, found, Verb::Get, "IMAGE")?;
+    let names = names_of(alloc, found, Verb::Get, "NAME")?;
+    let places = blocks_of(alloc, found, Verb::Get, "at")?;
+    Ok(Task::GetTexts(GetTextsForm {
+        image,
+        names,
+        places,
+        is_all: flag(found, Verb::Get, "all"),
+    }))
+}
+
 /// The file that is to be got, and how.
 #[tactic(auto, using(crate::proofs::RefusalLemmas::one_named))]
 fn get_one(alloc: Global, found: &ArgMatches<'_>) -> Read<Task>
     requires needs { Needs verb.Get (values_in found.now) }
     requires no_blocks { is_set (codes "blocks") (values_in found.now) ≡ false }
     requires one { has (codes "into") (values_in found.now) ≡ false }
+    requires no_texts { refusals.prints_texts (values_in found.now) ≡ false }
     ensures { IfOk result (IsAskedBy verb.Get (values_in found.now)) }
 {
     let image = image_of(alloc, found, Verb::Get, "IMAGE")?;

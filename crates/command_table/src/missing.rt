@@ -6,6 +6,7 @@ ghost use Rattle.command_table.specs.Refusals as spec;
 ghost use Rattle.command_table.specs.declared.table.Verb.TheVariants as verb;
 
 use crate::found::{has, is_set, texts_in, word_at};
+use crate::judging::blocks_word;
 use crate::refusals::What;
 use crate::table::Verb;
 use clap::ArgMatches;
@@ -99,7 +100,10 @@ fn get_missing(found: &ArgMatches<'_>) -> Option<What>
     if !names_some(found) {
         return Some(What::Name);
     }
-    lack(has(found, "into") || names_one(found), What::Into)
+    lack(
+        has(found, "into") || names_one(found) || prints_texts(found),
+        What::Into,
+    )
 }
 
 /// What is missing where blocks are got.
@@ -125,6 +129,43 @@ fn names_one(found: &ArgMatches<'_>) -> bool
 {
     let is_one = is_alone(found, "NAME", "at") || is_alone(found, "at", "NAME");
     is_one && !is_set(found, "all") && !is_set(found, "force") && !has(found, "text-of")
+}
+
+/// Whether the texts of several files are to be printed.
+pub fn prints_texts(found: &ArgMatches<'_>) -> bool
+    ensures { result ≡ spec.prints_texts (values_in found.now) }
+{
+    asks_texts(found)
+        && !says_of_folder(found)
+        && (!names_one(found) || has_sign(blocks_word(found, 0).as_bytes()))
+}
+
+/// Whether texts are asked for, and not a tape.
+fn asks_texts(found: &ArgMatches<'_>) -> bool
+    ensures { result ≡ spec.asks_texts (values_in found.now) }
+{
+    is_set(found, "text") && !is_set(found, "tape") && !is_set(found, "bin")
+}
+
+/// Whether something is said of files for a folder.
+fn says_of_folder(found: &ArgMatches<'_>) -> bool
+    ensures { result ≡ spec.says_of_folder (values_in found.now) }
+{
+    has(found, "into") || is_set(found, "force") || has(found, "text-of")
+}
+
+/// Whether a name is a pattern, which may stand for several files.
+fn has_sign(name: &[u8]) -> bool
+    ensures { result ≡ spec.has_sign name.now }
+{
+    let mut rest = name;
+    while let [character, others @ ..] = rest {
+        if *character == b'*' || *character == b'?' {
+            return true;
+        }
+        rest = others;
+    }
+    false
 }
 
 /// Whether an argument has one value, and another none.

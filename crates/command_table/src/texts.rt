@@ -142,7 +142,7 @@ pub fn texts_of(verb: Verb) -> Texts {
         },
         Verb::Get => Texts {
             about: "Write files of a volume to standard output or to a folder",
-            long_about: "Writes the file NAME of the OS/8 volume in the file IMAGE to standard output: its words, three bytes{n}for two. With --into the files NAME, or with --all all files, go to files of their names{n}in FOLDER; a pattern, as '*.PA', stands for each name that it fits. With --blocks the arguments after{n}IMAGE are the number of a block and how many are written, whatever the directory says. The line of a{n}fault goes to standard error. The image is not written.",
+            long_about: "Writes the file NAME of the OS/8 volume in the file IMAGE to standard output: its words, three bytes{n}for two. With --text it may be several files; then each text has a line ==> NAME <== before it. With{n}--into the files NAME, or with --all all files, go to files of their names in FOLDER; a pattern, as{n}'*.PA', stands for each name that it fits. With --blocks the arguments after IMAGE are the number of{n}a block and how many are written, whatever the directory says. The line of a fault goes to standard{n}error. The image is not written.",
             examples: "Examples:\n  pdp8 get disk.img notes.tx -t\n  pdp8 get disk.img '*.pa' -t --into sources",
         },
         Verb::Put => Texts {

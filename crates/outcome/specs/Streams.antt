@@ -20,6 +20,7 @@ gives_data (task.Trace form) = true
 gives_data (task.Profile form) = true
 gives_data (task.Get image file form) = true
 gives_data (task.GetBin image file) = true
+gives_data (task.GetTexts form) = true
 gives_data (task.GetBlocks form) = true
 gives_data (task.Index form) = true
 gives_data (task.Tape tape) = false

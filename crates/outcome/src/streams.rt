@@ -16,6 +16,7 @@ pub fn gives_data(task: &Task) -> bool
         | Task::Profile(_)
         | Task::Get(..)
         | Task::GetBin(..)
+        | Task::GetTexts(_)
         | Task::GetBlocks(_)
         | Task::Index(_) => true,
         Task::Assemble(form) => form.onto.is_none(),

@@ -80,6 +80,21 @@ pub struct GetManyForm {
     pub is_forced: bool,
 }
 
+/// Which texts are printed, one after another.
+#[derive(Drop)]
+pub struct GetTextsForm {
+    pub image: ImageForm,
+
+    /// The names of their files on the volume, or patterns.
+    pub names: Vec<String>,
+
+    /// The first blocks of others, 0 to 4095.
+    pub places: Vec<usize>,
+
+    /// Whether those of all files are printed, also where others are named.
+    pub is_all: bool,
+}
+
 /// Which blocks are got, whatever the directory says.
 #[derive(Drop)]
 pub struct BlocksForm {

@@ -8,7 +8,7 @@ mod tasks;
 pub use archives::{BlockSpan, IndexForm, LineForm, PatchForm, RescueForm, ScanForm};
 pub use forms::{
     BlocksForm, CheckForm, CopyForm, CopyManyForm, CreateForm, DeleteForm, FileForm, GetManyForm,
-    ImageForm, ListForm, PutManyForm, PutOneForm, TapeForm, TextsForm,
+    GetTextsForm, ImageForm, ListForm, PutManyForm, PutOneForm, TapeForm, TextsForm,
 };
 pub use tasks::{
     AssembleForm, RimForm, RunForm, Saving, SourceForm, Task, TeletypeForm, TraceForm,

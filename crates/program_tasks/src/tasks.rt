@@ -2,7 +2,7 @@
 use crate::archives::{BlockSpan, IndexForm, PatchForm, RescueForm, ScanForm};
 use crate::forms::{
     BlocksForm, CheckForm, CopyForm, CopyManyForm, CreateForm, DeleteForm, FileForm, GetManyForm,
-    ImageForm, ListForm, PutManyForm, PutOneForm, TapeForm,
+    GetTextsForm, ImageForm, ListForm, PutManyForm, PutOneForm, TapeForm,
 };
 use char_pack::GetForm;
 use word12::{Cell, Word};
@@ -170,6 +170,9 @@ pub enum Task {
 
     /// Write files of a volume to a folder.
     GetMany(GetManyForm),
+
+    /// Print texts of a volume, one after another.
+    GetTexts(GetTextsForm),
 
     /// Write what blocks of a volume have.
     GetBlocks(BlocksForm),

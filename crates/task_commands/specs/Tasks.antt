@@ -6,6 +6,7 @@ use Rattle.program_tasks.specs.declared.archives.IndexForm.{IndexForm}
 use Rattle.program_tasks.specs.declared.archives.LineForm.{LineForm}
 use Rattle.program_tasks.specs.declared.archives.LineForm.TheVariants.{Columns, Json}
 use Rattle.program_tasks.specs.declared.archives.PatchForm.{PatchForm}
+use Rattle.program_tasks.specs.declared.forms.GetTextsForm.{GetTextsForm}
 use Rattle.program_tasks.specs.declared.forms.ImageForm.{ImageForm}
 use Rattle.program_tasks.specs.declared.tasks.RunForm.{RunForm}
 use Rattle.program_tasks.specs.declared.tasks.TeletypeForm.{TeletypeForm}
@@ -34,6 +35,7 @@ use Rattle.many_commands.specs.Volumes.{ReportsOne}
 use Rattle.many_commands.specs.declared.reports.ReportKind.TheVariants as report
 use Rattle.choice_commands.specs.Copying.{CopiesMany}
 use Rattle.choice_commands.specs.Listing.{ListsSome}
+use Rattle.choice_commands.specs.Texts.{ShowsTexts}
 use Rattle.archive_commands.specs.Dumping.{Dumps}
 use Rattle.archive_commands.specs.Patching.{PatchesWord}
 use Rattle.archive_commands.specs.declared.patches.WordPatch.{WordPatch}
@@ -80,6 +82,10 @@ ChoosesStyle form (Err ending) = ending ≡ Fault Memory
 abbrev pub ListsIndex : IndexForm → List Event → Result (Unit {0}) Ending → List Event → Type 0
 ListsIndex form = Then (Purely (ChoosesStyle form)) (λ style. Indexes style form.layout (map (λ image. image.bytes.items) form.images.items))
 
+-- the texts of the files that are asked for are printed
+abbrev pub PrintsTexts : GetTextsForm → List Event → Result (Unit {0}) Ending → List Event → Type 0
+PrintsTexts form = ShowsTexts form.image form.is_all (map (λ name. name.bytes.items) form.names.items) form.places.items
+
 -- what blocks hold is listed, and written to a folder where one is given
 abbrev pub ScansBlocks : Option (String Global) → ImageForm → List Event → Result (Unit {0}) Ending → List Event → Type 0
 ScansBlocks None image = ShowsPieces image
@@ -112,6 +118,7 @@ DoesTask (task.ListSome form) is_typed input = ListsSome form
 DoesTask (task.Get image file form) is_typed input = Shows (λ bytes. Gets bytes (wanted_file file) form) image
 DoesTask (task.GetBin image file) is_typed input = ShowsTape file image
 DoesTask (task.GetMany form) is_typed input = GetsMany form
+DoesTask (task.GetTexts form) is_typed input = PrintsTexts form
 DoesTask (task.GetBlocks form) is_typed input = ShowsBlocks form
 DoesTask (task.Put form) is_typed input = Within form.image.wait (Puts form)
 DoesTask (task.PutMany form) is_typed input = Within form.image.wait (PutsMany form)

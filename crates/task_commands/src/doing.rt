@@ -2,18 +2,20 @@
 ghost use Rattle.std.specs.Prelude.{◌≡◌, IfOk, is_some};
 ghost use Rattle.task_commands.specs.declared.changes.Change.TheVariants as change;
 ghost use Rattle.task_commands.specs.Tasks as spec;
-ghost use Rattle.task_commands.specs.Tasks.{ChoosesStyle, DoesTask, ListsIndex, RunsImage, RunsTask, ScansBlocks, word_patch};
+ghost use Rattle.task_commands.specs.Tasks.{ChoosesStyle, DoesTask, ListsIndex, PrintsTexts, RunsImage, RunsTask, ScansBlocks, word_patch};
 
 use crate::changes::{Caller, Change, change_image, open_within};
 use archive_commands::{WordPatch, dump_blocks};
-use choice_commands::list_some;
+use choice_commands::{list_some, show_texts};
 use command_table::SCRIPT_LINES;
 use hosts::Host;
 use index_commands::index_images;
 use many_commands::{check_images, get_files, list_files, list_places};
 use outcome::{Ending, gives_data};
 use program_commands::{list_tape, write_rim, write_source};
-use program_tasks::{ImageForm, IndexForm, LineForm, PatchForm, RunForm, ScanForm, Task};
+use program_tasks::{
+    GetTextsForm, ImageForm, IndexForm, LineForm, PatchForm, RunForm, ScanForm, Task,
+};
 use salvage_commands::{rescue_image, scan_blocks, scan_into};
 use script_commands::run_over;
 use std::alloc::{AllocError, Global};
@@ -73,6 +75,7 @@ pub fn do_task<H: Host, I: Read + Drop, C: Caller>(
         Task::Get(image, file, form) => get_file(&mut host, alloc, &image, file, form),
         Task::GetBin(image, file) => get_bin(&mut host, alloc, &image, file),
         Task::GetMany(form) => get_files(&mut host, alloc, &form),
+        Task::GetTexts(form) => print_texts(&mut host, alloc, &form),
         Task::GetBlocks(form) => get_blocks(&mut host, alloc, &form),
         Task::Check(form) => check_images(&mut host, alloc, &form),
         Task::Index(form) => list_index(&mut host, alloc, form),
@@ -123,6 +126,20 @@ fn forms_for(is_typed: bool) -> Option<&'static str>
         return Some(SCRIPT_LINES);
     }
     None
+}
+
+/// Prints the texts of the files that are asked for.
+fn print_texts<H: Host>(host: &mut H, alloc: Global, form: &GetTextsForm) -> Result<(), Ending>
+    ensures { PrintsTexts form.now (H.history host.old) result (H.history host.new) }
+{
+    show_texts(
+        host,
+        alloc,
+        &form.image,
+        form.is_all,
+        &form.names,
+        &form.places,
+    )
 }
 
 /// The index of the images that are given.

@@ -1,5 +1,5 @@
 use Rattle.task_commands.proofs.doing.do_task.Goals as goal
-use Rattle.task_commands.proofs.doing.do_task.Goals.{in-Profile, in-Tape, in-Rim, in-Source, in-List, in-ListLong, in-ListSome, in-Get, in-GetBin, in-GetMany, in-GetBlocks, in-Check, in-Index, in-Dump, in-Scan, in-Rescue, in-Create, in-CreateTape, in-Put, in-PutMany, in-Delete, in-Rename, in-Copy, in-CopyMany, in-Squeeze, in-Patch, in-Assemble}
+use Rattle.task_commands.proofs.doing.do_task.Goals.{in-Profile, in-Tape, in-Rim, in-Source, in-List, in-ListLong, in-ListSome, in-Get, in-GetBin, in-GetMany, in-GetTexts, in-GetBlocks, in-Check, in-Index, in-Dump, in-Scan, in-Rescue, in-Create, in-CreateTape, in-Put, in-PutMany, in-Delete, in-Rename, in-Copy, in-CopyMany, in-Squeeze, in-Patch, in-Assemble}
 
 pub returns-in-Teletype : goal.returns-in-Teletype
 returns-in-Teletype g c = rw c.in-Teletype.is (g.I.Read.remaining c.run_teletype.new.keys, c.run_teletype.ensures)
@@ -22,6 +22,7 @@ returns g c = elim c.match-task.branch [
   | in-Get w ↦ rw (w.in-Get.is, w.host-is, w.work-is) w.get_file-work.ensures
   | in-GetBin w ↦ rw (w.in-GetBin.is, w.host-is, w.work-is) w.get_bin-work.ensures
   | in-GetMany w ↦ rw (w.in-GetMany.is, w.host-is, w.work-is) w.get_files-work.ensures
+  | in-GetTexts w ↦ rw (w.in-GetTexts.is, w.host-is, w.work-is) w.print_texts-work.ensures
   | in-GetBlocks w ↦ rw (w.in-GetBlocks.is, w.host-is, w.work-is) w.get_blocks-work.ensures
   | in-Check w ↦ rw (w.in-Check.is, w.host-is, w.work-is) w.check_images-work.ensures
   | in-Index w ↦ rw (w.in-Index.is, w.host-is, w.work-is) w.list_index-work.ensures

@@ -1,0 +1,62 @@
+-- The command that prints texts changes no file of the host.
+use Rattle.std.proofs.Common.{◌≡◌, ◌&&◌, ◌++◌, not, ℕ, Bool, true, inl, inr, Ok, List, [], ◌∷◌, length}
+use Rattle.archive_many.specs.Opened.{OpensVolume}
+use Rattle.archive_many.specs.declared.opened.VolumeFile.{VolumeFile}
+use Rattle.archive_many.specs.declared.wishes.Wish.{Wish}
+use Rattle.archive_many.specs.declared.wishes.Wish.TheVariants as wish
+use Rattle.program_tasks.specs.declared.forms.ImageForm.{ImageForm}
+use Rattle.volume_commands.specs.Answers.{Answers, AreLines}
+use Rattle.volume_commands.specs.Laws.{KeepsFiles}
+use Rattle.volume_commands.specs.Reading.{LooksAt}
+use Rattle.volume_commands.specs.Saving.{Prints}
+use Rattle.volume_commands.specs.Work.{Then, Purely}
+use Rattle.choice_commands.specs.Listing.{EndsWhere}
+use Rattle.choice_commands.specs.Texts.{AreAsked, AreSeveral, IsHostName, RefusesWish, ShowsEach, ShowsText, ShowsTexts, ShowsWish, TakesText, TellsNone, head_of, refusal_line}
+use Rattle.choice_commands.proofs.LawLemmas.{LooksKeep, PrintsKeep, RefusesKeep, answers-keep, purely-keeps, same, then-keeps, told}
+
+shows-text : PrintsKeep → (several first : Bool) (blocks : List (List ℕ)) (file : VolumeFile) → KeepsFiles (ShowsText several first blocks file)
+shows-text prints several first blocks file =
+    then-keeps (Purely (IsHostName file)) (λ name. Then (Purely (TakesText blocks file)) (λ text. Then (Purely (AreLines (head_of several first name.bytes.items ++ text.items))) (λ bytes. Then (Prints bytes.items) (λ it. Purely (λ result. result ≡ Ok true)))))
+    (purely-keeps (IsHostName file))
+    (λ name. then-keeps (Purely (TakesText blocks file)) (λ text. Then (Purely (AreLines (head_of several first name.bytes.items ++ text.items))) (λ bytes. Then (Prints bytes.items) (λ it. Purely (λ result. result ≡ Ok true))))
+    (purely-keeps (TakesText blocks file))
+    (λ text. then-keeps (Purely (AreLines (head_of several first name.bytes.items ++ text.items))) (λ bytes. Then (Prints bytes.items) (λ it. Purely (λ result. result ≡ Ok true)))
+    (purely-keeps (AreLines (head_of several first name.bytes.items ++ text.items)))
+    (λ bytes. then-keeps (Prints bytes.items) (λ it. Purely (λ result. result ≡ Ok true)) (prints bytes.items) (λ it. purely-keeps (λ result. result ≡ Ok true)))))
+
+tells-none : (line : List ℕ) → KeepsFiles (TellsNone line)
+tells-none line old result new (is, inl (utf8, ok, p)) = told ok _ old new p
+tells-none line old result new (is, inr (other, p)) = same old new p
+
+refuses-wish : (words : List (List ℕ)) (one : Wish) → KeepsFiles (RefusesWish words one)
+refuses-wish words one =
+    then-keeps (Purely (AreLines (refusal_line words one))) (λ line. TellsNone line.items) (purely-keeps (AreLines (refusal_line words one))) (λ line. tells-none line.items)
+
+shows-wish : PrintsKeep → (several first : Bool) (blocks words : List (List ℕ)) (one : Wish) → KeepsFiles (ShowsWish several first blocks words one)
+shows-wish prints several first blocks words (wish.File file) = shows-text prints several first blocks file
+shows-wish prints several first blocks words (wish.BadWord place) = refuses-wish words (wish.BadWord place)
+shows-wish prints several first blocks words (wish.NotFound place) = refuses-wish words (wish.NotFound place)
+shows-wish prints several first blocks words (wish.Block block) = refuses-wish words (wish.Block block)
+
+shows-each : PrintsKeep → (several first there : Bool) (blocks words : List (List ℕ)) (wishes : List Wish) → KeepsFiles (ShowsEach several first there blocks words wishes)
+shows-each prints several first there blocks words [] = purely-keeps (λ result. result ≡ Ok there)
+shows-each prints several first there blocks words (one ∷ wishes) =
+    then-keeps (ShowsWish several first blocks words one) (λ is. ShowsEach several (first && not is) (there && is) blocks words wishes)
+    (shows-wish prints several first blocks words one) (λ is. shows-each prints several (first && not is) (there && is) blocks words wishes)
+
+shows-wishes : PrintsKeep → (blocks words : List (List ℕ)) (wishes : List Wish)
+    → KeepsFiles (Then (Purely (AreSeveral wishes)) (λ several. Then (ShowsEach several true true blocks words wishes) (λ there. Purely (EndsWhere there))))
+shows-wishes prints blocks words wishes =
+    then-keeps (Purely (AreSeveral wishes)) (λ several. Then (ShowsEach several true true blocks words wishes) (λ there. Purely (EndsWhere there)))
+    (purely-keeps (AreSeveral wishes))
+    (λ several. then-keeps (ShowsEach several true true blocks words wishes) (λ there. Purely (EndsWhere there))
+    (shows-each prints several true true blocks words wishes) (λ there. purely-keeps (EndsWhere there)))
+
+pub texts-keep : LooksKeep → PrintsKeep → RefusesKeep → (image : ImageForm) (is_all : Bool) (words : List (List ℕ)) (places : List ℕ) → KeepsFiles (ShowsTexts image is_all words places)
+texts-keep looks prints law image is_all words places =
+    then-keeps (LooksAt image) (λ bytes. Then (Answers (OpensVolume bytes.items) (length bytes.items)) (λ blocks. Then (Purely (AreAsked is_all words places blocks)) (λ wishes. Then (Purely (AreSeveral wishes.items)) (λ several. Then (ShowsEach several true true blocks words wishes.items) (λ there. Purely (EndsWhere there))))))
+    (looks image)
+    (λ bytes. then-keeps (Answers (OpensVolume bytes.items) (length bytes.items)) (λ blocks. Then (Purely (AreAsked is_all words places blocks)) (λ wishes. Then (Purely (AreSeveral wishes.items)) (λ several. Then (ShowsEach several true true blocks words wishes.items) (λ there. Purely (EndsWhere there)))))
+    (answers-keep law (OpensVolume bytes.items) (length bytes.items))
+    (λ blocks. then-keeps (Purely (AreAsked is_all words places blocks)) (λ wishes. Then (Purely (AreSeveral wishes.items)) (λ several. Then (ShowsEach several true true blocks words wishes.items) (λ there. Purely (EndsWhere there))))
+    (purely-keeps (AreAsked is_all words places blocks)) (λ wishes. shows-wishes prints blocks words wishes.items)))
