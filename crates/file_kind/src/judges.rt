@@ -58,14 +58,16 @@ fn words_of(alloc: Global, frames: &[u8]) -> Result<Vec<Word>, KindFault>
     }
 }
 
-/// Whether frames are a BIN tape.
+/// Whether frames are a BIN tape. None after the first that is refused is read.
 pub fn is_bin(frames: &[u8]) -> bool
     ensures { IsTrue result ↔ IsSomeTape frames.now }
 {
     no_fault();
     let mut reader = TapeReader::new();
     for frame in frames {
-        let _ = reader.push(*frame);
+        if reader.push(*frame).is_err() {
+            return false;
+        }
     }
     reader.end().is_ok()
 }
