@@ -1,5 +1,8 @@
 //! Arguments of the program that are no UTF-8 text. The runtime opens a file by a path of text alone, so none of them can name one.
+ghost use Rattle.std.specs.Prelude.{◌≡◌, IfOk, length};
+ghost use Rattle.monitor8.specs.Words.{argument_line};
 
+use index_line::put_quoted;
 use outcome::{Note, PlainNote};
 use std::alloc::{AllocError, Global};
 use std::env::{Env, FillError};
@@ -17,7 +20,7 @@ pub(crate) fn tell_bad_argument<R: Env + Eprint + AllocGlobal>(rt: &R) -> Result
             Err(FillError::NotPresent) => return Ok(()),
             Err(FillError::TooLong) => return Ok(()),
         };
-        let (argument, _rest) = room.as_slice().split_at(count.min(room.len()));
+        let (argument, _rest) = room.as_slice().split_at(count);
         if str::from_utf8(argument).is_err() {
             return tell_argument(rt, place, argument);
         }
@@ -26,7 +29,9 @@ pub(crate) fn tell_bad_argument<R: Env + Eprint + AllocGlobal>(rt: &R) -> Result
 }
 
 /// So many zeros.
-fn room_of(alloc: Global, count: usize) -> Result<Vec<u8>, AllocError> {
+fn room_of(alloc: Global, count: usize) -> Result<Vec<u8>, AllocError>
+    ensures { IfOk result (λ room. length room.items ≡ count) }
+{
     let room = vec![in alloc; 0; count]?;
     Ok(room)
 }
@@ -37,30 +42,21 @@ fn tell_argument<R: Eprint + AllocGlobal>(
     place: usize,
     argument: &[u8],
 ) -> Result<(), AllocError> {
-    let number = format!(in rt.alloc(); "note: argument {place} is ")?;
-    let mut line = Vec::new(rt.alloc());
-    line.extend_from_slice(number.as_bytes())?;
-    for byte in argument {
-        put_shown(&mut line, *byte)?;
-    }
-    line.extend_from_slice(b": a file is opened by a name of UTF-8 text alone\n")?;
+    let line = argument_line(rt.alloc(), place, argument)?;
     if let Ok(text) = str::from_utf8(&line) {
         let _ = rt.eprint(text);
     }
     Ok(())
 }
 
-/// Appends a byte as `ls -b` shows it: a printing character of ASCII as it is, another as a backslash and three octal digits.
-fn put_shown(line: &mut Vec<u8>, byte: u8) -> Result<(), AllocError> {
-    if byte > b' ' && byte < 0o177 && byte != b'\\' {
-        line.push(byte)?;
-        return Ok(());
-    }
-    let digits = [
-        b'\\',
-        b'0' + byte / 0o100,
-        b'0' + byte / 0o10 % 0o10,
-        b'0' + byte % 0o10,
-    ];
-    line.extend_from_slice(&digits)
+/// The line with the number of an argument and its bytes, which are shown as `ls -b` shows them.
+fn argument_line(alloc: Global, place: usize, argument: &[u8]) -> Result<Vec<u8>, AllocError>
+    ensures { IfOk result (λ line. line.items ≡ argument_line place argument.now) }
+{
+    let number = format!(in alloc; "note: argument {place} is ")?;
+    let mut line = Vec::new(alloc);
+    line.extend_from_slice(number.as_bytes())?;
+    put_quoted(&mut line, argument)?;
+    line.extend_from_slice(b": a file is opened by a name of UTF-8 text alone\n")?;
+    Ok(line)
 }
