@@ -14,4 +14,4 @@ returns-clause-listing c =
     (rows_are c.args.options sources c.new-text.result.items c.put_rows.new.text.items c.deref-3.result.now c.deref-4.result.now c.deref-5.result.now c.in_ok-words.words.items
     c.new-text.ensures.items (c.deref-3.ensures.value ∙ c.requires.counts) (c.deref-4.ensures.value ∙ c.requires.text) c.deref-5.ensures.value
     (c.in_ok-put_rows.ensures {u = tt}))
-    (c.in_ok-put_pool.ensures {u = tt}) c.in_ok-extend_from_slice.ensures.items (c.in_ok-put_symbols.ensures.symbols sources c.requires.text c.requires.counts {u = tt})
+    (c.in_ok-put_pool.ensures {u = tt}) c.in_ok-extend_from_slice.ensures.items (c.in_ok-put_symbols.ensures.symbols sources c.requires.text c.requires.counts)
