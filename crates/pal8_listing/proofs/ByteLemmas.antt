@@ -1,5 +1,5 @@
 -- A byte more of a text.
-use Rattle.std.proofs.Common.{◌≡◌, ℕ, Bool, true, false, if◌then◌else◌, Option, Some, None, Result, Ok, Err, OnOk, length, suc, List, [], ◌∷◌, ◌++◌, refl, sym, ap, subst, ◌∙◌, arith}
+use Rattle.std.proofs.Common.{◌≡◌, ℕ, Bool, true, false, if◌then◌else◌, Some, Result, Ok, Err, OnOk, length, suc, List, [], ◌∷◌, ◌++◌, refl, sym, ap, subst, ◌∙◌, arith}
 use Rattle.pal_lex.specs.Text.{limit}
 use Rattle.pal8_lex.specs.Text.{as_read, is_dropped, live}
 use Rattle.pal8_lex.specs.Pieces.{ends, pieces}

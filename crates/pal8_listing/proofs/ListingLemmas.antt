@@ -1,5 +1,5 @@
 -- The parts of a listing.
-use Rattle.std.proofs.Common.{◌≡◌, ℕ, zero, suc, length, take, drop, codes, List, [], ◌∷◌, ◌++◌, refl, ap, ◌∙◌}
+use Rattle.std.proofs.Common.{◌≡◌, ℕ, length, take, drop, codes, List, [], ◌∷◌, ◌++◌, refl, ap, ◌∙◌}
 use Rattle.std.specs.Borrow.{Bor}
 use Rattle.pal_lex.specs.Text.{text_of}
 use Rattle.pal8_asm.specs.Marks.{HasParts, marks_of}
@@ -10,7 +10,7 @@ use Rattle.pal8_listing.specs.Listings.{IsListed, rows_in, symbols_text}
 use Rattle.pal8_listing.specs.Rows.{all_lines, listed_words, rows_of, rows_text}
 use Rattle.pal8_listing.specs.Texts.{pool_text}
 use Rattle.source_listing.specs.declared.listing.ListingForm.{ListingForm}
-use Rattle.source_listing.specs.declared.listing.ListingForm.TheVariants.{Symbols, Cross}
+use Rattle.source_listing.specs.declared.listing.ListingForm.TheVariants.{Cross}
 use Rattle.pal8_listing.specs.Uses.{cross_text, later_starts, uses}
 use Rattle.pal8_listing.specs.declared.words.ListedWord.{ListedWord}
 

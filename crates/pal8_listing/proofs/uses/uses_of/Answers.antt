@@ -12,7 +12,7 @@ returns c = λ whole by.
     let first = c.partition_point-first.result in
     let count = c.partition_point-count.result in
     let point = c.partition_point-first.ensures.partitioned (λ (m : Mention). nat_lt m.name name) (always_returns_same _ _ _ (λ a r f k. search (rules, of_calls)))
-        (lower_first name whole xs rest first count by c.split.ensures.others c.partition_point-first.ensures.bound) in
+    (lower_first name whole xs rest first count by c.split.ensures.others c.partition_point-first.ensures.bound) in
     uses_are name whole xs rest first count by c.split.ensures.others c.partition_point-first.ensures.bound point c.split-2.result.0.now c.split-2.ensures.first
     c.partition_point-count.ensures.bound
     (c.partition_point-count.ensures.partitioned (λ (m : Mention). nat_eq m.name name) (always_returns_same _ _ _ (λ a r f k. search (rules, of_calls)))
