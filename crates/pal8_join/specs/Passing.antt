@@ -1,4 +1,4 @@
--- What the statements of sources leave, but for words, and what the steps of a join give, for private clauses.
+-- What the statements of sources leave, but for words, and what the steps of a join give. Of these private clauses alone cite all but `Follows`.
 use Rattle.std.specs.Prelude.{◌≡◌, ℕ, Bool, true, false, ◌&&◌, if◌then◌else◌, is_some, length, take, Option, Some, None, Result, Ok, Err, List, [], ◌∷◌, ◌++◌}
 use Rattle.pal_lex.specs.Text.{text_of}
 use Rattle.pal8_lex.specs.Text.{as_read, live}
