@@ -9,6 +9,7 @@ use Rattle.pal8_pools.specs.Cells.{ArePairs}
 use Rattle.pal8_pools.specs.Pooled.{PoolTable}
 use Rattle.pal8_clash.specs.Clashes.{AreMarks, OthersStay, lowest_clash, with_word}
 use Rattle.pal8_grammar.specs.declared.steps.Step.{Step}
+use Rattle.pal8_grammar.specs.declared.steps.Step.TheVariants as step
 use Rattle.pal8_values.specs.Sums.{Meanings}
 use Rattle.pal8_values.specs.Words.{AskResult, word_value}
 use Rattle.pal8_values.specs.Answering.{IsAsked, IsFault}
@@ -18,7 +19,7 @@ use Rattle.pal8_values.specs.declared.faults.ValueFault.{ValueFault}
 use Rattle.pal8_values.specs.declared.faults.ValueFault.TheVariants as value
 use Rattle.pal8_asm.specs.Kept.{cut, entry_of, total}
 use Rattle.pal8_asm.specs.Places.{code_of}
-use Rattle.pal8_asm.specs.Sources.{Entry, at_place, entry_with, with_values}
+use Rattle.pal8_asm.specs.Sources.{Entry, at_place, entry_with, number_or, resolved_step, with_values}
 use Rattle.pal8_asm.specs.Tapes.{TapeWords, clash_fault, first_of, is_last_late, late_after, late_fault, late_value, late_values, spot_of, unless_fault, with_entries, with_entry, with_entry_by, with_made, with_word_entry}
 use Rattle.pal8_asm.specs.Steps.{AddsPool, GivesAt, IsFaultAt, IsJudgedLate, IsMaking, Makes, fault_at}
 use Rattle.pal8_asm.specs.declared.faults.Fault.{Fault}
@@ -188,6 +189,23 @@ pub known_made : (own late : Meanings) (h : Head) (steps put : List Step) (whole
 known_made own late h steps put whole pools marks clash pairs result is makes =
     subst (λ r. Makes r result pools marks clash pairs)
     (ap (λ l. with_word_entry own (entry_of h l) l whole) is ∙ same_word own h (with_values late steps) steps (with_values late steps) whole) makes
+
+step_stays : (late : Meanings) → ((n : ℕ) → late n ≡ None) → (s : Step) → s ≡ resolved_step late s
+step_stays late none (step.Operation word) = refl
+step_stays late none step.Alone = refl
+step_stays late none step.Indirect = refl
+step_stays late none (step.Name name) = sym (ap (number_or (step.Name name)) (none name))
+step_stays late none (step.Permanent name value) = sym (ap (number_or (step.Permanent name value)) (none name))
+step_stays late none (step.Number word) = refl
+step_stays late none step.Here = refl
+step_stays late none (step.Sign op) = refl
+step_stays late none (step.Open pool) = refl
+step_stays late none step.Close = refl
+
+-- where no name has a value by a late definition, steps stay
+pub none_known : (late : Meanings) → ((n : ℕ) → late n ≡ None) → (steps : List Step) → steps ≡ with_values late steps
+none_known late none [] = refl
+none_known late none (s ∷ others) = ap (λ t. t ∷ others) (step_stays late none s) ∙ ap (λ l. resolved_step late s ∷ l) (none_known late none others)
 
 -- a word that fails
 pub word_fails : (last : Meanings) (e : Entry) (steps : List Step) (whole : Result TapeWords Fault) (pools pools' : PoolTable) (marks marks' : List Bool) (clash clash' : Option Fault)

@@ -1,4 +1,4 @@
-ghost use Rattle.std.specs.Prelude.{◌≡◌, ◌<◌, ◌+◌, ◌++◌, ◌≤◌, OnOk, IfOk, IfSome, if◌then◌else◌, nat_eq, ℕ, List, Some, None, length, vec_len, vec_capacity};
+ghost use Rattle.std.specs.Prelude.{◌≡◌, ◌<◌, ◌+◌, ◌++◌, ◌≤◌, OnOk, IfOk, IfSome, if◌then◌else◌, nat_eq, true, ℕ, List, Some, None, length, vec_len, vec_capacity};
 ghost use Rattle.std.specs.Ordering.{nat_cmp};
 ghost use Rattle.std.specs.BTreeMap.{get};
 ghost use Rattle.pal_sym.specs.Values.{if_none};
@@ -100,6 +100,13 @@ impl LateValues {
         LateValues {
             values: BTreeMap::new(alloc),
         }
+    }
+
+    /// Whether no name has a value.
+    pub(crate) fn is_empty(&self) -> bool
+        ensures { result ≡ true → (n : ℕ) → late_of self.now n ≡ None }
+    {
+        self.values.is_empty()
     }
 
     /// The value of a name.

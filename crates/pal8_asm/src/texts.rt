@@ -22,18 +22,15 @@ use std::alloc::{AllocError, Global};
 use std::collections::BTreeMap;
 use word12::{Cell, Word};
 
-/// For how many lines room is made before they are read.
-const MOST_LINES: usize = 100_000;
+/// For how many words at most room is made before they are read.
+const MOST_WORDS: usize = 100_000;
 
-/// How many lines a text has, as far as LF ends them. It is a guess at its words, and nothing but time rests on it.
-fn line_count(text: &[u8]) -> usize {
-    let mut count: usize = 0;
-    for byte in text {
-        if *byte == b'\n' {
-            count = count.saturating_add(1);
-        }
-    }
-    count
+/// How many bytes a line with a word has, as a guess.
+const LINE_LENGTH: usize = 10;
+
+/// How many words a text has, as a guess by its length. Nothing but time rests on it.
+fn word_guess(text: &[u8]) -> usize {
+    text.len() / LINE_LENGTH
 }
 
 /// The line of what comes next.
@@ -143,7 +140,7 @@ impl Assembler {
     fn make_room(&mut self, text: &[u8])
         ensures { self.new ≡ self.old }
     {
-        self.entries.make_room(line_count(text).min(MOST_LINES));
+        self.entries.make_room(word_guess(text).min(MOST_WORDS));
     }
 
     /// Takes the bytes of a text up to the `$` that ends its source, and answers the place of that. It gives what its statements leave. The assembler

@@ -186,6 +186,11 @@ fn make_known(
         → Makes (with_word_entry (own_value names.now.table) (entry_of head steps.now) (with_values (late_of late.now) steps.now) whole) result
         pools.new cells.new clash.new pairs.new.items }
 {
+    if late.is_empty() {
+        return make_word(
+            frames, pools, alloc, names, cells, clash, pairs, head, steps,
+        );
+    }
     scratch.clear();
     scratch.reserve(steps.len())?;
     put_known(scratch, late, steps);

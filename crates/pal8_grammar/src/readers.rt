@@ -282,7 +282,8 @@ impl Reader {
           steps = self.old.steps ++ step ∷ [];
         }) }
     {
-        self.steps.push(step)?;
+        self.steps.reserve(1)?;
+        self.steps.push_reserved(step);
         self.stand = stand;
         Ok(())
     }

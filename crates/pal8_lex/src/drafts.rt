@@ -257,12 +257,13 @@ impl Draft {
             None => Ok(()),
             Some(kind) => {
                 let again = kind;
-                self.tokens.push(Token {
+                self.tokens.reserve(1)?;
+                self.tokens.push_reserved(Token {
                     kind,
                     is_spaced,
                     start: place,
                     end: place.saturating_add(1),
-                })?;
+                });
                 self.head = head_with(again, self.head);
                 Ok(())
             }

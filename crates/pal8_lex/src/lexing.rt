@@ -48,14 +48,22 @@ impl Lexer {
     ///
     /// CR, form feed, NUL and rubout are as if they weren't there. Where memory ran out the byte was not taken, and may be pushed
     /// again. The statement that was shown is then gone. Only a byte that begins a token, or one of a string, takes memory.
-    #[tactic(auto, unfolding(crate::specs::Reading::HasRead))]
-    #[inline]
+    #[inline(always)]
     pub fn push(&mut self, byte: u8) -> Result<bool, AllocError>
         ensures { (text : List ℕ) → HasRead self.old text → Answers text byte result self.new }
     {
         if self.go_further(byte) {
             return Ok(false);
         }
+        self.push_any(byte)
+    }
+
+    /// Takes the next byte, whatever it does.
+    #[tactic(auto, unfolding(crate::specs::Reading::HasRead))]
+    #[inline(never)]
+    fn push_any(&mut self, byte: u8) -> Result<bool, AllocError>
+        ensures { (text : List ℕ) → HasRead self.old text → Answers text byte result self.new }
+    {
         if is_dropped(byte) {
             self.place = self.place.saturating_add(1);
             return Ok(false);
