@@ -73,7 +73,7 @@ def several_texts(seed: int) -> list[bytes]:
     return [text.replace(b"\n", b"\r\n") for text in texts] if random.random() < 0.1 else texts
 
 
-def printed(program: str, texts: list[bytes], options: Options) -> tuple[list[str], str, str]:
+def printed(program: str, texts: list[bytes], options: Options, is_cross: bool) -> tuple[list[str], str, str]:
     """The text, where there are several, the line, the column and the code of each fault that the program prints, and the lines of the tape or the
     numbered line, and the listing."""
     names = [f"S{k}" for k in range(len(texts))]
@@ -81,7 +81,7 @@ def printed(program: str, texts: list[bytes], options: Options) -> tuple[list[st
         for name, text in zip(names, texts):
             with open(f"{folder}/{name}", "wb") as file:
                 file.write(text)
-        done = subprocess.run([program, "assemble", "--pal8", *options.words(), *names, "--list", "L", "--output", "T"], cwd=folder, capture_output=True, timeout=300)
+        done = subprocess.run([program, "assemble", "--pal8", *options.words(), *names, "--list", "L", *(["--cross"] if is_cross else []), "--output", "T"], cwd=folder, capture_output=True, timeout=300)
         listed = open(f"{folder}/L", encoding="latin1", newline="").read() if os.path.exists(f"{folder}/L") else ""
         if done.returncode == 0 and not done.stderr and len(texts) > 1:
             return [], subprocess.run([program, "tape", "T"], cwd=folder, capture_output=True, timeout=300).stdout.decode("latin1"), listed
@@ -99,9 +99,10 @@ def main() -> int:
     for seed in seeds:
         options = options_by(seed)
         for texts in ([Faulty(seed).source()], [nearly_bytes(seed)], several_texts(seed)):
-            came, last, listed = printed(program, texts, options)
+            is_cross = seed % 2 == 0
+            came, last, listed = printed(program, texts, options, is_cross)
             wanted = headlines(texts, MOST, options)
-            wanted_listing = "" if wanted else listing(texts, options)
+            wanted_listing = "" if wanted else listing(texts, options, is_cross)
             is_same = came == wanted and (len(texts) == 1 or last == answer(*texts, options=options)) and listed == wanted_listing
             if is_same:
                 passed += 1

@@ -446,6 +446,7 @@ class Judged:
     number: int = 0
     fields: int = 0
     moves: int = 0
+    tokens: list[Token] = field(default_factory=list)
 
 
 def permanent(name: str, now: Judged) -> Optional[int]:
@@ -555,7 +556,7 @@ class Source:
         is_harmless = (statement.number, statement.start) in self.harmless
         tags, body = harmless_reading(statement) if is_harmless else said(statement, self.before)
         now = Judged(statement.line, tags, body, self.location, self.place(), self.field, self.is_punched, 0, statement.start, self.is_expunged)
-        now.number, now.fields, now.moves = statement.number, self.fields, self.moves
+        now.number, now.fields, now.moves, now.tokens = statement.number, self.fields, self.moves, statement.tokens
         for tag in tags:
             if now.location >= CORE_END:
                 raise Fault("PF")
@@ -888,9 +889,21 @@ def own_names(source: Source) -> dict[str, int]:
     return values
 
 
-def listing(texts: Texts, options: Options = PLAIN) -> str:
+def lines_of_uses(source: Source, name: str) -> str:
+    """The lines of the statements that use a name, each once, with `#` where one of them defines it."""
+    lines = dict[tuple[int, int], bool]()
+    for now in source.judged:
+        files = [k for k, token in enumerate(now.tokens) if name_in(token) in ("FILENA", "DEVICE")]
+        for k, token in enumerate(now.tokens[: min(files, default=len(now.tokens))]):
+            if name_in(token) == name:
+                where = now.number, now.line - source.lines_before[now.number]
+                lines[where] = lines.get(where, False) or now.tokens[k + 1 : k + 2] in ([Token("sign", ",")], [Token("sign", "=")])
+    return " ".join((f"{number + 1}:" if len(source.texts) > 1 else "") + f"{line}" + ("#" if is_defined else "") for (number, line), is_defined in lines.items())
+
+
+def listing(texts: Texts, options: Options = PLAIN, is_cross: bool = False) -> str:
     """Each line after the columns of the first word of the statements that begin in it, the other ones below; the pools; the names. In place of the
-    first blank after the word of a reference through a link stands `@`."""
+    first blank after the word of a reference through a link stands `@`. In a cross reference the lines that use a name follow its value."""
     source = Source(texts, options=options)
     words = Words(source)
     listed = ""
@@ -902,7 +915,7 @@ def listing(texts: Texts, options: Options = PLAIN) -> str:
             listed += "\n" + "".join(f"{it}\n" for it in columns[1:])
     pool = [word_columns(cell, word) + "\n" for cell, word in words.pool()]
     values = own_names(source)
-    names = [f"{name:6}  {values[name]:04o}\n" for name in sorted(values, key=name_number)]
+    names = [f"{name:6}  {values[name]:04o}{'  ' + lines_of_uses(source, name) if is_cross else ''}\n" for name in sorted(values, key=name_number)]
     return "".join([listed, *(["\n"] if pool else []), *pool, "\n", *names])
 
 

@@ -218,7 +218,6 @@ pub const PAIRS: &[Pair] = &[
     ("tape", "into"),
     ("bin", "into"),
     ("as", "text-of"),
-    ("cross", "pal8"),
     ("output", "onto"),
     ("look", "keep"),
     ("look", "wait"),

@@ -12,4 +12,5 @@ mod pauses;
 
 pub use faults::JoinFault;
 pub use joins::{Join, join_all};
+pub use passes::Pass;
 pub use pauses::is_line_open;

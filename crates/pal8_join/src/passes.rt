@@ -3,7 +3,8 @@ ghost use Rattle.std.specs.Prelude.{◌≡◌, ◌<◌, ℕ, IfOk, List, None, O
 ghost use Rattle.pal8_asm.specs.Sources.{Entry, PassResult, first_left, with_next, with_selected};
 ghost use Rattle.pal8_grammar.specs.Bodies as grammar;
 ghost use Rattle.pal8_join.specs.Joins.{is_lone_pause, is_pause, is_pause_name, is_read, line_end};
-ghost use Rattle.pal8_join.specs.Passing.{Follows, Leaves, Meets, is_dollar, remainder_at};
+ghost use Rattle.pal8_join.specs.Passing.{Follows, remainder_at};
+ghost use Rattle.pal8_join.specs.Steps.{Leaves, Meets, is_dollar};
 
 use crate::JoinFault;
 use pal8_asm::{
@@ -17,9 +18,9 @@ use std::marker::Model;
 /// The number of the name PAUSE, which its sixbit codes make.
 const PAUSE: u64 = 0o200125230500;
 
-/// Passes the statements of sources, one after the other, up to a fault or the `$`.
+/// Passes the statements of sources, one after the other, up to a fault or the `$`. It learns what names stand for and which statements are selected.
 #[derive(Drop)]
-pub(crate) struct Pass {
+pub struct Pass {
     names: KnownNames,
     position: Position,
     brackets: Brackets,
@@ -143,7 +144,7 @@ fn pass_selected(
 
 impl Pass {
     /// A pass of no statement of sources that are read by these options. It takes no memory.
-    pub(crate) fn new(alloc: Global, options: Options) -> Pass
+    pub fn new(alloc: Global, options: Options) -> Pass
         ensures { Follows result (Ok (first_left options)) }
     {
         Pass {
@@ -156,14 +157,15 @@ impl Pass {
     }
 
     /// Whether the next statement is selected, after no fault and no `$`.
-    fn is_read(&self) -> bool
+    pub fn is_read(&self) -> bool
         ensures { (left : PassResult) → Follows self.now left → result ≡ is_read left }
     {
         !self.is_over && self.brackets.is_selected()
     }
 
-    /// Passes the next statement.
-    fn take(
+    /// Passes the next statement: its tokens, its string, whether an end cuts that, and what ended it. One that isn't selected opens or closes a bracket
+    /// at most. After a fault or the `$` none means anything. `Memory` is answered where memory ran out, and then no further statement means anything.
+    pub fn take(
         &mut self,
         tokens: &[Token],
         string: &[u8],

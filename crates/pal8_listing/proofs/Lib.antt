@@ -1,1 +1,3 @@
 pub mod ListingLemmas
+pub mod ByteLemmas
+pub mod UseLemmas

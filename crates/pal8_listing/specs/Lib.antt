@@ -1,3 +1,5 @@
 pub mod Rows
 pub mod Texts
+pub mod Uses
+pub mod Steps
 pub mod Listings

@@ -36,7 +36,7 @@ pub(crate) fn put_rows(
 }
 
 /// How many lines of a join end in the bytes that are of the next source, if another one follows that.
-fn lines_read(counts: &[usize], join: &[u8]) -> Option<usize>
+pub(crate) fn lines_read(counts: &[usize], join: &[u8]) -> Option<usize>
     ensures { result ≡ lines_read counts.now join.now }
 {
     match counts {
@@ -45,7 +45,7 @@ fn lines_read(counts: &[usize], join: &[u8]) -> Option<usize>
     }
 }
 
-fn number_after(number: u64, read: Option<usize>) -> u64
+pub(crate) fn number_after(number: u64, read: Option<usize>) -> u64
     ensures { result ≡ number_after number read }
 {
     match read {
@@ -55,7 +55,7 @@ fn number_after(number: u64, read: Option<usize>) -> u64
 }
 
 /// What is left of a join after the bytes that are of the next source.
-fn join_after<'a>(counts: &[usize], join: &'a [u8]) -> &'a [u8]
+pub(crate) fn join_after<'a>(counts: &[usize], join: &'a [u8]) -> &'a [u8]
     ensures { result.now ≡ join_after counts.now join.now }
 {
     match counts {

@@ -90,12 +90,12 @@ pal3-keeps : (is_listed is_cross : Bool) (sources names : List (Bor (List ℕ)))
 pal3-keeps is_listed is_cross sources names old (Ok made) new (assembled, listed, p) path = same path p
 pal3-keeps is_listed is_cross sources names old (Err ending) new (fault, told, p) path = sources-refused sources names fault old ending new p path
 
-pal8-keeps : (is_listed : Bool) (options : Options) (sources names : List (Bor (List ℕ))) → KeepsFiles (MakesPal8 is_listed options sources names)
-pal8-keeps is_listed options sources names old (Ok made) new (assembled, listed, p) path = same path p
-pal8-keeps is_listed options sources names old (Err ending) new (fault, told, p) path = pal8-refused options sources names fault old ending new p path
+pal8-keeps : (is_listed is_cross : Bool) (options : Options) (sources names : List (Bor (List ℕ))) → KeepsFiles (MakesPal8 is_listed is_cross options sources names)
+pal8-keeps is_listed is_cross options sources names old (Ok made) new (assembled, listed, p) path = same path p
+pal8-keeps is_listed is_cross options sources names old (Err ending) new (fault, told, p) path = pal8-refused options sources names fault old ending new p path
 
 makes-if : (is : Bool) (form : AssembleForm) (sources names : List (Bor (List ℕ))) → KeepsFiles (MakesIf is form sources names)
-makes-if true form sources names old result new p path = pal8-keeps (is_some form.list) (options_of form) sources names old result new p path
+makes-if true form sources names old result new p path = pal8-keeps (is_some form.list) form.is_cross (options_of form) sources names old result new p path
 makes-if false form sources names old result new p path = pal3-keeps (is_some form.list) form.is_cross sources names old result new p path
 
 makes-keeps : (form : AssembleForm) (texts : List (List ℕ)) → KeepsFiles (Makes form texts)

@@ -70,18 +70,18 @@ options_of form = record {
 }
 
 -- the listing of PAL8 sources, if it is asked for
-abbrev pub IsPal8Listing : Bool → Options → List (Bor (List ℕ)) → Option (Vec ℕ) → Type 0
-IsPal8Listing true options sources None = ⊥
-IsPal8Listing true options sources (Some listing) = pal8_listing.IsListed options sources listing.items
-IsPal8Listing false options sources listing = listing ≡ None
+abbrev pub IsPal8Listing : Bool → Bool → Options → List (Bor (List ℕ)) → Option (Vec ℕ) → Type 0
+IsPal8Listing true is_cross options sources None = ⊥
+IsPal8Listing true is_cross options sources (Some listing) = pal8_listing.IsListed (listing_form is_cross) options sources listing.items
+IsPal8Listing false is_cross options sources listing = listing ≡ None
 
 -- PAL8 sources are assembled as one, and listed if that is asked for; or their faults are printed
-abbrev pub MakesPal8 : Bool → Options → List (Bor (List ℕ)) → List (Bor (List ℕ)) → List Event → Result Assembled Ending → List Event → Type 0
-MakesPal8 is_listed options sources names old (Ok made) new = pal8.IsTape options sources made.tape.items × IsPal8Listing is_listed options sources made.listing × (new ≡ old)
-MakesPal8 is_listed options sources names old (Err ending) new = (fault : pal8_fault.SourceFault) × pal8.IsTold options sources fault × RefusesPal8 options sources names fault old ending new
+abbrev pub MakesPal8 : Bool → Bool → Options → List (Bor (List ℕ)) → List (Bor (List ℕ)) → List Event → Result Assembled Ending → List Event → Type 0
+MakesPal8 is_listed is_cross options sources names old (Ok made) new = pal8.IsTape options sources made.tape.items × IsPal8Listing is_listed is_cross options sources made.listing × (new ≡ old)
+MakesPal8 is_listed is_cross options sources names old (Err ending) new = (fault : pal8_fault.SourceFault) × pal8.IsTold options sources fault × RefusesPal8 options sources names fault old ending new
 
 abbrev pub MakesIf : Bool → AssembleForm → List (Bor (List ℕ)) → List (Bor (List ℕ)) → List Event → Result Assembled Ending → List Event → Type 0
-MakesIf true form sources names old result new = MakesPal8 (is_some form.list) (options_of form) sources names old result new
+MakesIf true form sources names old result new = MakesPal8 (is_some form.list) form.is_cross (options_of form) sources names old result new
 MakesIf false form sources names old result new = MakesPal3 (is_some form.list) form.is_cross sources names old result new
 
 -- what texts come to in the language that is asked for

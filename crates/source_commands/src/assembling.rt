@@ -144,6 +144,7 @@ fn assembled_sources<H: Host>(
             alloc,
             options_of(form),
             form.list.is_some(),
+            form.is_cross,
             sources,
             names,
         );
@@ -233,13 +234,14 @@ fn pal8_assembled<H: Host>(
     alloc: Global,
     options: Options,
     is_listed: bool,
+    is_cross: bool,
     sources: &[&[u8]],
     names: &[&str],
 ) -> Result<Assembled, Ending>
-    ensures { MakesPal8 is_listed options sources.now names.now (H.history host.old) result (H.history host.new) }
+    ensures { MakesPal8 is_listed is_cross options sources.now names.now (H.history host.old) result (H.history host.new) }
 {
     if is_listed {
-        return listed_pal8(host, alloc, options, sources, names);
+        return listed_pal8(host, alloc, options, is_cross, sources, names);
     }
     match tape_of(alloc, options, sources) {
         Ok(tape) => Ok(Assembled {
@@ -255,12 +257,13 @@ fn listed_pal8<H: Host>(
     host: &mut H,
     alloc: Global,
     options: Options,
+    is_cross: bool,
     sources: &[&[u8]],
     names: &[&str],
 ) -> Result<Assembled, Ending>
-    ensures { MakesPal8 true options sources.now names.now (H.history host.old) result (H.history host.new) }
+    ensures { MakesPal8 true is_cross options sources.now names.now (H.history host.old) result (H.history host.new) }
 {
-    match pal8_listing::list_sources(alloc, options, sources) {
+    match pal8_listing::list_sources(alloc, options, sources, listing_form(is_cross)) {
         Ok(listing) => Ok(Assembled {
             tape: listing.tape,
             listing: Some(listing.text),
