@@ -14,7 +14,8 @@ use Rattle.pal8_asm.specs.Sources as asm
 use Rattle.pal8_asm.specs.Sources.{PassResult, Source, Statement, statement_at, statements, with_next}
 use Rattle.pal8_join.specs.declared.faults.JoinFault.{JoinFault}
 use Rattle.pal8_join.specs.Joins.{empty_statement, ends_statement, is_pause, is_read, pass_on, pauses, tokens_after}
-use Rattle.pal8_join.specs.Passing.{Follows, Meets, MeetsByte, MeetsStatement, PassState}
+use Rattle.pal8_join.specs.Passing.{Follows, PassState}
+use Rattle.pal8_join.specs.Steps.{Meets, MeetsByte, MeetsStatement}
 
 self_longer : {A : Type 0} (x : A) (l : List A) → l ≡ x ∷ l → ⊥
 self_longer x l is =

@@ -14,7 +14,8 @@ use Rattle.pal8_asm.specs.declared.faults.Stop.TheVariants.{At}
 use Rattle.pal8_asm.specs.declared.faults.Fault.{Fault}
 use Rattle.pal8_asm.specs.declared.names.KnownNames.{KnownNames}
 use Rattle.pal8_asm.specs.declared.places.Position.{Position}
-use Rattle.pal8_join.specs.Passing.{Follows, FollowsBy, Leaves, PassState, is_dollar, is_settled, remainder_at}
+use Rattle.pal8_join.specs.Passing.{Follows, FollowsBy, PassState, is_settled, remainder_at}
+use Rattle.pal8_join.specs.Steps.{Leaves, is_dollar}
 
 module _ (s : Statement) (names : KnownNames) (position : Position) (entries : List Entry) (brackets : List Bool) where
   abbrev left : Remainder

@@ -11,7 +11,8 @@ use Rattle.pal8_lex.specs.declared.rules.End.{End}
 use Rattle.pal8_asm.specs.Sources.{PassResult, statements, with_next}
 use Rattle.pal8_join.specs.Laws.{OneIsItself, RestIsNotRead}
 use Rattle.pal8_join.specs.Joins.{before_tokens, closing_bytes, empty_statement, first_pause, has_none, is_line_open, remainder_after, remainder_by, part, part_by, pass_on, pauses, tokens_after, whole_lines}
-use Rattle.pal8_join.specs.Passing.{Finds, FindsAtEnd, Follows, IsPassing, MeetsByte, PassState}
+use Rattle.pal8_join.specs.Passing.{Follows, PassState}
+use Rattle.pal8_join.specs.Steps.{Finds, FindsAtEnd, IsPassing, MeetsByte}
 use Rattle.pal8_join.specs.declared.faults.JoinFault.{JoinFault}
 use Rattle.pal8_join.specs.declared.pauses.Pause.{Pause}
 use Rattle.pal8_join.proofs.TextLemmas.{next_byte, text_again, text_more}

@@ -1,3 +1,4 @@
 pub mod Joins
 pub mod Laws
 pub mod Passing
+pub mod Steps

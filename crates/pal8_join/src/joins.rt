@@ -3,7 +3,8 @@ ghost use Rattle.std.specs.Prelude.{◌≡◌, ◌++◌, ◌∷◌, [], take, If
 ghost use Rattle.pal_lex.specs.Text.{text_of};
 ghost use Rattle.pal8_asm.specs.Sources.{PassResult};
 ghost use Rattle.pal8_join.specs.Joins.{bytes_in, closing_bytes, counts_of, joined_bytes};
-ghost use Rattle.pal8_join.specs.Passing.{Follows, Puts, part_bytes};
+ghost use Rattle.pal8_join.specs.Passing.{Follows};
+ghost use Rattle.pal8_join.specs.Steps.{Puts, part_bytes};
 
 use crate::JoinFault;
 use crate::passes::Pass;

@@ -3,7 +3,8 @@ ghost use Rattle.std.specs.Prelude.{◌≡◌, ◌<◌, ℕ, IfOk, List, None, O
 ghost use Rattle.pal8_asm.specs.Sources.{Entry, PassResult, first_left, with_next, with_selected};
 ghost use Rattle.pal8_grammar.specs.Bodies as grammar;
 ghost use Rattle.pal8_join.specs.Joins.{is_lone_pause, is_pause, is_pause_name, is_read, line_end};
-ghost use Rattle.pal8_join.specs.Passing.{Follows, Leaves, Meets, is_dollar, remainder_at};
+ghost use Rattle.pal8_join.specs.Passing.{Follows, remainder_at};
+ghost use Rattle.pal8_join.specs.Steps.{Leaves, Meets, is_dollar};
 
 use crate::JoinFault;
 use pal8_asm::{

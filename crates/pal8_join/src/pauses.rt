@@ -6,7 +6,8 @@ ghost use Rattle.pal8_lex.specs.Text.{live};
 ghost use Rattle.pal8_lex.specs.Reading.{HasRead, anew};
 ghost use Rattle.pal8_asm.specs.Sources.{PassResult, statements};
 ghost use Rattle.pal8_join.specs.Joins.{has_none, is_line_open, pass_on};
-ghost use Rattle.pal8_join.specs.Passing.{Finds, FindsAtEnd, Follows, IsPassing, MeetsByte, MeetsStatement};
+ghost use Rattle.pal8_join.specs.Passing.{Follows};
+ghost use Rattle.pal8_join.specs.Steps.{Finds, FindsAtEnd, IsPassing, MeetsByte, MeetsStatement};
 ghost use Rattle.pal8_lex.specs.Statements.{is_string};
 
 use crate::JoinFault;

@@ -71,13 +71,13 @@ abbrev pub use_text : List ℕ → Mention → List ℕ
 use_text starts u = spot_text starts (spot_from 1 1 starts u.line) ++ sign_text u.is_definition
 
 -- two uses in a line are one
-abbrev pub joined : Mention → Mention → Mention
-joined u v = record { name = u.name; line = u.line; is_definition = u.is_definition || v.is_definition }
+abbrev pub one_use : Mention → Mention → Mention
+one_use u v = record { name = u.name; line = u.line; is_definition = u.is_definition || v.is_definition }
 
 -- a use and further ones, each line once
 abbrev pub further_text : List ℕ → Mention → List Mention → List ℕ
 further_text starts u [] = use_text starts u
-further_text starts u (v ∷ others) = if nat_eq u.line v.line then further_text starts (joined u v) others else use_text starts u ++ codes " " ++ further_text starts v others
+further_text starts u (v ∷ others) = if nat_eq u.line v.line then further_text starts (one_use u v) others else use_text starts u ++ codes " " ++ further_text starts v others
 
 abbrev pub uses_text : List ℕ → List Mention → List ℕ
 uses_text starts [] = []

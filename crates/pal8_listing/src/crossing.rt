@@ -3,7 +3,7 @@ ghost use Rattle.std.specs.Prelude.{◌≡◌, ◌++◌, ◌∷◌, [], ℕ, Lis
 ghost use Rattle.pal_lex.specs.Text.{limit};
 ghost use Rattle.pal8_asm.specs.declared.options.Options as options;
 ghost use Rattle.pal8_listing.specs.Steps.{AreByName};
-ghost use Rattle.pal8_listing.specs.Uses.{cross_text, further_text, is_of, joined, later_starts, sign_text, spot_from, spot_text, use_text, uses_text};
+ghost use Rattle.pal8_listing.specs.Uses.{cross_text, further_text, is_of, one_use, later_starts, sign_text, spot_from, spot_text, use_text, uses_text};
 ghost use Rattle.std.specs.Prelude.{filter, ◌+◌, ◌-◌};
 ghost use Rattle.pal8_listing.specs.declared.mentions.Mention as mention;
 
@@ -93,8 +93,8 @@ fn put_use(text: &mut Vec<u8>, starts: &[u64], mention: Mention) -> Result<(), A
 }
 
 /// Two uses in a line, as one.
-fn joined(first: Mention, second: Mention) -> Mention
-    ensures { result ≡ joined first second }
+fn one_use(first: Mention, second: Mention) -> Mention
+    ensures { result ≡ one_use first second }
 {
     Mention {
         name: first.name,
@@ -114,7 +114,7 @@ fn put_before(
         ≡ text.old.items ++ further_text starts.now current (next ∷ others)) }
 {
     if current.line == next.line {
-        return Ok(joined(current, next));
+        return Ok(one_use(current, next));
     }
     put_use(text, starts, current)?;
     text.extend_from_slice(b" ")?;

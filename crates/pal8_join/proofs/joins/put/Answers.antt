@@ -1,5 +1,5 @@
 use Rattle.std.proofs.Common.{Bool, subst, sym, arith}
-use Rattle.pal8_join.specs.Passing.{Puts}
+use Rattle.pal8_join.specs.Steps.{Puts}
 use Rattle.pal8_join.proofs.JoinLemmas.{part_put}
 use Rattle.pal8_join.proofs.joins.put.Goals as goal
 

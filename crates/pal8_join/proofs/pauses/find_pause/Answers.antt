@@ -1,7 +1,7 @@
 use Rattle.std.proofs.Common.{Option, get_or, refl, subst, take, arith}
 use Rattle.pal_lex.specs.Text.{text_of}
 use Rattle.pal8_lex.specs.declared.rules.End.{End}
-use Rattle.pal8_join.specs.Passing.{IsPassing, MeetsByte}
+use Rattle.pal8_join.specs.Steps.{IsPassing, MeetsByte}
 use Rattle.pal8_join.proofs.TextLemmas.{text_whole}
 use Rattle.pal8_join.proofs.PauseLemmas.{byte_passed, byte_pauses, result_at_end}
 use Rattle.pal8_join.proofs.pauses.find_pause.Goals as goal

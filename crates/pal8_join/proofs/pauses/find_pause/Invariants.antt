@@ -1,7 +1,8 @@
 use Rattle.std.proofs.Common.{◌-◌, length, take}
 use Rattle.pal_lex.specs.Text.{text_of}
 use Rattle.pal8_asm.specs.Sources.{PassResult}
-use Rattle.pal8_join.specs.Passing.{Follows, IsPassing}
+use Rattle.pal8_join.specs.Passing.{Follows}
+use Rattle.pal8_join.specs.Steps.{IsPassing}
 use Rattle.pal8_join.proofs.pauses.find_pause.Given as goal
 
 -- the bytes so far are passed
