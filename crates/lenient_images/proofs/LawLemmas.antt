@@ -1,14 +1,13 @@
 -- What holds of an image of which the faults are mended.
-use Rattle.std.proofs.Common.{◌≡◌, ℕ, ◌+◌, ◌*◌, ◌/◌, ◌%◌, ◌<◌, ◌≤◌, List, [], length, slice_index, All, arith, refl, subst, sym, ap, ◌∙◌, inl, inr, Ok, Err}
+use Rattle.std.proofs.Common.{◌≡◌, ℕ, ◌+◌, ◌*◌, ◌/◌, ◌%◌, ◌<◌, ◌≤◌, List, length, slice_index, All, arith, refl, subst, sym, ◌∙◌, inl, inr, Ok, Err}
 use Rattle.std.specs.Prelude.{Contains}
 use Rattle.std.proofs.lemmas.Bool.{cases_eq, cases_lt}
 use Rattle.std.proofs.lemmas.List.{ext_get_or, get_or_past}
 use Rattle.std.proofs.lemmas.List.Elements.{All-get_or}
-use Rattle.volume_image.specs.Image.{AreBytes, HasImageSize, IsImage, image_word}
+use Rattle.volume_image.specs.Image.{AreBytes, IsImage, image_word}
 use Rattle.volume_image.specs.declared.faults.ImageFault.TheVariants.{NotWhole, TooSmall, TooLarge, BadWord, Memory}
-use Rattle.lenient_images.specs.declared.mending.MendedImage.{MendedImage}
-use Rattle.lenient_images.specs.Mending.{IsMended, mended_blocks, mended_size, mended_words, wide_words}
-use Rattle.lenient_images.specs.Laws.{IsUntouched, IsWide, SoundStays, MendedIsImage, MendedIsRead, ListedAreWide, ChangedAreListed}
+use Rattle.lenient_images.specs.Mending.{mended_blocks, mended_size, mended_words, wide_words}
+use Rattle.lenient_images.specs.Laws.{IsWide, SoundStays, MendedIsImage, MendedIsRead, ListedAreWide, ChangedAreListed}
 use Rattle.lenient_images.proofs.WideLemmas.{all_wide, none_wide, wide_listed}
 
 -- an image has the size that it gets
