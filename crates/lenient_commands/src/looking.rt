@@ -19,7 +19,9 @@ pub fn look_leniently<H: Host>(
     alloc: Global,
     form: &ImageForm,
 ) -> Result<Vec<u8>, Ending>
-    ensures { LooksLeniently form.now (H.history host.old) result (H.history host.new) }
+    ensures looks { LooksLeniently form.now (H.history host.old) result (H.history host.new) }
+    ensures files { (path : List ℕ) → about path (H.history host.new) ≡ about path (H.history host.old) }
+    ensures output { output (H.history host.new) ≡ output (H.history host.old) }
 {
     let image = look_at(host, alloc, form)?;
     mended_image(host, alloc, image)
@@ -27,7 +29,9 @@ pub fn look_leniently<H: Host>(
 
 /// An image with its faults mended, which are printed on standard error. Of one without faults nothing is printed, and it stays as it is.
 pub fn mended_image<H: Host>(host: &mut H, alloc: Global, image: Vec<u8>) -> Result<Vec<u8>, Ending>
-    ensures { Mends image.items (H.history host.old) result (H.history host.new) }
+    ensures mends { Mends image.items (H.history host.old) result (H.history host.new) }
+    ensures files { (path : List ℕ) → about path (H.history host.new) ≡ about path (H.history host.old) }
+    ensures output { output (H.history host.new) ≡ output (H.history host.old) }
 {
     let it = mend(alloc, image)?;
     let lines = repair_text(alloc, &it)?;
