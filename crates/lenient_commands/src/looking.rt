@@ -39,7 +39,7 @@ pub fn mended_image<H: Host>(host: &mut H, alloc: Global, image: Vec<u8>) -> Res
     let MendedImage {
         bytes,
         wide: _,
-        added: _,
+        zeros: _,
         cut: _,
     } = it;
     Ok(bytes)

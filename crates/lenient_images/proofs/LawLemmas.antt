@@ -49,7 +49,7 @@ sound_stays bytes it bo bn mended image =
       same = same_bytes it.bytes.items bytes (mended_words (length bytes)) bn bo (mended.size ∙ omega arith) (sym same ∙ omega arith)
           (λ k h. mended.words k h ∙ small_rest (image_word bytes k) (image.range k));
       wide = mended.wide ∙ none_wide bytes (mended_words (length bytes)) image.range;
-      added = mended.added ∙ omega (arith, same);
+      zeros = mended.zeros ∙ omega (arith, same);
       cut = mended.cut ∙ omega (arith, same);
     }
 

@@ -12,7 +12,7 @@ use Rattle.lenient_images.specs.Mending.{IsMended, mended_words}
 pub record IsUntouched (bytes : List ℕ) (it : MendedImage) : Type 0 where
   pub same : it.bytes.items ≡ bytes
   pub wide : it.wide.items ≡ []
-  pub added : it.added ≡ 0
+  pub zeros : it.zeros ≡ 0
   pub cut : it.cut ≡ 0
 
 abbrev pub SoundStays : Type 0

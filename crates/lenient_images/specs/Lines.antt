@@ -38,5 +38,5 @@ count_line what (suc k) = what ++ decimal (suc k) ++ 0o12 ∷ []
 abbrev pub repair_lines : MendedImage → List ℕ
 repair_lines it = first_lines it.wide.items
     ++ count_line (codes "note: so many words more had their top bits taken off: ") (length it.wide.items - MOST_LINES)
-    ++ count_line (codes "note: so many bytes of zeros were added: ") it.added
+    ++ count_line (codes "note: so many bytes of zeros were added: ") it.zeros
     ++ count_line (codes "note: so many bytes were cut from the end: ") it.cut

@@ -5,7 +5,7 @@ use Rattle.volume_image.specs.Image.{image_word}
 use Rattle.lenient_images.specs.declared.mending.WideWord.{WideWord}
 use Rattle.lenient_images.specs.declared.mending.MendedImage.{MendedImage}
 
--- so many bytes are these blocks, the last of them perhaps in part, but at least 8 and at most 4095
+-- so many bytes are these blocks, the last of them perhaps in part, but at least 8 and at most those of a volume
 abbrev pub mended_blocks : ℕ → ℕ
 mended_blocks size = min (max ((size + 511) / 512) 8) MOST_BLOCKS
 
@@ -34,5 +34,5 @@ pub record IsMended (bytes : List ℕ) (it : MendedImage) : Type 0 where
   pub size : length it.bytes.items ≡ mended_size (length bytes)
   pub words : (k : ℕ) → k < mended_words (length bytes) → image_word it.bytes.items k ≡ image_word bytes k % 0o10000
   pub wide : it.wide.items ≡ wide_words bytes (mended_words (length bytes))
-  pub added : it.added ≡ mended_size (length bytes) - length bytes
+  pub zeros : it.zeros ≡ mended_size (length bytes) - length bytes
   pub cut : it.cut ≡ length bytes - mended_size (length bytes)

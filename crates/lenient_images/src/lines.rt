@@ -10,8 +10,8 @@ use word12::{BLOCK, Word};
 /// Of so many words a line each is printed, and of more their count.
 pub const MOST_LINES: usize = 16;
 
-/// Appends the lines that say what was done to an image: one for each of the first 16 words of which the top bits were taken off, the count
-/// of the others, and the bytes that were added or cut. Of an image without faults there is none.
+/// Appends the lines that say what was done to an image. There is one for each of the first 16 words of which the top bits were taken
+/// off, and one for the count of the others. Then come the bytes that were added or cut. Of an image without faults there is none.
 pub fn put_repairs(text: &mut Vec<u8>, it: &MendedImage) -> Result<(), AllocError>
     ensures { OnOk result (text.new.items ≡ text.old.items ++ spec.repair_lines it.now) }
 {
@@ -22,7 +22,7 @@ pub fn put_repairs(text: &mut Vec<u8>, it: &MendedImage) -> Result<(), AllocErro
         more,
         b"note: so many words more had their top bits taken off: ",
     )?;
-    put_count(text, it.added, b"note: so many bytes of zeros were added: ")?;
+    put_count(text, it.zeros, b"note: so many bytes of zeros were added: ")?;
     put_count(text, it.cut, b"note: so many bytes were cut from the end: ")?;
     Ok(())
 }

@@ -22,13 +22,13 @@ pub struct MendedImage {
     /// The words of which the top bits were taken off, in their order.
     pub wide: Vec<WideWord>,
     /// How many bytes of zeros were added after the end.
-    pub added: usize,
+    pub zeros: usize,
     /// How many bytes were cut from the end.
     pub cut: usize,
 }
 
-/// An image with its faults mended. Of each word the top four bits are off. There are 8 to 4095 blocks: zeros are added up to the end of
-/// the last block, and what is beyond the most blocks is cut. `AllocError` comes where memory is refused.
+/// An image with its faults mended. Of each word the top four bits are off. There are at least 8 blocks, and at most those of a
+/// volume: zeros are added up to the end of the last block, and what is beyond the most is cut. `AllocError` comes where memory is refused.
 pub fn mend(alloc: Global, bytes: Vec<u8>) -> Result<MendedImage, AllocError>
     ensures { IfOk result (λ it. IsMended bytes.items it) }
 {
@@ -41,7 +41,7 @@ pub fn mend(alloc: Global, bytes: Vec<u8>) -> Result<MendedImage, AllocError>
     Ok(MendedImage {
         bytes: image,
         wide,
-        added: new.saturating_sub(old),
+        zeros: new.saturating_sub(old),
         cut: old.saturating_sub(new),
     })
 }

@@ -10,7 +10,7 @@ returns c =
     let more : c.saturating_sub-more.result ≡ length it.wide.items - 16 = c.saturating_sub-more.ensures ∙ ap (λ n. n - 16) long in
     grown_four c.args.text.now.items (first_lines it.wide.items)
     (count_line (codes "note: so many words more had their top bits taken off: ") (length it.wide.items - 16))
-    (count_line (codes "note: so many bytes of zeros were added: ") it.added)
+    (count_line (codes "note: so many bytes of zeros were added: ") it.zeros)
     (count_line (codes "note: so many bytes were cut from the end: ") it.cut)
     _ _ _ _
     (c.in_ok-put_first_words.ensures ∙ ap (λ ws. c.args.text.now.items ++ first_lines ws) c.deref.ensures.value)

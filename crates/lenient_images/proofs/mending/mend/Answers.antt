@@ -17,6 +17,6 @@ returns c =
       words = words_off bytes fitted c.narrow_words.new.image.items n same (λ k h. c.narrow_words.ensures.words k (omega (arith, half, h)));
       wide = c.in_ok-wide.ensures ∙ ap (λ l. wide_words l (512 * c.mended_blocks-new.result / 2)) c.deref.ensures.value
           ∙ ap (wide_words fitted) half ∙ same_wide fitted bytes n (same_words fitted bytes n same);
-      added = omega (arith, blocks, long, c.saturating_sub.ensures);
+      zeros = omega (arith, blocks, long, c.saturating_sub.ensures);
       cut = omega (arith, blocks, long, c.saturating_sub-2.ensures);
     }
