@@ -27,8 +27,8 @@ pub struct MendedImage {
     pub cut: usize,
 }
 
-/// An image with its faults mended. Of each word the top four bits are off. There are at least 8 blocks, and at most those of a
-/// volume: zeros are added up to the end of the last block, and what is beyond the most is cut. `AllocError` comes where memory is refused.
+/// An image with its faults mended. Of each word the top four bits are off. There are at least 8 blocks, and at most those of a volume.
+/// Zeros are added up to the end of the last block, and what is beyond the most is cut. `AllocError` comes where memory is refused.
 pub fn mend(alloc: Global, bytes: Vec<u8>) -> Result<MendedImage, AllocError>
     ensures { IfOk result (λ it. IsMended bytes.items it) }
 {
