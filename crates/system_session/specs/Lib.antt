@@ -16,3 +16,4 @@ pub mod Road
 pub mod ConsoleSteps
 pub mod SessionSteps
 pub mod ReadSteps
+pub mod Shown
