@@ -86,6 +86,9 @@ PLACES: dict[str, dict[str, tuple[int, str]]] = {
     "tape_source/src/tags.rt": {
         "named_cells": (1, "a flag for each cell of core, asked for once"),
     },
+    "system/src/files.rt": {
+        "given_word": (1, "no word of the command line has more bytes than the largest room"),
+    },
     "system_session/src/consoles.rt": {
         "new": (1, "`Core::new` can fail for nothing else"),
     },

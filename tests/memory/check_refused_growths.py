@@ -59,15 +59,19 @@ EXPECTED = {
     "files": {"same": (20, 1000), "outside": (1, 8)},
     "pdp8": {"memory": (20, 1000), "done without": (1, 8)},
 }
+# The script whose run by `pdp8` may have no growth that it can do without.
+WANTS_ALL = "a full volume"
 
 # The words of each file by those of its name; what a run printed, with the files that it left.
 Files = dict[tuple[int, ...], list[int]]
 Front = tuple[bytes, Files]
 
 
-def unexpected(kind: str, found: dict[str, int]) -> list[str]:
-    """The outcomes that a kind of runs had too seldom or too often."""
-    wanted = EXPECTED[kind]
+def unexpected(title: str, kind: str, found: dict[str, int]) -> list[str]:
+    """The outcomes that a kind of runs of a script had too seldom or too often."""
+    wanted = dict(EXPECTED[kind])
+    if title == WANTS_ALL and kind == "pdp8":
+        wanted["done without"] = (0, 8)
     return [f"{found.get(what, 0)} {what}, not {low} to {high}" for what, (low, high) in wanted.items() if not low <= found.get(what, 0) <= high]
 
 
@@ -194,7 +198,7 @@ def main() -> int:
                 print(f"{title}, {kind}: " + ", ".join(f"{count} {what}" for what, count in sorted(found.items())))
                 good = sum(count for what, count in found.items() if what in ("same", "outside", "memory", "done without"))
                 passed, failed = passed + good, failed + sum(found.values()) - good
-                for it in unexpected(kind, found):
+                for it in unexpected(title, kind, found):
                     print(f"{title}, {kind}: {it}")
                     failed += 1
         text = "".join(f"{line}\n" for line in SCRIPTS["a program loaded"]).encode()

@@ -2,8 +2,9 @@
 """compare_archives.py [--program FILE] [--cases N] [--seed S]: does random commands to the files of random images with the program `pdp8`. It does N
 times twenty, 100 from 1 on where nothing is said: put, get, delete, rename, copy, squeeze and list, of one file and of many. Files are named by
 names, patterns and first blocks. The volumes have gaps, 0 to 10 information words, and directories that are nearly full or past it. They lie alone in
-their files, on disks and on DECtapes. It compares every byte that comes with a plain keeper of volumes that is written from the definitions alone.
-Files of any kind are listed with no option that says what they are.
+their files, on disks and on DECtapes, some with bytes before or after them. Where a file is known by its length and its directories, half of the
+commands have no option that says where its volume is. It compares every byte that comes with a plain keeper of volumes that is written from the
+definitions alone. Files of any kind are listed with no option that says what they are.
 After each command it also holds to the keeper the files of the images, where they lie, all blocks that are no file's, and all bytes beside the
 volume. Damaged directories are looked at too. The same number is the same case each time. The last line is 'N passed, M failed'.
 """
@@ -22,7 +23,7 @@ sys.path.insert(0, TOP)
 from tests.model.cases import full_image, lots
 from tests.model.compare import outside
 from tests.model.compare_indexes import random_file
-from tests.model.disks import Held, held_image, wrong_size
+from tests.model.disks import Held, held_image, with_margins, wrong_size
 from tests.model.index import parts_of, volume_of
 from tests.model.keeper import TEXTS, Asked, Keeper, extension, given_of, has_sign, host_name
 from tests.model.survey import damaged, surveyed
@@ -68,16 +69,29 @@ def random_pattern(random: Random, volume: Volume) -> str:
     return random.choice(["*", "*.*", "*.PA", "*.BN", "F?", "S?.P?", "?*.T*", "*.", "*.*.*", "a-*", "f*", "*.pa", f"{name}*", name, "*" * 13])
 
 
+def with_known_margins(random: Random, held: Held) -> Held:
+    """A file with a volume, sometimes with bytes beside it that its length and its directory show to be none of the volume's."""
+    wide = with_margins(random, held)
+    is_known = held.layout in ("", "tape") and [part.image for part in parts_of(wide.data)] == [held.image]
+    return wide if is_known and random.random() < 0.3 else held
+
+
 class Case:
     """Two images in a folder, and what they hold by the plain keeper."""
 
     def __init__(self, program: str, folder: str, random: Random) -> None:
         self.program, self.folder, self.random = program, folder, random
-        self.held = {image: held_image(random, random_image(random)) for image in IMAGES}
+        self.held = {image: with_known_margins(random, held_image(random, random_image(random))) for image in IMAGES}
         for image, held in self.held.items():
             write(f"{folder}/{image}", held.data)
         self.keeper = Keeper({image: read_volume(held.image) for image, held in self.held.items()})
         self.seen: dict[str, Volume] = {}
+
+    def where(self, image: str, to: str = "") -> list[str]:
+        """The options that say where the volume of an image is, mostly; none where the file's length and directories say it as well."""
+        held = self.held[image]
+        is_known = [part.image for part in parts_of(held.data)] == [held.image]
+        return [] if is_known and self.random.random() < 0.5 else held.words(to)
 
     def command(self) -> str:
         """Does a random command. Says how the program differs from the keeper, and nothing where it doesn't."""
@@ -88,13 +102,13 @@ class Case:
         random, image = self.random, self.random.choice(IMAGES)
         name, given = random_name(random, self.keeper.volumes[image]), random.randbytes(random.choice([0, 1, 383, 384, 385, 2000]))
         info = [random.randrange(0o10000) for _ in range(random.choice([0, 0, 0, 1, 3, 11]))]
-        words = ["put", image, "-", "--as", name.decode(), *self.held[image].words(), *(it for word in info for it in ("--info", octal(word, 4)))]
+        words = ["put", image, "-", "--as", name.decode(), *self.where(image), *(it for word in info for it in ("--info", octal(word, 4)))]
         return self.differs(words, given, self.keeper.put_frames(image, name, given, tuple(info) if info else None))
 
     def get(self) -> str:
         random, image = self.random, self.random.choice(IMAGES)
         asked, is_text = random_asked(random, self.keeper.volumes[image]), random.random() < 0.5
-        words = ["get", image, *asked_words(asked), *self.held[image].words(), *(["--text"] if is_text else [])]
+        words = ["get", image, *asked_words(asked), *self.where(image), *(["--text"] if is_text else [])]
         data, status = self.keeper.get(image, asked, is_text)
         return self.differs_in_bytes(words, b"", data, status)
 
@@ -103,13 +117,13 @@ class Case:
         volume, share = self.keeper.volumes[image], random.choice([0, 0, 0.5])
         asked = [random_pattern(random, volume).encode() if random.random() < share else random_asked(random, volume) for _ in range(random.choice([1, 1, 2, 3]))]
         asked.sort(key=lambda it: isinstance(it, int))
-        words = ["delete", image, *(word for it in asked for word in asked_words(it)), *self.held[image].words()]
+        words = ["delete", image, *(word for it in asked for word in asked_words(it)), *self.where(image)]
         return self.differs(words, b"", self.keeper.delete(image, asked))
 
     def rename(self) -> str:
         random, image = self.random, self.random.choice(IMAGES)
         asked, new = random_asked(random, self.keeper.volumes[image]), random_name(random, self.keeper.volumes[image])
-        words = ["rename", image, *asked_words(asked), new.decode(), *self.held[image].words()]
+        words = ["rename", image, *asked_words(asked), new.decode(), *self.where(image)]
         return self.differs(words, b"", self.keeper.rename(image, asked, new))
 
     def copy(self) -> str:
@@ -117,7 +131,7 @@ class Case:
         asked = random_asked(random, self.keeper.volumes[image])
         new = random_name(random, self.keeper.volumes[other]) if random.random() < 0.5 else None
         words = ["copy", image, *asked_words(asked), other, *([new.decode()] if new else [])]
-        words += [*self.held[image].words(), *self.held[other].words("to-")]
+        words += [*self.where(image), *self.where(other, "to-")]
         return self.differs(words, b"", self.keeper.copy(image, asked, other, new))
 
     def copy_many(self) -> str:
@@ -125,12 +139,12 @@ class Case:
         asked = [random_pattern(random, self.keeper.volumes[image]) for _ in range(random.choice([1, 1, 2, 3, 4, 5]))]
         is_forced = random.random() < 0.5
         words = ["copy", image, *asked, "--to", other, *(["--force"] if is_forced else [])]
-        words += [*self.held[image].words(), *self.held[other].words("to-")]
+        words += [*self.where(image), *self.where(other, "to-")]
         return self.differs(words, b"", self.keeper.copy_many(image, asked, other, is_forced))
 
     def told(self) -> str:
         random, image = self.random, self.random.choice(IMAGES)
-        kind, where = random.choice(["squeeze", "list", "long"]), self.held[image].words()
+        kind, where = random.choice(["squeeze", "list", "long"]), self.where(image)
         if kind == "squeeze":
             return self.differs(["squeeze", image, *where], b"", self.keeper.squeeze(image))
         asked = [random_pattern(random, self.keeper.volumes[image]) for _ in range(random.choice([0, 0, 1, 2]))]
@@ -161,7 +175,7 @@ class Case:
         lines = {host_name(volume, it): f"GOT {shown_name(it)} {volume.files[it].blocks}" for it in names}
         if there and not is_forced:
             lines[there], files[there] = f"{there}: ? HOST EXISTS", b"older"
-        words += ["--into", folder, *self.held[image].words(), *(["--force"] if is_forced else [])]
+        words += ["--into", folder, *self.where(image), *(["--force"] if is_forced else [])]
         done = self.done(words, b"")
         status = 1 if refused or there and not is_forced else 0
         if (sorted(done.stdout.decode("latin-1").splitlines()), done.returncode) != (sorted([*lines.values(), *refused]), status):
@@ -181,7 +195,7 @@ class Case:
             places = places * 2
         words = ["get", image, *asked, *(word for it in places for word in it.split()), *(["--all"] if is_all else []), "--text"]
         data, status = self.keeper.texts(image, [*asked, *places], is_all)
-        return self.differs_in_bytes([*words, *self.held[image].words()], b"", data, status)
+        return self.differs_in_bytes([*words, *self.where(image)], b"", data, status)
 
     def put_many(self) -> str:
         """Puts files of the host, mostly of good names, some of which are no texts."""
@@ -194,7 +208,7 @@ class Case:
         for name, content in given:
             write(f"{self.folder}/{name.decode()}", content)
         marks: list[str] = random.choice([[], ["--files"]])
-        words = ["put", image, *marks, *names, *options, *self.held[image].words(), *(it for word in info for it in ("--info", octal(word, 4)))]
+        words = ["put", image, *marks, *names, *options, *self.where(image), *(it for word in info for it in ("--info", octal(word, 4)))]
         return self.differs(words, b"", self.keeper.put_all(image, given, texts, tuple(info) if info else None))
 
     def others(self) -> str:
@@ -205,14 +219,14 @@ class Case:
             wrong, line = wrong_size(random)
             write(f"{self.folder}/X", wrong.data)
             return self.differs([random.choice(["list", "squeeze", "check"]), "X", *wrong.words()], b"", ([line], 1))
-        whole = Held(held.layout, read(f"{self.folder}/{image}")).image
+        whole = Held(held.layout, read(f"{self.folder}/{image}"), held.before, held.after).image
         if kind == "damaged":
             broken = damaged(random, whole)
             write(f"{self.folder}/X", broken)
             return self.differs(["check", "--all", "X"], b"", surveyed(broken))
         count = len(whole) // 512
         first, some = random.choice([0, 1, 7, count - 1, count]), random.choice([1, 2, count])
-        words = ["get", image, "--blocks", str(first), str(some), *held.words()]
+        words = ["get", image, "--blocks", str(first), str(some), *self.where(image)]
         if first + some > count:
             return self.differs(words, b"", ([f"? BLOCKS 1 ONLY {count}"], 1))
         part = words_of_image(whole[512 * first : 512 * (first + some)])
@@ -263,7 +277,7 @@ class Case:
         before, data = self.held[image], read(f"{self.folder}/{image}")
         if data == before.data and self.keeper.volumes[image] == self.seen.get(image):
             return ""
-        wanted, now = self.keeper.volumes[image], Held(before.layout, data)
+        wanted, now = self.keeper.volumes[image], Held(before.layout, data, before.before, before.after)
         try:
             got = read_volume(now.image)
         except Unsound as why:

@@ -1,8 +1,8 @@
 #!/usr/bin/env python3
 """compare_indexes.py [--program FILE] [--images N] [--seed S]: makes N random image files, 2,000 where nothing is said. They are volumes with files
 of all kinds, odd names and dates, alone in their files, on disks and on DECtapes. Some have bytes before or after them, and some files hold no
-volume. It compares what `index` prints of 200 of them at once, and of each twentieth alone, with a plain reader that is written from the definitions
-alone. The same number is the same images each time. The last line is 'N passed, M failed'.
+volume. It compares what `index` prints of 200 of them at once, of those with --same, and of each twentieth alone, with a plain reader that is written from
+the definitions alone. The same number is the same images each time. The last line is 'N passed, M failed'.
 """
 import argparse
 import os
@@ -16,7 +16,7 @@ TOP = os.path.dirname(os.path.dirname(os.path.dirname(os.path.abspath(__file__))
 sys.path.insert(0, TOP)
 from tests.model.cases import full_image, lots
 from tests.model.disks import VOLUME, held_image
-from tests.model.index import indexed
+from tests.model.index import equal_lines, indexed
 from tests.model.tape import tape_of
 from tests.model.volume import Lot, made_image
 from tests.model.words import BLOCK_WORDS, Name, packed, parsed_name, stored_text
@@ -108,14 +108,16 @@ def run(program: str, folder: str, names: list[str], words: list[str]) -> tuple[
     return done.stdout.decode().splitlines(), done.stderr.decode().splitlines(), done.returncode
 
 
-def fault_of(program: str, folder: str, names: list[str], year: int | None) -> str:
-    """How what is printed of files differs from their plain index; nothing where it doesn't."""
+def fault_of(program: str, folder: str, names: list[str], year: int | None, is_same: bool) -> str:
+    """How what is printed of files, or of equal files alone, differs from their plain index; nothing where it doesn't."""
     wanted, refused = list[str](), list[str]()
     for name in names:
         with open(f"{folder}/{name}", "rb") as file:
             lines, others = indexed(name, file.read(), year)
         wanted, refused = wanted + lines, refused + others
-    printed, said, status = run(program, folder, names, ["--year", str(year)] if year else [])
+    wanted = equal_lines(wanted) if is_same else wanted
+    words = (["--year", str(year)] if year else []) + (["--same"] if is_same else [])
+    printed, said, status = run(program, folder, names, words)
     if printed != wanted:
         at = next((k for k, pair in enumerate(zip(printed, wanted)) if pair[0] != pair[1]), min(len(printed), len(wanted)))
         return f"line {at + 1} is {printed[at : at + 1]} in place of {wanted[at : at + 1]}"
@@ -148,9 +150,9 @@ def main() -> int:
             for seed in some_seeds:
                 with open(f"{folder}/i{seed}", "wb") as file:
                     file.write(random_file(Random(seed)))
-            for some, year in [(names, None), *(([name], 1990) for name in names[::ALONE])]:
+            for some, year, is_same in [(names, None, False), (names, None, True), *(([name], 1990, False) for name in names[::ALONE])]:
                 tests += 1
-                fault = fault_of(program, folder, some, year)
+                fault = fault_of(program, folder, some, year, is_same)
                 faults += [f"{some[0]}: {fault}"] if fault else []
     for fault in faults[:SHOWN]:
         print(fault)

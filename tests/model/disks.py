@@ -37,10 +37,12 @@ def needed(layout: str, data: bytes) -> int:
 
 @dataclass
 class Held:
-    """A file with a volume somewhere in it, as it was before a command."""
+    """A file with a volume somewhere in it, as it was before a command, and how many bytes before and after its volumes are none of theirs."""
 
     layout: str
     data: bytes
+    before: int = 0
+    after: int = 0
 
     def words(self, to: str = "") -> list[str]:
         """The options that say where the volume is."""
@@ -48,16 +50,29 @@ class Held:
             return [f"--{to}dectape"]
         return [f"--{to}volume", self.layout] if self.layout else []
 
+    def body(self, data: bytes) -> bytes:
+        return data[self.before : len(data) - self.after]
+
     @property
     def image(self) -> bytes:
-        return image_in(self.layout, self.data)
+        return image_in(self.layout, self.body(self.data))
 
     def fault(self, new: bytes) -> str:
         """What of a new file is not as it must be beside its volume."""
-        if others_in(self.layout, new) != others_in(self.layout, self.data):
+        if (new[: self.before], new[len(new) - self.after :]) != (self.data[: self.before], self.data[len(self.data) - self.after :]):
+            return "a byte before or after the volumes has changed"
+        if others_in(self.layout, self.body(new)) != others_in(self.layout, self.body(self.data)):
             return "a byte beside the volume has changed"
         length = max(len(self.data), needed(self.layout, new))
         return "" if len(new) == length else f"the file has {len(new)} bytes in place of {length}"
+
+
+def with_margins(random: Random, held: Held) -> Held:
+    """The same volume in a file with some bytes before it or after it."""
+    more = random.randbytes(random.choice([1, 100, 511]))
+    if random.random() < 0.5:
+        return Held(held.layout, more + held.data, len(more), 0)
+    return Held(held.layout, held.data + more, 0, len(more))
 
 
 def held_image(random: Random, image: bytes) -> Held:

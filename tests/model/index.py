@@ -1,5 +1,6 @@
 """The index of image files by its definitions: what a file is, the volumes in it, and a line for each file of each."""
 import hashlib
+from collections import Counter
 from dataclasses import dataclass
 from typing import Optional
 from tests.model.disks import VOLUME, image_in
@@ -185,3 +186,10 @@ def indexed(name: str, data: bytes, year: Optional[int] = None) -> tuple[list[st
         else:
             lines += lines_of(name, part, volume, year)
     return lines, refused
+
+
+def equal_lines(lines: list[str]) -> list[str]:
+    """The lines whose digest another line has, by their digests."""
+    digests = [line.rsplit("\t", 1)[1] for line in lines]
+    shared = {it for it, count in Counter(digests).items() if count > 1}
+    return [line for digest, line in sorted(zip(digests, lines), key=lambda pair: pair[0]) if digest in shared]

@@ -1,3 +1,4 @@
 pub mod DateLemmas
 pub mod DumpLemmas
 pub mod OwnerLemmas
+pub mod WorkLemmas

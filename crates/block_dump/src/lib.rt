@@ -2,6 +2,7 @@
 #![tactic(auto)]
 
 mod dumping;
+pub mod laws;
 mod rows;
 
 pub use dumping::{DumpForm, put_block, put_words};

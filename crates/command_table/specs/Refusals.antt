@@ -126,6 +126,11 @@ moved_missing id one both values =
     if not (has (codes "NAME") values) then (if has (codes "at") values then Some one else Some both)
     else if has (codes "at") values || has id values then None else Some one
 
+-- the files are to be copied that a pattern in the place of a name fits
+abbrev pub copies_pattern : List Row → Bool
+copies_pattern values =
+    not (has (codes "to") values) && not (has (codes "at") values) && has (codes "TO") values && has_sign (unwrap_or (first_of (codes "NAME") values) [])
+
 -- of files that are copied, several where it is said which volume gets them
 abbrev pub copy_missing : List Row → Option What
 copy_missing values =
@@ -142,10 +147,11 @@ tape_missing values =
 abbrev pub says_of_volume : List Row → Bool
 says_of_volume values = has (codes "onto") values || has (codes "volume") values || is_set (codes "dectape") values
 
--- something is said of how PAL8 is read
+-- something is said of how PAL8 is read, or what is noted of it
 abbrev pub says_of_pal8 : List Row → Bool
 says_of_pal8 values =
     is_set (codes "no-links") values || is_set (codes "text-without-zero") values || is_set (codes "no-origin") values || is_set (codes "stay") values
+    || is_set (codes "notes") values
 
 -- of sources that are assembled
 abbrev pub assemble_missing : List Row → Option What
@@ -184,13 +190,14 @@ names_input_twice values = nat_lt 1 (input_count (values_of (codes "FILE") value
 -- ## An argument too many
 
 -- The third after an image whose blocks are got, the last where `--at` stands for a name, or the second file where one is given a name. It is the
--- fourth after an image of which one file is copied.
+-- fourth after an image of which one file is copied, and the third where a pattern says which files.
 abbrev pub extra_argument : List Row → Option Text
 extra_argument values =
     if is_set (codes "blocks") values then word_at (codes "NAME") 2 values
     else if has (codes "at") values then first_of (codes "NEW") values
     else if has (codes "as") values then word_at (codes "FILE") 1 values
     else if has (codes "to") values then None
+    else if copies_pattern values then first_of (codes "NEW") values
     else first_of (codes "MORE") values
 
 -- ## Values that are none

@@ -33,7 +33,7 @@ use Rattle.command_table.specs.declared.table.TheConstants.{MOST_IMAGES}
 use Rattle.command_table.specs.declared.table.Verb.{Verb}
 use Rattle.command_table.specs.declared.table.Verb.TheVariants as verb
 use Rattle.command_table.specs.Found.{IsReadAs, bits_of, cell_of, date_word, has, is_set, layout_of, name_in, names_in, number_in, number_of, place_of, span_of, values_of, wait_of, word_of, year_of}
-use Rattle.command_table.specs.Refusals.{blocks_word, input_count, prints_texts, puts_many, refusal_of, saying_of}
+use Rattle.command_table.specs.Refusals.{blocks_word, copies_pattern, input_count, prints_texts, puts_many, refusal_of, saying_of}
 use Rattle.command_table.specs.Tables.{Entry, entry_named, pdp8}
 
 -- ## What it asks for
@@ -119,6 +119,13 @@ name_or_none (Some name) = name ∷ []
 abbrev pub names_given : List Row → List Text
 names_given values = name_or_none (name_in (codes "NAME") values) ++ name_or_none (name_in (codes "TO") values)
     ++ name_or_none (name_in (codes "NEW") values) ++ names_in (codes "MORE") values
+
+-- those of files that are copied: a pattern alone, or all arguments; and the argument that says which volume gets them
+abbrev pub copied_names : List Row → List Text
+copied_names values = if copies_pattern values then name_or_none (name_in (codes "NAME") values) else names_given values
+
+abbrev pub target_id : List Row → Text
+target_id values = if copies_pattern values then codes "TO" else codes "to"
 
 -- which files are texts
 abbrev pub AreTexts : List Row → TextsForm → Type 0
@@ -206,12 +213,12 @@ AsksFor which values (Delete form) = (which ≡ verb.Delete) × IsChanged values
     × ArePlaces values form.places.items
 AsksFor which values (Rename image file new) = (which ≡ verb.Rename) × IsChanged values image × IsFile values file
     × (name_in (after (codes "NAME") (codes "NEW") values) values ≡ Some new.bytes.items)
-AsksFor which values (Copy form) = (which ≡ verb.Copy) × (has (codes "to") values ≡ false) × IsSeen values form.image × IsFile values form.file
+AsksFor which values (Copy form) = (which ≡ verb.Copy) × (has (codes "to") values ≡ false) × (copies_pattern values ≡ false) × IsSeen values form.image × IsFile values form.file
     × (first_of (after (codes "NAME") (codes "TO") values) values ≡ Some form.to.file.bytes.items)
     × (layout_of (codes "to-volume") (codes "to-dectape") values ≡ form.to.layout) × (form.to.wait ≡ wait_of values)
     × (name_in (after (codes "TO") (codes "NEW") values) values ≡ option_map (λ name. name.bytes.items) form.new)
 AsksFor which values (CopyMany form) = (which ≡ verb.Copy) × IsSeen values form.image
-    × (names_given values ≡ map (λ name. name.bytes.items) form.names.items) × (first_of (codes "to") values ≡ Some form.to.file.bytes.items)
+    × (copied_names values ≡ map (λ name. name.bytes.items) form.names.items) × (first_of (target_id values) values ≡ Some form.to.file.bytes.items)
     × (layout_of (codes "to-volume") (codes "to-dectape") values ≡ form.to.layout) × (form.to.wait ≡ wait_of values)
     × (form.is_forced ≡ is_set (codes "force") values)
 AsksFor which values (Squeeze image) = (which ≡ verb.Squeeze) × IsChanged values image
@@ -226,7 +233,7 @@ AsksFor which values (Patch form) = (which ≡ verb.Patch) × IsChanged values f
     × (option_and_then word_of (first_of (codes "NEW") values) ≡ Some form.new)
 AsksFor which values (Index form) = (which ≡ verb.Index) × (values_of (codes "IMAGE") values ≡ map (λ image. image.bytes.items) form.images.items)
     × (layout_of (codes "volume") (codes "dectape") values ≡ form.layout) × (form.year ≡ year_of values)
-    × (form.form ≡ line_form values) × (name_in (codes "find") values ≡ option_map (λ pattern. pattern.bytes.items) form.find)
+    × (form.form ≡ line_form values) × (form.is_same ≡ is_set (codes "same") values) × (name_in (codes "find") values ≡ option_map (λ pattern. pattern.bytes.items) form.find)
     × (first_of (codes "grep") values ≡ option_map (λ text. text.bytes.items) form.grep)
 AsksFor which values (Rescue form) = (which ≡ verb.Rescue) × IsSeen values form.image × (first_of (codes "NEW") values ≡ Some form.new.bytes.items)
 AsksFor which values (Scan form) = (which ≡ verb.Scan) × IsSeen values form.image × (first_of (codes "into") values ≡ option_map (λ folder. folder.bytes.items) form.into)
@@ -240,6 +247,7 @@ AsksFor which values (Assemble form) = (which ≡ verb.Assemble) × (source_name
     × (form.is_without_zero ≡ is_set (codes "text-without-zero") values)
     × (form.is_without_origin ≡ is_set (codes "no-origin") values)
     × (form.has_stays ≡ is_set (codes "stay") values)
+    × (form.has_notes ≡ is_set (codes "notes") values)
 AsksFor which values (Teletype form) = (which ≡ verb.Teletype) × IsTape values form.tape
     × IsReadAs cell_of (first_of (codes "start") values) form.start
     × IsReadAs word_of (first_of (codes "switches") values) form.switches

@@ -61,6 +61,7 @@ pub fn index(alloc: Global, found: &ArgMatches<'_>) -> Read<Task>
         layout: layout_of(found, Verb::Index, "volume", "dectape"),
         year: year_of(found, Verb::Index),
         form: line_form(found),
+        is_same: flag(found, Verb::Index, "same"),
         find,
         grep,
     }))

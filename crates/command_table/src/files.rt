@@ -1,10 +1,12 @@
 //! What is asked of the files of volumes.
 ghost use Rattle.std.specs.Prelude.{◌≡◌, ◌≤◌, ◌∷◌, ◌++◌, [], codes, false, true, if◌then◌else◌, is_some, map, option_map, IfOk, OnOk, Some};
+ghost use Rattle.clap.specs.Words.{first_of};
 ghost use Rattle.command_table.specs.Found.{capitals, has, is_set, number_in};
 ghost use Rattle.command_table.specs.Steps.{Has, IsFirst, has_text, kind_at, takes_block, takes_texts, IsAskedBy, Needs, values_in};
+ghost use Rattle.command_table.specs.Refusals.{copies_pattern};
 ghost use Rattle.command_table.specs.Refusals as refusals;
 ghost use Rattle.command_table.specs.Tables.{rows_for};
-ghost use Rattle.command_table.specs.Tasks.{AreTexts, IsFile, name_or_none};
+ghost use Rattle.command_table.specs.Tasks.{AreTexts, IsFile, IsSeen, name_or_none};
 ghost use Rattle.command_table.specs.Tasks as spec;
 ghost use Rattle.command_table.specs.declared.table.Form.TheVariants as form;
 ghost use Rattle.command_table.specs.declared.table.Kind.TheVariants as kind;
@@ -16,7 +18,7 @@ use crate::found::{
 };
 use crate::judging::blocks_word;
 use crate::lists::{blocks_of, info_of};
-use crate::missing::{prints_texts, puts_many};
+use crate::missing::{copies_pattern, prints_texts, puts_many};
 use crate::numbers::number_of;
 use crate::table::Verb;
 use crate::volumes::{changed_image, image_of};
@@ -233,10 +235,27 @@ pub fn copy(alloc: Global, found: &ArgMatches<'_>) -> Read<Task>
     if has(found, "to") {
         return copy_many(alloc, found);
     }
+    if has(found, "TO") && copies_pattern(found) {
+        return copy_fitting(alloc, found);
+    }
     copy_one(alloc, found)
 }
 
-/// The files that are to be copied at once.
+/// The files that are to be copied at once, which a pattern fits.
+fn copy_fitting(alloc: Global, found: &ArgMatches<'_>) -> Read<Task>
+    requires needs { Needs verb.Copy (values_in found.now) }
+    requires to { has (codes "TO") (values_in found.now) ≡ true }
+    requires pattern { copies_pattern (values_in found.now) ≡ true }
+    ensures { IfOk result (IsAskedBy verb.Copy (values_in found.now)) }
+{
+    let image = image_of(alloc, found, Verb::Copy, "IMAGE")?;
+    let mut names = Vec::new(alloc);
+    add_name(alloc, text_of(found, "NAME"), &mut names)?;
+    let file = value_of(alloc, found, Verb::Copy, "TO")?;
+    Ok(several(found, image, names, file))
+}
+
+/// The files that are to be copied at once, to the volume that an option gives.
 fn copy_many(alloc: Global, found: &ArgMatches<'_>) -> Read<Task>
     requires needs { Needs verb.Copy (values_in found.now) }
     requires many { has (codes "to") (values_in found.now) ≡ true }
@@ -245,15 +264,25 @@ fn copy_many(alloc: Global, found: &ArgMatches<'_>) -> Read<Task>
     let image = image_of(alloc, found, Verb::Copy, "IMAGE")?;
     let names = names_given(alloc, found)?;
     let file = value_of(alloc, found, Verb::Copy, "to")?;
+    Ok(several(found, image, names, file))
+}
+
+/// Files of these names that are to be copied at once, to the volume in this file.
+fn several(found: &ArgMatches<'_>, image: ImageForm, names: Vec<String>, file: String) -> Task
+    requires image { IsSeen (values_in found.now) image }
+    requires names { spec.copied_names (values_in found.now) ≡ map (λ name. name.bytes.items) names.items }
+    requires to { first_of (spec.target_id (values_in found.now)) (values_in found.now) ≡ Some file.bytes.items }
+    ensures { IsAskedBy verb.Copy (values_in found.now) result }
+{
     let layout = layout_of(found, Verb::Copy, "to-volume", "to-dectape");
     let wait = wait_of(found, Verb::Copy);
     let to = ImageForm { file, layout, wait };
-    Ok(Task::CopyMany(CopyManyForm {
+    Task::CopyMany(CopyManyForm {
         image,
         names,
         to,
         is_forced: flag(found, Verb::Copy, "force"),
-    }))
+    })
 }
 
 /// The names of files that are copied at once.
@@ -303,6 +332,7 @@ fn add_names(alloc: Global, given: &[&str], names: &mut Vec<String>) -> Read<()>
 fn copy_one(alloc: Global, found: &ArgMatches<'_>) -> Read<Task>
     requires needs { Needs verb.Copy (values_in found.now) }
     requires one { has (codes "to") (values_in found.now) ≡ false }
+    requires named { copies_pattern (values_in found.now) ≡ false }
     ensures { IfOk result (IsAskedBy verb.Copy (values_in found.now)) }
 {
     let image = image_of(alloc, found, Verb::Copy, "IMAGE")?;

@@ -8,7 +8,7 @@ ghost use Rattle.command_table.specs.Steps.{entry_of, pair_of, row_of, IsRefused
 
 use crate::TaskFault;
 use crate::found::{has, is_set, text_of, texts_in, word_at};
-use crate::missing::{input_count, missing_of};
+use crate::missing::{copies_pattern, input_count, missing_of};
 use crate::numbers::{bits_in, cell_in, date_in, number_in, span_in, word_in};
 use crate::refusals::Refusal;
 use crate::table::{Argument, Entry, Form, Kind, Pair, Verb, arguments_of, pairs};
@@ -238,7 +238,7 @@ pub fn blocks_word<'a>(found: &ArgMatches<'a>, index: usize) -> &'a str
 }
 
 /// An argument too many. It is the third after an image whose blocks are got, the last where `--at` stands for a name, or the second file
-/// where one is given a name. It is the fourth after an image of which one file is copied.
+/// where one is given a name. It is the fourth after an image of which one file is copied, and the third where a pattern says which files.
 fn extra_argument<'a>(found: &ArgMatches<'a>) -> Option<&'a str>
     ensures { option_map (λ text. text.now) result ≡ spec.extra_argument (values_in found.now) }
 {
@@ -253,6 +253,9 @@ fn extra_argument<'a>(found: &ArgMatches<'a>) -> Option<&'a str>
     }
     if has(found, "to") {
         return None;
+    }
+    if has(found, "TO") && copies_pattern(found) {
+        return text_of(found, "NEW");
     }
     text_of(found, "MORE")
 }

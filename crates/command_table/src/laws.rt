@@ -81,7 +81,7 @@ pub fn plain_words()
         (alone (codes "dectape") ∷ []) ∷ [])) }
     ensures index { (image text : List ℕ) → AreTaken (codes "index") (after (in_place (codes "IMAGE") image) ([] ∷
         (in_place (codes "IMAGE") text ∷ []) ∷ (alone (codes "json") ∷ []) ∷ (with_value (codes "find") text ∷ []) ∷
-        (with_value (codes "grep") text ∷ []) ∷ (alone (codes "dectape") ∷ []) ∷ [])) }
+        (with_value (codes "grep") text ∷ []) ∷ (alone (codes "same") ∷ []) ∷ (alone (codes "dectape") ∷ []) ∷ [])) }
     ensures dump { (image text : List ℕ) → AreTaken (codes "dump") (after (in_place (codes "IMAGE") image) ([] ∷
         (in_place (codes "BLOCK") text ∷ []) ∷ (alone (codes "sixbit") ∷ []) ∷ [])) }
     ensures patch { (image block number old new : List ℕ) → AreTaken (codes "patch") (after (in_place (codes "IMAGE") image) (

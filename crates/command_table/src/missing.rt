@@ -5,7 +5,7 @@ ghost use Rattle.command_table.specs.Found.{values_of};
 ghost use Rattle.command_table.specs.Refusals as spec;
 ghost use Rattle.command_table.specs.declared.table.Verb.TheVariants as verb;
 
-use crate::found::{has, is_set, texts_in, word_at};
+use crate::found::{has, is_set, text_of, texts_in, word_at};
 use crate::judging::blocks_word;
 use crate::refusals::What;
 use crate::table::Verb;
@@ -73,7 +73,7 @@ fn assemble_missing(found: &ArgMatches<'_>) -> Option<What>
     None
 }
 
-/// Whether something is said of how PAL8 is read.
+/// Whether something is said of how PAL8 is read, or what is noted of it.
 fn says_of_pal8(found: &ArgMatches<'_>) -> bool
     ensures { result ≡ spec.says_of_pal8 (values_in found.now) }
 {
@@ -81,6 +81,7 @@ fn says_of_pal8(found: &ArgMatches<'_>) -> bool
         || is_set(found, "text-without-zero")
         || is_set(found, "no-origin")
         || is_set(found, "stay")
+        || is_set(found, "notes")
 }
 
 /// Whether something is said of the volume that has the sources.
@@ -152,6 +153,19 @@ fn says_of_folder(found: &ArgMatches<'_>) -> bool
     ensures { result ≡ spec.says_of_folder (values_in found.now) }
 {
     has(found, "into") || is_set(found, "force") || has(found, "text-of")
+}
+
+/// Whether the files are to be copied that a pattern in the place of a name fits.
+pub fn copies_pattern(found: &ArgMatches<'_>) -> bool
+    ensures { result ≡ spec.copies_pattern (values_in found.now) }
+{
+    if has(found, "to") || has(found, "at") || !has(found, "TO") {
+        return false;
+    }
+    match text_of(found, "NAME") {
+        Some(name) => has_sign(name.as_bytes()),
+        None => false,
+    }
 }
 
 /// Whether a name is a pattern, which may stand for several files.

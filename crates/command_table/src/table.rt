@@ -260,6 +260,7 @@ pub const ASSEMBLE: &[Argument] = rows! {
     "text-without-zero" flag Kind::Flag, "", "With --pal8 put no word 0 after a text of an even number of characters (/F)";
     "no-origin" flag Kind::Flag, "", "With --pal8 leave the location as it is at FIELD (/O)";
     "stay" flag Kind::Flag, "", "With --pal8 give equal literals of a page one cell only where the source has not left it between them (/W)";
+    "notes" flag Kind::Flag, "", "With --pal8 note on standard error the lines that palbart reads in another way";
     "from" option Kind::One(Form::Text), "IMAGE", "Take the sources from the volume that the file IMAGE holds";
     "onto" option Kind::One(Form::Text), "NAME", "Put the tape on that volume as the file NAME, in place of standard output";
     "volume" 'v' option Kind::One(Form::Volume), "N", "The volume of an RK05 disk, 1 or 2, where IMAGE is the file of one";
@@ -422,6 +423,7 @@ pub const INDEX: &[Argument] = rows! {
     "find" option Kind::One(Form::Text), "PATTERN", "Only files whose names fit the pattern, as '*.PA'";
     "grep" option Kind::One(Form::Text), "TEXT", "Only texts that hold TEXT";
     "json" flag Kind::Flag, "", "Write each line as a JSON object";
+    "same" flag Kind::Flag, "", "Only files that are equal to others of the index, those that are equal one after the other";
     "year" option Kind::One(Form::Year), "N", "The last of the eight years that dates mean, 1977 to 9999; else the one that block 0 gives";
     "volume" 'v' option Kind::One(Form::Volume), "N", "The volume of an RK05 disk, 1 or 2, where IMAGE is the file of one";
     "dectape" flag Kind::Flag, "", "IMAGE is the file of a DECtape, of 129 words a block";

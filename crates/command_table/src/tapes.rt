@@ -122,6 +122,7 @@ pub fn assemble(alloc: Global, found: &ArgMatches<'_>) -> Read<Task>
         is_without_zero,
         is_without_origin,
         has_stays,
+        has_notes: flag(found, Verb::Assemble, "notes"),
     }))
 }
 

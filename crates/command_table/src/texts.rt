@@ -92,7 +92,7 @@ pub fn texts_of(verb: Verb) -> Texts {
     match verb {
         Verb::Tape => Texts {
             about: "List the words of a BIN paper tape",
-            long_about: "Prints a line F AAAA WWWW for each memory word that a BIN paper tape loads: field, address and word,{n}in octal, by rising address. The tape is the file TAPE, or the file NAME of the OS/8 volume in the{n}image TAPE, or else standard input. TAPE may be a disk or a DECtape, as --volume and --dectape say.",
+            long_about: "Prints a line F AAAA WWWW for each memory word that a BIN paper tape loads: field, address and word,{n}in octal, by rising address. The tape is the file TAPE, or the file NAME of the OS/8 volume in the{n}image TAPE, or else standard input. TAPE may be a DECtape, or a disk, of which --volume takes one volume.",
             examples: "Examples:\n  pdp8 tape examples/add-one.bin\n  pdp8 assemble add.pa | pdp8 tape",
         },
         Verb::Rim => Texts {
@@ -127,7 +127,7 @@ pub fn texts_of(verb: Verb) -> Texts {
         },
         Verb::Run => Texts {
             about: "Run a script on a volume",
-            long_about: "Runs the script of standard input on the OS/8 volume in the file IMAGE, prints the replies, and{n}writes the image back to the file. Each line gets its reply as it comes. IMAGE may be the file of a{n}disk of two volumes or of a DECtape, as --volume and --dectape say.{n}{n}Examples:{n}  pdp8 run disk.rk05 < session.txt{n}  pdp8 run disk.rk05 --look --strict < session.txt",
+            long_about: "Runs the script of standard input on the OS/8 volume in the file IMAGE, prints the replies, and{n}writes the image back to the file. Each line gets its reply as it comes. IMAGE may be the file of a{n}DECtape, or of a disk of two volumes, of which --volume takes one.{n}{n}Examples:{n}  pdp8 run disk.rk05 < session.txt{n}  pdp8 run disk.rk05 --look --strict < session.txt",
             examples: SCRIPT_LINES,
         },
         Verb::Create => Texts {
@@ -162,12 +162,12 @@ pub fn texts_of(verb: Verb) -> Texts {
         },
         Verb::Copy => Texts {
             about: "Copy files from volume to volume",
-            long_about: "Copies the file NAME of the OS/8 volume in the file IMAGE, with its information words, to the volume{n}in the file TO, under the name NEW if one is given, in place of an older file there, and prints{n}STORED, the name and the number of blocks. With --at the file is the one at that block, and the{n}arguments after IMAGE are TO and NEW. With --to all arguments after IMAGE are names of files; a{n}pattern, as '*.PA', stands for each name that it fits. They go to the volume in that file, all or{n}none, and none of them may be there, unless --force is given. After a fault both images are as they{n}were.",
-            examples: "Examples:\n  pdp8 copy disk.img add.pa other.img\n  pdp8 copy disk.img '*.pa' x.tx --to tape.dt8 --to-dectape",
+            long_about: "Copies the file NAME of the OS/8 volume in the file IMAGE, with its information words, to the volume{n}in the file TO, under the name NEW if one is given, in place of an older file there, and prints{n}STORED, the name and the number of blocks. With --at the file is the one at that block, and the{n}arguments after IMAGE are TO and NEW. With --to all arguments after IMAGE are names of files; a{n}pattern, as '*.PA', stands for each name that it fits, also as NAME without --to. They go to the{n}volume in that file, all or none, and none of them may be there, unless --force is given. After a{n}fault both images are as they were.",
+            examples: "Examples:\n  pdp8 copy disk.img '*.pa' other.img\n  pdp8 copy disk.img add.pa x.tx --to tape.dt8 --force",
         },
         Verb::Squeeze => Texts {
             about: "Move the files of a volume together",
-            long_about: "Moves the files of the OS/8 volume in the file IMAGE down, so that all free blocks lie after the{n}last, and prints SQUEEZED. No file changes its words. After a fault the image is as it was. IMAGE may{n}be the file of a disk of two volumes or of a DECtape, as --volume and --dectape say.",
+            long_about: "Moves the files of the OS/8 volume in the file IMAGE down, so that all free blocks lie after the{n}last, and prints SQUEEZED. No file changes its words. After a fault the image is as it was. IMAGE may{n}be the file of a DECtape, or of a disk of two volumes, of which --volume takes one.",
             examples: "Examples:\n  pdp8 squeeze disk.img\n  pdp8 squeeze disk.rk05 -v 1",
         },
         Verb::Check => Texts {
@@ -187,7 +187,7 @@ pub fn texts_of(verb: Verb) -> Texts {
         },
         Verb::Index => Texts {
             about: "List the files of many volumes, with what each holds",
-            long_about: "Prints a line for each file of the OS/8 volumes in the files IMAGE, image after image and by place: the{n}image, the volume, the first block, the length, the name, the date, what the file holds, and a digest{n}of its words, which equal files share. With --find and --grep only those files are listed that these let{n}through. Names of files are quoted, so that none can tear a line. No image is written.",
+            long_about: "Prints a line for each file of the OS/8 volumes in the files IMAGE, image after image and by place: the{n}image, the volume, the first block, the length, the name, the date, what the file holds, and a digest{n}of its words, which equal files share. With --find and --grep only those files are listed that these let{n}through, with --same then only those that are equal to others, when all are read. Names of files are{n}quoted, so that none can tear a line. No image is written.",
             examples: "Examples:\n  pdp8 index *.img\n  pdp8 index *.img --find '*.pa'",
         },
         Verb::Rescue => Texts {

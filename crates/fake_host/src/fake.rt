@@ -4,13 +4,13 @@ ghost use Rattle.hosts.specs.Raw.{events_of};
 
 use crate::memory::InMemory;
 use hosts::notes::{
-    ALONE, CLAIM, DROP_BESIDE, DROP_CLAIM, DROP_SECONDS, FINISH_OVER, FREE, HOLD, LEADS, LINK_NEW,
-    LOCK_BESIDE, LOOK, MAKE_BESIDE, MAKE_FOLDER, OWN_BESIDE, PRINT, RENAME, RESOLVE, SECONDS,
-    SYNC_BESIDE, SYNC_FOLDER, TAKE_INPUT, TELL, TERMINAL, THERE, WORDS, WRITE_BESIDE, WRITE_OVER,
-    fault_number, number,
+    ALONE, CLAIM, DROP_BESIDE, DROP_CLAIM, DROP_SECONDS, END_OF_WORDS, FINISH_OVER, FREE, HOLD,
+    LEADS, LINK_NEW, LOCK_BESIDE, LOOK, MAKE_BESIDE, MAKE_FOLDER, OWN_BESIDE, PAUSE, PRINT, RENAME,
+    RESOLVE, SECONDS, SYNC_BESIDE, SYNC_FOLDER, TAKE_INPUT, TELL, TERMINAL, THERE, WRITE_BESIDE,
+    WRITE_OVER, fault_number, number,
 };
 use hosts::{Host, HostFault, LinkFault, PrintFault, Record, RenameFault, Stream};
-use std::alloc::Global;
+use std::alloc::{AllocError, Global};
 
 /// One file, which every name leads to, and the streams.
 #[derive(Drop)]
@@ -285,6 +285,7 @@ impl Host for Fake {
 
     fn is_terminal(&mut self, stream: Stream) -> bool {
         match stream {
+            Stream::Input => self.log.note(&[TERMINAL, 0, 0], &[], &[]),
             Stream::Output => self.log.note(&[TERMINAL, 0, 1], &[], &[]),
             Stream::Errors => self.log.note(&[TERMINAL, 0, 2], &[], &[]),
         }
@@ -296,9 +297,12 @@ impl Host for Fake {
         0
     }
 
-    fn words(&mut self, alloc: Global) -> Result<Vec<String>, HostFault> {
-        let done = self.memory.words(alloc);
-        self.log.note(&[WORDS, number(&done), 0], &[], &[]);
-        done
+    fn pause(&mut self) {
+        self.log.note(&[PAUSE, 1, 0], &[], &[]);
+    }
+
+    fn word(&mut self, _alloc: Global, place: usize) -> Result<Option<Vec<u8>>, AllocError> {
+        self.log.note(&[END_OF_WORDS, 1, place as u64], &[], &[]);
+        Ok(None)
     }
 }

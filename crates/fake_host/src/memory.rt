@@ -227,9 +227,4 @@ impl InMemory {
         self.pass()?;
         grow(&mut self.errors, text)
     }
-
-    pub(crate) fn words(&mut self, alloc: Global) -> Result<Vec<String>, HostFault> {
-        self.pass()?;
-        Ok(Vec::new(alloc))
-    }
 }

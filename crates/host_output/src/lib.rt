@@ -1,4 +1,4 @@
-//! Standard output of a host as a writer, for functions that write to any.
+//! Standard output of a host as an output, for functions that write to any.
 #![tactic(auto)]
 
 pub mod laws;

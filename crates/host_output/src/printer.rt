@@ -1,12 +1,13 @@
-//! A writer that is standard output of a host.
-ghost use Rattle.std.specs.Prelude.{◌≡◌, List, Some};
+//! An output that is standard output of a host.
+ghost use Rattle.std.specs.Prelude.{◌≡◌, List, None, Some, is_some, true};
 ghost use Rattle.hosts.specs.Event.{Event};
 ghost use Rattle.hosts.specs.Streams.{output_text};
 ghost use Rattle.host_output.specs.Printing.{HasPrinted};
 
 use hosts::{Host, PrintFault};
-use std::io::{self, ErrorKind, Write};
+use std::io::{self, ErrorKind};
 use std::marker::{Brand, Model, PhantomData};
+use terminal8::Output;
 
 /// The calls of a host before a writer of it was made. A function that makes a writer has a parameter of this bound, and a call of it at
 /// `Brand` picks the calls so far in its proof. So it is known of the writer, whatever function has used it, which calls came since.
@@ -31,12 +32,13 @@ pub struct Printer<H: Host, B: Before> {
 }
 
 impl<H: Host, B: Before> Model for Printer<H, B> {
-    ghost use Rattle.std.specs.Prelude.{◌≡◌};
+    ghost use Rattle.std.specs.Prelude.{◌≡◌, Option};
+    ghost use Rattle.hosts.specs.declared.faults.PrintFault.{PrintFault};
     ghost use Rattle.host_output.specs.Printing.{HasPrinted};
 
-    ghost Value = { H };
+    ghost Value = { H × Option PrintFault };
 
-    ghost view = { λ it. it.host };
+    ghost view = { λ it. (it.host, it.fault) };
 
     ghost invariant = { λ it. HasPrinted B.calls (H.history it.host) it.fault };
 }
@@ -45,7 +47,7 @@ impl<H: Host, B: Before> Printer<H, B> {
     /// A writer that has written nothing.
     pub fn new(host: H) -> Printer<H, B>
         requires { H.history host ≡ B.calls }
-        ensures { result ≡ host }
+        ensures { result ≡ (host, None) }
     {
         Printer {
             host,
@@ -56,8 +58,9 @@ impl<H: Host, B: Before> Printer<H, B> {
 
     /// Gives the host back, and why the last write that failed did.
     pub fn finish(self) -> (H, Option<PrintFault>)
-        ensures host { result.0 ≡ self }
-        ensures prints { HasPrinted B.calls (H.history self) result.1 }
+        ensures host { result.0 ≡ self.0 }
+        ensures fault { result.1 ≡ self.1 }
+        ensures prints { HasPrinted B.calls (H.history self.0) result.1 }
     {
         let Printer {
             host,
@@ -68,12 +71,14 @@ impl<H: Host, B: Before> Printer<H, B> {
     }
 }
 
-impl<H: Host, B: Before> Write for Printer<H, B> {
-    ghost contents = { λ host. Some (output_text (H.history host)) };
+impl<H: Host, B: Before> Output for Printer<H, B> {
+    ghost contents = { λ it. Some (output_text (H.history it.0)) };
 
-    fn write(&mut self, buf: &[u8]) -> io::Result<usize> {
-        match self.host.print(buf) {
-            Ok(()) => Ok(buf.len()),
+    ghost has_failed = { λ it. is_some it.1 ≡ true };
+
+    fn put(&mut self, bytes: &[u8]) -> io::Result<()> {
+        match self.host.print(bytes) {
+            Ok(()) => Ok(()),
             Err(fault) => {
                 self.fault = Some(fault);
                 Err(io::Error::from(ErrorKind::Other))
@@ -81,7 +86,7 @@ impl<H: Host, B: Before> Write for Printer<H, B> {
         }
     }
 
-    fn flush(&mut self) -> io::Result<()> {
+    fn hand_on(&mut self) -> io::Result<()> {
         Ok(())
     }
 }

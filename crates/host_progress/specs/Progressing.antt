@@ -1,22 +1,23 @@
 -- How far a long command is, which is printed at a terminal. No line of its work depends on it.
-use Rattle.std.specs.Prelude.{◌≡◌, ◌⊎◌, ℕ, Bool, true, false, Result, List, [], ◌∷◌, ◌++◌, codes, decimal}
+use Rattle.std.specs.Prelude.{◌≡◌, ◌≤◌, ◌⊎◌, ℕ, Bool, true, false, Result, List, [], ◌∷◌, ◌++◌, codes, decimal}
 use Rattle.hosts.specs.Event.{Event, terminal_call, seconds_call, tell_call}
 use Rattle.outcome.specs.declared.endings.Ending.{Ending}
 use Rattle.volume_commands.specs.Saving.{IsDone}
 
 -- Progress is printed where standard error is a terminal, and standard output is none. Then the time is asked for.
 abbrev pub BeginsProgress : Bool → List Event → List Event → Type 0
-BeginsProgress true old new = new ≡ seconds_call ∷ terminal_call false 1 ∷ terminal_call true 2 ∷ old
+BeginsProgress true old new = (passed : ℕ) × (new ≡ seconds_call passed ∷ terminal_call false 1 ∷ terminal_call true 2 ∷ old)
 BeginsProgress false old new = (new ≡ terminal_call false 2 ∷ old) ⊎ (new ≡ terminal_call true 1 ∷ terminal_call true 2 ∷ old)
 
 -- how many of all are done, on a line that is written over by what is printed next
 abbrev pub progress_text : ℕ → ℕ → List ℕ
 progress_text done all = decimal done ++ codes " of " ++ decimal all ++ 0o15 ∷ []
 
--- where progress is printed, the time is asked for, and then it may be printed how many of all are done
+-- Where progress is printed, the time is asked for. From two seconds on it may be printed then how many of all are done.
 abbrev pub TellsDone : Bool → ℕ → ℕ → List Event → List Event → Type 0
 TellsDone false done all old new = new ≡ old
-TellsDone true done all old new = (new ≡ seconds_call ∷ old) ⊎ ((ok : Bool) × (new ≡ tell_call ok (progress_text done all) ∷ seconds_call ∷ old))
+TellsDone true done all old new = (passed : ℕ)
+    × ((new ≡ seconds_call passed ∷ old) ⊎ ((ok : Bool) × (2 ≤ passed) × (new ≡ tell_call ok (progress_text done all) ∷ seconds_call passed ∷ old)))
 
 -- the same as a step of a command
 abbrev pub TellsProgress : Bool → ℕ → ℕ → List Event → Result (Unit {0}) Ending → List Event → Type 0

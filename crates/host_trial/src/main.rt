@@ -19,12 +19,12 @@ const MOST: usize = 1_000_000;
 
 fn main(rt: HostRuntime) -> ExitCode {
     let mut host = System::new(&rt);
-    let Ok(words) = host.words(rt.alloc()) else {
-        return ExitCode::from(3);
-    };
-    match words.as_slice() {
-        [_, what, path] => {
-            let done = keep_input(&mut host, rt.alloc(), what, path);
+    match (
+        word(&mut host, rt.alloc(), 1),
+        word(&mut host, rt.alloc(), 2),
+    ) {
+        (Some(what), Some(path)) => {
+            let done = keep_input(&mut host, rt.alloc(), what.as_str(), path.as_str());
             let text = match done {
                 Ok(Durability::Certain) => "certain\n",
                 Ok(Durability::Unknown) => "unknown\n",
@@ -40,6 +40,12 @@ fn main(rt: HostRuntime) -> ExitCode {
     }
 }
 
+/// The word at a place of the command line, if it is a text.
+fn word<H: Host>(host: &mut H, alloc: Global, place: usize) -> Option<String> {
+    let bytes = host.word(alloc, place).ok()??;
+    String::from_utf8(bytes).ok()
+}
+
 /// Has a path hold what standard input gives.
 fn keep_input<H: Host>(
     host: &mut H,
@@ -50,7 +56,7 @@ fn keep_input<H: Host>(
     if what == "save" {
         let held = hold_file(host, alloc, path)?;
         let bytes = host.take_input(alloc, MOST)?;
-        return match save_file(host, alloc, held.path.as_str(), 4, &bytes) {
+        return match save_file(host, alloc, held.path.as_str(), 4, &bytes, "") {
             Ok(durability) => Ok(durability),
             Err(_) => Err(HostFault::Failed),
         };

@@ -83,7 +83,7 @@ fn memory_of(alloc: Global, trial: Trial, number: u64) -> Option<InMemory> {
 fn try_row(host: &mut Fake, alloc: Global, trial: Trial) -> &'static str {
     match trial {
         Trial::Save | Trial::SaveOver | Trial::SaveMount => {
-            match save_file(host, alloc, "DISK", 3, NEW) {
+            match save_file(host, alloc, "DISK", 3, NEW, "") {
                 Ok(durability) => words_on(durability),
                 Err(Unwritten::AsItWas) => "as it was",
                 Err(Unwritten::InPart) => "in part",

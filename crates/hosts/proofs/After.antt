@@ -18,7 +18,7 @@ over_after bytes a b c same over start was is =
 pub file_after : (result : Result Durability Unwritten) (bytes : List ℕ) (a b c : List Step) → StaysAsItWas a b → SavesFile result false bytes b c → SavesFile result false bytes a c
 file_after (Ok Certain) bytes a b c same saves = over_after bytes a b c same saves
 file_after (Ok Unknown) bytes a b c same saves = saves
-file_after (Err AsItWas) bytes a b c same saves = λ start. as_it_was (replay start a) (replay start b) (replay start c) (same start) (saves start)
+file_after (Err AsItWas) bytes a b c same saves = absurd saves
 file_after (Err InPart) bytes a b c same saves = tt
 
 unmade : (a b c : Place) → IsAsItWas a b → IsUnmade b c → IsUnmade a c

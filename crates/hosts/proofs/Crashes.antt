@@ -1,7 +1,7 @@
 -- What changes leave after a crash.
 use Rattle.std.proofs.Common.{◌≡◌, ℕ, Bool, true, false, List, [], ◌∷◌, ◌++◌, Option, Some, inl, inr, refl}
 use Rattle.std.specs.Str.{bytes_eq}
-use Rattle.hosts.specs.Event.{Event, Call, Change, Alter, MakeBeside, OwnBeside, WriteBeside, SyncBeside, DropBeside, Rename, LinkNew, Claim, DropClaim, SyncFolder, WriteOver, FinishOver, Resolve, Hold, DropSeconds, Look, TakeInput, Alone, Leads, LockBeside, Free, There, MakeFolder, Print, Tell, Terminal, Seconds, Words}
+use Rattle.hosts.specs.Event.{Event, Call, Change, Alter, MakeBeside, OwnBeside, WriteBeside, SyncBeside, DropBeside, Rename, LinkNew, Claim, DropClaim, SyncFolder, WriteOver, FinishOver, Resolve, Hold, DropSeconds, Look, TakeInput, Alone, Leads, LockBeside, Free, There, MakeFolder, Print, Tell, Terminal, Seconds, Pause, Word, EndOfWords}
 use Rattle.hosts.specs.Place.{Place, Step, Remainder, Anything, Leaves, may_leave, after, replay, with_moment, ever, with_step, about}
 use Rattle.hosts.specs.Saving.{IsSaved}
 use Rattle.hosts.specs.Laws.{IsSound}
@@ -103,7 +103,9 @@ keeps Print e other old differs = refl
 keeps Tell e other old differs = refl
 keeps Terminal e other old differs = refl
 keeps Seconds e other old differs = refl
-keeps Words e other old differs = refl
+keeps Pause e other old differs = refl
+keeps Word e other old differs = refl
+keeps EndOfWords e other old differs = refl
 
 pub others_stay : (e : Event) (other : List ℕ) (old : List Event) → bytes_eq e.name other ≡ false → about other (e ∷ old) ≡ about other old
 others_stay e other old differs = keeps e.call e other (about other old) differs

@@ -61,7 +61,9 @@ with_turn_append event.Print who e path later earlier = refl
 with_turn_append event.Tell who e path later earlier = refl
 with_turn_append event.Terminal who e path later earlier = refl
 with_turn_append event.Seconds who e path later earlier = refl
-with_turn_append event.Words who e path later earlier = refl
+with_turn_append event.Pause who e path later earlier = refl
+with_turn_append event.Word who e path later earlier = refl
+with_turn_append event.EndOfWords who e path later earlier = refl
 
 turns_append : (path : List ℕ) (later earlier : List (Bool × Option Event)) → turns path (later ++ earlier) ≡ turns path later ++ turns path earlier
 turns_append path [] earlier = refl

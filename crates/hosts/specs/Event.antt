@@ -1,5 +1,6 @@
 -- The calls of a host, each with its answer.
-use Rattle.std.specs.Prelude.{ℕ, Bool, true, false, List, [], if◌then◌else◌}
+use Rattle.std.specs.Prelude.{ℕ, Bool, true, false, Option, None, Some, List, [], if◌then◌else◌}
+use Rattle.std.specs.Global.{Vec}
 use Rattle.hosts.specs.declared.faults.HostFault.{HostFault}
 use Rattle.hosts.specs.Faults.{fault_number}
 
@@ -45,8 +46,12 @@ pub data Call : Type 0 where
   Print : Call
   Tell : Call
   Terminal : Call
+  -- how many seconds have passed, and the time between two tries
   Seconds : Call
-  Words : Call
+  Pause : Call
+  -- a word of the command line, and that there are no more
+  Word : Call
+  EndOfWords : Call
 
 -- which call, whether it succeeded, the name or path that it is about, bytes, and a number
 pub record Event : Type 0 where
@@ -155,12 +160,19 @@ print_call ok is_abandoned bytes = event_of_number Print [] ok is_abandoned byte
 abbrev pub tell_call : Bool → List ℕ → Event
 tell_call ok bytes = event_at Tell [] ok bytes
 
--- it was asked whether standard output, 1, or standard error, 2, is a terminal, and this was the answer
+-- it was asked whether standard input, 0, standard output, 1, or standard error, 2, is a terminal, and this was the answer
 abbrev pub terminal_call : Bool → ℕ → Event
 terminal_call is stream = event_of_number Terminal [] is stream []
 
-abbrev pub seconds_call : Event
-seconds_call = event_at Seconds [] true []
+-- it was asked how many seconds have passed since the first such call, and this was the answer
+abbrev pub seconds_call : ℕ → Event
+seconds_call passed = event_of_number Seconds [] true passed []
 
-abbrev pub words_call : Bool → Event
-words_call ok = event_at Words [] ok []
+-- the time between two tries passed
+abbrev pub pause_call : Event
+pause_call = event_at Pause [] true []
+
+-- the word of the command line at a place was asked for, and has these bytes; or there is none, and none after it
+abbrev pub word_call : ℕ → Option (Vec ℕ) → Event
+word_call place (Some word) = event_of_number Word [] true place word.items
+word_call place None = event_of_number EndOfWords [] true place []

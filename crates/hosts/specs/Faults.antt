@@ -36,5 +36,6 @@ pipe_number print.Abandoned = 1
 pipe_number print.Failed = 0
 
 abbrev pub stream_number : Stream → ℕ
+stream_number stream.Input = 0
 stream_number stream.Output = 1
 stream_number stream.Errors = 2

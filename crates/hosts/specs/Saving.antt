@@ -61,9 +61,16 @@ KeepsFile false Unknown bytes old new = ⊥
 -- promised of one that is written in part.
 abbrev pub SavesFile : Result Durability Unwritten → Bool → List ℕ → List Step → List Step → Type 0
 SavesFile (Ok durability) is bytes old new = KeepsFile is durability bytes old new
-SavesFile (Err AsItWas) is bytes old new = StaysAsItWas old new
+SavesFile (Err AsItWas) true bytes old new = StaysAsItWas old new
+SavesFile (Err AsItWas) false bytes old new = ⊥
 SavesFile (Err InPart) true bytes old new = ⊥
 SavesFile (Err InPart) false bytes old new = Unit {0}
+
+-- before a file is written in its place a note is printed on standard error, if there is one
+abbrev pub IsPlaceNoted : Bool → List ℕ → List (Bool × List ℕ) → List (Bool × List ℕ) → Type 0
+IsPlaceNoted true note old new = new ≡ old
+IsPlaceNoted false [] old new = new ≡ old
+IsPlaceNoted false (byte ∷ others) old new = (ok : Bool) × (new ≡ (ok, byte ∷ others) ∷ old)
 
 -- after a save a new file may take the path as before, unless that was seen to be a mount's
 abbrev pub still_may : Result Durability RenameFault → Bool → Bool

@@ -65,9 +65,10 @@ pub enum PrintFault {
     Failed,
 }
 
-/// A stream that a program writes.
+/// A standard stream.
 #[derive(Clone, Copy, Debug, PartialEq, Eq)]
 pub enum Stream {
+    Input,
     Output,
     Errors,
 }

@@ -1,9 +1,10 @@
 ghost use Rattle.std.specs.Prelude.{◌≡◌, ◌≤◌, ◌+◌, List, [], ◌∷◌, length, true, false, is_ok, IfOk, MatchResult};
-ghost use Rattle.hosts.specs.Event.{Event, Alter, Resolve, Hold, DropSeconds, Look, TakeInput, MakeBeside, Free, MakeFolder, number_of, failed_call, resolve_call, hold_call, drop_seconds_call, look_call, input_call, alone_call, leads_call, make_call, own_call, lock_call, write_call, sync_call, drop_call, rename_call, link_call, claim_call, drop_claim_call, sync_folder_call, write_over_call, finish_over_call, free_call, there_call, folder_call, print_call, tell_call, terminal_call, seconds_call, words_call};
+ghost use Rattle.hosts.specs.declared.faults.HostFault.TheVariants.{Memory};
+ghost use Rattle.hosts.specs.Event.{Event, Alter, Resolve, Hold, DropSeconds, Look, TakeInput, MakeBeside, Free, MakeFolder, Word, number_of, failed_call, resolve_call, hold_call, drop_seconds_call, look_call, input_call, alone_call, leads_call, make_call, own_call, lock_call, write_call, sync_call, drop_call, rename_call, link_call, claim_call, drop_claim_call, sync_folder_call, write_over_call, finish_over_call, free_call, there_call, folder_call, print_call, tell_call, terminal_call, seconds_call, pause_call, word_call};
 ghost use Rattle.hosts.specs.Faults.{link_number, mount_number, pipe_number, stream_number};
 
 use crate::{HostFault, LinkFault, PrintFault, RenameFault, Stream};
-use std::alloc::Global;
+use std::alloc::{AllocError, Global};
 
 /// What a program may ask of the system that it runs in. Each call adds itself, with its answer, to a history that no memory holds: a
 /// contract that speaks of it says which calls were made, in which order. A path is what `resolve` or `free_path` gave; calls on a file
@@ -153,9 +154,15 @@ pub trait Host {
 
     /// How many seconds have passed since the first such call.
     fn seconds(&mut self) -> u64
-        ensures { history self.new ≡ seconds_call ∷ history self.old };
+        ensures { history self.new ≡ seconds_call result ∷ history self.old };
 
-    /// The words of the command line, the program's own name first: `Failed` where one is no UTF-8 text.
-    fn words(&mut self, alloc: Global) -> Result<Vec<String>, HostFault>
-        ensures { history self.new ≡ words_call (is_ok result) ∷ history self.old };
+    /// Lets the twentieth part of a second pass.
+    fn pause(&mut self)
+        ensures { history self.new ≡ pause_call ∷ history self.old };
+
+    /// The bytes of the word at a place of the command line, where the program's own name is at 0, or none after the last word.
+    fn word(&mut self, alloc: Global, place: usize) -> Result<Option<Vec<u8>>, AllocError>
+        ensures { MatchResult result
+            (λ found. history self.new ≡ word_call place found ∷ history self.old)
+            (λ _. history self.new ≡ failed_call Word [] Memory ∷ history self.old) };
 }

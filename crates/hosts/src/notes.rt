@@ -34,31 +34,35 @@ pub const TERMINAL: u64 = 13;
 
 pub const SECONDS: u64 = 14;
 
-pub const WORDS: u64 = 15;
+pub const PAUSE: u64 = 15;
 
-pub const MAKE_BESIDE: u64 = 16;
+pub const WORD: u64 = 16;
 
-pub const OWN_BESIDE: u64 = 17;
+pub const END_OF_WORDS: u64 = 17;
 
-pub const WRITE_BESIDE: u64 = 18;
+pub const MAKE_BESIDE: u64 = 18;
 
-pub const SYNC_BESIDE: u64 = 19;
+pub const OWN_BESIDE: u64 = 19;
 
-pub const DROP_BESIDE: u64 = 20;
+pub const WRITE_BESIDE: u64 = 20;
 
-pub const RENAME: u64 = 21;
+pub const SYNC_BESIDE: u64 = 21;
 
-pub const LINK_NEW: u64 = 22;
+pub const DROP_BESIDE: u64 = 22;
 
-pub const CLAIM: u64 = 23;
+pub const RENAME: u64 = 23;
 
-pub const DROP_CLAIM: u64 = 24;
+pub const LINK_NEW: u64 = 24;
 
-pub const SYNC_FOLDER: u64 = 25;
+pub const CLAIM: u64 = 25;
 
-pub const WRITE_OVER: u64 = 26;
+pub const DROP_CLAIM: u64 = 26;
 
-pub const FINISH_OVER: u64 = 27;
+pub const SYNC_FOLDER: u64 = 27;
+
+pub const WRITE_OVER: u64 = 28;
+
+pub const FINISH_OVER: u64 = 29;
 
 /// 1 where a call succeeded, and else 0.
 pub fn number<T, E>(done: &Result<T, E>) -> u64

@@ -2,7 +2,7 @@ ghost use Rattle.std.specs.Prelude.{◌≡◌, ◌<◌, ◌≤◌, ℕ, List, []
 ghost use Rattle.std.specs.Str.{bytes_eq};
 ghost use Rattle.hosts.specs.Event.{Event, drop_call, leads_call};
 ghost use Rattle.hosts.specs.Place.{about};
-ghost use Rattle.hosts.specs.Saving.{Saves, SavesFile, AnyMoment, AnyMomentOf, IsWrittenOver, still_may, last_bytes, last_over};
+ghost use Rattle.hosts.specs.Saving.{Saves, SavesFile, AnyMoment, AnyMomentOf, IsPlaceNoted, IsWrittenOver, still_may, last_bytes, last_over};
 ghost use Rattle.hosts.specs.SavingSteps.{IsQuiet, ready_calls};
 ghost use Rattle.hosts.specs.Streams.{output, errors, read, failures, may_replace, path_of_name};
 
@@ -116,13 +116,14 @@ pub fn write_over<H: Host>(
 }
 
 /// Has the held file hold these bytes, whole or not at all where a new file may take its path. Else it is written in its place, those from
-/// `first` on before the others. No memory is taken.
+/// `first` on before the others, and before that the note is printed on standard error, if it has a byte. No memory is taken.
 pub fn save_file<H: Host>(
     host: &mut H,
     alloc: Global,
     path: &str,
     first: usize,
     bytes: &[u8],
+    note: &str,
 ) -> Result<Durability, Unwritten>
     ensures head { OnOk result (may_replace (H.history host.new) ≡ false → last_bytes (about path.now (H.history host.new)) ≡ take first bytes.now) }
     ensures saves { SavesFile result (may_replace (H.history host.new)) bytes.now (about path.now (H.history host.old)) (about path.now (H.history host.new)) }
@@ -131,30 +132,31 @@ pub fn save_file<H: Host>(
     ensures others { (other : List ℕ) → bytes_eq path.now other ≡ false
         → about other (H.history host.new) ≡ about other (H.history host.old) }
     ensures output { output (H.history host.new) ≡ output (H.history host.old) }
-    ensures errors { errors (H.history host.new) ≡ errors (H.history host.old) }
+    ensures noted { IsPlaceNoted (may_replace (H.history host.new)) note.now (errors (H.history host.old)) (errors (H.history host.new)) }
     ensures read { read (H.history host.new) ≡ read (H.history host.old) }
 {
     let Ok(is_alone) = host.is_alone(path) else {
         return Err(Unwritten::AsItWas);
     };
     if !is_alone {
-        return save_over(host, path, first, bytes);
+        return save_over(host, path, first, bytes, note);
     }
     match save(host, alloc, path, bytes) {
         Ok(durability) => Ok(durability),
         Err(fault) => match fault {
             RenameFault::Failed => Err(Unwritten::AsItWas),
-            RenameFault::Mount => save_over(host, path, first, bytes),
+            RenameFault::Mount => save_over(host, path, first, bytes, note),
         },
     }
 }
 
-/// Has the held file hold these bytes in its place.
+/// Has the held file hold these bytes in its place, after the note.
 fn save_over<H: Host>(
     host: &mut H,
     path: &str,
     first: usize,
     bytes: &[u8],
+    note: &str,
 ) -> Result<Durability, Unwritten>
     ensures head { OnOk result (last_bytes (about path.now (H.history host.new)) ≡ take first bytes.now) }
     ensures saves { SavesFile result false bytes.now (about path.now (H.history host.old)) (about path.now (H.history host.new)) }
@@ -162,12 +164,28 @@ fn save_over<H: Host>(
     ensures others { (other : List ℕ) → bytes_eq path.now other ≡ false
         → about other (H.history host.new) ≡ about other (H.history host.old) }
     ensures output { output (H.history host.new) ≡ output (H.history host.old) }
-    ensures errors { errors (H.history host.new) ≡ errors (H.history host.old) }
+    ensures noted { IsPlaceNoted false note.now (errors (H.history host.old)) (errors (H.history host.new)) }
     ensures read { read (H.history host.new) ≡ read (H.history host.old) }
     ensures alone { may_replace (H.history host.new) ≡ may_replace (H.history host.old) }
 {
+    note_place(host, note);
     match write_over(host, path, first, bytes) {
         Ok(()) => Ok(Durability::Certain),
         Err(_) => Err(Unwritten::InPart),
     }
+}
+
+/// Prints a note, if it has a byte.
+fn note_place<H: Host>(host: &mut H, note: &str)
+    ensures failures { failures (H.history host.old) ≤ failures (H.history host.new) }
+    ensures files { (path : List ℕ) → about path (H.history host.new) ≡ about path (H.history host.old) }
+    ensures noted { IsPlaceNoted false note.now (errors (H.history host.old)) (errors (H.history host.new)) }
+    ensures output { output (H.history host.new) ≡ output (H.history host.old) }
+    ensures read { read (H.history host.new) ≡ read (H.history host.old) }
+    ensures alone { may_replace (H.history host.new) ≡ may_replace (H.history host.old) }
+{
+    if note.is_empty() {
+        return;
+    }
+    let _ = host.tell(note);
 }

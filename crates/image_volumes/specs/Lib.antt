@@ -1,2 +1,3 @@
 pub mod Margins
+pub mod Parts
 pub mod Volumes

@@ -1,5 +1,6 @@
 -- Which volumes of a file are meant (OS/8's use of the RK05 disk and of the DECtape; that what is given decides is this project's profile).
-use Rattle.std.specs.Prelude.{ℕ, Option, Some, None, List}
+use Rattle.std.specs.Prelude.{ℕ, ◌*◌, ◌%◌, ◌&&◌, nat_eq, nat_le, if◌then◌else◌, Option, Some, None, List, length}
+use Rattle.word12.specs.declared.sizes.TheConstants.{BLOCK, MOST_BLOCKS}
 use Rattle.disk_layouts.specs.declared.layouts.Layout.{Layout}
 use Rattle.disk_layouts.specs.declared.layouts.Layout.TheVariants as layout
 use Rattle.image_kind.specs.Kinds.{kind_of}
@@ -21,6 +22,14 @@ volumes_by None = One None
 volumes_by (Some kind) = volumes_of kind.form
 
 -- the one of the layout that is given, or else those of what the file is
+abbrev pub volumes_with : Option Layout → Option ImageKind → Volumes
+volumes_with (Some layout) kind = One (Some layout)
+volumes_with None kind = volumes_by kind
+
 abbrev pub volumes_in : Option Layout → List ℕ → Volumes
-volumes_in (Some layout) file = One (Some layout)
-volumes_in None file = volumes_by (kind_of file)
+volumes_in given file = volumes_with given (kind_of file)
+
+-- What a file is taken for where a script runs over it. Whole blocks, at most as many as a volume has, are of no kind and so are one volume
+-- (the system machine's images). Other files are what their length and their directories show.
+abbrev pub script_kind : List ℕ → Option ImageKind
+script_kind file = if nat_eq (length file % (2 * BLOCK)) 0 && nat_le (length file) (2 * BLOCK * MOST_BLOCKS) then None else kind_of file

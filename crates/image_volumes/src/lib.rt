@@ -6,7 +6,9 @@
 
 pub mod laws;
 mod margins;
+mod parts;
 mod volumes;
 
-pub use margins::{Margins, body_of, margins_in, parts_of};
-pub use volumes::{Volumes, volumes_in};
+pub use margins::{Margins, body_by, body_of, margins_in, margins_with, parts_of};
+pub use parts::PartedFile;
+pub use volumes::{Volumes, script_kind, volumes_in, volumes_with};

@@ -17,7 +17,14 @@ pub struct Margins {
 pub fn margins_in(given: Option<Layout>, file: &[u8]) -> Margins
     ensures { result ≡ spec.margins_in given file.now }
 {
-    match kind_of(file) {
+    margins_with(given, kind_of(file))
+}
+
+/// Those of a file of this kind, or of one that is unknown.
+pub fn margins_with(given: Option<Layout>, kind: Option<ImageKind>) -> Margins
+    ensures { result ≡ spec.margins_by given kind }
+{
+    match kind {
         None => Margins {
             before: 0,
             after: 0,
@@ -70,11 +77,11 @@ pub fn body_of(given: Option<Layout>, file: Vec<u8>) -> Vec<u8>
     ensures { result.items ≡ spec.body_of given file.items }
 {
     let margins = margins_in(given, &file);
-    cut(file, margins)
+    body_by(margins, file)
 }
 
-/// Bytes without those of margins.
-fn cut(bytes: Vec<u8>, margins: Margins) -> Vec<u8>
+/// The bytes of a file without those of margins. No memory is taken.
+pub fn body_by(margins: Margins, bytes: Vec<u8>) -> Vec<u8>
     ensures { result.items ≡ spec.body_by margins bytes.items }
 {
     let mut body = bytes;

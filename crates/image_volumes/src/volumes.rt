@@ -3,7 +3,8 @@ ghost use Rattle.std.specs.Prelude.{◌≡◌};
 ghost use Rattle.image_volumes.specs.Volumes as spec;
 
 use disk_layouts::Layout;
-use image_kind::{Form, kind_of};
+use image_kind::{Form, ImageKind, kind_of};
+use word12::{BLOCK, MOST_BLOCKS};
 
 /// Which volumes of a file are meant.
 #[derive(Clone, Copy, PartialEq, Eq, Debug)]
@@ -21,9 +22,16 @@ pub enum Volumes {
 pub fn volumes_in(given: Option<Layout>, file: &[u8]) -> Volumes
     ensures { result ≡ spec.volumes_in given file.now }
 {
+    volumes_with(given, kind_of(file))
+}
+
+/// Which volumes of a file are meant that is of this kind, or is unknown: the one of the layout that is given, or else those of the kind.
+pub fn volumes_with(given: Option<Layout>, kind: Option<ImageKind>) -> Volumes
+    ensures { result ≡ spec.volumes_with given kind }
+{
     match given {
         Some(layout) => Volumes::One(Some(layout)),
-        None => match kind_of(file) {
+        None => match kind {
             Some(kind) => volumes_of(kind.form),
             None => Volumes::One(None),
         },
@@ -39,4 +47,15 @@ fn volumes_of(form: Form) -> Volumes
         Form::Disk => Volumes::Both,
         Form::Dectape => Volumes::One(Some(Layout::Dectape)),
     }
+}
+
+/// What a file is taken for where a script runs over it. Whole blocks, at most as many as a volume has, are of no kind and so are one volume,
+/// whatever stands in them. Other files are what their length and their directories show (this project's profile).
+pub fn script_kind(file: &[u8]) -> Option<ImageKind>
+    ensures { result ≡ spec.script_kind file.now }
+{
+    if file.len() % (2 * BLOCK) == 0 && file.len() <= 2 * BLOCK * MOST_BLOCKS {
+        return None;
+    }
+    kind_of(file)
 }

@@ -1,1 +1,2 @@
 mod IndexLemmas
+mod KeepLemmas

@@ -1,5 +1,5 @@
 -- The command that writes the index of many images (this project's profile).
-use Rattle.std.specs.Prelude.{◌≡◌, ◌⊎◌, ℕ, ◌+◌, Bool, true, false, ◌||◌, codes, Option, None, Result, Ok, Err, List, [], ◌∷◌, length}
+use Rattle.std.specs.Prelude.{◌≡◌, ◌⊎◌, ℕ, ◌+◌, Bool, true, false, codes, Option, None, Result, Ok, Err, List, [], ◌∷◌, length}
 use Rattle.std.specs.Global.{Vec}
 use Rattle.hosts.specs.Event.{Event, tell_call}
 use Rattle.disk_layouts.specs.declared.layouts.Layout.{Layout}
@@ -13,9 +13,12 @@ use Rattle.outcome.specs.declared.endings.Ending.TheVariants.{Failure, Misuse}
 use Rattle.volume_commands.specs.Work.{Then, Purely}
 use Rattle.volume_commands.specs.Reading.{Looks}
 use Rattle.host_progress.specs.Progressing.{TellsProgress, WithProgress}
-use Rattle.index_commands.specs.Columns.{ChoosesColumns, Shows}
+use Rattle.index_commands.specs.Columns.{ChoosesColumns}
 use Rattle.index_commands.specs.declared.columns.Columns.{Columns}
-use Rattle.index_commands.specs.Refusing.{PassesOver}
+use Rattle.index_commands.specs.declared.columns.LineShape.{LineShape}
+use Rattle.index_commands.specs.Found.{IsFound, ShowsSame, TakesLines}
+use Rattle.index_commands.specs.declared.found.Found.{Found}
+use Rattle.index_commands.specs.Refusing.{RefusesVolume}
 use Rattle.index_commands.specs.Volumes.{IsImageAt, IsNoImage, body_of, layouts_in, number_of}
 
 -- ## A volume
@@ -27,37 +30,33 @@ GivesIndex style name bytes layout (Ok lines) = (image : List ℕ) × IsImageAt 
 GivesIndex style name bytes layout (Err ending) = IsNoImage layout bytes ending
     ⊎ ((image : List ℕ) × IsImageAt layout bytes image × (fault : ArchiveFault) × GivesLines style name (number_of layout) image (Err fault) × (ending ≡ ending_of_archive fault))
 
--- lines are printed, and nothing is refused; where standard output doesn't take them, the command ends
-abbrev pub PrintsLines : Columns → List ℕ → List Event → Result Bool Ending → List Event → Type 0
-PrintsLines columns lines old (Ok is_refused) new = (is_refused ≡ false) × Shows columns lines old (Ok tt) new
-PrintsLines columns lines old (Err ending) new = Shows columns lines old (Err ending) new
+-- its lines are taken, or the volume is passed over
+abbrev pub ShowsIndex : Columns → List ℕ → Option ℕ → Result (Vec ℕ) Ending → Bool → List ℕ → List Event → Result Found Ending → List Event → Type 0
+ShowsIndex columns name number (Ok lines) is_refused kept = TakesLines columns.shape.is_same columns is_refused kept lines.items
+ShowsIndex columns name number (Err ending) is_refused kept = RefusesVolume name number ending kept
 
--- lines are printed, or the volume is passed over
-abbrev pub ShowsIndex : Columns → List ℕ → Option ℕ → Result (Vec ℕ) Ending → List Event → Result Bool Ending → List Event → Type 0
-ShowsIndex columns name number (Ok lines) = PrintsLines columns lines.items
-ShowsIndex columns name number (Err ending) = PassesOver name number ending
-
--- The index of a volume is made whole before a line of it is printed. The answer is whether the volume is refused.
-abbrev pub IndexesVolume : Columns → IndexStyle → List ℕ → List ℕ → Option Layout → List Event → Result Bool Ending → List Event → Type 0
-IndexesVolume columns style name bytes layout old result new = (lines : Result (Vec ℕ) Ending) × GivesIndex style name bytes layout lines × ShowsIndex columns name (number_of layout) lines old result new
+-- The index of a volume is made whole before a line of it is taken. Before it a volume may be refused, and lines wait.
+abbrev pub IndexesVolume : Columns → IndexStyle → List ℕ → List ℕ → Option Layout → Bool → List ℕ → List Event → Result Found Ending → List Event → Type 0
+IndexesVolume columns style name bytes layout is_refused kept old result new =
+    (lines : Result (Vec ℕ) Ending) × GivesIndex style name bytes layout lines × ShowsIndex columns name (number_of layout) lines is_refused kept old result new
 
 -- ## A file
 
--- its volumes, one after the other, and whether any is refused
-abbrev pub IndexesVolumes : Columns → IndexStyle → List ℕ → List ℕ → List (Option Layout) → Bool → List Event → Result Bool Ending → List Event → Type 0
-IndexesVolumes columns style name bytes [] is_refused old result new = (result ≡ Ok is_refused) × (new ≡ old)
-IndexesVolumes columns style name bytes (layout ∷ layouts) is_refused old result new =
-    Then (IndexesVolume columns style name bytes layout) (λ more. IndexesVolumes columns style name bytes layouts (is_refused || more)) old result new
+-- its volumes, one after the other
+abbrev pub IndexesVolumes : Columns → IndexStyle → List ℕ → List ℕ → List (Option Layout) → Bool → List ℕ → List Event → Result Found Ending → List Event → Type 0
+IndexesVolumes columns style name bytes [] is_refused kept = Purely (IsFound is_refused kept)
+IndexesVolumes columns style name bytes (layout ∷ layouts) is_refused kept =
+    Then (IndexesVolume columns style name bytes layout is_refused kept) (λ found. IndexesVolumes columns style name bytes layouts found.is_refused found.lines.items)
 
 -- those of a file that was read; one that can't be read is passed over
-abbrev pub IndexesRead : Columns → IndexStyle → Option Layout → List ℕ → Result (Vec ℕ) Ending → List Event → Result Bool Ending → List Event → Type 0
-IndexesRead columns style layout name (Ok file) = IndexesVolumes columns style name (body_of layout file.items) (layouts_in layout file.items) false
-IndexesRead columns style layout name (Err ending) = PassesOver name None ending
+abbrev pub IndexesRead : Columns → IndexStyle → Option Layout → List ℕ → Result (Vec ℕ) Ending → Bool → List ℕ → List Event → Result Found Ending → List Event → Type 0
+IndexesRead columns style layout name (Ok file) is_refused kept = IndexesVolumes columns style name (body_of layout file.items) (layouts_in layout file.items) is_refused kept
+IndexesRead columns style layout name (Err ending) is_refused kept = RefusesVolume name None ending kept
 
 -- an image file is read whole, and then its volumes
-abbrev pub IndexesImage : Columns → IndexStyle → Option Layout → List ℕ → List Event → Result Bool Ending → List Event → Type 0
-IndexesImage columns style layout name old result new =
-    (file : Result (Vec ℕ) Ending) × (between : List Event) × Looks name name old file between × IndexesRead columns style layout name file between result new
+abbrev pub IndexesImage : Columns → IndexStyle → Option Layout → List ℕ → Bool → List ℕ → List Event → Result Found Ending → List Event → Type 0
+IndexesImage columns style layout name is_refused kept old result new =
+    (file : Result (Vec ℕ) Ending) × (between : List Event) × Looks name name old file between × IndexesRead columns style layout name file is_refused kept between result new
 
 -- ## The command
 
@@ -67,22 +66,29 @@ ending_of_refusal true = Err Failure
 ending_of_refusal false = Ok tt
 
 -- how many of all images are done may be printed, and then the next one is indexed
-abbrev pub IndexesNext : Columns → IndexStyle → Option Layout → Bool → ℕ → ℕ → List ℕ → List Event → Result Bool Ending → List Event → Type 0
-IndexesNext columns style layout is_told done all name = Then (TellsProgress is_told done all) (λ it. IndexesImage columns style layout name)
+abbrev pub IndexesNext : Columns → IndexStyle → Option Layout → Bool → ℕ → ℕ → List ℕ → Bool → List ℕ → List Event → Result Found Ending → List Event → Type 0
+IndexesNext columns style layout is_told done all name is_refused kept = Then (TellsProgress is_told done all) (λ it. IndexesImage columns style layout name is_refused kept)
 
--- Images are read in order, one at a time; of each the index is printed, or why it is passed over. The answer is whether one is refused.
-abbrev pub IndexesImages : Columns → IndexStyle → Option Layout → Bool → ℕ → ℕ → List (List ℕ) → Bool → List Event → Result Bool Ending → List Event → Type 0
-IndexesImages columns style layout is_told done all [] is_refused = Purely (λ result. result ≡ Ok is_refused)
-IndexesImages columns style layout is_told done all (name ∷ names) is_refused =
-    Then (IndexesNext columns style layout is_told done all name) (λ more. IndexesImages columns style layout is_told (done + 1) all names (is_refused || more))
+-- Images are read in order, one at a time; of each the index is taken, or it is printed why it is passed over.
+abbrev pub IndexesImages : Columns → IndexStyle → Option Layout → Bool → ℕ → ℕ → List (List ℕ) → Bool → List ℕ → List Event → Result Found Ending → List Event → Type 0
+IndexesImages columns style layout is_told done all [] is_refused kept = Purely (IsFound is_refused kept)
+IndexesImages columns style layout is_told done all (name ∷ names) is_refused kept =
+    Then (IndexesNext columns style layout is_told done all name is_refused kept) (λ found. IndexesImages columns style layout is_told (done + 1) all names found.is_refused found.lines.items)
 
 -- the same with its progress
-abbrev pub IndexesAll : Columns → IndexStyle → Option Layout → List (List ℕ) → List Event → Result Bool Ending → List Event → Type 0
-IndexesAll columns style layout names = WithProgress (λ is_told. IndexesImages columns style layout is_told 0 (length names) names false)
+abbrev pub IndexesAll : Columns → IndexStyle → Option Layout → List (List ℕ) → List Event → Result Found Ending → List Event → Type 0
+IndexesAll columns style layout names = WithProgress (λ is_told. IndexesImages columns style layout is_told 0 (length names) names false [])
+
+-- Where just the lines of equal files are wanted these are printed. The command ends with a refusal where an image was refused.
+abbrev pub EndsIndex : Columns → Bool → List ℕ → List Event → Result (Unit {0}) Ending → List Event → Type 0
+EndsIndex columns is_refused kept = Then (ShowsSame columns.shape.is_same columns kept) (λ it. Purely (λ result. result ≡ ending_of_refusal is_refused))
+
+abbrev pub IndexesWith : IndexStyle → Option Layout → List (List ℕ) → Columns → List Event → Result (Unit {0}) Ending → List Event → Type 0
+IndexesWith style layout names columns = Then (IndexesAll columns style layout names) (λ found. EndsIndex columns found.is_refused found.lines.items)
 
 -- the columns are chosen before
-abbrev pub IndexesInColumns : IndexStyle → Option Layout → List (List ℕ) → List Event → Result Bool Ending → List Event → Type 0
-IndexesInColumns style layout names = Then (ChoosesColumns style names) (λ columns. IndexesAll columns style layout names)
+abbrev pub IndexesInColumns : IndexStyle → LineShape → Option Layout → List (List ℕ) → List Event → Result (Unit {0}) Ending → List Event → Type 0
+IndexesInColumns style shape layout names = Then (ChoosesColumns shape names) (IndexesWith style layout names)
 
 -- a word that is no name and no pattern is refused
 abbrev pub ChecksWord : List ℕ → List Event → Result (Unit {0}) Ending → List Event → Type 0
@@ -91,7 +97,6 @@ ChecksWord word old (Err Misuse) new =
     (is_choice word ≡ false) × (ok : Bool) × (new ≡ tell_call ok (codes "error: --find takes a name, or a pattern of letters, digits, * and ?\n") ∷ old)
 ChecksWord word old (Err _) new = ⊥
 
--- The word that chooses files is looked at, and then the index of all images is printed. Where one was refused, the command ends so.
-abbrev pub Indexes : IndexStyle → Option Layout → List (List ℕ) → List Event → Result (Unit {0}) Ending → List Event → Type 0
-Indexes style layout names =
-    Then (ChecksWord style.find.bytes.items) (λ it. Then (IndexesInColumns style layout names) (λ is_refused. Purely (λ result. result ≡ ending_of_refusal is_refused)))
+-- The word that chooses files is looked at, and then the index of all images is printed.
+abbrev pub Indexes : IndexStyle → LineShape → Option Layout → List (List ℕ) → List Event → Result (Unit {0}) Ending → List Event → Type 0
+Indexes style shape layout names = Then (ChecksWord style.find.bytes.items) (λ it. IndexesInColumns style shape layout names)

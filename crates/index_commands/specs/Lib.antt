@@ -1,4 +1,5 @@
 pub mod Columns
+pub mod Found
 pub mod Indexing
 pub mod IndexSteps
 pub mod Refusing

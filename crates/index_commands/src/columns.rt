@@ -1,4 +1,4 @@
-//! The columns of an index at a terminal.
+//! How the lines of an index are printed, and its columns at a terminal.
 ghost use Rattle.std.specs.Prelude.{◌≡◌, ◌∷◌, [], IfOk, map};
 ghost use Rattle.index_commands.specs.Columns.{ChoosesColumns, Shows, longest};
 ghost use Rattle.index_commands.specs.Columns as spec;
@@ -8,14 +8,25 @@ use outcome::Ending;
 use std::alloc::{AllocError, Global};
 use text_columns::align;
 use volume_commands::print;
-use volume_index::IndexStyle;
+use volume_index::json_lines;
 
 /// How wide the columns after the image's name are: a volume's number, a block, a length, a name, a date, and what a file holds.
 const WIDTHS: [usize; 6] = [1, 4, 4, 9, 10, 10];
 
-/// Whether the columns of the lines line up, and how wide they are then.
+/// Which lines of an index are printed, and how.
+#[derive(Clone, Copy, PartialEq, Eq, Debug)]
+pub struct LineShape {
+    /// Whether each is a JSON object (RFC 8259).
+    pub is_json: bool,
+
+    /// Whether only those of equal files are printed, when the lines of all images are known.
+    pub is_same: bool,
+}
+
+/// How the lines are printed, whether their columns line up, and how wide they are then.
 #[derive(Drop)]
 pub struct Columns {
+    pub shape: LineShape,
     pub are_aligned: bool,
     pub widths: Vec<usize>,
 }
@@ -25,21 +36,22 @@ impl Columns {
     pub(crate) fn choose<H: Host>(
         host: &mut H,
         alloc: Global,
-        style: &IndexStyle,
+        shape: LineShape,
         images: &[String],
     ) -> Result<Columns, Ending>
-        ensures { ChoosesColumns style.now (map (λ image. image.bytes.items) images.now) (H.history host.old) result (H.history host.new) }
+        ensures { ChoosesColumns shape (map (λ image. image.bytes.items) images.now) (H.history host.old) result (H.history host.new) }
     {
         let is_terminal = host.is_terminal(Stream::Output);
-        let are_aligned = is_terminal && !style.is_json;
+        let are_aligned = is_terminal && !shape.is_json;
         let widths = widths_of(alloc, images)?;
         Ok(Columns {
+            shape,
             are_aligned,
             widths,
         })
     }
 
-    /// Prints lines, with columns that line up where that is chosen.
+    /// Prints lines as objects, or with columns that line up, where that is chosen.
     pub(crate) fn print<H: Host>(
         &self,
         host: &mut H,
@@ -48,6 +60,10 @@ impl Columns {
     ) -> Result<(), Ending>
         ensures { Shows self.now lines.now (H.history host.old) result (H.history host.new) }
     {
+        if self.shape.is_json {
+            let text = json_lines(alloc, lines)?;
+            return print(host, &text);
+        }
         if self.are_aligned {
             let text = align(alloc, lines, &self.widths)?;
             return print(host, &text);

@@ -1,10 +1,11 @@
-ghost use Rattle.std.specs.Prelude.{◌≡◌, Some, false, ◌||◌, ◌∷◌, [], length, map};
+ghost use Rattle.std.specs.Prelude.{◌≡◌, Some, false, ◌∷◌, [], length, map};
 ghost use Rattle.image_kind.specs.declared.kinds.Form.TheVariants.{Disk};
-ghost use Rattle.index_commands.specs.Indexing.{ChecksWord, GivesIndex, Indexes, IndexesAll, IndexesImage, IndexesImages, IndexesInColumns, IndexesNext, IndexesVolume, IndexesVolumes, PrintsLines, ending_of_refusal};
+ghost use Rattle.index_commands.specs.Indexing.{ChecksWord, EndsIndex, GivesIndex, Indexes, IndexesAll, IndexesImage, IndexesImages, IndexesInColumns, IndexesNext, IndexesVolume, IndexesVolumes, IndexesWith, ending_of_refusal};
 ghost use Rattle.index_commands.specs.Volumes.{body_of, layouts_in, layouts_of};
 
-use crate::columns::Columns;
-use crate::refusals::pass_over;
+use crate::columns::{Columns, LineShape};
+use crate::found::{Found, print_same, take_lines};
+use crate::refusals::refuse_volume;
 use crate::volumes::{body_in, number_of, volume_at};
 use archive_many::{ChoiceFault, choose_files};
 use disk_layouts::Layout;
@@ -19,34 +20,64 @@ use volume_index::{IndexStyle, index_volume};
 /// Prints the index of the volumes in image files: a line for each file of each that is wanted, images as they are given and files as they
 /// lie. Images are read one at a time, and no file changes. Where no layout is given, each file's length and directory show which volumes it
 /// has. What is refused is said on standard error, the rest goes on, and the command ends with a refusal. Where the word that chooses files is
-/// no name and no pattern, nothing is read. At a terminal the columns line up. A terminal on standard error shows the progress, where standard output goes elsewhere (this
-/// project's profile).
+/// no name and no pattern, nothing is read. Where the lines of equal files are wanted, just these are printed, when all images are read. At a
+/// terminal the columns line up. A terminal on standard error shows the progress, where standard output goes elsewhere (this project's
+/// profile).
 pub fn index_images<H: Host>(
     host: &mut H,
     alloc: Global,
     style: &IndexStyle,
+    shape: LineShape,
     images: &[String],
     layout: Option<Layout>,
 ) -> Result<(), Ending>
-    ensures { Indexes style.now layout (map (λ image. image.bytes.items) images.now) (H.history host.old) result (H.history host.new) }
+    ensures { Indexes style.now shape layout (map (λ image. image.bytes.items) images.now) (H.history host.old) result (H.history host.new) }
 {
     check_word(host, alloc, style.find.as_bytes())?;
-    let is_refused = index_in_columns(host, alloc, style, images, layout)?;
-    ending_of_refusal(is_refused)
+    index_in_columns(host, alloc, style, shape, images, layout)
 }
 
-/// Prints the index of all image files, in columns that line up at a terminal, and answers whether one is refused.
+/// Prints the index of all image files, in columns that line up at a terminal.
 fn index_in_columns<H: Host>(
     host: &mut H,
     alloc: Global,
     style: &IndexStyle,
+    shape: LineShape,
     images: &[String],
     layout: Option<Layout>,
-) -> Result<bool, Ending>
-    ensures { IndexesInColumns style.now layout (map (λ image. image.bytes.items) images.now) (H.history host.old) result (H.history host.new) }
+) -> Result<(), Ending>
+    ensures { IndexesInColumns style.now shape layout (map (λ image. image.bytes.items) images.now) (H.history host.old) result (H.history host.new) }
 {
-    let columns = Columns::choose(host, alloc, style, images)?;
-    index_all(host, alloc, &columns, style, images, layout)
+    let columns = Columns::choose(host, alloc, shape, images)?;
+    index_with(host, alloc, &columns, style, images, layout)
+}
+
+/// Prints the index of all image files in these columns.
+fn index_with<H: Host>(
+    host: &mut H,
+    alloc: Global,
+    columns: &Columns,
+    style: &IndexStyle,
+    images: &[String],
+    layout: Option<Layout>,
+) -> Result<(), Ending>
+    ensures { IndexesWith style.now layout (map (λ image. image.bytes.items) images.now) columns.now (H.history host.old) result (H.history host.new) }
+{
+    let found = index_all(host, alloc, columns, style, images, layout)?;
+    end_index(host, alloc, columns, &found)
+}
+
+/// Prints the lines of equal files, where these are wanted, and ends the command.
+fn end_index<H: Host>(
+    host: &mut H,
+    alloc: Global,
+    columns: &Columns,
+    found: &Found,
+) -> Result<(), Ending>
+    ensures { EndsIndex columns.now found.now.is_refused found.now.lines.items (H.history host.old) result (H.history host.new) }
+{
+    print_same(host, alloc, columns, &found.lines)?;
+    ending_of_refusal(found.is_refused)
 }
 
 /// How the command ends, by whether an image was refused.
@@ -59,7 +90,7 @@ fn ending_of_refusal(is_refused: bool) -> Result<(), Ending>
     Ok(())
 }
 
-/// Prints the index of all image files, with the progress, and answers whether one is refused.
+/// Takes the index of all image files, with the progress.
 fn index_all<H: Host>(
     host: &mut H,
     alloc: Global,
@@ -67,13 +98,13 @@ fn index_all<H: Host>(
     style: &IndexStyle,
     images: &[String],
     layout: Option<Layout>,
-) -> Result<bool, Ending>
+) -> Result<Found, Ending>
     ensures { IndexesAll columns.now style.now layout (map (λ image. image.bytes.items) images.now) (H.history host.old) result (H.history host.new) }
 {
     let mut progress = Progress::begin(host, images.len());
-    let is_refused = index_each(host, alloc, columns, style, images, layout, &mut progress);
+    let found = index_each(host, alloc, columns, style, images, layout, &mut progress);
     progress.end(host);
-    is_refused
+    found
 }
 
 /// Refuses a word that is no name and no pattern.
@@ -91,7 +122,7 @@ fn check_word<H: Host>(host: &mut H, alloc: Global, word: &[u8]) -> Result<(), E
     }
 }
 
-/// Prints the index of each image file, and answers whether one is refused.
+/// Takes the index of each image file.
 fn index_each<H: Host>(
     host: &mut H,
     alloc: Global,
@@ -100,15 +131,15 @@ fn index_each<H: Host>(
     images: &[String],
     layout: Option<Layout>,
     progress: &mut Progress,
-) -> Result<bool, Ending>
-    ensures indexes { IndexesImages columns.now style.now layout progress.old.is_told 0 progress.old.all (map (λ image. image.bytes.items) images.now) false (H.history host.old) result (H.history host.new) }
+) -> Result<Found, Ending>
+    ensures indexes { IndexesImages columns.now style.now layout progress.old.is_told 0 progress.old.all (map (λ image. image.bytes.items) images.now) false [] (H.history host.old) result (H.history host.new) }
     ensures told { progress.new.is_told ≡ progress.old.is_told }
 {
     let mut done = 0;
-    let mut is_refused = false;
+    let mut found = Found::none(alloc);
     let mut rest = images;
     while let [image, others @ ..] = rest {
-        let more = index_next(
+        found = index_next(
             host,
             alloc,
             columns,
@@ -117,15 +148,15 @@ fn index_each<H: Host>(
             layout,
             progress,
             done,
+            found,
         )?;
-        is_refused = is_either(is_refused, more);
         done += 1;
         rest = others;
     }
-    Ok(is_refused)
+    Ok(found)
 }
 
-/// Prints the index of an image file after so many others, and answers whether one of its volumes is refused.
+/// Takes the index of an image file after so many others.
 fn index_next<H: Host>(
     host: &mut H,
     alloc: Global,
@@ -135,23 +166,17 @@ fn index_next<H: Host>(
     layout: Option<Layout>,
     progress: &mut Progress,
     done: usize,
-) -> Result<bool, Ending>
-    ensures indexes { IndexesNext columns.now style.now layout progress.old.is_told done progress.old.all name.now (H.history host.old) result (H.history host.new) }
+    found: Found,
+) -> Result<Found, Ending>
+    ensures indexes { IndexesNext columns.now style.now layout progress.old.is_told done progress.old.all name.now found.is_refused found.lines.items (H.history host.old) result (H.history host.new) }
     ensures told { progress.new.is_told ≡ progress.old.is_told }
     ensures all { progress.new.all ≡ progress.old.all }
 {
     progress.tell(host, done);
-    index_image(host, alloc, columns, style, name, layout)
+    index_image(host, alloc, columns, style, name, layout, found)
 }
 
-/// Whether one of two is so.
-fn is_either(one: bool, other: bool) -> bool
-    ensures { result ≡ (one || other) }
-{
-    one || other
-}
-
-/// Reads an image file, prints the index of its volumes, and answers whether one is refused.
+/// Reads an image file, and takes the index of its volumes.
 fn index_image<H: Host>(
     host: &mut H,
     alloc: Global,
@@ -159,16 +184,26 @@ fn index_image<H: Host>(
     style: &IndexStyle,
     name: &str,
     layout: Option<Layout>,
-) -> Result<bool, Ending>
-    ensures { IndexesImage columns.now style.now layout name.now (H.history host.old) result (H.history host.new) }
+    found: Found,
+) -> Result<Found, Ending>
+    ensures { IndexesImage columns.now style.now layout name.now found.is_refused found.lines.items (H.history host.old) result (H.history host.new) }
 {
     match look_file(host, alloc, name) {
-        Ok(file) => index_file(host, alloc, columns, style, name.as_bytes(), &file, layout),
-        Err(ending) => pass_over(host, alloc, name.as_bytes(), None, ending),
+        Ok(file) => index_file(
+            host,
+            alloc,
+            columns,
+            style,
+            name.as_bytes(),
+            &file,
+            layout,
+            found,
+        ),
+        Err(ending) => refuse_volume(host, alloc, name.as_bytes(), None, ending, found),
     }
 }
 
-/// Prints the index of the volumes in a file of these bytes.
+/// Takes the index of the volumes in a file of these bytes.
 fn index_file<H: Host>(
     host: &mut H,
     alloc: Global,
@@ -177,21 +212,22 @@ fn index_file<H: Host>(
     name: &[u8],
     file: &[u8],
     layout: Option<Layout>,
-) -> Result<bool, Ending>
-    ensures { IndexesVolumes columns.now style.now name.now (body_of layout file.now) (layouts_in layout file.now) false (H.history host.old) result (H.history host.new) }
+    found: Found,
+) -> Result<Found, Ending>
+    ensures { IndexesVolumes columns.now style.now name.now (body_of layout file.now) (layouts_in layout file.now) found.is_refused found.lines.items (H.history host.old) result (H.history host.new) }
 {
     if let Some(given) = layout {
-        return index_alone(host, alloc, columns, style, name, file, Some(given));
+        return index_alone(host, alloc, columns, style, name, file, Some(given), found);
     }
     let kind = kind_of(file);
     let bytes = body_in(kind, file);
     match kind {
-        None => index_alone(host, alloc, columns, style, name, bytes, None),
-        Some(kind) => index_form(host, alloc, columns, style, name, bytes, kind.form),
+        None => index_alone(host, alloc, columns, style, name, bytes, None, found),
+        Some(kind) => index_form(host, alloc, columns, style, name, bytes, kind.form, found),
     }
 }
 
-/// Prints the index of the volumes in bytes of this form.
+/// Takes the index of the volumes in bytes of this form.
 fn index_form<H: Host>(
     host: &mut H,
     alloc: Global,
@@ -200,11 +236,12 @@ fn index_form<H: Host>(
     name: &[u8],
     bytes: &[u8],
     form: Form,
-) -> Result<bool, Ending>
-    ensures { IndexesVolumes columns.now style.now name.now bytes.now (layouts_of form) false (H.history host.old) result (H.history host.new) }
+    found: Found,
+) -> Result<Found, Ending>
+    ensures { IndexesVolumes columns.now style.now name.now bytes.now (layouts_of form) found.is_refused found.lines.items (H.history host.old) result (H.history host.new) }
 {
     match form {
-        Form::Volume => index_alone(host, alloc, columns, style, name, bytes, None),
+        Form::Volume => index_alone(host, alloc, columns, style, name, bytes, None, found),
         Form::Dectape => index_alone(
             host,
             alloc,
@@ -213,12 +250,13 @@ fn index_form<H: Host>(
             name,
             bytes,
             Some(Layout::Dectape),
+            found,
         ),
-        Form::Disk => index_disk(host, alloc, columns, style, name, bytes),
+        Form::Disk => index_disk(host, alloc, columns, style, name, bytes, found),
     }
 }
 
-/// Prints the index of the one volume that lies so in bytes, and answers whether it is refused.
+/// Takes the index of the one volume that lies so in bytes.
 fn index_alone<H: Host>(
     host: &mut H,
     alloc: Global,
@@ -227,14 +265,15 @@ fn index_alone<H: Host>(
     name: &[u8],
     bytes: &[u8],
     layout: Option<Layout>,
-) -> Result<bool, Ending>
-    ensures { IndexesVolumes columns.now style.now name.now bytes.now (layout ∷ []) false (H.history host.old) result (H.history host.new) }
+    found: Found,
+) -> Result<Found, Ending>
+    ensures { IndexesVolumes columns.now style.now name.now bytes.now (layout ∷ []) found.is_refused found.lines.items (H.history host.old) result (H.history host.new) }
 {
-    let is_refused = index_one(host, alloc, columns, style, name, bytes, layout)?;
-    Ok(is_refused)
+    let after = index_one(host, alloc, columns, style, name, bytes, layout, found)?;
+    Ok(after)
 }
 
-/// Prints the index of both volumes of a disk, and answers whether one of them is refused.
+/// Takes the index of both volumes of a disk.
 fn index_disk<H: Host>(
     host: &mut H,
     alloc: Global,
@@ -242,8 +281,9 @@ fn index_disk<H: Host>(
     style: &IndexStyle,
     name: &[u8],
     bytes: &[u8],
-) -> Result<bool, Ending>
-    ensures { IndexesVolumes columns.now style.now name.now bytes.now (layouts_of Disk) false (H.history host.old) result (H.history host.new) }
+    found: Found,
+) -> Result<Found, Ending>
+    ensures { IndexesVolumes columns.now style.now name.now bytes.now (layouts_of Disk) found.is_refused found.lines.items (H.history host.old) result (H.history host.new) }
 {
     let first = index_one(
         host,
@@ -253,6 +293,7 @@ fn index_disk<H: Host>(
         name,
         bytes,
         Some(Layout::First),
+        found,
     )?;
     let second = index_one(
         host,
@@ -262,11 +303,12 @@ fn index_disk<H: Host>(
         name,
         bytes,
         Some(Layout::Second),
+        first,
     )?;
-    Ok(first || second)
+    Ok(second)
 }
 
-/// Prints the index of a volume that lies so in bytes, and answers whether it is refused.
+/// Takes the index of a volume that lies so in bytes.
 fn index_one<H: Host>(
     host: &mut H,
     alloc: Global,
@@ -275,27 +317,15 @@ fn index_one<H: Host>(
     name: &[u8],
     bytes: &[u8],
     layout: Option<Layout>,
-) -> Result<bool, Ending>
-    ensures { IndexesVolume columns.now style.now name.now bytes.now layout (H.history host.old) result (H.history host.new) }
+    found: Found,
+) -> Result<Found, Ending>
+    ensures { IndexesVolume columns.now style.now name.now bytes.now layout found.is_refused found.lines.items (H.history host.old) result (H.history host.new) }
 {
     let number = number_of(layout);
     match lines_of(alloc, style, name, bytes, layout) {
-        Ok(lines) => print_lines(host, alloc, columns, &lines),
-        Err(ending) => pass_over(host, alloc, name, number, ending),
+        Ok(lines) => take_lines(host, alloc, columns, &lines, found),
+        Err(ending) => refuse_volume(host, alloc, name, number, ending, found),
     }
-}
-
-/// Prints lines, of which nothing is refused.
-fn print_lines<H: Host>(
-    host: &mut H,
-    alloc: Global,
-    columns: &Columns,
-    lines: &[u8],
-) -> Result<bool, Ending>
-    ensures { PrintsLines columns.now lines.now (H.history host.old) result (H.history host.new) }
-{
-    columns.print(host, alloc, lines)?;
-    Ok(false)
 }
 
 /// The lines of the volume that lies so in bytes.

@@ -4,8 +4,11 @@
 #![tactic(auto)]
 
 mod columns;
+mod found;
 mod indexing;
+pub mod laws;
 mod refusals;
 mod volumes;
 
+pub use columns::LineShape;
 pub use indexing::index_images;

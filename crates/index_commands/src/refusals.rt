@@ -4,28 +4,44 @@ ghost use Rattle.program_reports.specs.Prefixes.{with_prefixes};
 ghost use Rattle.program_reports.specs.Program.{program_line};
 ghost use Rattle.volume_commands.specs.Answers.{AreLines};
 ghost use Rattle.volume_commands.specs.Ending.{TellsLine};
-ghost use Rattle.index_commands.specs.Refusing.{PassesOver, number_text, prefix_of};
+ghost use Rattle.index_commands.specs.Refusing.{PassesOver, RefusesVolume, number_text, prefix_of};
 
+use crate::found::Found;
 use hosts::Host;
 use outcome::Ending;
 use program_reports::{ProgramLine, put_program, with_prefix};
 use std::alloc::{AllocError, Global};
 
-/// Says on standard error why a volume is refused, and that one is; what is no refusal ends the command.
-pub(crate) fn pass_over<H: Host>(
+/// Says on standard error why a volume is refused, which is counted; what is no refusal ends the command.
+pub(crate) fn refuse_volume<H: Host>(
     host: &mut H,
     alloc: Global,
     name: &[u8],
     number: Option<u64>,
     ending: Ending,
-) -> Result<bool, Ending>
+    found: Found,
+) -> Result<Found, Ending>
+    ensures { RefusesVolume name.now number ending found.lines.items (H.history host.old) result (H.history host.new) }
+{
+    pass_over(host, alloc, name, number, ending)?;
+    Ok(found.with_refusal())
+}
+
+/// Says on standard error why a volume is refused; what is no refusal ends the command.
+fn pass_over<H: Host>(
+    host: &mut H,
+    alloc: Global,
+    name: &[u8],
+    number: Option<u64>,
+    ending: Ending,
+) -> Result<(), Ending>
     ensures { PassesOver name.now number ending (H.history host.old) result (H.history host.new) }
 {
     match ending {
         Ending::Line(line) => {
             let text = refusal(alloc, name, number, &line)?;
             tell_line(host, &text);
-            Ok(true)
+            Ok(())
         }
         _ => Err(ending),
     }

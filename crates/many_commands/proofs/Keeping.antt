@@ -3,8 +3,10 @@ use Rattle.std.proofs.Common.{◌≡◌, ◌∙◌, ◌∷◌, ℕ, Bool, true, 
 use Rattle.std.specs.Str.{bytes_eq}
 use Rattle.hosts.specs.Event.{Event, tell_call}
 use Rattle.hosts.specs.Place.{about}
-use Rattle.image_volumes.specs.Margins.{body_of}
-use Rattle.image_volumes.specs.Volumes.{volumes_in}
+use Rattle.image_kind.specs.Kinds.{kind_of}
+use Rattle.image_volumes.specs.Margins.{body_of, margins_by}
+use Rattle.image_volumes.specs.Volumes.{volumes_in, volumes_with}
+use Rattle.image_volumes.specs.declared.margins.Margins.{Margins}
 use Rattle.image_volumes.specs.declared.volumes.Volumes.{Volumes}
 use Rattle.image_volumes.specs.declared.volumes.Volumes.TheVariants.{One, Both}
 use Rattle.outcome.specs.Hints.{image_note}
@@ -16,7 +18,7 @@ use Rattle.archive_files.specs.declared.faults.ArchiveFault.{ArchiveFault}
 use Rattle.program_tasks.specs.declared.forms.ImageForm.{ImageForm}
 use Rattle.volume_commands.specs.Answers.{Answers, Refuses}
 use Rattle.volume_commands.specs.Notes.{Tells}
-use Rattle.volume_commands.specs.Reading.{IsUnread, FindsIn, FindsOne, Holds, HoldsAt, Looks, LooksAt, MakesImage, Opens, hold_calls, looked_name, with_lock_note}
+use Rattle.volume_commands.specs.Reading.{IsUnread, FindsIn, FindsOne, Holds, HoldsAt, Looks, LooksAt, MakesOne, Opens, hold_calls, looked_name, with_lock_note}
 use Rattle.volume_commands.specs.Saving.{Prints, SavesIf, Stores, Writes}
 use Rattle.volume_commands.specs.Work.{Then, Purely}
 use Rattle.volume_commands.specs.declared.images.Image.{Image}
@@ -99,11 +101,18 @@ holds-never : (name : List ℕ) → NeverChanges (Holds name)
 holds-never name old (Ok place) new p = holds-at name place place.is_held old new p
 holds-never name old (Err ending) new (fault, unheld, idle, failed, why) = idle.files
 
+makes-never : (place : ImagePlace) (volumes : Volumes) (margins : Margins) (file : List ℕ) → NeverChanges (MakesOne place volumes margins file)
+makes-never place (One layout) margins file old result new p = same old new p.1
+makes-never place Both margins file old (Ok image) new p = absurd p
+makes-never place Both margins file old (Err ending) new (is, ok, p) = told ok _ old new p
+
 pub opens-never : (form : ImageForm) → NeverChanges (Opens form)
-opens-never form = then-never (Holds form.file.bytes.items) (λ place. Then (Looks (looked_name place form.file.bytes.items) form.file.bytes.items) (λ file. Purely (MakesImage place form.layout file.items)))
+opens-never form = then-never (Holds form.file.bytes.items) (λ place. Then (Looks (looked_name place form.file.bytes.items) form.file.bytes.items) (λ file. made place file.items))
     (holds-never form.file.bytes.items)
-    (λ place. then-never (Looks (looked_name place form.file.bytes.items) form.file.bytes.items) (λ file. Purely (MakesImage place form.layout file.items))
-    (looks-never (looked_name place form.file.bytes.items) form.file.bytes.items) (λ file. purely-never (MakesImage place form.layout file.items)))
+    (λ place. then-never (Looks (looked_name place form.file.bytes.items) form.file.bytes.items) (λ file. made place file.items)
+    (looks-never (looked_name place form.file.bytes.items) form.file.bytes.items) (λ file. makes-never place (volumes_with form.layout (kind_of file.items)) (margins_by form.layout (kind_of file.items)) file.items)) where
+      made : ImagePlace → List ℕ → List Event → Result Image Ending → List Event → Type 0
+      made place file = MakesOne place (volumes_with form.layout (kind_of file)) (margins_by form.layout (kind_of file)) file
 
 -- ## What is saved
 

@@ -126,8 +126,8 @@ reports-next-never kind given file old result new (bytes, between, looks, p) = �
 
 tells-done-never : (is_told : Bool) (done all : ℕ) (old new : List Event) → TellsDone is_told done all old new → ChangesNothing old new
 tells-done-never false done all old new p = same old new p
-tells-done-never true done all old new (inl p) = same _ new p
-tells-done-never true done all old new (inr p) = same _ new p.1
+tells-done-never true done all old new (passed, inl p) = same _ new p
+tells-done-never true done all old new (passed, inr p) = same _ new p.2
 
 pub progress-never : (is_told : Bool) (done all : ℕ) → NeverChanges (TellsProgress is_told done all)
 progress-never is_told done all old result new p = tells-done-never is_told done all old new p.1
@@ -143,7 +143,7 @@ each-never form is_told done all refused (file ∷ files) =
     (λ is_sound. each-never form is_told (done + 1) all (with_refusal is_sound refused) files)
 
 pub begins-never : (is_told : Bool) (old new : List Event) → BeginsProgress is_told old new → ChangesNothing old new
-begins-never true old new p = same _ new p
+begins-never true old new p = same _ new p.1
 begins-never false old new (inl p) = same _ new p
 begins-never false old new (inr p) = same _ new p
 

@@ -167,8 +167,8 @@ with-others is_all given name old new (bytes, sound, is) names last others = (by
 
 done-reads : (is_told : Bool) (done all : ℕ) (old new : List Event) → TellsDone is_told done all old new → read new ≡ read old
 done-reads false done all old new p = reads old new p
-done-reads true done all old new (inl p) = reads (seconds_call ∷ old) new p
-done-reads true done all old new (inr p) = reads (tell_call p.0 (progress_text done all) ∷ seconds_call ∷ old) new p.1
+done-reads true done all old new (passed, inl p) = reads (seconds_call passed ∷ old) new p
+done-reads true done all old new (passed, inr p) = reads (tell_call p.0 (progress_text done all) ∷ seconds_call passed ∷ old) new p.2
 
 next-sound : (form : CheckForm) (is_told : Bool) (done all : ℕ) (name : List ℕ) (old new : List Event) (is_sound : Bool) → ChecksNext form is_told done all name old (Ok is_sound) new → is_sound ≡ true
     → (names : List (List ℕ)) (last : List Event) → AreSound form.is_all form.layout names (read new) last → AreSound form.is_all form.layout (name ∷ names) (read old) last
@@ -191,7 +191,7 @@ each-sound form is_told done all refused (name ∷ names) count old new (inr it)
     (sound.1, next-sound form is_told done all name old it.between it.given it.done sound.0 names (read new) rest.1)
 
 begun-reads : (is_told : Bool) (old new : List Event) → BeginsProgress is_told old new → read new ≡ read old
-begun-reads true old new p = reads (seconds_call ∷ terminal_call false 1 ∷ terminal_call true 2 ∷ old) new p
+begun-reads true old new p = reads (seconds_call p.0 ∷ terminal_call false 1 ∷ terminal_call true 2 ∷ old) new p.1
 begun-reads false old new (inl p) = reads (terminal_call false 2 ∷ old) new p
 begun-reads false old new (inr p) = reads (terminal_call true 1 ∷ terminal_call true 2 ∷ old) new p
 

@@ -1,16 +1,16 @@
-//! The whole programming system: what the command line asks for, over the system that it runs in. It also shows the public calls of the
-//! crates below that a program may want.
+//! The whole programming system: what the command line asks for, over any host, and over the system that it runs in. It also shows the
+//! public calls of the crates below that a program may want.
 #![tactic(auto)]
 
-mod arguments;
-mod host;
+mod programs;
+mod words;
 
 pub use command_table::{TaskFault, plain_words, task};
-pub use host::program;
 pub use program_reports::{
     ProgramLine, RimTextFault, SourceFault, core_tape, put_program, with_line_feeds, with_prefix,
 };
 pub use program_tasks::Task;
+pub use programs::{program, run_program};
 pub use script8::SessionFault;
 pub use system_session::{Ran, Session, laws};
 pub use tape_reports::{

@@ -11,6 +11,7 @@ use Rattle.pal8_lex.specs.Pieces.{ends, pieces, tokens_of}
 use Rattle.pal8_lex.specs.declared.tokens.Token.{Token}
 use Rattle.pal8_lex.specs.declared.rules.End.{End}
 use Rattle.pal8_lex.specs.declared.rules.End.TheVariants as end
+use Rattle.pal8_sym.specs.SourceNames.{vocabulary_of}
 use Rattle.pal8_grammar.specs.Bodies.{name_of, opens}
 use Rattle.pal8_asm.specs.declared.options.Options.{Options}
 use Rattle.pal8_asm.specs.Sources.{PassResult, Source, Statement, first_left, is_selected, statements, with_next}
@@ -26,6 +27,11 @@ pass_on left (s ∷ older) = with_next s (pass_on left older)
 abbrev pub is_read : PassResult → Bool
 is_read (Err fault) = false
 is_read (Ok left) = not (is_some left.end) && is_selected left.brackets
+
+-- a name begins memory references in the next statement, if that is read
+abbrev pub is_operation : PassResult → ℕ → Bool
+is_operation (Err fault) name = false
+is_operation (Ok left) name = not (is_some left.end) && is_some ((vocabulary_of left.standing.names).operation name)
 
 -- ## PAUSE
 

@@ -2,7 +2,7 @@
 ghost use Rattle.std.specs.Prelude.{◌≡◌, ◌<◌, ℕ, IfOk, List, None, Ok, OnOk};
 ghost use Rattle.pal8_asm.specs.Sources.{Entry, PassResult, first_left, with_next, with_selected};
 ghost use Rattle.pal8_grammar.specs.Bodies as grammar;
-ghost use Rattle.pal8_join.specs.Joins.{is_lone_pause, is_pause, is_pause_name, is_read, line_end};
+ghost use Rattle.pal8_join.specs.Joins.{is_lone_pause, is_operation, is_pause, is_pause_name, is_read, line_end};
 ghost use Rattle.pal8_join.specs.Passing.{Follows, remainder_at};
 ghost use Rattle.pal8_join.specs.Steps.{Leaves, Meets, is_dollar};
 
@@ -161,6 +161,13 @@ impl Pass {
         ensures { (left : PassResult) → Follows self.now left → result ≡ is_read left }
     {
         !self.is_over && self.brackets.is_selected()
+    }
+
+    /// Whether a name begins memory references in the next statement (PAL8, in this project's profile). After a fault or the `$` none does.
+    pub fn is_operation(&self, name: Name) -> bool
+        ensures { (left : PassResult) → Follows self.now left → result ≡ is_operation left name }
+    {
+        !self.is_over && self.names.table.operation(name).is_some()
     }
 
     /// Passes the next statement: its tokens, its string, whether an end cuts that, and what ended it. One that isn't selected opens or closes a bracket

@@ -3,3 +3,4 @@ pub mod Texts
 pub mod Uses
 pub mod Steps
 pub mod Listings
+pub mod Laws

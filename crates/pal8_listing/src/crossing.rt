@@ -16,12 +16,9 @@ use std::alloc::{AllocError, Global};
 use std::collections::BTreeMap;
 use word12::Word;
 
-/// The number in a join of the first line of each source but the first, which have so many bytes each.
-pub(crate) fn later_starts(
-    alloc: Global,
-    counts: &[usize],
-    join: &[u8],
-) -> Result<Vec<u64>, AllocError>
+/// The number in a join of the first line of each source but the first, where each source that another follows has so many bytes in the join (PAL8, in
+/// this project's profile). Lines count from 1, and `PAUSE`'s counts, too.
+pub fn later_starts(alloc: Global, counts: &[usize], join: &[u8]) -> Result<Vec<u64>, AllocError>
     ensures { IfOk result (λ starts. starts.items ≡ later_starts 1 counts.now join.now) }
 {
     let mut starts = Vec::new(alloc);
@@ -44,8 +41,8 @@ fn line_in(first: u64, line: u64) -> u64
     line.saturating_sub(first).saturating_add(1)
 }
 
-/// The source, from 1, in which a line of a join stands, and its line there. The sources but the first begin at these.
-fn spot_of(starts: &[u64], line: u64) -> (u64, u64)
+/// The source, from 1, in which a line of a join stands, and its line there, from 1. The sources but the first begin at these lines of the join.
+pub fn spot_of(starts: &[u64], line: u64) -> (u64, u64)
     ensures { result ≡ spot_from 1 1 starts.now line }
 {
     let mut source: u64 = 1;

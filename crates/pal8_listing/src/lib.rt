@@ -6,6 +6,7 @@
 #![tactic(auto)]
 
 mod crossing;
+pub mod laws;
 mod lines;
 mod listing;
 mod mentions;
@@ -14,4 +15,5 @@ mod rows;
 mod uses;
 mod words;
 
+pub use crossing::{later_starts, spot_of};
 pub use listing::list_sources;

@@ -56,6 +56,9 @@ pub struct IndexForm {
 
     pub form: LineForm,
 
+    /// Whether it has just the files that are equal to others of it.
+    pub is_same: bool,
+
     /// The pattern that the names of its files fit, in capital letters, if one is given.
     pub find: Option<String>,
 

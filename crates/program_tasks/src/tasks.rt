@@ -75,6 +75,9 @@ pub struct AssembleForm {
 
     /// Whether equal values have one cell of a page of PAL8 only within one stay on it.
     pub has_stays: bool,
+
+    /// Whether notes are printed on the lines of PAL8 that palbart reads in another way.
+    pub has_notes: bool,
 }
 
 /// What a source is written of (PAL III manual, and this project's reading of a program's flow).

@@ -19,12 +19,17 @@ use Rattle.script8.specs.declared.replies.Reply.{Reply}
 use Rattle.system_session.specs.Session.{SessionView}
 use Rattle.volume_commands.specs.Answers.{Answers, Refuses}
 use Rattle.volume_commands.specs.Laws.{KeepsFiles}
-use Rattle.volume_commands.specs.Reading.{Looks}
+use Rattle.image_volumes.specs.Margins.{body_by, margins_by}
+use Rattle.image_volumes.specs.Parts.{Parts}
+use Rattle.image_volumes.specs.Volumes.{script_kind, volumes_with}
+use Rattle.image_volumes.specs.declared.volumes.Volumes.{Volumes}
+use Rattle.image_volumes.specs.declared.volumes.Volumes.TheVariants.{One, Both}
+use Rattle.volume_commands.specs.Reading.{FindsIn, Looks}
 use Rattle.volume_commands.specs.Work.{Then, Purely}
 use Rattle.volume_commands.specs.declared.images.Image.{Image}
-use Rattle.script_commands.specs.Laws.{IsInPlace, IsKeptBefore, IsOneOf, file_of}
-use Rattle.script_commands.specs.Scripts.{MountsSession, OnlyReads, OpensFor, RunsScript, RunsSession}
-use Rattle.script_commands.specs.Steps.{Step, Saves, Fails, Replies, Prints, Refuses as RefusesPrint, Shows, Cuts, AreDone, AreKept, AreUnsaved, GetsImage, IsFileOf, changes, has_saved, has_unsynced, last_image, save_ending}
+use Rattle.script_commands.specs.Laws.{IsInPlace, IsKeptBefore, IsOneOf, body_of, file_around, image_file}
+use Rattle.script_commands.specs.Scripts.{IsOnlyRead, MountsSession, is_parted, OnlyReads, OpensFor, RunsScript, RunsSession}
+use Rattle.script_commands.specs.Steps.{Step, Saves, Fails, Replies, Prints, Refuses as RefusesPrint, Shows, Cuts, AreDone, AreKept, AreUnsaved, GetsImage, IsBodyOf, IsFileAround, IsFileOf, changes, has_saved, has_unsynced, last_image, save_ending}
 
 same : {old new : List Event} (path : List ℕ) → new ≡ old → about path new ≡ about path old
 same path is = ap (λ (events : List Event). about path events) is
@@ -38,13 +43,18 @@ then-keeps first next f n old result new (inr it) path = n it.given it.between r
 purely-keeps : {A : Type 0} (gives : Result A Ending → Type 0) → KeepsFiles (Purely gives)
 purely-keeps gives old result new p path = same path p.1
 
+finds-keeps : (volumes : Volumes) (body : List ℕ) → KeepsFiles (FindsIn volumes body)
+finds-keeps (One layout) body old result new p path = same path p.1
+finds-keeps Both body old (Ok image) new p path = absurd p
+finds-keeps Both body old (Err ending) new (is, ok, p) path = same path p
+
 -- ## A run that saves nothing
 
 steps-keep : (is_typed : Bool) (start : Image) (steps : List Step) (old new : List Event) (path : List ℕ) → AreDone is_typed start steps old new → AreUnsaved steps → about path new ≡ about path old
 steps-keep is_typed start [] old new path done none = same path done
 steps-keep is_typed start (Saves image durability ∷ earlier) old new path done none = absurd none
 steps-keep is_typed start (Fails ending ∷ earlier) old new path done none = absurd none
-steps-keep is_typed start (Replies entry answer ∷ earlier) old new path (mid, done, is) none = same path is ∙ steps-keep is_typed start earlier old mid path done none
+steps-keep is_typed start (Replies entry answer blocks ∷ earlier) old new path (mid, done, is) none = same path is ∙ steps-keep is_typed start earlier old mid path done none
 steps-keep is_typed start (Prints bytes ∷ earlier) old new path (mid, done, (all, is)) none = same path is ∙ steps-keep is_typed start earlier old mid path done none
 steps-keep is_typed start (RefusesPrint why bytes ∷ earlier) old new path (mid, done, is) none = same path is ∙ steps-keep is_typed start earlier old mid path done none
 steps-keep is_typed start (Shows form ∷ earlier) old new path (mid, done, (typed, ok, is)) none = same path is ∙ steps-keep is_typed start earlier old mid path done none
@@ -63,27 +73,28 @@ module _
     answers-keeps gives size old (Err ending) new (why, gave, p) path = refuses-keeps why size old ending new p path
 
     reads-keeps : (named : ImageForm) → KeepsFiles (OnlyReads named)
-    reads-keeps named = then-keeps _ _ (looks-keeps named.file.bytes.items named.file.bytes.items) (λ file. purely-keeps _)
+    reads-keeps named = then-keeps _ _ (looks-keeps named.file.bytes.items named.file.bytes.items)
+        (λ file. then-keeps _ _ (finds-keeps (volumes_with named.layout (script_kind file.items)) (body_by (margins_by named.layout (script_kind file.items)) file.items)) (λ bytes. purely-keeps (IsOnlyRead bytes)))
 
     opens-keeps : (saving : Saving) (named : ImageForm) → saving ≡ Never → KeepsFiles (OpensFor saving named)
     opens-keeps saving named never = subst (λ (s : Saving). KeepsFiles (OpensFor s named)) (sym never) (reads-keeps named)
 
     pub script-keeps : (named : ImageForm) (form : RunForm) (is_typed : Bool) (input : Option (List ℕ)) → form.saving ≡ Never → KeepsFiles (RunsScript named form is_typed input)
     script-keeps named form is_typed input never = then-keeps _ _ (opens-keeps form.saving named never)
-        (λ image. then-keeps _ _ (purely-keeps _) (λ room. then-keeps _ _ (answers-keeps (MountsSession image.bytes.items) (length image.bytes.items)) (λ session. session-keeps form is_typed image session input never)))
+        (λ image. then-keeps _ _ (purely-keeps _) (λ room. then-keeps _ _ (answers-keeps (MountsSession (is_parted image) image.bytes.items) (length image.bytes.items)) (λ session. session-keeps form is_typed image session input never)))
 
 -- ## Replies
 
-pub kept-before : (is_typed : Bool) (start : Image) (later earlier : List Step) (entry : Option Entry) (answer : Result Reply SessionFault) (old new : List Event)
-    → AreDone is_typed start (later ++ Replies entry answer ∷ earlier) old new → AreKept start (later ++ Replies entry answer ∷ earlier) → changes answer ≡ true → IsKeptBefore is_typed start earlier old
-kept-before is_typed start [] earlier entry answer old new done kept changed = record { moment = done.0; done = done.1; blocks = (kept.0 changed).0; saved = (kept.0 changed).1 }
-kept-before is_typed start (Saves image durability ∷ later) earlier entry answer old new done kept changed = kept-before is_typed start later earlier entry answer old done.0 done.1 kept changed
-kept-before is_typed start (Fails ending ∷ later) earlier entry answer old new done kept changed = kept-before is_typed start later earlier entry answer old done.0 done.1 kept changed
-kept-before is_typed start (Replies e a ∷ later) earlier entry answer old new done kept changed = kept-before is_typed start later earlier entry answer old done.0 done.1 kept.1 changed
-kept-before is_typed start (Prints bytes ∷ later) earlier entry answer old new done kept changed = kept-before is_typed start later earlier entry answer old done.0 done.1 kept changed
-kept-before is_typed start (RefusesPrint why bytes ∷ later) earlier entry answer old new done kept changed = kept-before is_typed start later earlier entry answer old done.0 done.1 kept changed
-kept-before is_typed start (Shows form ∷ later) earlier entry answer old new done kept changed = kept-before is_typed start later earlier entry answer old done.0 done.1 kept changed
-kept-before is_typed start (Cuts ∷ later) earlier entry answer old new done kept changed = kept-before is_typed start later earlier entry answer old done.0 done.1 kept changed
+pub kept-before : (is_typed : Bool) (start : Image) (later earlier : List Step) (entry : Option Entry) (answer : Result Reply SessionFault) (blocks : List (List ℕ)) (old new : List Event)
+    → AreDone is_typed start (later ++ Replies entry answer blocks ∷ earlier) old new → AreKept start (later ++ Replies entry answer blocks ∷ earlier) → changes answer ≡ true → IsKeptBefore is_typed start earlier blocks old
+kept-before is_typed start [] earlier entry answer blocks old new done kept changed = record { moment = done.0; done = done.1; saved = kept.0 changed }
+kept-before is_typed start (Saves image durability ∷ later) earlier entry answer blocks old new done kept changed = kept-before is_typed start later earlier entry answer blocks old done.0 done.1 kept changed
+kept-before is_typed start (Fails ending ∷ later) earlier entry answer blocks old new done kept changed = kept-before is_typed start later earlier entry answer blocks old done.0 done.1 kept changed
+kept-before is_typed start (Replies e a b ∷ later) earlier entry answer blocks old new done kept changed = kept-before is_typed start later earlier entry answer blocks old done.0 done.1 kept.1 changed
+kept-before is_typed start (Prints bytes ∷ later) earlier entry answer blocks old new done kept changed = kept-before is_typed start later earlier entry answer blocks old done.0 done.1 kept changed
+kept-before is_typed start (RefusesPrint why bytes ∷ later) earlier entry answer blocks old new done kept changed = kept-before is_typed start later earlier entry answer blocks old done.0 done.1 kept changed
+kept-before is_typed start (Shows form ∷ later) earlier entry answer blocks old new done kept changed = kept-before is_typed start later earlier entry answer blocks old done.0 done.1 kept changed
+kept-before is_typed start (Cuts ∷ later) earlier entry answer blocks old new done kept changed = kept-before is_typed start later earlier entry answer blocks old done.0 done.1 kept changed
 
 -- ## Crashes
 
@@ -92,15 +103,22 @@ same-place : (is_typed : Bool) (start : Image) (steps : List Step) (old new : Li
 same-place is_typed start [] old new done = refl
 same-place is_typed start (Saves image durability ∷ earlier) old new (mid, done, (none, got)) = got.place ∙ same-place is_typed start earlier old mid done
 same-place is_typed start (Fails ending ∷ earlier) old new (mid, done, it) = same-place is_typed start earlier old mid done
-same-place is_typed start (Replies entry answer ∷ earlier) old new (mid, done, it) = same-place is_typed start earlier old mid done
+same-place is_typed start (Replies entry answer blocks ∷ earlier) old new (mid, done, it) = same-place is_typed start earlier old mid done
 same-place is_typed start (Prints bytes ∷ earlier) old new (mid, done, it) = same-place is_typed start earlier old mid done
 same-place is_typed start (RefusesPrint why bytes ∷ earlier) old new (mid, done, it) = same-place is_typed start earlier old mid done
 same-place is_typed start (Shows form ∷ earlier) old new (mid, done, it) = same-place is_typed start earlier old mid done
 same-place is_typed start (Cuts ∷ earlier) old new (mid, done, it) = same-place is_typed start earlier old mid done
 
-file-is : (before : Option Disk) (image file : List ℕ) (after : Option Disk) → IsFileOf before image file after → file_of after image ≡ file
-file-is None image file after (is, none) = rw none (sym is)
-file-is (Some disk) image file after (laid, has, is, some) = rw some (sym is)
+body-is : (before : Option Disk) (image body : List ℕ) (after : Option Disk) → IsBodyOf before image body after → body_of after image ≡ body
+body-is None image body after (is, none) = rw none (sym is)
+body-is (Some disk) image body after (laid, has, is, some) = rw some (sym is)
+
+around-is : (before : Option Parts) (body file : List ℕ) (after : Option Parts) → IsFileAround before body file after → file_around after body ≡ file
+around-is None body file after (is, none) = rw none (sym is)
+around-is (Some parts) body file after (laid, has, is, some) = rw some (sym is)
+
+file-is : (before image : Image) (file : List ℕ) → IsFileOf before image.bytes.items file image → image_file image ≡ file
+file-is before image file (body, has, around) = ap (file_around image.parts) (body-is before.disk image.bytes.items body image.disk has) ∙ around-is before.parts body file image.parts around
 
 abbrev is-there : Option Ending → Type 0
 is-there None = ⊥
@@ -133,7 +151,7 @@ saves-leaves is_typed start image durability earlier old mid new place found don
   before l = later-leaves is_typed start (Saves image durability) earlier old place found inr (again l)
 
   one : Allows (Just (Some got.file)) found ⊎ Leaves (ever place (about path mid)) found → CrashLeaves is_typed start (Saves image durability ∷ earlier) old place found
-  one (inl is) = inr (inl (inl (is ∙ ap (λ (f : List ℕ). Some f) (sym (file-is (last_image start earlier).disk image.bytes.items got.file image.disk got.is)))))
+  one (inl is) = inr (inl (inl (is ∙ ap (λ (f : List ℕ). Some f) (sym (file-is (last_image start earlier) image got.file got.is)))))
   one (inr l) = before l
 
   saves : IsOldOrNew got.file (ever place (about path mid)) (ever place (about path new)) ⊎ (may_replace new ≡ false) → CrashLeaves is_typed start (Saves image durability ∷ earlier) old place found
@@ -149,7 +167,7 @@ crash-leaves is_typed start (Saves image durability ∷ earlier) old new (mid, d
 crash-leaves is_typed start (Fails ending ∷ earlier) old new done none place found left = absurd (some-none ending none) where
   some-none : (it : Ending) → Some it ≡ None → ⊥
   some-none it gone = subst is-there gone tt
-crash-leaves is_typed start (Replies entry answer ∷ earlier) old new (mid, done, is) none place found left = later-leaves is_typed start (Replies entry answer) earlier old place found (λ it. it) (crash-leaves is_typed start earlier old mid done none place found (still start.place.path.bytes.items mid new place found (same start.place.path.bytes.items is) left))
+crash-leaves is_typed start (Replies entry answer blocks ∷ earlier) old new (mid, done, is) none place found left = later-leaves is_typed start (Replies entry answer blocks) earlier old place found (λ it. it) (crash-leaves is_typed start earlier old mid done none place found (still start.place.path.bytes.items mid new place found (same start.place.path.bytes.items is) left))
 crash-leaves is_typed start (Prints bytes ∷ earlier) old new (mid, done, (all, is)) none place found left = later-leaves is_typed start (Prints bytes) earlier old place found (λ it. it) (crash-leaves is_typed start earlier old mid done none place found (still start.place.path.bytes.items mid new place found (same start.place.path.bytes.items is) left))
 crash-leaves is_typed start (RefusesPrint why bytes ∷ earlier) old new (mid, done, is) none place found left = later-leaves is_typed start (RefusesPrint why bytes) earlier old place found (λ it. it) (crash-leaves is_typed start earlier old mid done none place found (still start.place.path.bytes.items mid new place found (same start.place.path.bytes.items is) left))
 crash-leaves is_typed start (Shows form ∷ earlier) old new (mid, done, (typed, ok, is)) none place found left = later-leaves is_typed start (Shows form) earlier old place found (λ it. it) (crash-leaves is_typed start earlier old mid done none place found (still start.place.path.bytes.items mid new place found (same start.place.path.bytes.items is) left))

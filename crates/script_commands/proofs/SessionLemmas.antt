@@ -14,6 +14,7 @@ use Rattle.script8.specs.declared.readings.TheConstants.{MOST}
 use Rattle.script8.specs.declared.faults.SessionFault.{SessionFault}
 use Rattle.script8.specs.declared.faults.SessionFault.TheVariants.{Writer}
 use Rattle.system_session.specs.Script.{RunsText}
+use Rattle.system_session.specs.ShownAnswers.{ShownAnswer, ShowsText}
 use Rattle.system_session.specs.State.{State}
 use Rattle.system_session.specs.Session.{IsLater, NoCallFailed, SessionView, state_of}
 use Rattle.volume_image.specs.Image.{IsImageOf}
@@ -30,8 +31,8 @@ use Rattle.script_commands.proofs.RunLemmas.{none_done, same_text}
 abbrev pub first : Image → Saving → Bool → Vec ℕ → Progress
 first image saving is_typed lines = record { image = image; saving = saving; is_typed = is_typed; lines = lines; is_place_told = false; is_sync_told = false; is_cut = false; is_refused = false; save_ending = None; fault = None }
 
-pub begun : (image : Image) (saving : Saving) (is_typed : Bool) (lines : Vec ℕ) (p : Progress) (old : List Event) → lines.items ≡ [] → p ≡ first image saving is_typed lines → HasDone p.image old p old
-begun image saving is_typed lines p old none is = subst (λ (q : Progress). HasDone q.image old q old) (sym is) (none_done image saving is_typed lines old none)
+pub begun : (image : Image) (saving : Saving) (is_typed : Bool) (lines : Vec ℕ) (p : Progress) (old : List Event) → lines.items ≡ [] → p ≡ first image saving is_typed lines → HasDone p.image old [] p old
+begun image saving is_typed lines p old none is = subst (λ (q : Progress). HasDone q.image old [] q old) (sym is) (none_done image saving is_typed lines old none)
 
 -- what it has
 pub image_at : (image : Image) (saving : Saving) (is_typed : Bool) (lines : Vec ℕ) (p : Progress) → p ≡ first image saving is_typed lines → p.image ≡ image
@@ -46,14 +47,19 @@ typed_at image saving is_typed lines p is = ap (λ (q : Progress). q.is_typed) i
 pub cut_at : (image : Image) (saving : Saving) (is_typed : Bool) (lines : Vec ℕ) (p : Progress) → p ≡ first image saving is_typed lines → p.is_cut ≡ false
 cut_at image saving is_typed lines p is = ap (λ (q : Progress). q.is_cut) is
 
-pub begun_at : (image start : Image) (old h new : List Event) (p : Progress) → HasDone start h p new → start ≡ image → h ≡ old → HasDone image old p new
-begun_at image start old h new p d is same = subst (λ (i : Image). HasDone i old p new) is (subst (λ (e : List Event). HasDone start e p new) same d)
+pub begun_at : (image start : Image) (old h new : List Event) (shown : List ShownAnswer) (p : Progress) → HasDone start h shown p new → start ≡ image → h ≡ old → HasDone image old shown p new
+begun_at image start old h new shown p d is same = subst (λ (i : Image). HasDone i old shown p new) is (subst (λ (e : List Event). HasDone start e shown p new) same d)
 
 -- what was printed before is what the host says
 pub told_at : (a b : State) (input given left after : Option (List ℕ)) (answer : Result (Unit {0}) SessionFault) (old h : List Event) (p : Progress)
     → RunsText 16777216 a b given left (Some (output_text h ++ p.lines.items)) after answer → given ≡ input → h ≡ old → p.lines.items ≡ [] → RunsText 16777216 a b input left (Some (output_text old)) after answer
 told_at a b input given left after answer old h p told is same none = subst (λ (t : List ℕ). RunsText 16777216 a b input left (Some t) after answer) (ap (λ (l : List ℕ). output_text h ++ l) none ∙ (append-nil _ ∙ ap output_text same))
     (subst (λ (i : Option (List ℕ)). RunsText 16777216 a b i left (Some (output_text h ++ p.lines.items)) after answer) is told)
+
+pub shows_at : (a b : State) (shown : List ShownAnswer) (input given left after : Option (List ℕ)) (answer : Result (Unit {0}) SessionFault) (old h : List Event) (p : Progress)
+    → ShowsText 16777216 a shown b given left (Some (output_text h ++ p.lines.items)) after answer → given ≡ input → h ≡ old → p.lines.items ≡ [] → ShowsText 16777216 a shown b input left (Some (output_text old)) after answer
+shows_at a b shown input given left after answer old h p shows is same none = subst (λ (t : List ℕ). ShowsText 16777216 a shown b input left (Some t) after answer) (ap (λ (l : List ℕ). output_text h ++ l) none ∙ (append-nil _ ∙ ap output_text same))
+    (subst (λ (i : Option (List ℕ)). ShowsText 16777216 a shown b i left (Some (output_text h ++ p.lines.items)) after answer) is shows)
 
 -- more bytes came than a script may have
 pub long_at : (start input left : Option (List ℕ)) (is_long : Bool) → input ≡ start → (is_long ≡ true → (count : ℕ) × TakesBytes start left count × (MOST < count)) → is_long ≡ true → (count : ℕ) × TakesBytes input left count × (MOST < count)
@@ -73,24 +79,25 @@ stopped_by Ended answer ends is = subst (λ (a : Result (Unit {0}) SessionFault)
 
 module _
     (form : RunForm) (is_typed : Bool) (image : Image) (session end : SessionView) (input left : Option (List ℕ)) (answer : Result (Unit {0}) SessionFault) (result : Result (Unit {0}) Ending)
-    (old ran limit last new : List Event) (p q r s : Progress) (blocks : List (List ℕ)) (is_long : Bool)
-    (done : HasDone image old p ran) (saving : p.saving ≡ form.saving) (typed : p.is_typed ≡ is_typed)
+    (old ran limit last new : List Event) (p q r s : Progress) (blocks : List (List ℕ)) (is_long : Bool) (shown : List ShownAnswer)
+    (done : HasDone image old shown p ran) (saving : p.saving ≡ form.saving) (typed : p.is_typed ≡ is_typed)
     (told : RunsText 16777216 (state_of session) (state_of end) input left (Some (output_text old)) (Some (output_text ran ++ p.lines.items)) answer)
+    (shows : ShowsText 16777216 (state_of session) shown (state_of end) input left (Some (output_text old)) (Some (output_text ran ++ p.lines.items)) answer)
     (stopped : IfErr answer (λ e. e ≡ Writer → (p.save_ending ≡ None → ⊥) ⊎ (p.fault ≡ None → ⊥)))
     (long : is_long ≡ true → (count : ℕ) × TakesBytes input left count × (MOST < count))
-    (done-q : (start : Image) (before : List Event) → HasDone start before p ran → HasDone start before q limit)
+    (done-q : (start : Image) (before : List Event) (those : List ShownAnswer) → HasDone start before those p ran → HasDone start before those q limit)
     (out-q : output_text limit ≡ output_text ran) (is-q : q ≡ record p { is_cut = q.is_cut }) (cut-q : q.is_cut ≡ true → is_long ≡ true)
-    (done-r : (start : Image) (before : List Event) → HasDone start before q limit → HasDone start before r last)
+    (done-r : (start : Image) (before : List Event) (those : List ShownAnswer) → HasDone start before those q limit → HasDone start before those r last)
     (image-r : (q.saving ≡ Never → ⊥) → r.save_ending ≡ None → IsImageOf r.image.bytes.items blocks) (blocks-are : blocks ≡ end.volume.blocks)
     (was-r : r.save_ending ≡ None → q.save_ending ≡ None) (fault-r : r.fault ≡ q.fault) (out-r : output last ≡ output limit) (lines-r : r.lines ≡ q.lines)
     (saving-r : r.saving ≡ q.saving) (typed-r : r.is_typed ≡ q.is_typed) (cut-r : r.is_cut ≡ q.is_cut)
-    (done-s : (start : Image) (before : List Event) → HasDone start before r last → HasDone start before s new)
+    (done-s : (start : Image) (before : List Event) (those : List ShownAnswer) → HasDone start before those r last → HasDone start before those s new)
     (image-s : s.image ≡ r.image) (saving-s : s.saving ≡ r.saving) (typed-s : s.is_typed ≡ r.is_typed) (save_ending-s : s.save_ending ≡ r.save_ending) (cut-s : s.is_cut ≡ r.is_cut)
     (text-s : output_text new ++ s.lines.items ≡ output_text last ++ r.lines.items) (waiting-s : s.fault ≡ None → s.lines.items ≡ []) (fault-s : s.fault ≡ None → r.fault ≡ None)
     (ends : EndsRun form.is_strict s.is_refused s.save_ending s.fault answer result)
   where
-    d : HasDone image old s new
-    d = done-s image old (done-r image old (done-q image old done))
+    d : HasDone image old shown s new
+    d = done-s image old shown (done-r image old shown (done-q image old shown done))
 
     q-saving : q.saving ≡ form.saving
     q-saving = ap (λ (x : Progress). x.saving) is-q ∙ saving
@@ -134,6 +141,9 @@ module _
       left = left;
       answer = answer;
       told = subst (λ (t : List ℕ). RunsText 16777216 (state_of session) (state_of end) input left (Some (output_text old)) (Some t) answer) (sym given ∙ replies) told;
+      shown = shown;
+      shows = subst (λ (t : List ℕ). ShowsText 16777216 (state_of session) shown (state_of end) input left (Some (output_text old)) (Some t) answer) (sym given ∙ replies) shows;
+      replies = d.replies;
       waiting = s.lines.items;
       printed = d.waiting;
       all = λ none. waiting-s (d.fault ∙ none);

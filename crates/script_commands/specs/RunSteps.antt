@@ -1,32 +1,33 @@
 -- What a run of a script has done so far. No contract of a public function cites these.
-use Rattle.std.specs.Prelude.{◌≡◌, ◌⊎◌, ℕ, List, [], ◌∷◌, ◌++◌, Bool, true, false, Option, None, Some, Result, Ok, Err, codes}
+use Rattle.std.specs.Prelude.{Option, ◌≡◌, ◌⊎◌, ℕ, List, [], ◌∷◌, ◌++◌, Bool, true, false, None, Some, Result, Ok, Err, codes}
 use Rattle.hosts.specs.Event.{Event, print_call, tell_call}
 use Rattle.hosts.specs.Faults.{pipe_number}
 use Rattle.hosts.specs.Place.{about}
-use Rattle.hosts.specs.Saving.{KeepsFile, AnyMomentOf}
+use Rattle.hosts.specs.Saving.{KeepsFile, AnyMomentOf, IsPlaceNoted}
 use Rattle.hosts.specs.Streams.{errors, may_replace, output_text}
 use Rattle.hosts.specs.declared.faults.Durability.{Durability}
 use Rattle.hosts.specs.declared.faults.Durability.TheVariants.{Certain, Unknown}
 use Rattle.hosts.specs.declared.faults.PrintFault.{PrintFault}
+use Rattle.image_volumes.specs.Parts.{Parts}
 use Rattle.outcome.specs.Contents.{content_name}
 use Rattle.outcome.specs.Notes.{file_text, name_text}
 use Rattle.outcome.specs.declared.contents.Content.TheVariants as content
+use Rattle.hosts.specs.declared.faults.Unwritten.TheVariants as unwritten
 use Rattle.outcome.specs.declared.endings.Ending.{Ending}
+use Rattle.outcome.specs.declared.endings.Ending.TheVariants.{NotWritten}
 use Rattle.outcome.specs.declared.notes.FileNote.TheVariants.{NoSync}
 use Rattle.outcome.specs.declared.notes.NameNote.TheVariants.{Hint, TooLong}
 use Rattle.program_tasks.specs.declared.tasks.Saving.TheVariants.{Never, Always}
 use Rattle.script8.specs.Replies.{answer_lines}
-use Rattle.script8.specs.declared.entries.Entry.{Entry}
-use Rattle.script8.specs.declared.faults.SessionFault.{SessionFault}
-use Rattle.script8.specs.declared.replies.Reply.{Reply}
+use Rattle.system_session.specs.ShownAnswers.{ShownAnswer}
 use Rattle.volume_image.specs.Image.{IsImageOf}
 use Rattle.volume_commands.specs.Saving.{TouchesOnly, Writes}
 use Rattle.volume_commands.specs.declared.images.Image.{Image}
-use Rattle.script_commands.specs.Steps.{Step, AreDone, AreKept, AreUnsaved, GetsImage, IsFileOf, IsPlaceToldOnce, StaysUnsaved, changes, has_cut, has_refusal, has_saved, has_unsynced, is_refusal, is_unknown, last_image, or_else, printed_text, reply_text, print_fault, save_ending}
+use Rattle.script_commands.specs.Steps.{Step, AreDone, AreKept, AreReplies, AreUnsaved, GetsImage, IsFileAround, IsFileOf, StaysUnsaved, changes, has_cut, has_refusal, has_saved, has_unsynced, is_refusal, is_unknown, last_image, or_else, printed_text, reply_text, print_fault, save_ending, once_note}
 use Rattle.script_commands.specs.declared.progress.Progress.{Progress}
 
--- a run that began with an image, after these calls, has come so far
-pub record HasDone (start : Image) (old : List Event) (p : Progress) (new : List Event) : Type 0 where
+-- a run that began with an image, after these calls, and was shown these answers, has come so far
+pub record HasDone (start : Image) (old : List Event) (shown : List ShownAnswer) (p : Progress) (new : List Event) : Type 0 where
   pub steps : List Step
   pub done : AreDone p.is_typed start steps old new
   pub image : p.save_ending ≡ None → p.image ≡ last_image start steps
@@ -36,6 +37,7 @@ pub record HasDone (start : Image) (old : List Event) (p : Progress) (new : List
   pub why : p.save_ending ≡ save_ending steps
   pub fault : p.fault ≡ print_fault steps
   pub cut : p.is_cut ≡ has_cut steps
+  pub replies : AreReplies steps shown
   pub waiting : reply_text steps ≡ printed_text steps ++ p.lines.items
   pub text : output_text new ≡ output_text old ++ printed_text steps
   pub kept : p.saving ≡ Always → AreKept start steps
@@ -45,8 +47,14 @@ pub record HasDone (start : Image) (old : List Event) (p : Progress) (new : List
 pub record IsFileWritten (is_told : Bool) (path file : List ℕ) (durability : Durability) (old new : List Event) : Type 0 where
   pub kept : KeepsFile (may_replace new) durability file (about path old) (about path new)
   pub moments : AnyMomentOf (may_replace new) file (about path old) (about path new)
-  pub note : IsPlaceToldOnce is_told (errors old) (errors new)
+  pub note : IsPlaceNoted (may_replace new) (once_note is_told) (errors old) (errors new)
   pub only : TouchesOnly path old new
+
+-- the same of a file with these bytes of its volumes, or it has no room for them
+abbrev pub WritesAround : Bool → Option Parts → List ℕ → List ℕ → Result Durability Ending → Option Parts → List Event → List Event → Type 0
+WritesAround is_told before path body (Ok durability) after old new = (file : List ℕ) × IsFileAround before body file after × IsFileWritten is_told path file durability old new
+WritesAround is_told before path body (Err ending) after old new = ((ending ≡ NotWritten content.Image unwritten.AsItWas) × (new ≡ old))
+    ⊎ ((file : List ℕ) × Writes content.Image path file old (Err ending) new)
 
 abbrev pub WritesFile : Bool → List ℕ → List ℕ → Result Durability Ending → List Event → List Event → Type 0
 WritesFile is_told path file (Ok durability) old new = IsFileWritten is_told path file durability old new
@@ -58,7 +66,7 @@ pub record IsWritten (is_told : Bool) (before : Image) (bytes : List ℕ) (durab
   pub place : after.place ≡ before.place
   pub same : after.bytes ≡ before.bytes
   pub file : List ℕ
-  pub is : IsFileOf before.disk bytes file after.disk
+  pub is : IsFileOf before bytes file after
   pub wrote : IsFileWritten is_told before.place.path.bytes.items file durability old new
 
 abbrev pub WritesImage : Bool → Image → List ℕ → Result Durability Ending → Image → List Event → List Event → Type 0
@@ -85,14 +93,17 @@ PrintsLines [] (Err fault) old new = ⊥
 PrintsLines (byte ∷ bytes) (Ok it) old new = new ≡ print_call true 0 (byte ∷ bytes) ∷ old
 PrintsLines (byte ∷ bytes) (Err fault) old new = new ≡ print_call false (pipe_number fault) (byte ∷ bytes) ∷ old
 
--- lines of an answer may be printed: where each change is to be kept, the file has an image first
-pub record MayPrint (is_refused : Bool) (p : Progress) (lines : List ℕ) : Type 0 where
+-- the lines of an answer that is shown may be printed: where each change is to be kept, the file has the image of its volume first
+pub record MayPrint (is_refused : Bool) (p : Progress) (lines : List ℕ) (one : ShownAnswer) : Type 0 where
   pub saved : p.save_ending ≡ None
-  pub entry : Option Entry
-  pub answer : Result Reply SessionFault
-  pub are : lines ≡ answer_lines entry answer
-  pub refused : is_refused ≡ is_refusal answer
-  pub kept : p.saving ≡ Always → changes answer ≡ true → (blocks : List (List ℕ)) × IsImageOf p.image.bytes.items blocks
+  pub printed : p.fault ≡ None
+  pub are : lines ≡ answer_lines one.entry one.answer
+  pub refused : is_refused ≡ is_refusal one.answer
+  pub kept : p.saving ≡ Always → changes one.answer ≡ true → IsImageOf p.image.bytes.items one.blocks
+
+-- no line may be printed any more
+abbrev pub HasEnded : Progress → Type 0
+HasEnded p = (p.save_ending ≡ None → ⊥) ⊎ (p.fault ≡ None → ⊥)
 
 -- lines of an answer wait
 abbrev pub Adds : Bool → List ℕ → Progress → Progress → Type 0

@@ -1,15 +1,18 @@
 -- The command that runs a script over the volume of an image file.
-use Rattle.std.specs.Prelude.{◌≡◌, ◌≢◌, ◌⊎◌, ◌&&◌, ◌<◌, ℕ, List, [], ◌++◌, length, Bool, true, false, if◌then◌else◌, Option, None, Some, Result, Ok, Err}
+use Rattle.std.specs.Prelude.{◌≡◌, ◌≢◌, ◌⊎◌, ◌&&◌, ◌<◌, ℕ, List, [], ◌++◌, is_some, length, not, Bool, true, false, if◌then◌else◌, Option, None, Some, Result, Ok, Err}
 use Rattle.std.specs.Global.{Vec}
 use Rattle.word12.specs.declared.sizes.TheConstants.{CORE}
 use Rattle.core_load.specs.Core.{zeros}
 use Rattle.cpu8.specs.State.{new_machine}
 use Rattle.debug8.specs.Breaks.{no_breaks}
 use Rattle.os8_dir.specs.Reading.{Sound}
+use Rattle.image_volumes.specs.Volumes.{script_kind}
 use Rattle.volume_image.specs.Image.{IsImageOf}
+use Rattle.volume_image.specs.declared.faults.ImageFault.TheVariants.{NotWhole}
 use Rattle.volume_jobs.specs.Jobs.{no_jobs}
 use Rattle.archive_files.specs.Opening.{IsUnopened}
 use Rattle.archive_files.specs.declared.faults.ArchiveFault.{ArchiveFault}
+use Rattle.archive_files.specs.declared.faults.ArchiveFault.TheVariants as archive
 use Rattle.hosts.specs.Event.{Event}
 use Rattle.hosts.specs.declared.faults.PrintFault.{PrintFault}
 use Rattle.hosts.specs.declared.faults.PrintFault.TheVariants.{Abandoned, Failed}
@@ -26,30 +29,30 @@ use Rattle.script8.specs.declared.faults.SessionFault.{SessionFault}
 use Rattle.script8.specs.declared.faults.SessionFault.TheVariants.{Memory, Writer}
 use Rattle.system_session.specs.Script.{RunsText}
 use Rattle.system_session.specs.Session.{SessionView, state_of}
+use Rattle.system_session.specs.ShownAnswers.{ShownAnswer, ShowsText}
 use Rattle.volume_commands.specs.Answers.{Answers}
-use Rattle.volume_commands.specs.Reading.{FindsVolume, Looks, Opens}
+use Rattle.volume_commands.specs.Reading.{FindsForScript, Looks, OpensAs}
 use Rattle.volume_commands.specs.Saving.{IsDone}
 use Rattle.volume_commands.specs.Work.{Then, Purely}
 use Rattle.volume_commands.specs.declared.images.Image.{Image}
-use Rattle.script_commands.specs.Steps.{Step, AreDone, AreKept, AreUnsaved, has_cut, has_refusal, last_image, printed_text, reply_text, print_fault, save_ending}
+use Rattle.script_commands.specs.Steps.{Step, AreDone, AreKept, AreReplies, AreUnsaved, has_cut, has_refusal, last_image, printed_text, reply_text, print_fault, save_ending}
 
 -- ## The image
 
 -- an image that is only read, and so is never saved
-abbrev pub IsOnlyRead : Result (Vec ℕ) Ending → Result Image Ending → Type 0
-IsOnlyRead (Ok bytes) (Ok image) = (image.place.is_held ≡ false) × (image.bytes ≡ bytes) × (image.disk ≡ None)
-IsOnlyRead (Ok bytes) (Err ending) = ⊥
-IsOnlyRead (Err why) (Ok image) = ⊥
-IsOnlyRead (Err why) (Err ending) = ending ≡ why
+abbrev pub IsOnlyRead : Vec ℕ → Result Image Ending → Type 0
+IsOnlyRead bytes (Ok image) = (image.place.is_held ≡ false) × (image.bytes ≡ bytes) × (image.disk ≡ None) × (image.parts ≡ None)
+IsOnlyRead bytes (Err ending) = ⊥
 
 abbrev pub OnlyReads : ImageForm → List Event → Result Image Ending → List Event → Type 0
-OnlyReads form = Then (Looks form.file.bytes.items form.file.bytes.items) (λ file. Purely (λ result. (found : Result (Vec ℕ) Ending) × FindsVolume form.layout file.items found × IsOnlyRead found result))
+OnlyReads form = Then (Looks form.file.bytes.items form.file.bytes.items) (λ file. Then (FindsForScript form.layout file.items) (λ bytes. Purely (IsOnlyRead bytes)))
 
--- an image file is held and then read; or it is only read, where the image is never to be saved
+-- An image file is held and then read; or it is only read, where the image is never to be saved. A file that may be a volume by its length is
+-- one, whatever it holds.
 abbrev pub OpensFor : Saving → ImageForm → List Event → Result Image Ending → List Event → Type 0
 OpensFor Never form = OnlyReads form
-OpensFor AtEnd form = Opens form
-OpensFor Always form = Opens form
+OpensFor AtEnd form = OpensAs script_kind form
+OpensFor Always form = OpensAs script_kind form
 
 -- memory may be wanted for what a run has beside the image
 abbrev pub IsRoom : {A : Type 0} → Result A Ending → Type 0
@@ -69,10 +72,21 @@ pub record IsNewSession (image : List ℕ) (s : SessionView) : Type 0 where
   pub reads : s.volume.failed_reads ≡ 0
   pub writes : s.volume.failed_writes ≡ 0
 
+-- the volume has the whole file but for bytes that stand before or after it
+abbrev pub is_parted : Image → Bool
+is_parted image = is_some image.parts && not (is_some image.disk)
+
+-- Such a volume is taken only where it is sound. Else the file is refused by its length, since it is no whole blocks.
+abbrev pub fault_in : Bool → ArchiveFault → ArchiveFault
+fault_in false why = why
+fault_in true (archive.Image why) = archive.Image NotWhole
+fault_in true (archive.Directory why) = archive.Image NotWhole
+fault_in true (archive.Refused why) = archive.Refused why
+
 -- that of an image, or why there is none; a store in memory fails no read
-abbrev pub MountsSession : List ℕ → Result SessionView ArchiveFault → Type 0
-MountsSession image (Ok session) = IsNewSession image session
-MountsSession image (Err fault) = IsUnopened image fault
+abbrev pub MountsSession : Bool → List ℕ → Result SessionView ArchiveFault → Type 0
+MountsSession is_beside image (Ok session) = IsNewSession image session
+MountsSession is_beside image (Err fault) = (why : ArchiveFault) × IsUnopened image why × (fault ≡ fault_in is_beside why)
 
 -- ## The end
 
@@ -100,7 +114,7 @@ EndsRun is_strict is_refused why fault answer = IsEndedBy (ending_of (is_strict 
 
 -- What a run of a script over a session does. The reader's bytes are its script, and the lines of its answers are printed, but for some
 -- where standard output takes no more. The file has the image of the volume at the end, where it is to be saved and could be. Where each change
--- is to be kept, it had an image before each reply after which this may be another.
+-- is to be kept, it had that of the volume right after each reply before the reply's lines. `shows` says which states these are of.
 pub record RunsSession (form : RunForm) (is_typed : Bool) (image : Image) (session : SessionView) (input : Option (List ℕ)) (old : List Event) (result : Result (Unit {0}) Ending) (new : List Event) : Type 0 where
   pub steps : List Step
   pub done : AreDone is_typed image steps old new
@@ -108,6 +122,9 @@ pub record RunsSession (form : RunForm) (is_typed : Bool) (image : Image) (sessi
   pub left : Option (List ℕ)
   pub answer : Result (Unit {0}) SessionFault
   pub told : RunsText 16777216 (state_of session) (state_of end) input left (Some (output_text old)) (Some (output_text old ++ reply_text steps)) answer
+  pub shown : List ShownAnswer
+  pub shows : ShowsText 16777216 (state_of session) shown (state_of end) input left (Some (output_text old)) (Some (output_text old ++ reply_text steps)) answer
+  pub replies : AreReplies steps shown
   pub waiting : List ℕ
   pub printed : reply_text steps ≡ printed_text steps ++ waiting
   pub all : print_fault steps ≡ None → waiting ≡ []
@@ -121,7 +138,7 @@ pub record RunsSession (form : RunForm) (is_typed : Bool) (image : Image) (sessi
 
 -- A script runs over a session of an image's volume, unless memory is wanted, or the image is refused.
 abbrev pub RunsOver : RunForm → Bool → Image → Option (List ℕ) → List Event → Result (Unit {0}) Ending → List Event → Type 0
-RunsOver form is_typed image input = Then (Purely (IsRoom {A = Unit {0}})) (λ room. Then (Answers (MountsSession image.bytes.items) (length image.bytes.items)) (λ session. RunsSession form is_typed image session input))
+RunsOver form is_typed image input = Then (Purely (IsRoom {A = Unit {0}})) (λ room. Then (Answers (MountsSession (is_parted image) image.bytes.items) (length image.bytes.items)) (λ session. RunsSession form is_typed image session input))
 
 -- An image file is held and read, and the script runs over it.
 abbrev pub RunsScript : ImageForm → RunForm → Bool → Option (List ℕ) → List Event → Result (Unit {0}) Ending → List Event → Type 0

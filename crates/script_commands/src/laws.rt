@@ -24,11 +24,12 @@ pub fn unchanged_files()
     kept_files();
 }
 
-/// Where each change is to be kept, the file has an image before the lines of each answer after which this may be another one.
+/// Where each change is to be kept, the file has the image of the volume right after an answer before the answer's lines are printed.
+/// It is so for each answer after which the image may be another one.
 pub fn kept_changes()
-    ensures { (is_typed : Bool) (start : Image) (later earlier : List Step) (entry : Option Entry) (answer : Result Reply SessionFault) (old new : List Event)
-        → AreDone is_typed start (later ++ Replies entry answer ∷ earlier) old new → AreKept start (later ++ Replies entry answer ∷ earlier)
-        → changes answer ≡ true → IsKeptBefore is_typed start earlier old }
+    ensures { (is_typed : Bool) (start : Image) (later earlier : List Step) (entry : Option Entry) (answer : Result Reply SessionFault) (blocks : List (List ℕ)) (old new : List Event)
+        → AreDone is_typed start (later ++ Replies entry answer blocks ∷ earlier) old new → AreKept start (later ++ Replies entry answer blocks ∷ earlier)
+        → changes answer ≡ true → IsKeptBefore is_typed start earlier blocks old }
 {}
 
 /// A crash at any moment of the steps leaves what it might have left before, or one of the files that they wrote, whole. A file that is

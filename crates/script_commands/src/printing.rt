@@ -1,8 +1,9 @@
 //! How the lines of a run are printed: many at once, and all that wait before more of the script is read.
-ghost use Rattle.std.specs.Prelude.{◌≡◌, ◌++◌, ◌+◌, ◌≤◌, List, [], None, OnErr, OnOk, length, true, vec_capacity, vec_len};
+ghost use Rattle.std.specs.Prelude.{◌≡◌, ◌∷◌, ◌++◌, ◌+◌, ◌≤◌, List, [], None, OnErr, OnOk, length, true, vec_capacity, vec_len};
 ghost use Rattle.hosts.specs.Event.{Event};
 ghost use Rattle.hosts.specs.Streams.{output_text};
 ghost use Rattle.volume_commands.specs.declared.images.Image.{Image as ImageState};
+ghost use Rattle.system_session.specs.ShownAnswers.{ShownAnswer};
 ghost use Rattle.script_commands.specs.RunSteps.{Adds, HasDone, IsAfterPrint, MayPrint, PrintsLines};
 
 use crate::progress::Progress;
@@ -18,9 +19,8 @@ pub(crate) fn add_lines<H: Host>(
     lines: &[u8],
     is_refusal: bool,
 ) -> Result<(), PrintFault>
-    requires { MayPrint is_refusal progress.old lines.now }
-    ensures done { (start : ImageState) (old : List Event)
-        → HasDone start old progress.old (H.history host.old) → HasDone start old progress.new (H.history host.new) }
+    ensures done { (start : ImageState) (old : List Event) (shown : List ShownAnswer) (one : ShownAnswer) → MayPrint is_refusal progress.old lines.now one
+        → HasDone start old shown progress.old (H.history host.old) → HasDone start old (shown ++ one ∷ []) progress.new (H.history host.new) }
     ensures text { OnOk result (output_text (H.history host.new) ++ progress.new.lines.items
         ≡ output_text (H.history host.old) ++ progress.old.lines.items ++ lines.now) }
     ensures fault { OnErr result (progress.new.fault ≡ None → ⊥) }
@@ -43,10 +43,9 @@ fn add_first<H: Host>(
     lines: &[u8],
     is_refusal: bool,
 ) -> Result<(), PrintFault>
-    requires lines { MayPrint is_refusal progress.old lines.now }
-    requires none { progress.old.lines.items ≡ [] }
-    ensures done { (start : ImageState) (old : List Event)
-        → HasDone start old progress.old (H.history host.old) → HasDone start old progress.new (H.history host.new) }
+    requires { progress.old.lines.items ≡ [] }
+    ensures done { (start : ImageState) (old : List Event) (shown : List ShownAnswer) (one : ShownAnswer) → MayPrint is_refusal progress.old lines.now one
+        → HasDone start old shown progress.old (H.history host.old) → HasDone start old (shown ++ one ∷ []) progress.new (H.history host.new) }
     ensures text { OnOk result (output_text (H.history host.new) ++ progress.new.lines.items
         ≡ output_text (H.history host.old) ++ lines.now) }
     ensures fault { OnErr result (progress.new.fault ≡ None → ⊥) }
@@ -87,11 +86,12 @@ pub(crate) fn print_waiting<H: Host>(
     host: &mut H,
     progress: &mut Progress,
 ) -> Result<(), PrintFault>
-    ensures done { (start : ImageState) (old : List Event)
-        → HasDone start old progress.old (H.history host.old) → HasDone start old progress.new (H.history host.new) }
+    ensures done { (start : ImageState) (old : List Event) (shown : List ShownAnswer)
+        → HasDone start old shown progress.old (H.history host.old) → HasDone start old shown progress.new (H.history host.new) }
     ensures text { output_text (H.history host.new) ++ progress.new.lines.items
         ≡ output_text (H.history host.old) ++ progress.old.lines.items }
     ensures lines { OnOk result (progress.new.lines.items ≡ []) }
+    ensures still { OnOk result (progress.new.fault ≡ progress.old.fault) }
     ensures fault { OnErr result (progress.new.fault ≡ None → ⊥) }
     ensures saving { progress.new.saving ≡ progress.old.saving }
     ensures typed { progress.new.is_typed ≡ progress.old.is_typed }

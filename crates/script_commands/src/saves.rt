@@ -1,24 +1,18 @@
 //! How the image file gets the images of a run, each note on it once.
 ghost use Rattle.std.specs.Prelude.{◌≡◌, ◌∷◌, ◌<◌, ◌≤◌, ℕ, List, None, true, false, OnErr, OnOk};
-ghost use Rattle.std.specs.Str.{bytes_eq};
-ghost use Rattle.hosts.specs.Event.{Event, tell_call};
-ghost use Rattle.hosts.specs.Place.{about};
-ghost use Rattle.hosts.specs.Saving.{SavesFile, AnyMomentOf};
-ghost use Rattle.hosts.specs.Streams.{output, errors, read, failures, may_replace};
+ghost use Rattle.hosts.specs.Event.{Event};
+ghost use Rattle.hosts.specs.Streams.{output};
 ghost use Rattle.program_tasks.specs.declared.tasks.Saving.TheVariants as saving;
-ghost use Rattle.outcome.specs.Contents.{content_name};
-ghost use Rattle.outcome.specs.Notes.{file_text};
-ghost use Rattle.outcome.specs.declared.contents.Content.TheVariants as content;
-ghost use Rattle.outcome.specs.declared.notes.FileNote.TheVariants.{InPlace};
-ghost use Rattle.volume_commands.specs.Saving.{IsPlaceTold};
 ghost use Rattle.volume_commands.specs.declared.images.Image.{Image as ImageState};
 ghost use Rattle.volume_image.specs.Image.{IsImageOf};
 ghost use Rattle.hosts.specs.declared.faults.Durability.TheVariants.{Unknown};
-ghost use Rattle.script_commands.specs.RunSteps.{Gets, HasDone, NotesSync, WritesFile, WritesImage};
-ghost use Rattle.script_commands.specs.Steps.{IsPlaceToldOnce, is_unknown, or_else};
+ghost use Rattle.system_session.specs.ShownAnswers.{ShownAnswer};
+ghost use Rattle.script_commands.specs.RunSteps.{Gets, HasDone, NotesSync, WritesAround, WritesFile, WritesImage};
+ghost use Rattle.script_commands.specs.Steps.{is_unknown, once_note, or_else};
 
 use crate::progress::Progress;
 use hosts::{Durability, Host, Unwritten, save_file};
+use image_volumes::PartedFile;
 use outcome::{Content, Ending, FileNote};
 use program_tasks::Saving;
 use script8::SessionFault;
@@ -40,8 +34,8 @@ pub(crate) fn keep<H: Host>(
     store: &MemoryVolume,
 ) -> bool
     requires { progress.old.saving ≡ saving.Never → ⊥ }
-    ensures done { (start : ImageState) (old : List Event)
-        → HasDone start old progress.old (H.history host.old) → HasDone start old progress.new (H.history host.new) }
+    ensures done { (start : ImageState) (old : List Event) (shown : List ShownAnswer)
+        → HasDone start old shown progress.old (H.history host.old) → HasDone start old shown progress.new (H.history host.new) }
     ensures image { result ≡ true → IsImageOf progress.new.image.bytes.items store.now.blocks }
     ensures failed { result ≡ false → progress.new.save_ending ≡ None → ⊥ }
     ensures saved { result ≡ true → progress.new.save_ending ≡ None }
@@ -116,12 +110,34 @@ fn write_image<H: Host>(
     }
     let path = image.place.path.as_str();
     match &mut image.disk {
-        None => write_bytes(host, alloc, path, bytes, is_told),
+        None => write_around(host, alloc, path, &mut image.parts, bytes, is_told),
         Some(disk) => {
             if !disk.lay(bytes) {
                 return Err(Ending::NotWritten(Content::Image, Unwritten::AsItWas));
             }
-            write_bytes(host, alloc, path, disk.bytes(), is_told)
+            write_around(host, alloc, path, &mut image.parts, disk.bytes(), is_told)
+        }
+    }
+}
+
+/// Has the held file of a path hold these bytes of its volumes, with those that stand before and after them.
+fn write_around<H: Host>(
+    host: &mut H,
+    alloc: Global,
+    path: &str,
+    parts: &mut Option<PartedFile>,
+    body: &[u8],
+    is_told: bool,
+) -> Result<Durability, Ending>
+    ensures { WritesAround is_told parts.old path.now body.now result parts.new (H.history host.old) (H.history host.new) }
+{
+    match parts {
+        None => write_bytes(host, alloc, path, body, is_told),
+        Some(parts) => {
+            if !parts.lay(body) {
+                return Err(Ending::NotWritten(Content::Image, Unwritten::AsItWas));
+            }
+            write_bytes(host, alloc, path, parts.bytes(), is_told)
         }
     }
 }
@@ -136,66 +152,20 @@ fn write_bytes<H: Host>(
 ) -> Result<Durability, Ending>
     ensures { WritesFile is_told path.now bytes.now result (H.history host.old) (H.history host.new) }
 {
-    match save_noted(host, alloc, path, bytes, is_told) {
+    match save_file(host, alloc, path, DIRECTORY, bytes, place_note(is_told)) {
         Ok(durability) => Ok(durability),
         Err(left) => Err(Ending::NotWritten(Content::Image, left)),
     }
 }
 
-/// Has the held file of a path hold these bytes, as `hosts::save_file` does. Before that a note says, unless it was said, where it is
-/// written in its place.
-fn save_noted<H: Host>(
-    host: &mut H,
-    alloc: Global,
-    path: &str,
-    bytes: &[u8],
-    is_told: bool,
-) -> Result<Durability, Unwritten>
-    ensures saves { SavesFile result (may_replace (H.history host.new)) bytes.now (about path.now (H.history host.old)) (about path.now (H.history host.new)) }
-    ensures any_moment { AnyMomentOf (may_replace (H.history host.new)) bytes.now (about path.now (H.history host.old)) (about path.now (H.history host.new)) }
-    ensures cause { OnErr result (failures (H.history host.old) < failures (H.history host.new)) }
-    ensures errors { IsPlaceToldOnce is_told (errors (H.history host.old)) (errors (H.history host.new)) }
-    ensures others { (other : List ℕ) → bytes_eq path.now other ≡ false
-        → about other (H.history host.new) ≡ about other (H.history host.old) }
-    ensures output { output (H.history host.new) ≡ output (H.history host.old) }
-    ensures read { read (H.history host.new) ≡ read (H.history host.old) }
+/// The note that an image is written in its place, unless that was said.
+fn place_note(is_told: bool) -> &'static str
+    ensures { result.now ≡ once_note is_told }
 {
-    note_place(host, path, is_told);
-    save_file(host, alloc, path, DIRECTORY, bytes)
-}
-
-/// Prints a note, unless that was done, where the file of a path is written in its place.
-fn note_place<H: Host>(host: &mut H, path: &str, is_told: bool)
-    ensures failures { failures (H.history host.old) ≤ failures (H.history host.new) }
-    ensures files { (path : List ℕ) → about path (H.history host.new) ≡ about path (H.history host.old) }
-    ensures errors { IsPlaceToldOnce is_told (errors (H.history host.old)) (errors (H.history host.new)) }
-    ensures output { output (H.history host.new) ≡ output (H.history host.old) }
-    ensures read { read (H.history host.new) ≡ read (H.history host.old) }
-{
-    if !is_told {
-        tell_of_place(host, path);
+    if is_told {
+        return "";
     }
-}
-
-/// Prints a note where the file of a path is written in its place.
-fn tell_of_place<H: Host>(host: &mut H, path: &str)
-    ensures failures { failures (H.history host.old) ≤ failures (H.history host.new) }
-    ensures files { (path : List ℕ) → about path (H.history host.new) ≡ about path (H.history host.old) }
-    ensures errors { IsPlaceTold content.Image (errors (H.history host.old)) (errors (H.history host.new)) }
-    ensures output { output (H.history host.new) ≡ output (H.history host.old) }
-    ensures read { read (H.history host.new) ≡ read (H.history host.old) }
-{
-    match host.is_alone(path) {
-        Ok(true) => {}
-        Ok(false) => tell_in_place(host),
-        Err(_) => tell_in_place(host),
-    }
-}
-
-fn tell_in_place<H: Host>(host: &mut H)
-    ensures { (ok : _) × (H.history host.new ≡ tell_call ok (file_text InPlace (content_name content.Image)) ∷ H.history host.old) }
-{
-    let _ = host.tell(FileNote::InPlace.text(Content::Image));
+    FileNote::InPlace.text(Content::Image)
 }
 
 /// Prints a note, unless that was done, where it isn't known whether a crash keeps the file, and answers whether it was done by then.
@@ -228,8 +198,8 @@ pub(crate) fn save_last<H: Host>(
     spare: &mut Vec<u8>,
     store: &MemoryVolume,
 )
-    ensures done { (start : ImageState) (old : List Event)
-        → HasDone start old progress.old (H.history host.old) → HasDone start old progress.new (H.history host.new) }
+    ensures done { (start : ImageState) (old : List Event) (shown : List ShownAnswer)
+        → HasDone start old shown progress.old (H.history host.old) → HasDone start old shown progress.new (H.history host.new) }
     ensures image { (progress.old.saving ≡ saving.Never → ⊥) → progress.new.save_ending ≡ None
         → IsImageOf progress.new.image.bytes.items store.now.blocks }
     ensures earlier { progress.new.save_ending ≡ None → progress.old.save_ending ≡ None }

@@ -2,6 +2,7 @@
 ghost use Rattle.std.specs.Prelude.{◌≡◌, ◌++◌, List, [], None, is_some, length, true, false};
 ghost use Rattle.hosts.specs.Event.{Event};
 ghost use Rattle.hosts.specs.Streams.{output_text};
+ghost use Rattle.system_session.specs.ShownAnswers.{ShownAnswer};
 ghost use Rattle.volume_commands.specs.Answers.{Answers};
 ghost use Rattle.volume_commands.specs.declared.images.Image.{Image as ImageState};
 ghost use Rattle.script_commands.specs.RunSteps.{HasDone, TellsCut};
@@ -24,8 +25,8 @@ use std::alloc::Global;
 use std::io::Read;
 use std::marker::Brand;
 use system_session::Session;
-use volume_commands::{Image, ImagePlace, look_file, refuse_image, tell_note, volume_in};
-use volume_image::MemoryVolume;
+use volume_commands::{Image, ImagePlace, look_file, refuse_image, script_volume_in, tell_note};
+use volume_image::{ImageFault, MemoryVolume};
 
 /// Runs the script of a reader over the volume of an image file, and prints its replies. The image is written when it is to be, if it
 /// changed; the memory for that is taken before the script. Where the forms of lines are given, a person types the script, and is shown the
@@ -55,7 +56,7 @@ pub fn open_image<H: Host>(
 {
     match saving {
         Saving::Never => read_image(host, alloc, named),
-        Saving::AtEnd | Saving::Always => Image::open(host, alloc, named),
+        Saving::AtEnd | Saving::Always => Image::open_for_script(host, alloc, named),
     }
 }
 
@@ -64,7 +65,7 @@ fn read_image<H: Host>(host: &mut H, alloc: Global, named: &ImageForm) -> Result
     ensures { OnlyReads named.now (H.history host.old) result (H.history host.new) }
 {
     let file = look_file(host, alloc, named.file.as_str())?;
-    let bytes = volume_in(alloc, file, named.layout)?;
+    let bytes = script_volume_in(host, alloc, file, named.layout)?;
     let place = ImagePlace {
         path: String::new(alloc),
         is_held: false,
@@ -73,6 +74,7 @@ fn read_image<H: Host>(host: &mut H, alloc: Global, named: &ImageForm) -> Result
         place,
         bytes,
         disk: None,
+        parts: None,
     })
 }
 
@@ -88,7 +90,7 @@ pub fn run_over<H: Host, I: Read + Drop>(
     ensures { RunsOver form (is_some forms.entry) image (I.remaining input) (H.history host.old) result (H.history host.new) }
 {
     let rooms = Rooms::new(alloc, &image.bytes)?;
-    let session = session_over(host, alloc, &image.bytes)?;
+    let session = session_over(host, alloc, &image.bytes, is_parted(&image))?;
     run_session::<H, I, Brand>(host, alloc, input, image, rooms, session, form, forms)
 }
 
@@ -116,17 +118,40 @@ fn session_over<H: Host>(
     host: &mut H,
     alloc: Global,
     image: &[u8],
+    is_parted: bool,
 ) -> Result<Session<MemoryVolume>, Ending>
-    ensures { Answers (MountsSession image.now) (length image.now) (H.history host.old) result (H.history host.new) }
+    ensures { Answers (MountsSession is_parted image.now) (length image.now) (H.history host.old) result (H.history host.new) }
 {
     match mounted_session(alloc, image) {
         Ok(session) => Ok(session),
-        Err(fault) => Err(refuse_image(host, image.len(), fault)),
+        Err(fault) => Err(refuse_image(host, image.len(), fault_in(is_parted, fault))),
+    }
+}
+
+/// Whether a volume has the whole file but for bytes that stand before or after it.
+fn is_parted(image: &Image) -> bool
+    ensures { result ≡ spec.is_parted image.now }
+{
+    image.parts.is_some() && !image.disk.is_some()
+}
+
+/// Why a file is refused whose volume is: by its length, where bytes stand before or after the volume, unless memory is wanted.
+fn fault_in(is_parted: bool, fault: ArchiveFault) -> ArchiveFault
+    ensures { result ≡ spec.fault_in is_parted fault }
+{
+    if !is_parted {
+        return fault;
+    }
+    match fault {
+        ArchiveFault::Image(_) | ArchiveFault::Directory(_) => {
+            ArchiveFault::Image(ImageFault::NotWhole)
+        }
+        ArchiveFault::Refused(_) => fault,
     }
 }
 
 fn mounted_session(alloc: Global, image: &[u8]) -> Result<Session<MemoryVolume>, ArchiveFault>
-    ensures { MountsSession image.now result }
+    ensures { MountsSession false image.now result }
 {
     let volume = volume_of(alloc, image)?;
     match Session::mount(alloc, volume) {
@@ -165,8 +190,6 @@ fn run_session<H: Host, I: Read + Drop, B: Start>(
         spare,
         forms: _,
         hint: _,
-        is_refusal: _,
-        is_bad_line: _,
     } = run;
     let mut progress = progress;
     let mut spare = spare;
@@ -179,8 +202,8 @@ fn run_session<H: Host, I: Read + Drop, B: Start>(
 /// Prints a note where standard input has more bytes than are read.
 fn tell_of_limit<H: Host>(host: &mut H, alloc: Global, progress: &mut Progress, is_too_long: bool)
     requires { progress.old.is_cut ≡ false }
-    ensures done { (start : ImageState) (old : List Event)
-        → HasDone start old progress.old (H.history host.old) → HasDone start old progress.new (H.history host.new) }
+    ensures done { (start : ImageState) (old : List Event) (shown : List ShownAnswer)
+        → HasDone start old shown progress.old (H.history host.old) → HasDone start old shown progress.new (H.history host.new) }
     ensures output { output_text (H.history host.new) ≡ output_text (H.history host.old) }
     ensures progress { progress.new ≡ record progress.old { is_cut = progress.new.is_cut } }
     ensures cut { progress.new.is_cut ≡ true → is_too_long ≡ true }
@@ -203,8 +226,8 @@ fn has_told_limit<H: Host>(host: &mut H, alloc: Global) -> bool
 
 /// Prints the lines that wait where a save ended the run. Standard output that took no more is not tried again.
 fn print_last<H: Host>(host: &mut H, progress: &mut Progress)
-    ensures done { (start : ImageState) (old : List Event)
-        → HasDone start old progress.old (H.history host.old) → HasDone start old progress.new (H.history host.new) }
+    ensures done { (start : ImageState) (old : List Event) (shown : List ShownAnswer)
+        → HasDone start old shown progress.old (H.history host.old) → HasDone start old shown progress.new (H.history host.new) }
     ensures image { progress.new.image ≡ progress.old.image }
     ensures saving { progress.new.saving ≡ progress.old.saving }
     ensures typed { progress.new.is_typed ≡ progress.old.is_typed }

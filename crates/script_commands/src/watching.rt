@@ -1,9 +1,15 @@
 //! Who watches a run of a script at a host, and prints its lines.
-ghost use Rattle.std.specs.Prelude.{◌≡◌, List};
+ghost use Rattle.std.specs.Prelude.{◌≡◌, ◌∷◌, ◌++◌, List, [], Option, None, true, false};
 ghost use Rattle.hosts.specs.Event.{Event};
-ghost use Rattle.hosts.specs.Streams.{output_text};
+ghost use Rattle.hosts.specs.Streams.{output, output_text};
+ghost use Rattle.program_tasks.specs.declared.tasks.Saving.TheVariants.{Always};
+ghost use Rattle.script8.specs.Replies.{answer_lines};
+ghost use Rattle.script8.specs.declared.entries.Entry.{Entry};
+ghost use Rattle.system_session.specs.ShownAnswers.{ShownAnswer};
 ghost use Rattle.volume_commands.specs.declared.images.Image.{Image as ImageState};
-ghost use Rattle.script_commands.specs.RunSteps.{HasDone, TellsForm};
+ghost use Rattle.volume_image.specs.Image.{IsImageOf};
+ghost use Rattle.script_commands.specs.RunSteps.{HasDone, HasEnded, TellsForm};
+ghost use Rattle.script_commands.specs.Steps.{changes, is_refusal};
 
 use crate::changes::may_have_changed;
 use crate::hints::line_hint;
@@ -36,10 +42,6 @@ pub(crate) struct Run<'a, H> {
 
     /// The form of the line that was begun last.
     pub(crate) hint: &'static str,
-
-    /// Whether the answer that was shown last is a refusal, and one of a line that is none.
-    pub(crate) is_refusal: bool,
-    pub(crate) is_bad_line: bool,
 }
 
 impl<'a, H: Host> Run<'a, H> {
@@ -61,8 +63,6 @@ impl<'a, H: Host> Run<'a, H> {
             spare,
             forms,
             hint: "",
-            is_refusal: false,
-            is_bad_line: false,
         }
     }
 }
@@ -75,8 +75,8 @@ fn show_form<H: Host>(
     is_bad_line: bool,
     hint: &str,
 )
-    ensures done { (start : ImageState) (old : List Event)
-        → HasDone start old progress.now (H.history host.old) → HasDone start old progress.now (H.history host.new) }
+    ensures done { (start : ImageState) (old : List Event) (shown : List ShownAnswer)
+        → HasDone start old shown progress.now (H.history host.old) → HasDone start old shown progress.now (H.history host.new) }
     ensures text { output_text (H.history host.new) ≡ output_text (H.history host.old) }
 {
     if progress.is_typed && is_bad_line {
@@ -94,21 +94,81 @@ fn tell_form<H: Host>(host: &mut H, alloc: Global, form: &str)
     }
 }
 
+/// Prints the lines of an answer after the file has the image that is to be kept, and answers whether the run goes on.
+fn print_kept<H: Host>(
+    host: &mut H,
+    alloc: Global,
+    progress: &mut Progress,
+    spare: &mut Vec<u8>,
+    hint: &str,
+    store: &MemoryVolume,
+    answer: &Result<Reply, SessionFault>,
+    lines: &[u8],
+) -> bool
+    ensures done { (start : ImageState) (old : List Event) (shown : List ShownAnswer) (entry : Option Entry) → lines.now ≡ answer_lines entry answer.now
+        → HasDone start old shown progress.old (H.history host.old)
+        → HasDone start old (shown ++ record { entry = entry; answer = answer.now; blocks = store.now.blocks } ∷ []) progress.new (H.history host.new) }
+    ensures text { result ≡ true → output_text (H.history host.new) ++ progress.new.lines.items
+        ≡ output_text (H.history host.old) ++ progress.old.lines.items ++ lines.now }
+    ensures ended { result ≡ false → HasEnded progress.new }
+    ensures saving { progress.new.saving ≡ progress.old.saving }
+    ensures typed { progress.new.is_typed ≡ progress.old.is_typed }
+    ensures cut { progress.new.is_cut ≡ progress.old.is_cut }
+{
+    if !keep_change(host, alloc, progress, spare, store, answer) {
+        return false;
+    }
+    show_form(host, alloc, progress, is_bad_line(answer), hint);
+    match add_lines(host, progress, lines, is_refusal(answer)) {
+        Ok(()) => true,
+        Err(_) => false,
+    }
+}
+
+/// Has the file hold the image of the volume after an answer, where it is to be kept, and answers whether the run goes on.
+fn keep_change<H: Host>(
+    host: &mut H,
+    alloc: Global,
+    progress: &mut Progress,
+    spare: &mut Vec<u8>,
+    store: &MemoryVolume,
+    answer: &Result<Reply, SessionFault>,
+) -> bool
+    ensures done { (start : ImageState) (old : List Event) (shown : List ShownAnswer)
+        → HasDone start old shown progress.old (H.history host.old) → HasDone start old shown progress.new (H.history host.new) }
+    ensures image { result ≡ true → progress.new.saving ≡ Always → changes answer.now ≡ true
+        → IsImageOf progress.new.image.bytes.items store.now.blocks }
+    ensures going { result ≡ true → (progress.new.save_ending ≡ None) × (progress.new.fault ≡ None) }
+    ensures ended { result ≡ false → HasEnded progress.new }
+    ensures output { output (H.history host.new) ≡ output (H.history host.old) }
+    ensures lines { progress.new.lines ≡ progress.old.lines }
+    ensures saving { progress.new.saving ≡ progress.old.saving }
+    ensures typed { progress.new.is_typed ≡ progress.old.is_typed }
+    ensures cut { progress.new.is_cut ≡ progress.old.is_cut }
+{
+    if progress.save_ending.is_some() || progress.fault.is_some() {
+        return false;
+    }
+    if progress.saving != Saving::Always || !may_have_changed(answer) {
+        return true;
+    }
+    keep(host, alloc, progress, spare, store)
+}
+
 impl<'a, H: Host> Watcher<MemoryVolume> for Run<'a, H> {
-    ghost use Rattle.std.specs.Prelude.{◌≡◌, ◌++◌, ◌⊎◌, None, Some};
+    ghost use Rattle.std.specs.Prelude.{◌≡◌, ◌++◌, Some};
     ghost use Rattle.hosts.specs.Streams.{output_text};
-    ghost use Rattle.script_commands.specs.RunSteps.{HasDone, MayPrint};
+    ghost use Rattle.script_commands.specs.RunSteps.{HasDone, HasEnded};
 
     ghost contents = { λ r. Some (output_text (H.history r.host.now) ++ r.progress.lines.items) };
 
     ghost follows = { λ first r. (r.host.ghost_name ≡ first.host.ghost_name)
         × (r.progress.saving ≡ first.progress.saving) × (r.progress.is_typed ≡ first.progress.is_typed)
-        × (r.progress.is_cut ≡ first.progress.is_cut)
-        × HasDone first.progress.image (H.history first.host.now) r.progress (H.history r.host.now) };
+        × (r.progress.is_cut ≡ first.progress.is_cut) };
 
-    ghost may_print = { λ r lines. MayPrint r.is_refusal r.progress lines };
+    ghost was_shown = { λ first shown r. HasDone first.progress.image (H.history first.host.now) shown r.progress (H.history r.host.now) };
 
-    ghost has_ended = { λ r. (r.progress.save_ending ≡ None → ⊥) ⊎ (r.progress.fault ≡ None → ⊥) };
+    ghost has_ended = { λ r. HasEnded r.progress };
 
     fn begins(&mut self, lines: &[u8]) {
         if let Some(forms) = self.forms {
@@ -116,36 +176,26 @@ impl<'a, H: Host> Watcher<MemoryVolume> for Run<'a, H> {
         }
     }
 
-    fn goes_on(&mut self, store: &MemoryVolume, answer: &Result<Reply, SessionFault>) -> bool {
-        self.is_refusal = answer.is_err();
-        self.is_bad_line = is_bad_line(answer);
-        if self.progress.save_ending.is_some() {
-            return false;
-        }
-        if self.progress.saving != Saving::Always || !may_have_changed(answer) {
-            return true;
-        }
-        keep(
+    fn print_answer(
+        &mut self,
+        store: &MemoryVolume,
+        answer: &Result<Reply, SessionFault>,
+        lines: &[u8],
+    ) -> io::Result<()> {
+        let printed = print_kept(
             self.host,
             self.alloc,
             &mut self.progress,
             &mut self.spare,
-            store,
-        )
-    }
-
-    fn print_lines(&mut self, lines: &[u8]) -> io::Result<()> {
-        show_form(
-            self.host,
-            self.alloc,
-            &self.progress,
-            self.is_bad_line,
             self.hint,
+            store,
+            answer,
+            lines,
         );
-        match add_lines(self.host, &mut self.progress, lines, self.is_refusal) {
-            Ok(()) => Ok(()),
-            Err(_) => Err(io::Error::from(ErrorKind::Other)),
+        if printed {
+            return Ok(());
         }
+        Err(io::Error::from(ErrorKind::Other))
     }
 
     fn flush(&mut self) -> io::Result<()> {
@@ -153,6 +203,16 @@ impl<'a, H: Host> Watcher<MemoryVolume> for Run<'a, H> {
             Ok(()) => Ok(()),
             Err(_) => Err(io::Error::from(ErrorKind::Other)),
         }
+    }
+}
+
+/// Whether an answer is a refusal.
+fn is_refusal(answer: &Result<Reply, SessionFault>) -> bool
+    ensures { result ≡ is_refusal answer.now }
+{
+    match answer {
+        Ok(_) => false,
+        Err(_) => true,
     }
 }
 

@@ -26,6 +26,7 @@ use Rattle.host_sources.specs.declared.faults.SourceFault.TheVariants as pal3_is
 use Rattle.pal8_asm.specs.declared.options.Options.{Options}
 use Rattle.pal8_tape.specs.declared.faults.SourceFault as pal8_fault
 use Rattle.pal8_tape.specs.declared.faults.SourceFault.TheVariants as pal8_is
+use Rattle.pal8_notes.specs.Texts.{notes_text}
 use Rattle.program_tasks.specs.declared.forms.ImageForm.{ImageForm}
 use Rattle.program_tasks.specs.declared.tasks.AssembleForm.{AssembleForm}
 use Rattle.volume_commands.specs.Answers.{AreLines, Refuses}
@@ -37,7 +38,7 @@ use Rattle.volume_commands.specs.Reading.{Looks, LooksAt, Opens, hold_calls, wit
 use Rattle.volume_commands.specs.Saving.{Prints, SavesIf, Stores, Writes}
 use Rattle.volume_commands.specs.Work.{Then, Purely}
 use Rattle.volume_commands.specs.declared.images.Image.{Image}
-use Rattle.source_commands.specs.Assembling.{Assembles, AssemblesAll, AssemblesFrom, AssemblesTo, IsTapeOf, ListsTape, Makes, MakesIf, MakesPal3, MakesPal8, PrintsFaults, RefusesPal8, RefusesSources, options_of}
+use Rattle.source_commands.specs.Assembling.{Assembles, AssemblesAll, AssemblesFrom, AssemblesTo, IsMade, IsTapeOf, ListsTape, Makes, MakesIf, MakesNoted, MakesPal3, MakesPal8, NotesIf, PrintsFaults, RefusesPal8, RefusesSources, TellsAny, options_of}
 use Rattle.source_commands.specs.Clashes.{IsRefused, RefusesClash, clash_of}
 use Rattle.source_commands.specs.Faults.{faults_text, pal8_faults_text}
 use Rattle.source_commands.specs.Laws.{is_refusal}
@@ -94,8 +95,25 @@ pal8-keeps : (is_listed is_cross : Bool) (options : Options) (sources names : Li
 pal8-keeps is_listed is_cross options sources names old (Ok made) new (assembled, listed, p) path = same path p
 pal8-keeps is_listed is_cross options sources names old (Err ending) new (fault, told, p) path = pal8-refused options sources names fault old ending new p path
 
+any-keeps : (lines : List ℕ) (old new : List Event) → TellsAny lines old new → (path : List ℕ) → about path new ≡ about path old
+any-keeps [] old new p path = same path p
+any-keeps (b ∷ lines) old new p path = line-keeps (b ∷ lines) old new p path
+
+notes-keep : (is : Bool) (options : Options) (sources names : List (Bor (List ℕ))) → KeepsFiles (NotesIf is options sources names)
+notes-keep true options sources names old (Ok it) new p path = any-keeps (notes_text options sources names) old new p path
+notes-keep true options sources names old (Err ending) new p path = same path p.1
+notes-keep false options sources names old result new p path = same path p.1
+
+noted-keeps : (form : AssembleForm) (sources names : List (Bor (List ℕ))) → KeepsFiles (MakesNoted form sources names)
+noted-keeps form sources names =
+    then-keeps (MakesPal8 (is_some form.list) form.is_cross (options_of form) sources names)
+    (λ made. Then (NotesIf form.has_notes (options_of form) sources names) (λ it. Purely (IsMade made)))
+    (pal8-keeps (is_some form.list) form.is_cross (options_of form) sources names)
+    (λ made. then-keeps (NotesIf form.has_notes (options_of form) sources names) (λ it. Purely (IsMade made))
+    (notes-keep form.has_notes (options_of form) sources names) (λ it. purely-keeps (IsMade made)))
+
 makes-if : (is : Bool) (form : AssembleForm) (sources names : List (Bor (List ℕ))) → KeepsFiles (MakesIf is form sources names)
-makes-if true form sources names old result new p path = pal8-keeps (is_some form.list) form.is_cross (options_of form) sources names old result new p path
+makes-if true form sources names old result new p path = noted-keeps form sources names old result new p path
 makes-if false form sources names old result new p path = pal3-keeps (is_some form.list) form.is_cross sources names old result new p path
 
 makes-keeps : (form : AssembleForm) (texts : List (List ℕ)) → KeepsFiles (Makes form texts)

@@ -1,5 +1,5 @@
 -- The command that assembles sources to a tape, and lists them if that is asked for.
-use Rattle.std.specs.Prelude.{◌≡◌, ◌⊎◌, ℕ, Bool, true, false, Option, None, Some, String, is_some, Result, Ok, Err, List, [], map}
+use Rattle.std.specs.Prelude.{◌≡◌, ◌⊎◌, ℕ, Bool, true, false, Option, None, Some, String, is_some, Result, Ok, Err, List, [], ◌∷◌, map}
 use Rattle.std.specs.Borrow.{Bor}
 use Rattle.std.specs.Global.{Vec, Global}
 use Rattle.hosts.specs.Event.{Event}
@@ -11,6 +11,7 @@ use Rattle.source_listing.specs.declared.listing.ListingForm.{ListingForm}
 use Rattle.source_listing.specs.declared.listing.ListingForm.TheVariants.{Symbols, Cross}
 use Rattle.pal8_asm.specs.declared.options.Options.{Options}
 use Rattle.pal8_listing.specs.Listings as pal8_listing
+use Rattle.pal8_notes.specs.Texts.{notes_text}
 use Rattle.pal8_tape.specs.Answers as pal8
 use Rattle.pal8_tape.specs.declared.faults.SourceFault as pal8_fault
 use Rattle.pal8_tape.specs.declared.faults.SourceFault.TheVariants as pal8_is
@@ -22,6 +23,7 @@ use Rattle.program_tasks.specs.declared.tasks.AssembleForm.{AssembleForm}
 use Rattle.volume_commands.specs.Work.{Then, Purely}
 use Rattle.volume_commands.specs.Ending.{TellsLine}
 use Rattle.volume_commands.specs.Reading.{LooksAt, Opens}
+use Rattle.volume_commands.specs.Saving.{IsDone}
 use Rattle.source_commands.specs.Clashes.{RefusesClash}
 use Rattle.source_commands.specs.Faults.{faults_text, pal8_faults_text}
 use Rattle.source_commands.specs.Outputs.{PutsTape, WritesListing, WritesTape}
@@ -80,8 +82,35 @@ abbrev pub MakesPal8 : Bool → Bool → Options → List (Bor (List ℕ)) → L
 MakesPal8 is_listed is_cross options sources names old (Ok made) new = pal8.IsTape options sources made.tape.items × IsPal8Listing is_listed is_cross options sources made.listing × (new ≡ old)
 MakesPal8 is_listed is_cross options sources names old (Err ending) new = (fault : pal8_fault.SourceFault) × pal8.IsTold options sources fault × RefusesPal8 options sources names fault old ending new
 
+-- ## Notes
+
+-- lines are printed on standard error, if there are any
+abbrev pub TellsAny : List ℕ → List Event → List Event → Type 0
+TellsAny [] old new = new ≡ old
+TellsAny (b ∷ lines) old new = TellsLine (b ∷ lines) old new
+
+-- the notes on PAL8 sources are printed, unless memory is wanted for their text
+abbrev pub TellsNotes : Options → List (Bor (List ℕ)) → List (Bor (List ℕ)) → List Event → Result (Unit {0}) Ending → List Event → Type 0
+TellsNotes options sources names old (Ok it) new = TellsAny (notes_text options sources names) old new
+TellsNotes options sources names old (Err ending) new = (ending ≡ Fault Memory) × (new ≡ old)
+
+-- they are printed if they are asked for
+abbrev pub NotesIf : Bool → Options → List (Bor (List ℕ)) → List (Bor (List ℕ)) → List Event → Result (Unit {0}) Ending → List Event → Type 0
+NotesIf true options sources names old result new = TellsNotes options sources names old result new
+NotesIf false options sources names old result new = IsDone result × (new ≡ old)
+
+abbrev pub IsMade : Assembled → Result Assembled Ending → Type 0
+IsMade made (Ok it) = it ≡ made
+IsMade made (Err ending) = ⊥
+
+-- PAL8 sources are assembled as a form asks for it, and then the notes on them are printed
+abbrev pub MakesNoted : AssembleForm → List (Bor (List ℕ)) → List (Bor (List ℕ)) → List Event → Result Assembled Ending → List Event → Type 0
+MakesNoted form sources names =
+    Then (MakesPal8 (is_some form.list) form.is_cross (options_of form) sources names)
+    (λ made. Then (NotesIf form.has_notes (options_of form) sources names) (λ it. Purely (IsMade made)))
+
 abbrev pub MakesIf : Bool → AssembleForm → List (Bor (List ℕ)) → List (Bor (List ℕ)) → List Event → Result Assembled Ending → List Event → Type 0
-MakesIf true form sources names old result new = MakesPal8 (is_some form.list) form.is_cross (options_of form) sources names old result new
+MakesIf true form sources names old result new = MakesNoted form sources names old result new
 MakesIf false form sources names old result new = MakesPal3 (is_some form.list) form.is_cross sources names old result new
 
 -- what texts come to in the language that is asked for

@@ -1,6 +1,6 @@
 //! The command that assembles sources.
 ghost use Rattle.std.specs.Prelude.{◌≡◌, true, map, option_copied};
-ghost use Rattle.source_commands.specs.Assembling.{Assembles, AssemblesFrom, AssemblesTo, ListsTape, Makes, MakesIf, MakesPal3, MakesPal8, PrintsFaults, RefusesPal8, RefusesSources};
+ghost use Rattle.source_commands.specs.Assembling.{Assembles, AssemblesFrom, AssemblesTo, ListsTape, Makes, MakesIf, MakesNoted, NotesIf, TellsNotes, MakesPal3, MakesPal8, PrintsFaults, RefusesPal8, RefusesSources, TellsAny};
 ghost use Rattle.source_commands.specs.Assembling as spec;
 
 use crate::clashes::refuse_clash;
@@ -11,6 +11,8 @@ use host_sources::{SourceFault, assemble_sources};
 use hosts::Host;
 use outcome::Ending;
 use pal8_asm::Options;
+use pal8_join::JoinFault;
+use pal8_notes::notes_text;
 use pal8_tape::{SourceFault as Pal8Fault, tape_of};
 use program_tasks::{AssembleForm, ImageForm};
 use script8::SessionFault;
@@ -139,15 +141,7 @@ fn assembled_sources<H: Host>(
     ensures { MakesIf form.now.is_pal8 form.now sources.now names.now (H.history host.old) result (H.history host.new) }
 {
     if form.is_pal8 {
-        return pal8_assembled(
-            host,
-            alloc,
-            options_of(form),
-            form.list.is_some(),
-            form.is_cross,
-            sources,
-            names,
-        );
+        return noted_pal8(host, alloc, form, sources, names);
     }
     if form.list.is_some() {
         return listed_sources(host, alloc, form.is_cross, sources, names);
@@ -225,6 +219,82 @@ fn options_of(form: &AssembleForm) -> Options
         is_without_zero: form.is_without_zero,
         is_without_origin: form.is_without_origin,
         has_stays: form.has_stays,
+    }
+}
+
+/// What PAL8 sources are assembled to. The notes on them are printed, if they are asked for.
+fn noted_pal8<H: Host>(
+    host: &mut H,
+    alloc: Global,
+    form: &AssembleForm,
+    sources: &[&[u8]],
+    names: &[&str],
+) -> Result<Assembled, Ending>
+    ensures { MakesNoted form.now sources.now names.now (H.history host.old) result (H.history host.new) }
+{
+    let made = pal8_assembled(
+        host,
+        alloc,
+        options_of(form),
+        form.list.is_some(),
+        form.is_cross,
+        sources,
+        names,
+    )?;
+    note_if(
+        host,
+        alloc,
+        form.has_notes,
+        options_of(form),
+        sources,
+        names,
+    )?;
+    Ok(made)
+}
+
+/// Prints the notes on PAL8 sources, if they are asked for.
+fn note_if<H: Host>(
+    host: &mut H,
+    alloc: Global,
+    is_so: bool,
+    options: Options,
+    sources: &[&[u8]],
+    names: &[&str],
+) -> Result<(), Ending>
+    ensures { NotesIf is_so options sources.now names.now (H.history host.old) result (H.history host.new) }
+{
+    if !is_so {
+        return Ok(());
+    }
+    tell_notes(host, alloc, options, sources, names)
+}
+
+/// Prints the notes on PAL8 sources, if there are any.
+fn tell_notes<H: Host>(
+    host: &mut H,
+    alloc: Global,
+    options: Options,
+    sources: &[&[u8]],
+    names: &[&str],
+) -> Result<(), Ending>
+    ensures { TellsNotes options sources.now names.now (H.history host.old) result (H.history host.new) }
+{
+    match notes_text(alloc, options, sources, names) {
+        Ok(text) => {
+            tell_any(host, &text);
+            Ok(())
+        }
+        Err(JoinFault::Memory) => Err(Ending::Fault(SessionFault::Memory)),
+    }
+}
+
+/// Prints lines on standard error, if there are any.
+fn tell_any<H: Host>(host: &mut H, lines: &[u8])
+    ensures { TellsAny lines.now (H.history host.old) (H.history host.new) }
+{
+    match lines {
+        [] => {}
+        [_, ..] => tell_line(host, lines),
     }
 }
 

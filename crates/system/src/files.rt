@@ -3,19 +3,29 @@ ghost use Rattle.std.specs.Prelude.{◌≤◌, ◌+◌, length, IfOk};
 
 use crate::besides::Besides;
 use hosts::{HostFault, LinkFault, PrintFault, RenameFault, Stream};
-use std::alloc::Global;
-use std::env::{self, Env};
+use std::alloc::{AllocError, Global};
+use std::env::{Env, FillError};
 use std::fs::{self, File, Files, Metadata, OpenOptions, TryLockError};
 use std::io::{self, ErrorKind, Input, IsTerminal, Read, Seek, SeekFrom, Write};
 use std::os::unix::fs::{FileTypeExt, MetadataExt, chown};
 use std::path::{Path, PathBuf};
-use std::time::{Clock, Instant};
+use std::thread;
+use std::time::{Clock, Duration, Instant};
 
-/// How many names beside a file are tried, and how often a file is locked anew whose name with_lead elsewhere meanwhile.
+/// How many names beside a file are tried, and how often a file is locked anew whose name leads elsewhere meanwhile.
 const TRIES: u16 = 1000;
 
 /// How many links are followed at most, as Linux does.
 const MOST_LINKS: usize = 40;
+
+/// The time between two tries, in thousandths of a second.
+const PAUSE_TIME: u64 = 50;
+
+/// The bytes of the first room for a word of the command line, and how often it is doubled at most. Linux hands on no word of more bytes than
+/// the largest room has.
+const FIRST_ROOM: usize = 0o400;
+
+const MOST_DOUBLINGS: u32 = 16;
 
 pub(crate) fn fault_of(error: &io::Error) -> HostFault {
     match error.kind() {
@@ -345,8 +355,12 @@ pub(crate) fn input_bytes<R: Input>(
 }
 
 /// Whether a standard stream is a terminal.
-pub(crate) fn is_terminal<R: Files<File = File>>(rt: &R, stream: Stream) -> bool {
+pub(crate) fn is_terminal<R: Files<File = File> + Input>(rt: &R, stream: Stream) -> bool
+where
+    R::Reader: IsTerminal,
+{
     let name = match stream {
+        Stream::Input => return rt.reader().is_terminal(),
         Stream::Output => "/dev/stdout",
         Stream::Errors => "/dev/stderr",
     };
@@ -356,10 +370,30 @@ pub(crate) fn is_terminal<R: Files<File = File>>(rt: &R, stream: Stream) -> bool
     }
 }
 
-/// The words of the command line.
-pub(crate) fn given_words<R: Env + AllocGlobal>(rt: &R, alloc: Global) -> io::Result<Vec<String>> {
-    let words: Vec<String> = env::args(rt)?.collect(alloc)?;
-    Ok(words)
+/// Lets the twentieth part of a second pass.
+pub(crate) fn pause<R: Clock>(rt: &R) {
+    thread::sleep(rt, Duration::from_millis(PAUSE_TIME));
+}
+
+/// The bytes of the word at a place of the command line, or none after the last one. They are copied to a room that is doubled until it holds
+/// them.
+pub(crate) fn given_word<R: Env>(
+    rt: &R,
+    alloc: Global,
+    place: usize,
+) -> Result<Option<Vec<u8>>, AllocError> {
+    for doublings in 0..MOST_DOUBLINGS {
+        let mut room = vec![in alloc; 0; FIRST_ROOM << doublings]?;
+        match rt.arg(place, room.as_mut_slice()) {
+            Ok(count) => {
+                room.truncate(count);
+                return Ok(Some(room));
+            }
+            Err(FillError::NotPresent) => return Ok(None),
+            Err(FillError::TooLong) => {}
+        }
+    }
+    Err(AllocError)
 }
 
 /// How many seconds have passed since this was first asked.

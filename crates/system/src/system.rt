@@ -25,23 +25,24 @@
 //! - `write_over`: `lseek` and `write`; a crash meanwhile may leave any bytes. `finish_over`: `ftruncate` and `fsync` of a plain file.
 //! - `free_path`: `lstat` and `readlink` until a name is met that nothing has. `make_folder`: `stat`, and `mkdir` where it finds nothing.
 //! - `print`, `tell`: `write` to 1 and to 2 until all bytes are written. A failed one may have written some.
-//! - `seconds`: the clock that only goes on. `words`: the words that the program was started with.
+//! - `seconds`: the clock that only goes on. `pause`: `clock_nanosleep`. `word`: a word that the program was started with, which the kernel
+//!   has laid into its memory; it ends before the first byte 0.
 ghost use Rattle.std.specs.Prelude.{◌≡◌, []};
 ghost use Rattle.hosts.specs.Raw.{events_of};
 
 use crate::files;
 use crate::opened::Opened;
 use hosts::notes::{
-    ALONE, CLAIM, DROP_BESIDE, DROP_CLAIM, DROP_SECONDS, FINISH_OVER, FREE, HOLD, LEADS, LINK_NEW,
-    LOCK_BESIDE, LOOK, MAKE_BESIDE, MAKE_FOLDER, OWN_BESIDE, PRINT, RENAME, RESOLVE, SECONDS,
-    SYNC_BESIDE, SYNC_FOLDER, TAKE_INPUT, TELL, TERMINAL, THERE, WORDS, WRITE_BESIDE, WRITE_OVER,
-    fault_number, number,
+    ALONE, CLAIM, DROP_BESIDE, DROP_CLAIM, DROP_SECONDS, END_OF_WORDS, FINISH_OVER, FREE, HOLD,
+    LEADS, LINK_NEW, LOCK_BESIDE, LOOK, MAKE_BESIDE, MAKE_FOLDER, OWN_BESIDE, PAUSE, PRINT, RENAME,
+    RESOLVE, SECONDS, SYNC_BESIDE, SYNC_FOLDER, TAKE_INPUT, TELL, TERMINAL, THERE, WORD,
+    WRITE_BESIDE, WRITE_OVER, fault_number, number,
 };
 use hosts::{Host, HostFault, LinkFault, PrintFault, Record, RenameFault, Stream};
-use std::alloc::Global;
+use std::alloc::{AllocError, Global};
 use std::env::Env;
 use std::fs::{self, File, Files};
-use std::io::Input;
+use std::io::{Input, IsTerminal};
 use std::time::{Clock, Instant};
 
 /// The operating system, and the files that are open.
@@ -67,7 +68,10 @@ impl<'a, R: Files<File = File> + AllocGlobal> System<'a, R> {
 }
 
 impl<'a, R: Env + Files<File = File> + Input + Print + Eprint + Clock + AllocGlobal> Host
-    for System<'a, R> {
+    for System<'a, R>
+where
+    R::Reader: IsTerminal,
+{
     ghost history = { λ s. events_of s.log.events };
 
     fn resolve(&mut self, alloc: Global, name: &str) -> Result<String, HostFault> {
@@ -321,6 +325,7 @@ impl<'a, R: Env + Files<File = File> + Input + Print + Eprint + Clock + AllocGlo
     fn is_terminal(&mut self, stream: Stream) -> bool {
         let is = files::is_terminal(self.rt, stream);
         match stream {
+            Stream::Input => self.log.note(&[TERMINAL, u64::from(is), 0], &[], &[]),
             Stream::Output => self.log.note(&[TERMINAL, u64::from(is), 1], &[], &[]),
             Stream::Errors => self.log.note(&[TERMINAL, u64::from(is), 2], &[], &[]),
         }
@@ -329,13 +334,22 @@ impl<'a, R: Env + Files<File = File> + Input + Print + Eprint + Clock + AllocGlo
 
     fn seconds(&mut self) -> u64 {
         let passed = files::seconds_since(self.rt, &mut self.start);
-        self.log.note(&[SECONDS, 1, 0], &[], &[]);
+        self.log.note(&[SECONDS, 1, passed], &[], &[]);
         passed
     }
 
-    fn words(&mut self, alloc: Global) -> Result<Vec<String>, HostFault> {
-        let done = files::answer(files::given_words(self.rt, alloc));
-        self.log.note(&[WORDS, number(&done), 0], &[], &[]);
+    fn pause(&mut self) {
+        files::pause(self.rt);
+        self.log.note(&[PAUSE, 1, 0], &[], &[]);
+    }
+
+    fn word(&mut self, alloc: Global, place: usize) -> Result<Option<Vec<u8>>, AllocError> {
+        let done = files::given_word(self.rt, alloc, place);
+        match &done {
+            Ok(Some(word)) => self.log.note(&[WORD, 1, place as u64], &[], word),
+            Ok(None) => self.log.note(&[END_OF_WORDS, 1, place as u64], &[], &[]),
+            Err(_) => self.log.note(&[WORD, 0, 2], &[], &[]),
+        }
         done
     }
 }

@@ -5,6 +5,7 @@ pub mod SessionLemmas
 pub mod LeavesLemmas
 pub mod RoomLemmas
 pub mod ToldLemmas
+pub mod ShownLemmas
 pub mod EntryLemmas
 pub mod TextLemmas
 pub mod RefusalLemmas

@@ -11,6 +11,7 @@ pub mod Interleaving
 pub mod Room
 pub mod Reading
 pub mod Script
+pub mod ShownAnswers
 pub mod RunSteps
 pub mod Road
 pub mod ConsoleSteps

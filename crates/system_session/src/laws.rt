@@ -1,5 +1,5 @@
 //! What holds of refusals, and of the turns of squeezing jobs. Each function does nothing: its contract is the law.
-ghost use Rattle.std.specs.Prelude.{◌≡◌, ℕ, Bool, List, false, Some, None, Err};
+ghost use Rattle.std.specs.Prelude.{◌≡◌, ℕ, Bool, List, Option, Result, false, Some, None, Err};
 ghost use Rattle.std.specs.FinMap.{get};
 ghost use Rattle.volume_jobs.specs.Jobs.{loading, squeezing, job_of, with_job};
 ghost use Rattle.script8.specs.Replies.{job_of_entry};
@@ -9,6 +9,8 @@ ghost use Rattle.script8.specs.declared.entries.JobEntry.TheVariants as job;
 ghost use Rattle.script8.specs.declared.faults.SessionFault.{SessionFault};
 ghost use Rattle.system_session.specs.Road.{changes_file, is_loaded, LoadsCore, ConsoleGoesOn, HasMadeFile, NoneTells};
 ghost use Rattle.system_session.specs.Same.{IsAlike, IsApart, speaks_of_room};
+ghost use Rattle.system_session.specs.Script.{RunsText};
+ghost use Rattle.system_session.specs.ShownAnswers.{ShownAnswer, ShowsText};
 ghost use Rattle.system_session.specs.State.{State};
 ghost use Rattle.system_session.specs.System.{Answer, Run, MayAnswer};
 
@@ -64,3 +66,9 @@ pub fn road()
     no_fault();
     one_reading();
 }
+
+/// What is shown of a run is that run: its items are answered so, and these lines are printed.
+pub fn shown_runs()
+    ensures { (most : ℕ) (old new : State) (shown : List ShownAnswer) (r r' w w' : Option (List ℕ)) (result : Result (Unit {0}) SessionFault)
+        → ShowsText most old shown new r r' w w' result → RunsText most old new r r' w w' result }
+{}

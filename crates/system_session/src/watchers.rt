@@ -1,17 +1,18 @@
 //! Who watches a run of a script, and prints what it answers.
 
-ghost use Rattle.std.specs.Prelude.{◌≡◌, ℕ, List, [], Option, OnErr, OnOk, false, true};
+ghost use Rattle.std.specs.Prelude.{◌≡◌, ℕ, List, [], ◌∷◌, ◌++◌, Option, OnErr, OnOk};
 ghost use Rattle.std.specs.Io.KnownBytes.{Appends};
 ghost use Rattle.script8.specs.Replies.{answer_lines};
 ghost use Rattle.script8.specs.declared.entries.Entry.{Entry};
+ghost use Rattle.system_session.specs.ShownAnswers.{ShownAnswer};
 
 use script8::{Reply, SessionFault};
 use std::io;
 use std::io::Write;
 use volume_image::BlockStore;
 
-/// Who watches a run of a script over a store, and prints the lines of its answers. It is shown each answer before the lines, and may
-/// end the run there.
+/// Who watches a run of a script over a store, and prints the lines of its answers. It is shown each answer with its lines, and with the
+/// store after it, and may end the run there.
 pub trait Watcher<S: BlockStore> {
     /// The bytes that were printed, where they are known.
     ghost contents: { Self → Option (List ℕ) };
@@ -19,8 +20,8 @@ pub trait Watcher<S: BlockStore> {
     /// What holds of a watcher at first and of it now. Each call keeps it.
     ghost follows: { Self → Self → Type 0 };
 
-    /// These lines may be printed now.
-    ghost may_print: { Self → List ℕ → Type 0 };
+    /// What holds of a watcher at first, of all that it was shown since, the first one first, and of it now.
+    ghost was_shown: { Self → List ShownAnswer → Self → Type 0 };
 
     /// It has ended the run, or it could not print.
     ghost has_ended: { Self → Type 0 };
@@ -28,29 +29,30 @@ pub trait Watcher<S: BlockStore> {
     /// An item of the script comes next, of these lines.
     fn begins(&mut self, lines: &[u8])
         ensures contents { contents self.new ≡ contents self.old }
-        ensures kept { (first : Self) → follows first self.old → follows first self.new };
-
-    /// Whether the run goes on. An item, or a turn that a FINISH stands for, got this answer: the store is as it left it, and the
-    /// answer's lines are printed next. Where the run doesn't go on they are not printed, as where printing fails.
-    fn goes_on(&mut self, store: &S, answer: &Result<Reply, SessionFault>) -> bool
-        ensures contents { contents self.new ≡ contents self.old }
         ensures kept { (first : Self) → follows first self.old → follows first self.new }
-        ensures shown { result ≡ true
-            → (entry : Option Entry) → may_print self.new (answer_lines entry answer.now) }
-        ensures stopped { result ≡ false → has_ended self.new };
+        ensures shown { (first : Self) (shown : List ShownAnswer) → was_shown first shown self.old → was_shown first shown self.new };
 
-    /// Prints the lines of the answer that was shown last.
-    fn print_lines(&mut self, lines: &[u8]) -> io::Result<()>
-        requires { may_print self.old lines.now }
+    /// Prints the lines of an answer. An item, or a turn that a FINISH stands for, got it: the store is as it left it. Where this fails the
+    /// run doesn't go on.
+    fn print_answer(
+        &mut self,
+        store: &S,
+        answer: &Result<Reply, SessionFault>,
+        lines: &[u8],
+    ) -> io::Result<()>
         ensures printed { OnOk result (Appends (contents self.old) (contents self.new) lines.now) }
         ensures stopped { OnErr result (has_ended self.new) }
-        ensures kept { (first : Self) → follows first self.old → follows first self.new };
+        ensures kept { (first : Self) → follows first self.old → follows first self.new }
+        ensures shown { (first : Self) (shown : List ShownAnswer) (entry : Option Entry) → lines.now ≡ answer_lines entry answer.now
+            → was_shown first shown self.old
+            → was_shown first (shown ++ record { entry = entry; answer = answer.now; blocks = S.contents store.now } ∷ []) self.new };
 
     /// Hands on what was printed.
     fn flush(&mut self) -> io::Result<()>
         ensures printed { OnOk result (Appends (contents self.old) (contents self.new) []) }
         ensures stopped { OnErr result (has_ended self.new) }
-        ensures kept { (first : Self) → follows first self.old → follows first self.new };
+        ensures kept { (first : Self) → follows first self.old → follows first self.new }
+        ensures shown { (first : Self) (shown : List ShownAnswer) → was_shown first shown self.old → was_shown first shown self.new };
 }
 
 /// Nobody watches: a writer gets the lines.
@@ -72,17 +74,18 @@ impl<'a, S: BlockStore, W: Write> Watcher<S> for Unwatched<'a, W> {
 
     ghost follows = { λ first u. u.writer.ghost_name ≡ first.writer.ghost_name };
 
-    ghost may_print = { λ _ _. Unit {0} };
+    ghost was_shown = { λ _ _ _. Unit {0} };
 
     ghost has_ended = { λ _. Unit {0} };
 
     fn begins(&mut self, _lines: &[u8]) {}
 
-    fn goes_on(&mut self, _store: &S, _answer: &Result<Reply, SessionFault>) -> bool {
-        true
-    }
-
-    fn print_lines(&mut self, lines: &[u8]) -> io::Result<()> {
+    fn print_answer(
+        &mut self,
+        _store: &S,
+        _answer: &Result<Reply, SessionFault>,
+        lines: &[u8],
+    ) -> io::Result<()> {
         self.writer.write_all(lines)
     }
 

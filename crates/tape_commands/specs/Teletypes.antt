@@ -1,5 +1,5 @@
 -- The command that runs a program at the Teletype.
-use Rattle.std.specs.Prelude.{◌≡◌, ◌⊎◌, ◌-◌, ◌^◌, ℕ, Bool, true, false, unwrap_or, Option, Some, Result, Ok, Err, List, slice_index}
+use Rattle.std.specs.Prelude.{◌≡◌, ◌⊎◌, ◌-◌, ◌^◌, ℕ, Bool, true, false, is_some, unwrap_or, IfErr, Option, Some, Result, Ok, Err, List, slice_index}
 use Rattle.cpu8.specs.State.{State, next_cell}
 use Rattle.terminal8.specs.Run.{RunsProgram}
 use Rattle.terminal8.specs.declared.inputs.Input.{Input}
@@ -68,6 +68,7 @@ pub record RunsMachine (form : TeletypeForm) (machine : State) (keys keys' : Opt
   pub runs : RunsProgram (form_of form.is_raw) (input_of form.is_live) (unwrap_or form.steps (2 ^ 64 - 1)) machine after keys keys' (Some (output_text old)) (Some (output_text between)) done
   pub fault : Option PrintFault
   pub prints : HasPrinted old between fault
+  pub cause : IfErr done (λ it. it ≡ Writer → is_some fault ≡ true)
   pub ends : EndsRun after fault done between result new
 
 -- the program is read, and a machine stands at its start

@@ -1,5 +1,5 @@
 -- The command that prints a line for each step of a program.
-use Rattle.std.specs.Prelude.{ℕ, Bool, unwrap_or, Option, Some, Result, Ok, Err, List}
+use Rattle.std.specs.Prelude.{◌≡◌, ℕ, Bool, true, is_some, unwrap_or, IfErr, Option, Some, Result, Ok, Err, List}
 use Rattle.cpu8.specs.State.{next_cell}
 use Rattle.tape_source.specs.Tags.{is_flagged}
 use Rattle.terminal8.specs.Terminal.{Terminal}
@@ -37,6 +37,7 @@ pub record TracesSteps (most : ℕ) (t : Terminal) (flags : List Bool) (old : Li
   pub traces : Traces (is_flagged flags) most t after (Some (output_text old)) (Some (output_text between)) done
   pub fault : Option PrintFault
   pub prints : HasPrinted old between fault
+  pub cause : IfErr done (λ it. it ≡ Writer → is_some fault ≡ true)
   pub ends : EndsTrace after fault done between result new
 
 -- The program is read, and its steps are printed, a thousand at most if no limit is given. Nothing else goes to standard output. No file

@@ -1,6 +1,7 @@
 //! A program of a tape at the Teletype: the keys of a reader, and standard output as the paper.
-ghost use Rattle.std.specs.Prelude.{◌≡◌, ◌-◌, ◌^◌, Some, unwrap_or};
+ghost use Rattle.std.specs.Prelude.{◌≡◌, ◌-◌, ◌^◌, Some, true, is_some, unwrap_or, IfErr};
 ghost use Rattle.terminal8.specs.Run.{RunsProgram};
+ghost use Rattle.terminal8.specs.declared.outcomes.TerminalFault.TheVariants as fault;
 ghost use Rattle.hosts.specs.Streams.{output_text};
 ghost use Rattle.host_output.specs.Printing.{HasPrinted};
 ghost use Rattle.tape_commands.specs.Teletypes as spec;
@@ -81,6 +82,7 @@ fn run_onto<H: Host, I: Read, B: Before>(
         machine.old machine.new (I.remaining keys.old) (I.remaining keys.new)
         (Some (output_text (H.history host))) (Some (output_text (H.history result.0))) result.2 }
     ensures prints { HasPrinted (H.history host) (H.history result.0) result.1 }
+    ensures cause { IfErr result.2 (λ it. it ≡ fault.Writer → is_some result.1 ≡ true) }
 {
     let steps = form.steps.unwrap_or(u64::MAX);
     let mut printer: Printer<H, B> = Printer::new(host);

@@ -1,8 +1,9 @@
 //! A program of a tape whose steps are printed.
-ghost use Rattle.std.specs.Prelude.{◌≡◌, ◌+◌, ◌^◌, ◌<◌, Some, length};
+ghost use Rattle.std.specs.Prelude.{◌≡◌, ◌+◌, ◌^◌, ◌<◌, Some, true, is_some, length, IfErr};
 ghost use Rattle.word12.specs.declared.sizes.TheConstants.{CORE};
 ghost use Rattle.tape_source.specs.Tags.{is_flagged};
 ghost use Rattle.trace8.specs.Tracing.{Traces};
+ghost use Rattle.trace8.specs.declared.faults.TraceFault.TheVariants as fault;
 ghost use Rattle.hosts.specs.Streams.{output_text};
 ghost use Rattle.host_output.specs.Printing.{HasPrinted};
 ghost use Rattle.tape_commands.specs.Runs.{terminal_of};
@@ -82,6 +83,7 @@ fn trace_onto<H: Host, B: Before>(
     ensures traces { Traces (is_flagged flags.now) most terminal.old terminal.new
         (Some (output_text (H.history host))) (Some (output_text (H.history result.0))) result.2 }
     ensures prints { HasPrinted (H.history host) (H.history result.0) result.1 }
+    ensures cause { IfErr result.2 (λ it. it ≡ fault.Writer → is_some result.1 ≡ true) }
 {
     let mut printer: Printer<H, B> = Printer::new(host);
     let done = trace(alloc, terminal, most, flags, &mut printer);

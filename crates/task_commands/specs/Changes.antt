@@ -1,6 +1,6 @@
 -- Commands that write an image file, which another program may hold (this project's profile).
 use Rattle.std.specs.Prelude.{◌≡◌, ◌≤◌, ◌*◌, ◌⊎◌, ℕ, Option, None, Some, Result, Ok, Err, List, [], ◌∷◌, length}
-use Rattle.hosts.specs.Event.{Event}
+use Rattle.hosts.specs.Event.{Event, pause_call}
 use Rattle.program_tasks.specs.declared.forms.ImageForm.{ImageForm}
 use Rattle.outcome.specs.declared.contents.Content.TheVariants.{Image}
 use Rattle.outcome.specs.declared.endings.Ending.{Ending}
@@ -52,10 +52,11 @@ seconds_of (change.Squeeze image) = image.wait
 seconds_of (change.Patch image word) = image.wait
 seconds_of (change.Assemble form) = seconds_for form.from
 
--- each of these tries found that another program holds the image; the calls before each, the newest first
+-- each of these tries found that another program holds the image, and the time between two tries passed; the calls before each, the newest
+-- first
 abbrev pub AreBusy : {A : Type 0} → (List Event → Result A Ending → List Event → Type 0) → List (List Event) → List Event → List Event → Type 0
 AreBusy command [] old new = new ≡ old
-AreBusy command (before ∷ earlier) old new = AreBusy command earlier old before × command before (Err (Busy Image)) new
+AreBusy command (before ∷ earlier) old new = AreBusy command earlier old before × (after : List Event) × command before (Err (Busy Image)) after × (new ≡ pause_call ∷ after)
 
 -- another program doesn't hold the image
 abbrev pub IsFree : {A : Type 0} → Result A Ending → Type 0

@@ -40,6 +40,7 @@ use Rattle.archive_commands.specs.Dumping.{Dumps}
 use Rattle.archive_commands.specs.Patching.{PatchesWord}
 use Rattle.archive_commands.specs.declared.patches.WordPatch.{WordPatch}
 use Rattle.index_commands.specs.Indexing.{Indexes}
+use Rattle.index_commands.specs.declared.columns.LineShape.{LineShape}
 use Rattle.salvage_commands.specs.Rescuing.{RescuesImage}
 use Rattle.salvage_commands.specs.ScanningBlocks.{ShowsPieces, WritesPieces}
 use Rattle.program_commands.specs.Rims.{WritesRim}
@@ -67,12 +68,15 @@ abbrev pub pattern_or_all : Option (String Global) → List ℕ
 pattern_or_all None = codes "*.*"
 pattern_or_all (Some pattern) = pattern.bytes.items
 
--- which files an index has, and how its lines are written
+-- which files an index has
 pub record IsStyle (form : IndexForm) (style : IndexStyle) : Type 0 where
   pub find : style.find.bytes.items ≡ pattern_or_all form.find
   pub grep : style.grep ≡ form.grep
-  pub json : style.is_json ≡ is_json form.form
   pub year : style.year ≡ form.year
+
+-- how its lines are printed, and whether they are those of equal files alone
+abbrev pub shape_of : IndexForm → LineShape
+shape_of form = record { is_json = is_json form.form; is_same = form.is_same }
 
 abbrev pub ChoosesStyle : IndexForm → Result IndexStyle Ending → Type 0
 ChoosesStyle form (Ok style) = IsStyle form style
@@ -80,7 +84,7 @@ ChoosesStyle form (Err ending) = ending ≡ Fault Memory
 
 -- the index of the images that are given, of the files that it is to have
 abbrev pub ListsIndex : IndexForm → List Event → Result (Unit {0}) Ending → List Event → Type 0
-ListsIndex form = Then (Purely (ChoosesStyle form)) (λ style. Indexes style form.layout (map (λ image. image.bytes.items) form.images.items))
+ListsIndex form = Then (Purely (ChoosesStyle form)) (λ style. Indexes style (shape_of form) form.layout (map (λ image. image.bytes.items) form.images.items))
 
 -- the texts of the files that are asked for are printed
 abbrev pub PrintsTexts : GetTextsForm → List Event → Result (Unit {0}) Ending → List Event → Type 0

@@ -23,12 +23,6 @@ use volume_commands::{
 /// How many times a second a command is tried again.
 pub const TRIES: u128 = 20;
 
-/// What a task has of its caller beside a host.
-pub trait Caller {
-    /// Lets the twentieth part of a second pass, between two tries.
-    fn pause(&self);
-}
-
 /// A task that writes an image file.
 #[derive(Drop)]
 pub enum Change {
@@ -47,12 +41,7 @@ pub enum Change {
 
 /// Writes an image file as it is asked for. While another program holds the file, this is tried again for as many seconds as the command line
 /// says, and such a try changes nothing and prints nothing (this project's profile).
-pub fn change_image<H: Host, C: Caller>(
-    host: &mut H,
-    alloc: Global,
-    caller: &C,
-    change: &Change,
-) -> Result<(), Ending>
+pub fn change_image<H: Host>(host: &mut H, alloc: Global, change: &Change) -> Result<(), Ending>
     ensures { Within (seconds_of change.now) (DoesChange change.now) (H.history host.old) result (H.history host.new) }
 {
     let most = TRIES * change.seconds() as u128;
@@ -60,7 +49,7 @@ pub fn change_image<H: Host, C: Caller>(
     while tries < most {
         match change.make(host, alloc) {
             Err(Ending::Busy(Content::Image)) => {
-                caller.pause();
+                host.pause();
                 tries += 1;
             }
             work => return work,
@@ -70,10 +59,9 @@ pub fn change_image<H: Host, C: Caller>(
 }
 
 /// Opens the image in a file for a run of a script. It is tried again as a change is.
-pub fn open_within<H: Host, C: Caller>(
+pub fn open_within<H: Host>(
     host: &mut H,
     alloc: Global,
-    caller: &C,
     image: &ImageForm,
     saving: Saving,
 ) -> Result<Image, Ending>
@@ -84,7 +72,7 @@ pub fn open_within<H: Host, C: Caller>(
     while tries < most {
         match open_image(host, alloc, image, saving) {
             Err(Ending::Busy(Content::Image)) => {
-                caller.pause();
+                host.pause();
                 tries += 1;
             }
             found => return found,

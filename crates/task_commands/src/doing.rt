@@ -4,12 +4,12 @@ ghost use Rattle.task_commands.specs.declared.changes.Change.TheVariants as chan
 ghost use Rattle.task_commands.specs.Tasks as spec;
 ghost use Rattle.task_commands.specs.Tasks.{ChoosesStyle, DoesTask, ListsIndex, PrintsTexts, RunsImage, RunsTask, ScansBlocks, word_patch};
 
-use crate::changes::{Caller, Change, change_image, open_within};
+use crate::changes::{Change, change_image, open_within};
 use archive_commands::{WordPatch, dump_blocks};
 use choice_commands::{list_some, show_texts};
 use command_table::SCRIPT_LINES;
 use hosts::Host;
-use index_commands::index_images;
+use index_commands::{LineShape, index_images};
 use many_commands::{check_images, get_files, list_files, list_places};
 use outcome::{Ending, gives_data};
 use program_commands::{list_tape, write_rim, write_source};
@@ -27,31 +27,29 @@ use volume_index::IndexStyle;
 /// Does a task, and prints what its end asks for. The answer is the exit status: 0, 1 after a fault, 141 where nobody reads standard output,
 /// and 2 for words that a command refuses (this project's profile). The keys of a Teletype, or a script, are read from the
 /// input; a person may type them at a terminal.
-pub fn run_task<H: Host, I: Read + Drop, C: Caller>(
+pub fn run_task<H: Host, I: Read + Drop>(
     host: H,
     alloc: Global,
     rooms: Rooms,
     input: I,
     is_typed: bool,
-    caller: &C,
     task: Task,
 ) -> (H, u8)
     ensures { RunsTask task is_typed (I.remaining input) (H.history host) (H.history result.0) result.1 }
 {
     let is_data = gives_data(&task);
-    let (host, work) = do_task(host, alloc, input, is_typed, caller, task);
+    let (host, work) = do_task(host, alloc, input, is_typed, task);
     let mut host = host;
     let status = end(&mut host, rooms, is_data, work);
     (host, status)
 }
 
 /// Does a task. The host is handed over, since the output of a machine that runs is the host itself, and is given back.
-pub fn do_task<H: Host, I: Read + Drop, C: Caller>(
+pub fn do_task<H: Host, I: Read + Drop>(
     host: H,
     alloc: Global,
     input: I,
     is_typed: bool,
-    caller: &C,
     task: Task,
 ) -> (H, Result<(), Ending>)
     ensures { DoesTask task is_typed (I.remaining input) (H.history host) result.1 (H.history result.0) }
@@ -62,7 +60,7 @@ pub fn do_task<H: Host, I: Read + Drop, C: Caller>(
         Task::Teletype(form) => return run_teletype(host, alloc, &mut keys, &form),
         Task::Trace(form) => return trace_tape(host, alloc, &form),
         Task::Run(image, form) => {
-            let work = run_image(&mut host, alloc, keys, is_typed, caller, &image, form);
+            let work = run_image(&mut host, alloc, keys, is_typed, &image, form);
             return (host, work);
         }
         Task::Profile(form) => profile_tape(&mut host, alloc, &form),
@@ -83,38 +81,37 @@ pub fn do_task<H: Host, I: Read + Drop, C: Caller>(
         Task::Scan(form) => scan_image(&mut host, alloc, &form),
         Task::Rescue(form) => rescue_image(&mut host, alloc, &form.image, form.new.as_str()),
         Task::Create(form, blocks) => {
-            change_image(&mut host, alloc, caller, &Change::Create(form, blocks))
+            change_image(&mut host, alloc, &Change::Create(form, blocks))
         }
-        Task::CreateTape(form) => change_image(&mut host, alloc, caller, &Change::CreateTape(form)),
-        Task::Put(form) => change_image(&mut host, alloc, caller, &Change::Put(form)),
-        Task::PutMany(form) => change_image(&mut host, alloc, caller, &Change::PutMany(form)),
-        Task::Delete(form) => change_image(&mut host, alloc, caller, &Change::Delete(form)),
+        Task::CreateTape(form) => change_image(&mut host, alloc, &Change::CreateTape(form)),
+        Task::Put(form) => change_image(&mut host, alloc, &Change::Put(form)),
+        Task::PutMany(form) => change_image(&mut host, alloc, &Change::PutMany(form)),
+        Task::Delete(form) => change_image(&mut host, alloc, &Change::Delete(form)),
         Task::Rename(image, file, new) => {
             let change = Change::Rename(image, file_asked(file), new);
-            change_image(&mut host, alloc, caller, &change)
+            change_image(&mut host, alloc, &change)
         }
-        Task::Copy(form) => change_image(&mut host, alloc, caller, &Change::Copy(form)),
-        Task::CopyMany(form) => change_image(&mut host, alloc, caller, &Change::CopyMany(form)),
-        Task::Squeeze(image) => change_image(&mut host, alloc, caller, &Change::Squeeze(image)),
-        Task::Patch(form) => change_image(&mut host, alloc, caller, &word_change(form)),
-        Task::Assemble(form) => change_image(&mut host, alloc, caller, &Change::Assemble(form)),
+        Task::Copy(form) => change_image(&mut host, alloc, &Change::Copy(form)),
+        Task::CopyMany(form) => change_image(&mut host, alloc, &Change::CopyMany(form)),
+        Task::Squeeze(image) => change_image(&mut host, alloc, &Change::Squeeze(image)),
+        Task::Patch(form) => change_image(&mut host, alloc, &word_change(form)),
+        Task::Assemble(form) => change_image(&mut host, alloc, &Change::Assemble(form)),
     };
     (host, work)
 }
 
 /// Runs the script of a reader over the volume of an image file, which is waited for while another program holds it.
-fn run_image<H: Host, I: Read + Drop, C: Caller>(
+fn run_image<H: Host, I: Read + Drop>(
     host: &mut H,
     alloc: Global,
     input: I,
     is_typed: bool,
-    caller: &C,
     named: &ImageForm,
     form: RunForm,
 ) -> Result<(), Ending>
     ensures { RunsImage named.now form is_typed (I.remaining input) (H.history host.old) result (H.history host.new) }
 {
-    let image = open_within(host, alloc, caller, named, form.saving)?;
+    let image = open_within(host, alloc, named, form.saving)?;
     run_over(host, alloc, input, image, form, forms_for(is_typed))
 }
 
@@ -151,16 +148,20 @@ fn list_index<H: Host>(host: &mut H, alloc: Global, form: IndexForm) -> Result<(
         layout,
         year,
         form,
+        is_same,
         find,
         grep,
     } = form;
     let style = IndexStyle {
         find: pattern_or_all(alloc, find)?,
         grep,
-        is_json: is_json(form),
         year,
     };
-    index_images(host, alloc, &style, &images, layout)
+    let shape = LineShape {
+        is_json: is_json(form),
+        is_same,
+    };
+    index_images(host, alloc, &style, shape, &images, layout)
 }
 
 /// Whether lines of this form are JSON objects.

@@ -5,6 +5,6 @@ mod changes;
 mod doing;
 mod words;
 
-pub use changes::{Caller, Change, TRIES, change_image, open_within};
+pub use changes::{Change, TRIES, change_image, open_within};
 pub use doing::{do_task, run_task};
 pub use words::run_words;

@@ -3,7 +3,6 @@ ghost use Rattle.std.specs.Prelude.{◌≡◌, map};
 ghost use Rattle.task_commands.specs.Words as spec;
 ghost use Rattle.task_commands.specs.Words.{RefusesWords, RunsWords, ShowsText, WantsMemory};
 
-use crate::changes::Caller;
 use crate::doing::run_task;
 use clap::Error;
 use clap::error::ErrorKind;
@@ -20,19 +19,18 @@ const MISUSE: u8 = 2;
 /// Does what the words of a command line ask for, the program's own name first, and gives the exit status. Where they ask for nothing, why is
 /// printed on standard error, and the status is 2. Help and the version, where they are asked for, go to standard output with status 0
 /// (this project's profile). A person may type the input at a terminal.
-pub fn run_words<H: Host, I: Read + Drop, C: Caller>(
+pub fn run_words<H: Host, I: Read + Drop>(
     host: H,
     alloc: Global,
     rooms: Rooms,
     words: &[&str],
     input: I,
     is_typed: bool,
-    caller: &C,
 ) -> (H, u8)
     ensures { RunsWords (map (λ given. given.now) words.now) is_typed (I.remaining input) (H.history host) (H.history result.0) result.1 }
 {
     match task(alloc, words) {
-        Ok(task) => run_task(host, alloc, rooms, input, is_typed, caller, task),
+        Ok(task) => run_task(host, alloc, rooms, input, is_typed, task),
         Err(fault) => {
             let mut host = host;
             let status = refuse_words(&mut host, alloc, rooms, &fault);

@@ -1,6 +1,6 @@
 -- Known bytes that are taken, or written, in parts, some of them ahead, or on paper.
 use Rattle.std.proofs.Common.{◌≡◌, ℕ, Option, Some, None, Ok, Err, List, [], ◌∷◌, ◌++◌, ◌∙◌, ap, sym, refl, subst, append_assoc, append-nil}
-use Rattle.std.specs.Io.KnownBytes.{Consumes, Appends, IsAtEnd, Keeps}
+use Rattle.std.specs.Io.KnownBytes.{Consumes, Appends, IsAtEnd}
 use Rattle.terminal8.specs.RunSteps.{Strikes, GivesByte, ReadsByte, Passes, Holds}
 use Rattle.terminal8.specs.declared.outcomes.TerminalFault.{TerminalFault}
 use Rattle.terminal8.specs.declared.outcomes.TerminalFault.TheVariants.{Reader, Writer}
@@ -53,11 +53,6 @@ passes-all w w' w'' p p' all is none = record {
 pub passed : (w w' : Option (List ℕ)) (p' printed : List ℕ) → Passes w w' [] p' printed → p' ≡ [] → Appends w w' printed
 passed w w' p' printed a is =
     subst (λ l. Appends w w' l) (sym (append-nil a.handed) ∙ ap (λ l. a.handed ++ l) (sym is) ∙ a.in_order) a.written
-
-pub appends-kept : (w w' : Option (List ℕ)) → Keeps w w' → Appends w w' []
-appends-kept None w' kept = tt
-appends-kept (Some o) None kept = absurd kept
-appends-kept (Some o) (Some n) kept = kept ∙ sym (append-nil o)
 
 pub holds-err : (A B : Type 0) (w w' w'' : Option (List ℕ)) (p p' p'' : List ℕ) (fault : TerminalFault) → Passes w w' p p' []
     → Holds {A = A} w' w'' p' p'' (Err fault) → Holds {A = B} w w'' p p'' (Err fault)

@@ -3,15 +3,17 @@
 ghost use Rattle.std.specs.Prelude.{◌≡◌, false, [], IfOk, OnOk, IfErr};
 ghost use Rattle.terminal8.specs.Keys.{fresh};
 ghost use Rattle.terminal8.specs.RunSteps.{Attends, Holds, Looks, Misses, is_ending};
+ghost use Rattle.terminal8.specs.declared.outcomes.TerminalFault.TheVariants as fault;
 
 use crate::asking::{asks_for_key, waits_for_key};
 use crate::inputs::Input;
 use crate::keyboards::{Form, Keyboard};
 use crate::outcomes::TerminalFault;
+use crate::outputs::Output;
 use crate::readings::{ReadAhead, next_key};
 use crate::writing::Paper;
 use cpu8::Machine;
-use std::io::{Read, Write};
+use std::io::Read;
 
 /// Who strikes the keys of a reader.
 #[derive(Drop)]
@@ -45,17 +47,18 @@ impl Operator {
     /// Looks for a key where the program asks for one. The answer is whether the keys have ended and the machine waits
     /// for one.
     #[inline(always)]
-    pub(crate) fn attend<R: Read, W: Write>(
+    pub(crate) fn attend<R: Read, O: Output>(
         &mut self,
         machine: &mut Machine,
         paper: &mut Paper,
         reader: &mut R,
-        writer: &mut W,
+        writer: &mut O,
     ) -> Result<bool, TerminalFault>
         ensures ok { IfOk result (Attends self.old.input self.old.keyboard self.new.keyboard
             self.old.ahead self.new.ahead self.old.is_over self.new.is_over machine.old machine.new
             self.old.since self.new.since (R.remaining reader.old) (R.remaining reader.new)) }
-        ensures paper { Holds (W.contents writer.old) (W.contents writer.new) paper.old paper.new result }
+        ensures paper { Holds (O.contents writer.old) (O.contents writer.new) paper.old paper.new result }
+        ensures cause { IfErr result (λ e. e ≡ fault.Writer → O.has_failed writer.new) }
         ensures err { IfErr result
             (λ _. Misses self.old.keyboard self.new.keyboard self.old.ahead self.new.ahead
             self.old.is_over (R.remaining reader.old) (R.remaining reader.new)) }
@@ -70,17 +73,18 @@ impl Operator {
     }
 
     /// Looks for the reader's next key, and strikes it if there is one.
-    fn look<R: Read, W: Write>(
+    fn look<R: Read, O: Output>(
         &mut self,
         machine: &mut Machine,
         paper: &mut Paper,
         reader: &mut R,
-        writer: &mut W,
+        writer: &mut O,
     ) -> Result<(), TerminalFault>
         ensures ok { OnOk result (Looks self.old.input self.old.keyboard self.new.keyboard
             self.old.ahead self.new.ahead self.old.is_over self.new.is_over machine.old machine.new
             (R.remaining reader.old) (R.remaining reader.new)) }
-        ensures paper { Holds (W.contents writer.old) (W.contents writer.new) paper.old paper.new result }
+        ensures paper { Holds (O.contents writer.old) (O.contents writer.new) paper.old paper.new result }
+        ensures cause { IfErr result (λ e. e ≡ fault.Writer → O.has_failed writer.new) }
         ensures since { OnOk result (self.new.since ≡ 0) }
         ensures input { self.new.input ≡ self.old.input }
         ensures err { IfErr result

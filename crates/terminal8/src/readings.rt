@@ -1,14 +1,16 @@
 //! The bytes of a reader, up to the next key.
 
-ghost use Rattle.std.specs.Prelude.{◌≡◌, ◌<◌, ◌≤◌, [], true, length};
+ghost use Rattle.std.specs.Prelude.{◌≡◌, ◌<◌, ◌≤◌, [], true, length, IfErr};
 ghost use Rattle.std.specs.IoError.{error_kind};
 ghost use Rattle.std.specs.declared.io.ErrorKind.TheVariants.{Interrupted};
 ghost use Rattle.terminal8.specs.RunSteps.{FillsBuffer, GivesByte, Holds, ReadsSome, ReadsByte, ReadsKey};
+ghost use Rattle.terminal8.specs.declared.outcomes.TerminalFault.TheVariants as fault;
 
 use crate::keyboards::Keyboard;
 use crate::outcomes::TerminalFault;
+use crate::outputs::Output;
 use crate::writing::Paper;
-use std::io::{self, ErrorKind, Read, Write};
+use std::io::{self, ErrorKind, Read};
 use std::marker::Model;
 
 /// Bytes that were read ahead: those from the place of the next to an end. A contract sees these.
@@ -85,16 +87,17 @@ fn read<R: Read>(bytes: &mut [u8], reader: &mut R) -> Result<usize, TerminalFaul
 }
 
 /// Strikes bytes up to the first that is a key, and answers it. It answers none where the reader gives no byte before.
-pub(crate) fn next_key<R: Read, W: Write>(
+pub(crate) fn next_key<R: Read, O: Output>(
     keyboard: &mut Keyboard,
     ahead: &mut ReadAhead,
     paper: &mut Paper,
     reader: &mut R,
-    writer: &mut W,
+    writer: &mut O,
 ) -> Result<Option<u8>, TerminalFault>
     ensures key { ReadsKey keyboard.old keyboard.new ahead.old ahead.new
         (R.remaining reader.old) (R.remaining reader.new) result }
-    ensures paper { Holds (W.contents writer.old) (W.contents writer.new) paper.old paper.new result }
+    ensures paper { Holds (O.contents writer.old) (O.contents writer.new) paper.old paper.new result }
+    ensures cause { IfErr result (λ e. e ≡ fault.Writer → O.has_failed writer.new) }
 {
     for _ in 0..u64::MAX {
         let Some(byte) = next_byte(ahead, paper, reader, writer)? else {
@@ -110,14 +113,15 @@ pub(crate) fn next_key<R: Read, W: Write>(
 /// The next byte, of those read ahead or else of a reader, which may keep us waiting. What was printed is handed on
 /// before.
 #[inline(always)]
-fn next_byte<R: Read, W: Write>(
+fn next_byte<R: Read, O: Output>(
     ahead: &mut ReadAhead,
     paper: &mut Paper,
     reader: &mut R,
-    writer: &mut W,
+    writer: &mut O,
 ) -> Result<Option<u8>, TerminalFault>
     ensures byte { ReadsByte ahead.old ahead.new (R.remaining reader.old) (R.remaining reader.new) result }
-    ensures paper { Holds (W.contents writer.old) (W.contents writer.new) paper.old paper.new result }
+    ensures paper { Holds (O.contents writer.old) (O.contents writer.new) paper.old paper.new result }
+    ensures cause { IfErr result (λ e. e ≡ fault.Writer → O.has_failed writer.new) }
 {
     if let Some(byte) = ahead.take_next() {
         return Ok(Some(byte));

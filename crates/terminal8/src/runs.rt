@@ -14,9 +14,10 @@ use crate::inputs::Input;
 use crate::keyboards::Form;
 use crate::operators::Operator;
 use crate::outcomes::{Ended, TerminalEnd, TerminalFault};
+use crate::outputs::Output;
 use crate::writing::Paper;
 use cpu8::{Machine, Stepped};
-use std::io::{Read, Write};
+use std::io::Read;
 
 /// Runs a machine, at most n steps of it, each an instruction or an interrupt, with a printer that ends its character
 /// before the next step. A key is looked for only where the program asks for one, and is struck there. What is printed
@@ -26,17 +27,18 @@ use std::io::{Read, Write};
 /// It ends at a HLT, or where the machine stands stopped, or at an unassigned word. It ends where the keys have ended and the
 /// machine waits for one for ever, or after n steps. Live keys never end: a look that finds none is made again where the
 /// program next asks for one. The answer is `Reader` or `Writer` where one of these fails. It takes no memory.
-pub fn run<R: Read, W: Write>(
+pub fn run<R: Read, O: Output>(
     machine: &mut Machine,
     n: u64,
     form: Form,
     input: Input,
     reader: &mut R,
-    writer: &mut W,
+    writer: &mut O,
 ) -> Result<Ended, TerminalFault>
-    ensures { RunsProgram form input n machine.old machine.new
+    ensures runs { RunsProgram form input n machine.old machine.new
         (R.remaining reader.old) (R.remaining reader.new)
-        (W.contents writer.old) (W.contents writer.new) result }
+        (O.contents writer.old) (O.contents writer.new) result }
+    ensures cause { IfErr result (λ e. e ≡ fault.Writer → O.has_failed writer.new) }
 {
     let mut paper = Paper::new();
     let ran = run_steps(machine, n, form, input, &mut paper, reader, writer);
@@ -51,18 +53,19 @@ pub fn run<R: Read, W: Write>(
 
 /// The same, but what was printed last may still be on the paper. Each round of the loop is one step, and then, for speed
 /// alone, several at once: without `go_on` each step is a round.
-fn run_steps<R: Read, W: Write>(
+fn run_steps<R: Read, O: Output>(
     machine: &mut Machine,
     n: u64,
     form: Form,
     input: Input,
     paper: &mut Paper,
     reader: &mut R,
-    writer: &mut W,
+    writer: &mut O,
 ) -> Result<Ended, TerminalFault>
     requires { paper.old ≡ [] }
-    ensures { RunsInto form input n machine.old machine.new (R.remaining reader.old) (R.remaining reader.new)
-        (W.contents writer.old) (W.contents writer.new) paper.new result }
+    ensures runs { RunsInto form input n machine.old machine.new (R.remaining reader.old) (R.remaining reader.new)
+        (O.contents writer.old) (O.contents writer.new) paper.new result }
+    ensures cause { IfErr result (λ e. e ≡ fault.Writer → O.has_failed writer.new) }
 {
     if !machine.is_running() {
         return Ok(Ended {
@@ -97,16 +100,17 @@ fn run_steps<R: Read, W: Write>(
 
 /// A step, before which the printer ends its character; and what it prints is put on paper.
 #[inline(always)]
-fn step<W: Write>(
+fn step<O: Output>(
     machine: &mut Machine,
     paper: &mut Paper,
-    writer: &mut W,
+    writer: &mut O,
 ) -> Result<Stepped, TerminalFault>
     ensures state { machine.new ≡ (printing_step true machine.old).0 }
     ensures ok { IfOk result (λ did. (did ≡ (printing_step true machine.old).1)
-        × Passes (W.contents writer.old) (W.contents writer.new) paper.old paper.new
+        × Passes (O.contents writer.old) (O.contents writer.new) paper.old paper.new
         (visible_characters (character_of did))) }
     ensures err { IfErr result (λ e. e ≡ fault.Writer) }
+    ensures cause { IfErr result (λ _. O.has_failed writer.new) }
 {
     let did = take_turn(machine);
     paper.print(writer, &did)?;

@@ -1,6 +1,6 @@
 //! What is printed, on a writer.
 
-ghost use Rattle.std.specs.Prelude.{◌≡◌, ◌∷◌, [], OnOk, IfErr};
+ghost use Rattle.std.specs.Prelude.{◌≡◌, ◌∷◌, [], OnErr, OnOk, IfErr};
 ghost use Rattle.std.specs.Io.KnownBytes.{Appends};
 ghost use Rattle.cpu8.specs.Go.{character_of};
 ghost use Rattle.terminal8.specs.Terminal.{visible_characters};
@@ -8,9 +8,9 @@ ghost use Rattle.terminal8.specs.RunSteps.{Passes};
 ghost use Rattle.terminal8.specs.declared.outcomes.TerminalFault.TheVariants as fault;
 
 use crate::outcomes::TerminalFault;
+use crate::outputs::Output;
 use arrayvec::ArrayVec;
 use cpu8::Stepped;
-use std::io::Write;
 use std::marker::Model;
 
 /// What was printed and not handed on yet, as bytes.
@@ -39,14 +39,15 @@ impl Paper {
 
     /// Prints what a step did.
     #[inline(always)]
-    pub(crate) fn print<W: Write>(
+    pub(crate) fn print<O: Output>(
         &mut self,
-        writer: &mut W,
+        writer: &mut O,
         did: &Stepped,
     ) -> Result<(), TerminalFault>
-        ensures ok { OnOk result (Passes (W.contents writer.old) (W.contents writer.new) self.old self.new
+        ensures ok { OnOk result (Passes (O.contents writer.old) (O.contents writer.new) self.old self.new
             (visible_characters (character_of did.now))) }
         ensures err { IfErr result (λ e. e ≡ fault.Writer) }
+        ensures cause { OnErr result (O.has_failed writer.new) }
     {
         match did {
             Stepped::Ran {
@@ -57,10 +58,11 @@ impl Paper {
     }
 
     /// Prints a character without its top bit, but not NUL.
-    fn put<W: Write>(&mut self, writer: &mut W, character: u8) -> Result<(), TerminalFault>
-        ensures ok { OnOk result (Passes (W.contents writer.old) (W.contents writer.new) self.old self.new
+    fn put<O: Output>(&mut self, writer: &mut O, character: u8) -> Result<(), TerminalFault>
+        ensures ok { OnOk result (Passes (O.contents writer.old) (O.contents writer.new) self.old self.new
             (visible_characters (character ∷ []))) }
         ensures err { IfErr result (λ e. e ≡ fault.Writer) }
+        ensures cause { OnErr result (O.has_failed writer.new) }
     {
         let byte = character % 0o200;
         if byte == 0 {
@@ -74,12 +76,13 @@ impl Paper {
     }
 
     /// Hands on what was printed to a writer.
-    fn hand_on<W: Write>(&mut self, writer: &mut W) -> Result<(), TerminalFault>
-        ensures ok { OnOk result (Appends (W.contents writer.old) (W.contents writer.new) self.old) }
+    fn hand_on<O: Output>(&mut self, writer: &mut O) -> Result<(), TerminalFault>
+        ensures ok { OnOk result (Appends (O.contents writer.old) (O.contents writer.new) self.old) }
         ensures rest { OnOk result (self.new ≡ []) }
         ensures err { IfErr result (λ e. e ≡ fault.Writer) }
+        ensures cause { OnErr result (O.has_failed writer.new) }
     {
-        if writer.write_all(self.bytes.as_slice()).is_err() {
+        if writer.put(self.bytes.as_slice()).is_err() {
             return Err(TerminalFault::Writer);
         }
         self.bytes.clear();
@@ -87,17 +90,18 @@ impl Paper {
     }
 
     /// Hands on what was printed to a writer, and has that hand it on too.
-    pub(crate) fn flush<W: Write>(&mut self, writer: &mut W) -> Result<(), TerminalFault>
-        ensures ok { OnOk result (Passes (W.contents writer.old) (W.contents writer.new) self.old self.new
+    pub(crate) fn flush<O: Output>(&mut self, writer: &mut O) -> Result<(), TerminalFault>
+        ensures ok { OnOk result (Passes (O.contents writer.old) (O.contents writer.new) self.old self.new
             []) }
         ensures rest { OnOk result (self.new ≡ []) }
         ensures err { IfErr result (λ e. e ≡ fault.Writer) }
+        ensures cause { OnErr result (O.has_failed writer.new) }
     {
         self.hand_on(writer)?;
-        if writer.flush().is_err() {
-            return Err(TerminalFault::Writer);
+        match writer.hand_on() {
+            Ok(()) => Ok(()),
+            Err(_) => Err(TerminalFault::Writer),
         }
-        Ok(())
     }
 }
 

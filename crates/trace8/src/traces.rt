@@ -1,6 +1,6 @@
 //! A run, and a writer that gets the line of each of its steps.
 
-ghost use Rattle.std.specs.Prelude.{◌≡◌, ◌+◌, ◌^◌, ◌<◌, ◌++◌, [], length, IfErr, IfOk, OnOk};
+ghost use Rattle.std.specs.Prelude.{◌≡◌, ◌+◌, ◌^◌, ◌<◌, ◌++◌, [], length, IfErr, IfOk, OnErr, OnOk};
 ghost use Rattle.std.specs.Io.KnownBytes.{Appends};
 ghost use Rattle.word12.specs.declared.sizes.TheConstants.{CORE};
 ghost use Rattle.tape_source.specs.Tags.{is_flagged};
@@ -15,26 +15,26 @@ use crate::lines::put_line;
 use crate::stores::Before;
 use cpu8::Stepped;
 use std::alloc::{AllocError, Global};
-use std::io::Write;
-use terminal8::{Ended, Terminal, TerminalEnd, stop_of};
+use terminal8::{Ended, Output, Terminal, TerminalEnd, stop_of};
 
 /// Makes steps of a terminal, at most n of them, and hands the line of each on to a writer, with these cells tagged. The k-th line is
 /// that of the k-th step (this project's profile). It ends as a run does: at a HLT, where the machine stands stopped, or at an
 /// unassigned word. It also ends where no key is left and the machine waits for one for ever, or after n steps.
 ///
 /// Memory is taken once, before the first step, unless lines are longer than any that is known. The answer is `Writer` where the
-/// writer fails.
-pub fn trace<W: Write>(
+/// writer failed.
+pub fn trace<O: Output>(
     alloc: Global,
     terminal: &mut Terminal<'_>,
     n: u64,
     tags: &[bool],
-    writer: &mut W,
+    writer: &mut O,
 ) -> Result<Ended, TraceFault>
     requires tags { length tags.now ≡ CORE }
     requires room { terminal.old.since + n < 2 ^ 64 }
-    ensures { Traces (is_flagged tags.now) n terminal.old terminal.new
-        (W.contents writer.old) (W.contents writer.new) result }
+    ensures traces { Traces (is_flagged tags.now) n terminal.old terminal.new
+        (O.contents writer.old) (O.contents writer.new) result }
+    ensures cause { IfErr result (λ e. e ≡ fault.Writer → O.has_failed writer.new) }
 {
     let mut lines = Vec::with_capacity(alloc, HANDED_ON_AT_ONCE + LONGEST_LINE)?;
     let ended = trace_steps(terminal, n, tags, &mut lines, writer)?;
@@ -43,18 +43,19 @@ pub fn trace<W: Write>(
 }
 
 /// The same, but the last lines may still wait.
-fn trace_steps<W: Write>(
+fn trace_steps<O: Output>(
     terminal: &mut Terminal<'_>,
     n: u64,
     tags: &[bool],
     lines: &mut Vec<u8>,
-    writer: &mut W,
+    writer: &mut O,
 ) -> Result<Ended, TraceFault>
     requires tags { length tags.now ≡ CORE }
     requires room { terminal.old.since + n < 2 ^ 64 }
     requires none { lines.old.items ≡ [] }
-    ensures { TracesInto (is_flagged tags.now) n terminal.old terminal.new
-        (W.contents writer.old) (W.contents writer.new) lines.new.items result }
+    ensures traces { TracesInto (is_flagged tags.now) n terminal.old terminal.new
+        (O.contents writer.old) (O.contents writer.new) lines.new.items result }
+    ensures cause { IfErr result (λ e. e ≡ fault.Writer → O.has_failed writer.new) }
 {
     if !terminal.machine().is_running() {
         return Ok(Ended {
@@ -105,10 +106,11 @@ fn trace_step(
 
 /// Hands the lines on to a writer where there are many.
 #[inline]
-fn hand_on<W: Write>(lines: &mut Vec<u8>, writer: &mut W) -> Result<(), TraceFault>
+fn hand_on<O: Output>(lines: &mut Vec<u8>, writer: &mut O) -> Result<(), TraceFault>
     ensures ok { OnOk result (HandsOn lines.old.items lines.new.items
-        (W.contents writer.old) (W.contents writer.new)) }
+        (O.contents writer.old) (O.contents writer.new)) }
     ensures err { IfErr result (λ e. e ≡ fault.Writer) }
+    ensures cause { OnErr result (O.has_failed writer.new) }
 {
     if lines.len() <= HANDED_ON_AT_ONCE {
         return Ok(());
@@ -119,17 +121,18 @@ fn hand_on<W: Write>(lines: &mut Vec<u8>, writer: &mut W) -> Result<(), TraceFau
 }
 
 /// Hands a text on to a writer, and has that hand it on too.
-fn write_out<W: Write>(writer: &mut W, text: &[u8]) -> Result<(), TraceFault>
-    ensures ok { OnOk result (Appends (W.contents writer.old) (W.contents writer.new) text.now) }
+fn write_out<O: Output>(writer: &mut O, text: &[u8]) -> Result<(), TraceFault>
+    ensures ok { OnOk result (Appends (O.contents writer.old) (O.contents writer.new) text.now) }
     ensures err { IfErr result (λ e. e ≡ fault.Writer) }
+    ensures cause { OnErr result (O.has_failed writer.new) }
 {
-    if writer.write_all(text).is_err() {
+    if writer.put(text).is_err() {
         return Err(TraceFault::Writer);
     }
-    if writer.flush().is_err() {
-        return Err(TraceFault::Writer);
+    match writer.hand_on() {
+        Ok(()) => Ok(()),
+        Err(_) => Err(TraceFault::Writer),
     }
-    Ok(())
 }
 
 /// The bytes that wait at most before a step.

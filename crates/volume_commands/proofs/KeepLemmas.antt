@@ -8,8 +8,11 @@ use Rattle.outcome.specs.declared.endings.Ending.{Ending}
 use Rattle.outcome.specs.declared.endings.Ending.TheVariants.{Line, Fault, Failure, Busy, NotWritten, FullOutput, NoReader, Misuse}
 use Rattle.outcome.specs.declared.notes.PlainNote.{PlainNote}
 use Rattle.archive_files.specs.declared.faults.ArchiveFault.{ArchiveFault}
-use Rattle.image_volumes.specs.Margins.{body_of}
-use Rattle.image_volumes.specs.Volumes.{volumes_in}
+use Rattle.image_kind.specs.Kinds.{kind_of}
+use Rattle.image_kind.specs.declared.kinds.ImageKind.{ImageKind}
+use Rattle.image_volumes.specs.Margins.{body_of, margins_by}
+use Rattle.image_volumes.specs.Volumes.{volumes_in, volumes_with}
+use Rattle.image_volumes.specs.declared.margins.Margins.{Margins}
 use Rattle.image_volumes.specs.declared.volumes.Volumes.{Volumes}
 use Rattle.image_volumes.specs.declared.volumes.Volumes.TheVariants.{One, Both}
 use Rattle.program_tasks.specs.declared.forms.ImageForm.{ImageForm}
@@ -17,9 +20,10 @@ use Rattle.volume_commands.specs.Answers.{Refuses}
 use Rattle.volume_commands.specs.Laws.{KeepsFiles}
 use Rattle.volume_commands.specs.Notes.{Tells}
 use Rattle.volume_commands.specs.Putting.{TakesInput}
-use Rattle.volume_commands.specs.Reading.{IsUnread, FindsIn, FindsOne, Holds, HoldsAt, Looks, LooksAt, MakesImage, Opens, hold_calls, looked_name, with_lock_note}
+use Rattle.volume_commands.specs.Reading.{IsUnread, FindsIn, FindsOne, Holds, HoldsAt, Looks, LooksAt, MakesOne, OpensAs, hold_calls, looked_name, with_lock_note}
 use Rattle.volume_commands.specs.Saving.{Prints}
 use Rattle.volume_commands.specs.Work.{Then, Purely}
+use Rattle.volume_commands.specs.declared.images.Image.{Image}
 use Rattle.volume_commands.specs.declared.reading.ImagePlace.{ImagePlace}
 
 same : {old new : List Event} (path : List ℕ) → new ≡ old → about path new ≡ about path old
@@ -90,8 +94,15 @@ pub holds-keeps : (name : List ℕ) → KeepsFiles (Holds name)
 holds-keeps name old (Ok place) new p path = held-at name path place place.is_held old new p
 holds-keeps name old (Err ending) new (fault, unheld, idle, failed, why) path = idle.files path
 
-pub opens-keeps : (form : ImageForm) → KeepsFiles (Opens form)
-opens-keeps form = then-keeps (Holds form.file.bytes.items) (λ place. Then (Looks (looked_name place form.file.bytes.items) form.file.bytes.items) (λ file. Purely (MakesImage place form.layout file.items)))
+makes-keeps : (place : ImagePlace) (volumes : Volumes) (margins : Margins) (file : List ℕ) → KeepsFiles (MakesOne place volumes margins file)
+makes-keeps place (One layout) margins file old result new p path = same path p.1
+makes-keeps place Both margins file old (Ok image) new p path = absurd p
+makes-keeps place Both margins file old (Err ending) new (is, ok, p) path = same path p
+
+pub opens-keeps : (kind_in : List ℕ → Option ImageKind) (form : ImageForm) → KeepsFiles (OpensAs kind_in form)
+opens-keeps kind_in form = then-keeps (Holds form.file.bytes.items) (λ place. Then (Looks (looked_name place form.file.bytes.items) form.file.bytes.items) (λ file. made place file.items))
     (holds-keeps form.file.bytes.items)
-    (λ place. then-keeps (Looks (looked_name place form.file.bytes.items) form.file.bytes.items) (λ file. Purely (MakesImage place form.layout file.items))
-    (looks-keeps (looked_name place form.file.bytes.items) form.file.bytes.items) (λ file. purely-keeps (MakesImage place form.layout file.items)))
+    (λ place. then-keeps (Looks (looked_name place form.file.bytes.items) form.file.bytes.items) (λ file. made place file.items)
+    (looks-keeps (looked_name place form.file.bytes.items) form.file.bytes.items) (λ file. makes-keeps place (volumes_with form.layout (kind_in file.items)) (margins_by form.layout (kind_in file.items)) file.items)) where
+      made : ImagePlace → List ℕ → List Event → Result Image Ending → List Event → Type 0
+      made place file = MakesOne place (volumes_with form.layout (kind_in file)) (margins_by form.layout (kind_in file)) file

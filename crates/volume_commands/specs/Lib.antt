@@ -18,6 +18,7 @@ pub mod PutSteps
 pub mod Putting
 pub mod Reading
 pub mod ReadingSteps
+pub mod SaveSteps
 pub mod Saving
 pub mod Showing
 pub mod ShowingParts

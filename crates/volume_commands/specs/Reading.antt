@@ -1,5 +1,5 @@
 -- How an image file is held and read.
-use Rattle.std.specs.Prelude.{◌≡◌, ◌⊎◌, ◌<◌, ◌≤◌, ℕ, ◌%◌, nat_eq, Bool, true, false, if◌then◌else◌, Option, None, Some, Result, Ok, Err, List, ◌∷◌, length}
+use Rattle.std.specs.Prelude.{◌≡◌, ◌≢◌, ◌⊎◌, ◌<◌, ◌≤◌, ℕ, ◌%◌, nat_eq, Bool, true, false, if◌then◌else◌, Option, None, Some, Result, Ok, Err, List, ◌∷◌, length}
 use Rattle.std.specs.Global.{Vec}
 use Rattle.hosts.specs.Event.{Event, Look, failed_call, resolve_call, hold_call, drop_seconds_call, look_call, tell_call}
 use Rattle.hosts.specs.Faults.{fault_number}
@@ -7,8 +7,12 @@ use Rattle.hosts.specs.Place.{about}
 use Rattle.hosts.specs.Streams.{output, errors, read, failures, last_fault}
 use Rattle.hosts.specs.declared.faults.HostFault.{HostFault}
 use Rattle.hosts.specs.declared.faults.HostFault.TheVariants as host
-use Rattle.image_volumes.specs.Margins.{body_of}
-use Rattle.image_volumes.specs.Volumes.{volumes_in}
+use Rattle.image_kind.specs.Kinds.{kind_of}
+use Rattle.image_kind.specs.declared.kinds.ImageKind.{ImageKind}
+use Rattle.image_volumes.specs.Margins.{body_by, body_of, margins_by}
+use Rattle.image_volumes.specs.Parts.{Parts, parts_by}
+use Rattle.image_volumes.specs.Volumes.{script_kind, volumes_in, volumes_with}
+use Rattle.image_volumes.specs.declared.margins.Margins.{Margins}
 use Rattle.image_volumes.specs.declared.volumes.Volumes.{Volumes}
 use Rattle.image_volumes.specs.declared.volumes.Volumes.TheVariants.{One, Both}
 use Rattle.disk_layouts.specs.Disks.{FitsLayout, IsImageIn}
@@ -104,13 +108,19 @@ IsNoVolume (Some layout) file (Line (line.Disk fault)) = OpensDisk layout file (
 IsNoVolume (Some layout) file (Fault Memory) = FitsLayout layout file
 IsNoVolume (Some layout) file _ = ⊥
 
-abbrev pub MakesImage : ImagePlace → Option Layout → List ℕ → Result Opened Ending → Type 0
-MakesImage place layout file (Ok image) = (image.place ≡ place) × IsVolumeOf layout file image.bytes.items image.disk
-MakesImage place layout file (Err ending) = IsNoVolume layout file ending
+-- the bytes beside the volumes of a file are kept, where it has any
+abbrev pub IsParted : Margins → List ℕ → Option Parts → Type 0
+IsParted margins file None = margins ≡ record { before = 0; after = 0 }
+IsParted margins file (Some parts) = parts ≡ parts_by margins file
 
--- an image file is held, and then read
-abbrev pub Opens : ImageForm → List Event → Result Opened Ending → List Event → Type 0
-Opens form = Then (Holds form.file.bytes.items) (λ place. Then (Looks (looked_name place form.file.bytes.items) form.file.bytes.items) (λ file. Purely (MakesImage place form.layout file.items)))
+-- memory may be wanted for them
+abbrev pub IsUnparted : Margins → Ending → Type 0
+IsUnparted margins ending = (margins ≢ record { before = 0; after = 0 }) × (ending ≡ Fault Memory)
+
+-- the image of the volume that lies so in a file with these margins, which is held at a place
+abbrev pub MakesImage : ImagePlace → Option Layout → Margins → List ℕ → Result Opened Ending → Type 0
+MakesImage place layout margins file (Ok image) = (image.place ≡ place) × IsVolumeOf layout (body_by margins file) image.bytes.items image.disk × IsParted margins file image.parts
+MakesImage place layout margins file (Err ending) = IsNoVolume layout (body_by margins file) ending ⊎ IsUnparted margins ending
 
 -- the image of a volume in bytes without margins
 abbrev pub FindsVolume : Option Layout → List ℕ → Result (Vec ℕ) Ending → Type 0
@@ -125,6 +135,20 @@ disk_fault size = if nat_eq (size % 512) 0 then image.TooLarge else image.NotWho
 abbrev pub RefusesDisk : ℕ → List Event → Ending → List Event → Type 0
 RefusesDisk size old ending new = (ending ≡ Line (line.Image (disk_fault size))) × (ok : Bool) × (new ≡ tell_call ok (plain_text plain.Disk) ∷ old)
 
+-- that of the one volume that is meant
+abbrev pub MakesOne : ImagePlace → Volumes → Margins → List ℕ → List Event → Result Opened Ending → List Event → Type 0
+MakesOne place (One layout) margins file old result new = MakesImage place layout margins file result × (new ≡ old)
+MakesOne place Both margins file old (Ok image) new = ⊥
+MakesOne place Both margins file old (Err ending) new = RefusesDisk (length (body_by margins file)) old ending new
+
+-- An image file is held, and then read. The volume is the one that is asked for, or else the one of what the file is taken for.
+abbrev pub OpensAs : (List ℕ → Option ImageKind) → ImageForm → List Event → Result Opened Ending → List Event → Type 0
+OpensAs kind_in form = Then (Holds form.file.bytes.items) (λ place. Then (Looks (looked_name place form.file.bytes.items) form.file.bytes.items) (λ file. MakesOne place (volumes_with form.layout (kind_in file.items)) (margins_by form.layout (kind_in file.items)) file.items))
+
+-- a file that is to be changed is taken for what its length and its directories show
+abbrev pub Opens : ImageForm → List Event → Result Opened Ending → List Event → Type 0
+Opens = OpensAs kind_of
+
 -- the image of the one volume that is meant
 abbrev pub FindsIn : Volumes → List ℕ → List Event → Result (Vec ℕ) Ending → List Event → Type 0
 FindsIn (One layout) body old result new = FindsVolume layout body result × (new ≡ old)
@@ -138,3 +162,7 @@ FindsOne given file = FindsIn (volumes_in given file) (body_of given file)
 -- an image file is read
 abbrev pub LooksAt : ImageForm → List Event → Result (Vec ℕ) Ending → List Event → Type 0
 LooksAt form = Then (Looks form.file.bytes.items form.file.bytes.items) (λ file. FindsOne form.layout file.items)
+
+-- a script's image file is read: the volume that is asked for, or else the one of what the file is taken for where a script runs over it
+abbrev pub FindsForScript : Option Layout → List ℕ → List Event → Result (Vec ℕ) Ending → List Event → Type 0
+FindsForScript given file = FindsIn (volumes_with given (script_kind file)) (body_by (margins_by given (script_kind file)) file)

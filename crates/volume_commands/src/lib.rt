@@ -35,6 +35,6 @@ pub use making::{make_file, make_first};
 pub use notes::{refuse_image, tell_note};
 pub use printing::{print, store};
 pub use putting::{put_file, stored_line};
-pub use reading::{ImagePlace, look_at, look_file, one_volume_in, volume_in};
+pub use reading::{ImagePlace, look_at, look_file, one_volume_in, script_volume_in, volume_in};
 pub use showing::{get_file, show_file};
 pub use showing_parts::{get_bin, get_blocks};

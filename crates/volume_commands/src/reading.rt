@@ -2,14 +2,16 @@
 ghost use Rattle.std.specs.Prelude.{◌≡◌, ℕ, List};
 ghost use Rattle.hosts.specs.Place.{about};
 ghost use Rattle.hosts.specs.Streams.{output};
-ghost use Rattle.volume_commands.specs.Reading.{FindsOne, FindsVolume, Holds, Looks, LooksAt, RefusesDisk, looked_name, with_lock_note};
+ghost use Rattle.volume_commands.specs.Reading.{FindsForScript, FindsOne, FindsVolume, Holds, Looks, LooksAt, RefusesDisk, looked_name, with_lock_note};
 ghost use Rattle.volume_commands.specs.ReadingSteps.{IsAnswer};
 
 use crate::faults::ending_of_image;
 use crate::notes::{tell, tell_note};
 use disk_layouts::{DiskFile, Layout};
 use hosts::{Host, HostFault, hold_file};
-use image_volumes::{Volumes, body_of, volumes_in};
+use image_volumes::{
+    Volumes, body_by, body_of, margins_with, script_kind, volumes_in, volumes_with,
+};
 use outcome::{Content, Ending, FileNote, NameNote, Note, PlainNote};
 use program_reports::ProgramLine;
 use program_tasks::ImageForm;
@@ -129,8 +131,26 @@ pub fn one_volume_in<H: Host>(
     }
 }
 
+/// The image of the one volume in a file of these bytes, for a script that leaves the file as it is. A file of whole blocks that may be a volume
+/// by its length is one.
+pub fn script_volume_in<H: Host>(
+    host: &mut H,
+    alloc: Global,
+    file: Vec<u8>,
+    given: Option<Layout>,
+) -> Result<Vec<u8>, Ending>
+    ensures { FindsForScript given file.items (H.history host.old) result (H.history host.new) }
+{
+    let kind = script_kind(&file);
+    let body = body_by(margins_with(given, kind), file);
+    match volumes_with(given, kind) {
+        Volumes::One(layout) => volume_in(alloc, body, layout),
+        Volumes::Both => Err(refuse_disk(host, body.len())),
+    }
+}
+
 /// How a command ends whose image file is a disk of two volumes, of so many bytes, and none of them is named. A note says how to name one.
-fn refuse_disk<H: Host>(host: &mut H, size: usize) -> Ending
+pub(crate) fn refuse_disk<H: Host>(host: &mut H, size: usize) -> Ending
     ensures { RefusesDisk size (H.history host.old) result (H.history host.new) }
 {
     tell(host, PlainNote::Disk.text());

@@ -1,10 +1,10 @@
 //! Files of the host that get other bytes, with the notes that say how.
-ghost use Rattle.std.specs.Prelude.{◌≡◌, ◌<◌, ◌≤◌, ℕ, List, false, OnErr};
+ghost use Rattle.std.specs.Prelude.{◌≡◌, ◌<◌, ℕ, List, false, OnErr};
 ghost use Rattle.std.specs.Str.{bytes_eq};
 ghost use Rattle.hosts.specs.Place.{about};
-ghost use Rattle.hosts.specs.Streams.{output, errors, read, failures, may_replace};
-ghost use Rattle.hosts.specs.Saving.{SavesFile, AnyMomentOf};
-ghost use Rattle.volume_commands.specs.Saving.{Writes, IsPlaceTold};
+ghost use Rattle.hosts.specs.Saving.{AnyMomentOf, SavesFile};
+ghost use Rattle.hosts.specs.Streams.{errors, failures, may_replace, output, read};
+ghost use Rattle.volume_commands.specs.Saving.{IsPlaceTold, Writes};
 
 use crate::notes::tell;
 use hosts::{Durability, Host, Unwritten, save_file};
@@ -38,7 +38,7 @@ pub(crate) fn write_file<H: Host>(
     }
 }
 
-/// Has the held file of a path hold these bytes, as `hosts::save_file` does; before that a note says that it is written in its place.
+/// Has the held file of a path hold these bytes, as `hosts::save_file` does, with the note on a file for this.
 fn save_noted<H: Host>(
     host: &mut H,
     alloc: Global,
@@ -49,27 +49,12 @@ fn save_noted<H: Host>(
     ensures saves { SavesFile result (may_replace (H.history host.new)) bytes.now (about path.now (H.history host.old)) (about path.now (H.history host.new)) }
     ensures any_moment { AnyMomentOf (may_replace (H.history host.new)) bytes.now (about path.now (H.history host.old)) (about path.now (H.history host.new)) }
     ensures cause { OnErr result (failures (H.history host.old) < failures (H.history host.new)) }
-    ensures errors { IsPlaceTold content (errors (H.history host.old)) (errors (H.history host.new)) }
+    ensures errors { IsPlaceTold (may_replace (H.history host.new)) content (errors (H.history host.old)) (errors (H.history host.new)) }
     ensures others { (other : List ℕ) → bytes_eq path.now other ≡ false
         → about other (H.history host.new) ≡ about other (H.history host.old) }
     ensures output { output (H.history host.new) ≡ output (H.history host.old) }
     ensures read { read (H.history host.new) ≡ read (H.history host.old) }
 {
-    tell_of_place(host, content, path);
-    save_file(host, alloc, path, DIRECTORY, bytes)
-}
-
-/// Prints a note where a file for this is written in its place.
-fn tell_of_place<H: Host>(host: &mut H, content: Content, path: &str)
-    ensures failures { failures (H.history host.old) ≤ failures (H.history host.new) }
-    ensures files { (path : List ℕ) → about path (H.history host.new) ≡ about path (H.history host.old) }
-    ensures errors { IsPlaceTold content (errors (H.history host.old)) (errors (H.history host.new)) }
-    ensures output { output (H.history host.new) ≡ output (H.history host.old) }
-    ensures read { read (H.history host.new) ≡ read (H.history host.old) }
-{
-    match host.is_alone(path) {
-        Ok(true) => {}
-        Ok(false) => tell(host, FileNote::InPlace.text(content)),
-        Err(_) => tell(host, FileNote::InPlace.text(content)),
-    }
+    let note = FileNote::InPlace.text(content);
+    save_file(host, alloc, path, DIRECTORY, bytes, note)
 }

@@ -16,7 +16,6 @@ use Rattle.os8_dir.specs.Reading.{directory_of}
 use Rattle.os8_dir.specs.Found.{FilePlace, files_at}
 use Rattle.os8_dir.specs.Files.{join_blocks, run}
 use Rattle.volume_index.specs.Indexing.{AreLinesOf, IsIndex, IsLineIf, block_bytes, entry_of, holds_wanted, is_chosen}
-use Rattle.volume_index.specs.Json.{lines_as}
 use Rattle.volume_index.specs.Years.{last_in}
 use Rattle.volume_index.specs.declared.styles.IndexStyle.{IndexStyle}
 use Rattle.volume_index.specs.IndexSteps.{AreLinesAt, IsLineAt}
@@ -33,10 +32,10 @@ lines-of-files style name number last image blocks place (Empty size ∷ es) tex
     (subst (AreLinesAt style name number last image blocks (place + size) es) (sym (are.4 ∙ ap (λ l. l ++ are.1) are.2)) are.3)
 
 -- an index, from what its steps came to
-pub index-whole : (style : IndexStyle) (name : List ℕ) (number : Option ℕ) (image text : List ℕ) (blocks after : List (List ℕ)) (d : DirectoryState) (last first : ℕ) (entries : List DirEntry) (lines given : List ℕ)
+pub index-whole : (style : IndexStyle) (name : List ℕ) (number : Option ℕ) (image text : List ℕ) (blocks after : List (List ℕ)) (d : DirectoryState) (last first : ℕ) (entries : List DirEntry) (lines : List ℕ)
     → IsImageOf image blocks → after ≡ blocks → directory_of blocks ≡ Ok d → IsTidy d.entries → last ≡ last_in style.year blocks → first ≡ d.first → entries ≡ d.entries
-    → AreLinesAt style name number last image after first entries lines → given ≡ lines → text ≡ lines_as style.is_json given → IsIndex style name number image text
-index-whole style name number image text blocks after d last first entries lines given is_image is_after read neat is_last is_first is_entries are is_given is_text =
+    → AreLinesAt style name number last image after first entries lines → text ≡ lines → IsIndex style name number image text
+index-whole style name number image text blocks after d last first entries lines is_image is_after read neat is_last is_first is_entries are is_text =
     let with_blocks : AreLinesAt style name number last image blocks first entries lines = subst (λ b. AreLinesAt style name number last image b first entries lines) is_after are in
     let with_last : AreLinesAt style name number (last_in style.year blocks) image blocks first entries lines = subst (λ n. AreLinesAt style name number n image blocks first entries lines) is_last with_blocks in
     let with_first : AreLinesAt style name number (last_in style.year blocks) image blocks d.first entries lines = subst (λ n. AreLinesAt style name number (last_in style.year blocks) image blocks n entries lines) is_first with_last in
@@ -45,11 +44,10 @@ index-whole style name number image text blocks after d last first entries lines
       is_image = is_image;
       directory = d;
       read = read;
-      lines = lines;
       lines_are =
-          lines-of-files style name number (last_in style.year blocks) image blocks d.first d.entries lines neat
-          (subst (λ es. AreLinesAt style name number (last_in style.year blocks) image blocks d.first es lines) is_entries with_first);
-      text_is = is_text ∙ ap (lines_as style.is_json) is_given;
+          subst (AreLinesOf style name number (last_in style.year blocks) image blocks (files_at d.first d.entries)) (sym is_text)
+          (lines-of-files style name number (last_in style.year blocks) image blocks d.first d.entries lines neat
+          (subst (λ es. AreLinesAt style name number (last_in style.year blocks) image blocks d.first es lines) is_entries with_first));
     }
 
 -- ## The line of an entry

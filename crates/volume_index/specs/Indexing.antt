@@ -19,7 +19,6 @@ use Rattle.archive_files.specs.Getting.{line_feeds}
 use Rattle.archive_files.specs.Opening.{IsUnopened}
 use Rattle.archive_many.specs.Patterns.{is_choice, matches}
 use Rattle.volume_index.specs.Holding.{holds}
-use Rattle.volume_index.specs.Json.{lines_as}
 use Rattle.volume_index.specs.Years.{last_in}
 use Rattle.volume_index.specs.declared.styles.IndexStyle.{IndexStyle}
 
@@ -72,16 +71,13 @@ AreLinesOf style name number last image blocks (f ∷ files) lines = (line : Lis
     × IsLineIf (is_chosen style.find.bytes.items f.name) style name number last image blocks f line
     × AreLinesOf style name number last image blocks files others × (lines ≡ line ++ others)
 
--- A text has one line for each file that is wanted of the volume in an image, in the order of its directory, and nothing else. The lines stand
--- as they are, or as JSON objects.
+-- A text has one line for each file that is wanted of the volume in an image, in the order of its directory, and nothing else.
 pub record IsIndex (style : IndexStyle) (name : List ℕ) (number : Option ℕ) (image text : List ℕ) : Type 0 where
   pub blocks : List (List ℕ)
   pub is_image : IsImageOf image blocks
   pub directory : DirectoryState
   pub read : directory_of blocks ≡ Ok directory
-  pub lines : List ℕ
-  pub lines_are : AreLinesOf style name number (last_in style.year blocks) image blocks (files_at directory.first directory.entries) lines
-  pub text_is : text ≡ lines_as style.is_json lines
+  pub lines_are : AreLinesOf style name number (last_in style.year blocks) image blocks (files_at directory.first directory.entries) text
 
 -- the index of an image, which is refused as a plain list is
 abbrev pub Indexes : IndexStyle → List ℕ → Option ℕ → List ℕ → Result (Vec ℕ) ArchiveFault → Type 0

@@ -1,5 +1,5 @@
 -- The lines of an index as JSON objects (RFC 8259; the members are this project's profile).
-use Rattle.std.specs.Prelude.{ℕ, ◌+◌, nat_eq, max, min, ◌||◌, Bool, true, false, if◌then◌else◌, codes, List, [], ◌∷◌, ◌++◌}
+use Rattle.std.specs.Prelude.{ℕ, ◌+◌, nat_eq, max, min, ◌||◌, if◌then◌else◌, codes, List, [], ◌∷◌, ◌++◌}
 
 -- What stands between two columns of a line, by the number of the first, counted from 1: those of blocks are numbers, the others texts.
 abbrev pub separator : ℕ → List ℕ
@@ -33,7 +33,6 @@ abbrev pub json_from : ℕ → List ℕ → List ℕ
 json_from column [] = []
 json_from column (byte ∷ bytes) = (opening column ++ with_column_ends column byte) ++ json_from (next_column column byte) bytes
 
--- each line as an object on a line of its own, if that is wanted
-abbrev pub lines_as : Bool → List ℕ → List ℕ
-lines_as true lines = json_from 0 lines
-lines_as false lines = lines
+-- each line as an object on a line of its own
+abbrev pub json_lines : List ℕ → List ℕ
+json_lines lines = json_from 0 lines

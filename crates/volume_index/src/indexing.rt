@@ -6,7 +6,6 @@ ghost use Rattle.volume_index.specs.Indexing.{Indexes, block_bytes};
 ghost use Rattle.volume_index.specs.IndexSteps.{AreLinesAt, IsLineAt};
 
 use crate::choosing::{holds_wanted, is_chosen};
-use crate::json::lines_as;
 use crate::kinds::kind_of_words;
 use crate::styles::IndexStyle;
 use crate::words::words_at;
@@ -46,8 +45,7 @@ pub fn index_volume(
             put_files(
                 alloc, style, name, number, last, image, &volume, first, entries, &mut lines,
             )?;
-            let text = lines_as(alloc, style.is_json, lines)?;
-            Ok(text)
+            Ok(lines)
         }
     }
 }

@@ -1,23 +1,13 @@
 //! The lines of an index as JSON objects.
 ghost use Rattle.std.specs.Prelude.{◌≡◌, ◌≤◌, ◌++◌, IfOk, OnOk};
-ghost use Rattle.volume_index.specs.Json.{json_from, opening, with_column_ends};
+ghost use Rattle.volume_index.specs.Json.{opening, with_column_ends};
 ghost use Rattle.volume_index.specs.Json as spec;
 
 use std::alloc::{AllocError, Global};
 
-/// Each line of an index as a JSON object on a line of its own, if that is wanted (RFC 8259).
-pub(crate) fn lines_as(alloc: Global, is_json: bool, lines: Vec<u8>) -> Result<Vec<u8>, AllocError>
-    ensures { IfOk result (λ text. text.items ≡ spec.lines_as is_json lines.items) }
-{
-    if is_json {
-        return json_of(alloc, &lines);
-    }
-    Ok(lines)
-}
-
-/// Lines as JSON objects.
-fn json_of(alloc: Global, lines: &[u8]) -> Result<Vec<u8>, AllocError>
-    ensures { IfOk result (λ text. text.items ≡ json_from 0 lines.now) }
+/// Each of these lines of an index as a JSON object on a line of its own (RFC 8259).
+pub fn json_lines(alloc: Global, lines: &[u8]) -> Result<Vec<u8>, AllocError>
+    ensures { IfOk result (λ text. text.items ≡ spec.json_lines lines.now) }
 {
     let mut text = Vec::new(alloc);
     let mut column: u8 = 0;

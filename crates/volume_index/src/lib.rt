@@ -14,5 +14,6 @@ mod words;
 mod years;
 
 pub use indexing::index_volume;
+pub use json::json_lines;
 pub use styles::IndexStyle;
 pub use years::last_in;

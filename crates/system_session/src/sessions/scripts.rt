@@ -1,15 +1,15 @@
 //! Scripts: the lines of a reader, whose answers a writer gets.
 
-ghost use Rattle.std.specs.Prelude.{◌≡◌, ◌≢◌, ℕ, ◌<◌, ◌≤◌, ◌∷◌, [], length, drop, vec_capacity, OnOk, IfOk, IfErr, ◌⊎◌, true, false, Ok, Err, None, Some, option_copied};
-ghost use Rattle.std.specs.Io.KnownBytes.{Appends};
+ghost use Rattle.std.specs.Prelude.{◌≡◌, ◌≢◌, ℕ, ◌<◌, ◌≤◌, List, ◌∷◌, ◌++◌, [], length, drop, vec_capacity, OnOk, IfOk, IfErr, ◌⊎◌, true, false, Ok, Err, None, Some, option_copied};
 ghost use Rattle.script8.specs.Items.{script_of, WaitsForLines, HasNoItem};
-ghost use Rattle.script8.specs.Replies.{answer_lines, fault_line, IsShort};
+ghost use Rattle.script8.specs.Replies.{answer_lines, IsShort};
 ghost use Rattle.script8.specs.declared.faults.SessionFault.TheVariants as fault;
 ghost use Rattle.script8.specs.declared.items.Item.TheVariants.{Do, Finish};
 ghost use Rattle.volume_jobs.specs.Jobs.{lowest_job, turns_left};
 ghost use Rattle.script8.specs.Reading.{TakesBytes};
-ghost use Rattle.system_session.specs.RunSteps.{RunsItems, RunsTurn, RunsNext, RunsPrefix, RunsGiven, RunsRead, IsBegun, IsEnded, fault_of};
+ghost use Rattle.system_session.specs.RunSteps.{EndsWith, IsBegun, IsEnded, IsTold, RunsGiven, RunsItems, RunsNext, RunsPrefix, RunsRead, RunsTurn, Tells, WasShown, watch};
 ghost use Rattle.system_session.specs.Script.{RunsText, is_working};
+ghost use Rattle.system_session.specs.ShownAnswers.{ShownAnswer, ShowsOne, ShowsText};
 ghost use Rattle.system_session.specs.declared.endings.Ending.TheVariants as ending;
 ghost use Rattle.system_session.specs.Session.{state_of, NoCallFailed, IsLater};
 
@@ -51,9 +51,9 @@ impl<S: BlockStore> Session<S> {
         self.run_watched(alloc, reader, &mut Unwatched::new(writer))
     }
 
-    /// The same, where a watcher gets each item before it is done, and prints the lines. It is shown each answer, with the store after
-    /// it, before the answer's lines, and nothing else lets these be printed. Where the watcher ends the run, the answer is `Writer`, as
-    /// where printing fails.
+    /// The same, where a watcher gets each item before it is done, and prints the lines. It is shown each answer with its lines, and with
+    /// the store right after it: just these, one after another, in the run that `told` says of. Where the watcher ends the run, the answer
+    /// is `Writer`, as where printing fails.
     pub fn run_watched<R: Read, K: Watcher<S>>(
         &mut self,
         alloc: Global,
@@ -72,6 +72,12 @@ impl<S: BlockStore> Session<S> {
         ensures kind { IfErr result (λ e. (e ≡ fault.Reader) ⊎ (e ≡ fault.Memory) ⊎ (e ≡ fault.Writer)) }
         ensures stopped { IfErr result (λ e. e ≡ fault.Writer → K.has_ended watcher.new) }
         ensures kept { (first : K) → K.follows first watcher.old → K.follows first watcher.new }
+        ensures shown { (first : K) (before : List ShownAnswer) → NoCallFailed self.old self.new
+            → K.was_shown first before watcher.old → (shown : List ShownAnswer)
+            × ShowsText 16777216 (state_of self.old) shown (state_of self.new)
+            (R.remaining reader.old) (R.remaining reader.new)
+            (K.contents watcher.old) (K.contents watcher.new) result
+            × K.was_shown first (before ++ shown) watcher.new }
     {
         let run = self.run_read(alloc, reader, watcher);
         self.end_run(run, watcher)
@@ -84,10 +90,11 @@ impl<S: BlockStore> Session<S> {
         reader: &mut R,
         watcher: &mut K,
     ) -> Result<(), Ending>
-        ensures told { NoCallFailed self.old self.new
+        ensures told { (first : K) → NoCallFailed self.old self.new
             → RunsRead 16777216 (state_of self.old) (state_of self.new)
             (R.remaining reader.old) (R.remaining reader.new)
-            (K.contents watcher.old) (K.contents watcher.new) result }
+            (watch K.contents K.was_shown first watcher.old)
+            (watch K.contents K.was_shown first watcher.new) result }
         ensures later { IsLater self.old self.new }
         ensures running { NoCallFailed self.old self.new → self.new.volume.stopped ≡ false }
         ensures taken { (count : ℕ) × TakesBytes (R.remaining reader.old) (R.remaining reader.new) count
@@ -122,9 +129,10 @@ impl<S: BlockStore> Session<S> {
         watcher: &mut K,
     ) -> Result<(), Ending>
         requires { WaitsForLines pending.old.bytes.items pending.old.lines }
-        ensures told { NoCallFailed self.old self.new
+        ensures told { (first : K) → NoCallFailed self.old self.new
             → RunsGiven pending.old.bytes.items pending.new.bytes.items
-            (state_of self.old) (state_of self.new) (K.contents watcher.old) (K.contents watcher.new) result }
+            (state_of self.old) (state_of self.new) (watch K.contents K.was_shown first watcher.old)
+            (watch K.contents K.was_shown first watcher.new) result }
         ensures waits { OnOk result ((0 < pending.new.lines)
             × WaitsForLines pending.new.bytes.items pending.new.lines) }
         ensures count { pending.new.count ≡ pending.old.count }
@@ -148,9 +156,10 @@ impl<S: BlockStore> Session<S> {
         text: &[u8],
         watcher: &mut K,
     ) -> Result<(), Ending>
-        ensures told { NoCallFailed self.old self.new
+        ensures told { (first : K) → NoCallFailed self.old self.new
             → RunsItems (script_of text.now) (state_of self.old) (state_of self.new)
-            (K.contents watcher.old) (K.contents watcher.new) result }
+            (watch K.contents K.was_shown first watcher.old)
+            (watch K.contents K.was_shown first watcher.new) result }
         ensures later { IsLater self.old self.new }
         ensures running { NoCallFailed self.old self.new → self.new.volume.stopped ≡ false }
         ensures stopped { IfErr result (λ e. e ≡ ending.Writer → K.has_ended watcher.new) }
@@ -169,9 +178,10 @@ impl<S: BlockStore> Session<S> {
         is_end: bool,
         watcher: &mut K,
     ) -> Result<(usize, u32), Ending>
-        ensures told { NoCallFailed self.old self.new
+        ensures told { (first : K) → NoCallFailed self.old self.new
             → RunsPrefix text.now is_end (state_of self.old) (state_of self.new)
-            (K.contents watcher.old) (K.contents watcher.new) result }
+            (watch K.contents K.was_shown first watcher.old)
+            (watch K.contents K.was_shown first watcher.new) result }
         ensures rest { IfOk result (λ done. (done.0 ≤ length text.now)
             × HasNoItem (drop done.0 text.now) is_end done.1) }
         ensures later { IsLater self.old self.new }
@@ -197,9 +207,10 @@ impl<S: BlockStore> Session<S> {
         is_end: bool,
         watcher: &mut K,
     ) -> Result<Begun, Ending>
-        ensures told { NoCallFailed self.old self.new
+        ensures told { (first : K) → NoCallFailed self.old self.new
             → RunsNext text.now is_end (state_of self.old) (state_of self.new)
-            (K.contents watcher.old) (K.contents watcher.new) result }
+            (watch K.contents K.was_shown first watcher.old)
+            (watch K.contents K.was_shown first watcher.new) result }
         ensures begun { IfOk result (IsBegun text.now is_end) }
         ensures later { IsLater self.old self.new }
         ensures running { NoCallFailed self.old self.new → self.new.volume.stopped ≡ false }
@@ -225,9 +236,10 @@ impl<S: BlockStore> Session<S> {
         item: &Item,
         watcher: &mut K,
     ) -> Result<(), Ending>
-        ensures told { NoCallFailed self.old self.new
+        ensures told { (first : K) → NoCallFailed self.old self.new
             → RunsItems (item.now ∷ []) (state_of self.old) (state_of self.new)
-            (K.contents watcher.old) (K.contents watcher.new) result }
+            (watch K.contents K.was_shown first watcher.old)
+            (watch K.contents K.was_shown first watcher.new) result }
         ensures later { IsLater self.old self.new }
         ensures running { NoCallFailed self.old self.new → self.new.volume.stopped ≡ false }
         ensures stopped { IfErr result (λ e. e ≡ ending.Writer → K.has_ended watcher.new) }
@@ -247,9 +259,10 @@ impl<S: BlockStore> Session<S> {
         entry: &Entry,
         watcher: &mut K,
     ) -> Result<(), Ending>
-        ensures told { NoCallFailed self.old self.new
+        ensures told { (first : K) → NoCallFailed self.old self.new
             → RunsItems (Do entry.now ∷ []) (state_of self.old) (state_of self.new)
-            (K.contents watcher.old) (K.contents watcher.new) result }
+            (watch K.contents K.was_shown first watcher.old)
+            (watch K.contents K.was_shown first watcher.new) result }
         ensures later { IsLater self.old self.new }
         ensures running { NoCallFailed self.old self.new → self.new.volume.stopped ≡ false }
         ensures stopped { IfErr result (λ e. e ≡ ending.Writer → K.has_ended watcher.new) }
@@ -264,9 +277,10 @@ impl<S: BlockStore> Session<S> {
 
     /// Lets the lowest job take turns until no job is left, and writes the lines of their ends.
     fn run_finish<K: Watcher<S>>(&mut self, alloc: Global, watcher: &mut K) -> Result<(), Ending>
-        ensures told { NoCallFailed self.old self.new
+        ensures told { (first : K) → NoCallFailed self.old self.new
             → RunsItems (Finish ∷ []) (state_of self.old) (state_of self.new)
-            (K.contents watcher.old) (K.contents watcher.new) result }
+            (watch K.contents K.was_shown first watcher.old)
+            (watch K.contents K.was_shown first watcher.new) result }
         ensures later { IsLater self.old self.new }
         ensures running { NoCallFailed self.old self.new → self.new.volume.stopped ≡ false }
         ensures stopped { IfErr result (λ e. e ≡ ending.Writer → K.has_ended watcher.new) }
@@ -286,9 +300,10 @@ impl<S: BlockStore> Session<S> {
         watcher: &mut K,
     ) -> Result<(), Ending>
         requires { lowest_job self.old.jobs ≡ Some number }
-        ensures told { NoCallFailed self.old self.new
+        ensures told { (first : K) → NoCallFailed self.old self.new
             → RunsTurn number (state_of self.old) (state_of self.new)
-            (K.contents watcher.old) (K.contents watcher.new) result }
+            (watch K.contents K.was_shown first watcher.old)
+            (watch K.contents K.was_shown first watcher.new) result }
         ensures fewer { OnOk result (turns_left self.new.jobs < turns_left self.old.jobs) }
         ensures later { IsLater self.old self.new }
         ensures running { NoCallFailed self.old self.new → self.new.volume.stopped ≡ false }
@@ -306,58 +321,46 @@ impl<S: BlockStore> Session<S> {
         self.tell(Some(&turn), &answer, watcher)
     }
 
-    /// Shows the watcher an answer, and writes its lines. `Memory` comes only where they are several, and then nothing is written.
+    /// Shows the watcher an answer with its lines, which it prints. `Memory` comes only where they are several, and then nothing is shown.
     fn tell<K: Watcher<S>>(
         &mut self,
         entry: Option<&Entry>,
         answer: &Result<Reply, SessionFault>,
         watcher: &mut K,
     ) -> Result<(), Ending>
-        ensures ok { OnOk result
-            (Appends (K.contents watcher.old) (K.contents watcher.new)
-            (answer_lines (option_copied entry.entry) answer.now)) }
-        ensures err { IfErr result (λ e. (e ≡ ending.Writer)
-            ⊎ ((e ≡ ending.Memory) × Appends (K.contents watcher.old) (K.contents watcher.new) []
-            × (IsShort answer.now → ⊥))) }
+        ensures told { (first : K) → (shown : List ShownAnswer)
+            × ShowsOne (option_copied entry.entry) answer.now (state_of self.old) shown
+            × IsTold (watch K.contents K.was_shown first watcher.old) (watch K.contents K.was_shown first watcher.new) answer.now shown result }
         ensures same { self.new ≡ self.old }
         ensures stopped { IfErr result (λ e. e ≡ ending.Writer → K.has_ended watcher.new) }
         ensures kept { (first : K) → K.follows first watcher.old → K.follows first watcher.new }
     {
-        if !watcher.goes_on(self.files.store(), answer) {
-            return Err(Ending::Writer);
-        }
-        Self::write_lines(&mut self.line, entry, answer, watcher)
+        Self::put_lines(&mut self.line, entry, answer)?;
+        watcher.print_answer(self.files.store(), answer, &self.line)?;
+        Ok(())
     }
 
-    /// Writes the lines of an answer that was shown, which are built in a vector that is borrowed.
-    fn write_lines<K: Watcher<S>>(
+    /// Builds the lines of an answer in a vector that is borrowed. Those that are one line need no memory.
+    fn put_lines(
         line: &mut Vec<u8>,
         entry: Option<&Entry>,
         answer: &Result<Reply, SessionFault>,
-        watcher: &mut K,
     ) -> Result<(), Ending>
         requires room { 80 ≤ vec_capacity line.old }
-        requires shown { K.may_print watcher.old (answer_lines (option_copied entry) answer.now) }
-        ensures ok { OnOk result
-            (Appends (K.contents watcher.old) (K.contents watcher.new)
-            (answer_lines (option_copied entry.entry) answer.now)) }
-        ensures err { IfErr result (λ e. (e ≡ ending.Writer)
-            ⊎ ((e ≡ ending.Memory) × Appends (K.contents watcher.old) (K.contents watcher.new) []
-            × (IsShort answer.now → ⊥))) }
+        ensures ok { OnOk result (line.new.items ≡ answer_lines (option_copied entry.entry) answer.now) }
+        ensures err { IfErr result (λ e. (e ≡ ending.Memory) × (IsShort answer.now → ⊥)) }
         ensures room { 80 ≤ vec_capacity line.new }
-        ensures stopped { IfErr result (λ e. e ≡ ending.Writer → K.has_ended watcher.new) }
-        ensures kept { (first : K) → K.follows first watcher.old → K.follows first watcher.new }
     {
         line.clear();
         put_reply(entry, answer, line)?;
-        watcher.print_lines(line)?;
         Ok(())
     }
 
     /// Hands on what was written.
     fn flush<K: Watcher<S>>(watcher: &mut K) -> Result<(), Ending>
-        ensures ok { OnOk result (Appends (K.contents watcher.old) (K.contents watcher.new) []) }
+        ensures ok { (first : K) → OnOk result (Tells (watch K.contents K.was_shown first watcher.old) (watch K.contents K.was_shown first watcher.new) []) }
         ensures err { IfErr result (λ e. e ≡ ending.Writer) }
+        ensures shown { (first : K) → WasShown (watch K.contents K.was_shown first watcher.old) (watch K.contents K.was_shown first watcher.new) [] }
         ensures stopped { IfErr result (λ e. e ≡ ending.Writer → K.has_ended watcher.new) }
         ensures kept { (first : K) → K.follows first watcher.old → K.follows first watcher.new }
     {
@@ -367,9 +370,9 @@ impl<S: BlockStore> Session<S> {
 
     /// Writes the line of a fault that belongs to no entry.
     fn refuse<K: Watcher<S>>(&mut self, why: SessionFault, watcher: &mut K) -> Result<(), Ending>
-        ensures ok { OnOk result (Appends (K.contents watcher.old) (K.contents watcher.new) (fault_line why)) }
+        ensures told { (first : K) → (shown : List ShownAnswer) × ShowsOne None (Err why) (state_of self.old) shown
+            × IsTold (watch K.contents K.was_shown first watcher.old) (watch K.contents K.was_shown first watcher.new) (Err why) shown result }
         ensures same { self.new ≡ self.old }
-        ensures kind { IfErr result (λ e. e ≡ ending.Writer) }
         ensures stopped { IfErr result (λ e. e ≡ ending.Writer → K.has_ended watcher.new) }
         ensures kept { (first : K) → K.follows first watcher.old → K.follows first watcher.new }
     {
@@ -383,7 +386,7 @@ impl<S: BlockStore> Session<S> {
         watcher: &mut K,
     ) -> Result<(), SessionFault>
         requires { run ≡ Err ending.Writer → K.has_ended watcher.old }
-        ensures ended { IsEnded run (K.contents watcher.old) (K.contents watcher.new) result }
+        ensures ended { (first : K) → IsEnded (state_of self.old) run (watch K.contents K.was_shown first watcher.old) (watch K.contents K.was_shown first watcher.new) result }
         ensures same { self.new ≡ self.old }
         ensures stopped { IfErr result (λ e. e ≡ fault.Writer → K.has_ended watcher.new) }
         ensures kept { (first : K) → K.follows first watcher.old → K.follows first watcher.new }
@@ -400,9 +403,8 @@ impl<S: BlockStore> Session<S> {
     /// Writes the last line, that of a fault, but for the writer's.
     fn end_with<K: Watcher<S>>(&mut self, why: Ending, watcher: &mut K) -> Result<(), Ending>
         requires { why ≡ ending.Writer → K.has_ended watcher.old }
-        ensures ok { OnOk result ((why ≢ ending.Writer)
-            × Appends (K.contents watcher.old) (K.contents watcher.new) (fault_line (fault_of why))) }
-        ensures err { IfErr result (λ e. e ≡ ending.Writer) }
+        ensures other { OnOk result (why ≢ ending.Writer) }
+        ensures told { (first : K) → EndsWith (state_of self.old) why (watch K.contents K.was_shown first watcher.old) (watch K.contents K.was_shown first watcher.new) result }
         ensures same { self.new ≡ self.old }
         ensures stopped { IfErr result (λ e. e ≡ ending.Writer → K.has_ended watcher.new) }
         ensures kept { (first : K) → K.follows first watcher.old → K.follows first watcher.new }

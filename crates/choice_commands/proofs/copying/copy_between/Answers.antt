@@ -1,8 +1,12 @@
 use Rattle.std.proofs.Common.{ℕ, Err, List, inl, inr, subst}
 use Rattle.archive_many.specs.declared.opened.VolumeFile.{VolumeFile}
 use Rattle.choice_commands.specs.Copying.{FindsFiles, PutsFiles}
+use Rattle.volume_commands.specs.Reading.{LooksAt}
 use Rattle.choice_commands.proofs.WorkLemmas.{ends_with}
 use Rattle.choice_commands.proofs.copying.copy_between.Goals as goal
+
+pub returns-in_err-from : goal.returns-in_err-from
+returns-in_err-from g c = inl (ends_with (LooksAt c.args.form.now.image) _ _ _ c.in_err-from.field-0.0 c.in_err-from.ensures.looks c.from_residual.ensures)
 
 pub returns-in_err-files : goal.returns-in_err-files
 returns-in_err-files g c = inr (record { given = c.in_ok-from.from; between = g.H.Host.history c.look_at.new.host; done = c.in_ok-from.ensures.looks; after = inl (ends_with (FindsFiles c.args.form.now c.in_ok-from.from.items) _ _ _ _ (rw c.deref.ensures.value at c.in_err-files.ensures) c.from_residual-in_err-files.ensures) })

@@ -23,6 +23,7 @@ returns c =
         search rules,
         search rules,
         search rules,
+        search rules,
       ),
       (
         subst (λ n. 1 ≤ n) (sym count) c.requires.0.0.1,

@@ -17,5 +17,5 @@ loop-tries-preserved g c =
     record {
       most = c.loop-tries.invariant.most;
       few = few;
-      busy = (before ∷ earlier, (c.loop-tries.invariant.busy.1, does), count);
+      busy = (before ∷ earlier, (c.loop-tries.invariant.busy.1, g.H.Host.history c.make.new.host, does, c.pause.ensures), count);
     }

@@ -5,8 +5,8 @@ use Rattle.terminal8.specs.declared.inputs.Input.{Input}
 use Rattle.terminal8.proofs.RunLemmas.{begun, running-next, running-more, stopped-run, limit-run, starved-run, ended-run, unwritten-run, missed-run}
 use Rattle.terminal8.proofs.runs.run_steps.Goals as goal
 
-pub returns-then-not-is_running : goal.returns-then-not-is_running
-returns-then-not-is_running g c =
+pub returns-then-not-is_running-clause-runs : goal.returns-then-not-is_running-clause-runs
+returns-then-not-is_running-clause-runs g c =
     stopped-run c.args.form c.args.input c.args.n c.args.machine.now _ _ c.args.paper.now c.requires (sym c.is_running.ensures ∙ c.if-not-is_running.true)
 
 pub loop-made-init : goal.loop-made-init
@@ -18,8 +18,8 @@ loop-made-init g c =
       within = omega arith;
     })
 
-pub returns-in_err-attend : goal.returns-in_err-attend
-returns-in_err-attend g c =
+pub returns-in_err-attend-clause-runs : goal.returns-in_err-attend-clause-runs
+returns-in_err-attend-clause-runs g c =
     let p = err_from_is_err_and c.from_residual.result c.from_residual.ensures.1 in
     let i = c.loop-made.invariant in
     rw (p.1, p.2)
@@ -27,8 +27,8 @@ returns-in_err-attend g c =
     c.loop-made.operator.ahead c.attend.new.self.ahead c.loop-made.operator.is_over c.loop-made.operator.since _ _ _ _ _ _ c.loop-made.paper c.attend.new.paper
     c.loop-made.made c.in_err-attend.field-0.0 i.running i.within c.in_err-attend.ensures.err c.in_err-attend.ensures.paper c.in_err-attend.ensures.same)
 
-pub returns-then-branch : goal.returns-then-branch
-returns-then-branch g c =
+pub returns-then-branch-clause-runs : goal.returns-then-branch-clause-runs
+returns-then-branch-clause-runs g c =
     let i = c.loop-made.invariant in
     let attends = subst (λ (b : Bool). Attends c.loop-made.operator.input c.loop-made.operator.keyboard c.attend.new.self.keyboard c.loop-made.operator.ahead c.attend.new.self.ahead
     c.loop-made.operator.is_over c.attend.new.self.is_over c.loop-made.machine c.attend.new.machine c.loop-made.operator.since c.attend.new.self.since
@@ -39,8 +39,8 @@ returns-then-branch g c =
     starved-run c.args.form c.args.input c.args.n c.args.machine.now c.loop-made.machine c.attend.new.machine _ _ _ _ _ _ c.loop-made.operator.since c.attend.new.self.since
     _ _ _ _ _ _ c.loop-made.paper c.attend.new.paper c.loop-made.made i.running c.loop-made-test.true at c.in_ok-attend.ensures.paper
 
-pub returns-in_err-did : goal.returns-in_err-did
-returns-in_err-did g c =
+pub returns-in_err-did-clause-runs : goal.returns-in_err-did-clause-runs
+returns-in_err-did-clause-runs g c =
     let p = err_from_is_err_and c.from_residual-in_err-did.result c.from_residual-in_err-did.ensures.1 in
     let i = c.loop-made.invariant in
     let attends = subst (λ (b : Bool). Attends c.loop-made.operator.input c.loop-made.operator.keyboard c.attend.new.self.keyboard c.loop-made.operator.ahead c.attend.new.self.ahead
@@ -53,8 +53,8 @@ returns-in_err-did g c =
     (unwritten-run c.args.form c.args.input c.args.n c.args.machine.now c.loop-made.machine c.attend.new.machine c.step.new.machine _ _ _ _ _ _
     c.loop-made.operator.since c.attend.new.self.since _ _ _ _ _ c.loop-made.paper c.loop-made.made i.running c.loop-made-test.true at c.step.ensures.state)
 
-pub returns-in-Some : goal.returns-in-Some
-returns-in-Some g c =
+pub returns-in-Some-clause-runs : goal.returns-in-Some-clause-runs
+returns-in-Some-clause-runs g c =
     let i = c.loop-made.invariant in
     let attends = subst (λ (b : Bool). Attends c.loop-made.operator.input c.loop-made.operator.keyboard c.attend.new.self.keyboard c.loop-made.operator.ahead c.attend.new.self.ahead
     c.loop-made.operator.is_over c.attend.new.self.is_over c.loop-made.machine c.attend.new.machine c.loop-made.operator.since c.attend.new.self.since
@@ -88,8 +88,8 @@ loop-made-preserved g c =
       within = omega (arith, c.loop-made-test.true, c.go_on-more.ensures.within);
     }
 
-pub returns : goal.returns
-returns g c =
+pub returns-clause-runs : goal.returns-clause-runs
+returns-clause-runs g c =
     let i = c.loop-made.invariant in
     limit-run c.args.form c.args.input c.args.n c.args.machine.now c.loop-made.machine _ _ _ c.loop-made.operator.since _ _ _ _ c.loop-made.paper c.loop-made.made
     i.running (omega (arith, c.loop-made-test.false, i.within))

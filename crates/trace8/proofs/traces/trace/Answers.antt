@@ -3,7 +3,7 @@ use Rattle.tape_source.specs.Tags.{is_flagged}
 use Rattle.trace8.proofs.RunLemmas.{no-trace}
 use Rattle.trace8.proofs.traces.trace.Goals as goal
 
-pub returns-in_err-lines : goal.returns-in_err-lines
-returns-in_err-lines g c =
+pub returns-in_err-lines-clause-traces : goal.returns-in_err-lines-clause-traces
+returns-in_err-lines-clause-traces g c =
     let p = err_from_is_err_and c.from_residual.result c.from_residual.ensures.1 in
     rw (p.1) (no-trace (is_flagged c.args.tags.now) c.args.n c.args.terminal.now _ p.0)

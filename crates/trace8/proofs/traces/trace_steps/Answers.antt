@@ -5,8 +5,8 @@ use Rattle.tape_source.specs.Tags.{is_flagged}
 use Rattle.trace8.proofs.RunLemmas.{begun, step-traced, stopped-trace, starved-trace, limit-trace, ended-trace, unwritten-trace, refused-trace}
 use Rattle.trace8.proofs.traces.trace_steps.Goals as goal
 
-pub returns-then-not-is_running : goal.returns-then-not-is_running
-returns-then-not-is_running g c =
+pub returns-then-not-is_running-clause-traces : goal.returns-then-not-is_running-clause-traces
+returns-then-not-is_running-clause-traces g c =
     stopped-trace (is_flagged c.args.tags.now) c.args.n c.args.terminal.now _ c.args.lines.now.items c.requires.none
     (ap (λ (s : State). s.running) (sym c.machine.ensures) ∙ sym c.is_running.ensures ∙ c.if-not-is_running.true)
 
@@ -17,13 +17,13 @@ loop-made-init g c = record {
   within = omega arith;
 }
 
-pub returns-then-starves : goal.returns-then-starves
-returns-then-starves g c =
+pub returns-then-starves-clause-traces : goal.returns-then-starves-clause-traces
+returns-then-starves-clause-traces g c =
     starved-trace (is_flagged c.args.tags.now) c.args.n c.args.terminal.now c.loop-made.terminal _ _ c.loop-made.lines.items c.loop-made.made
     c.loop-made.invariant.tracing c.loop-made-test.true (sym c.starves.ensures ∙ c.if-starves.true)
 
-pub returns-in_err-hand_on : goal.returns-in_err-hand_on
-returns-in_err-hand_on g c =
+pub returns-in_err-hand_on-clause-traces : goal.returns-in_err-hand_on-clause-traces
+returns-in_err-hand_on-clause-traces g c =
     let p = err_from_is_err_and c.from_residual.result c.from_residual.ensures.1 in
     rw (p.1, p.2)
     (unwritten-trace (is_flagged c.args.tags.now) c.args.n c.args.terminal.now c.loop-made.terminal _ _ _ c.loop-made.lines.items c.hand_on.new.lines.items
@@ -34,16 +34,16 @@ trace_step-requires-clause-room g c =
     let sooner = c.loop-made.invariant.tracing.sooner in
     omega (arith, sooner, c.loop-made-test.true, c.requires.room)
 
-pub returns-in_err-did : goal.returns-in_err-did
-returns-in_err-did g c =
+pub returns-in_err-did-clause-traces : goal.returns-in_err-did-clause-traces
+returns-in_err-did-clause-traces g c =
     let p = err_from_is_err_and c.from_residual-in_err-did.result c.from_residual-in_err-did.ensures.1 in
     rw (p.1)
     (refused-trace (is_flagged c.args.tags.now) c.args.n c.args.terminal.now c.loop-made.terminal c.trace_step.new.terminal _ _ _ c.loop-made.lines.items
     c.hand_on.new.lines.items c.trace_step.new.lines.items c.loop-made.made p.0 c.loop-made.invariant.tracing c.loop-made-test.true
     (sym c.starves.ensures ∙ c.if-starves.false) c.in_ok-hand_on.ensures.ok c.in_err-did.ensures.terminal)
 
-pub returns-in-Some : goal.returns-in-Some
-returns-in-Some g c =
+pub returns-in-Some-clause-traces : goal.returns-in-Some-clause-traces
+returns-in-Some-clause-traces g c =
     ended-trace (is_flagged c.args.tags.now) c.args.n c.args.terminal.now c.loop-made.terminal c.trace_step.new.terminal _ _ _ c.loop-made.lines.items
     c.hand_on.new.lines.items c.trace_step.new.lines.items c.loop-made.made c.in_ok-did.did c.in-Some.why c.loop-made.invariant.tracing c.loop-made-test.true
     (sym c.starves.ensures ∙ c.if-starves.false) c.in_ok-hand_on.ensures.ok c.in_ok-did.ensures.terminal c.in_ok-did.ensures.did c.in_ok-did.ensures.line
@@ -58,7 +58,7 @@ loop-made-preserved g c = record {
   within = omega (arith, c.loop-made-test.true);
 }
 
-pub returns : goal.returns
-returns g c =
+pub returns-clause-traces : goal.returns-clause-traces
+returns-clause-traces g c =
     limit-trace (is_flagged c.args.tags.now) c.args.n c.args.terminal.now c.loop-made.terminal _ _ c.loop-made.lines.items c.loop-made.made
     c.loop-made.invariant.tracing (omega (arith, c.loop-made-test.false, c.loop-made.invariant.within))

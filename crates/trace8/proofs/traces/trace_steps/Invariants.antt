@@ -6,6 +6,6 @@ use Rattle.trace8.proofs.traces.trace_steps.Given as goal
 -- the trace has come so far, and goes on
 abbrev pub invariant-loop-made : goal.invariant-loop-made
 invariant-loop-made g l = record {
-  tracing : IsTracing (is_flagged l.tags) l.fn.terminal l.terminal (g.W.Write.contents l.fn.writer) (g.W.Write.contents l.writer) l.lines.items l.made;
+  tracing : IsTracing (is_flagged l.tags) l.fn.terminal l.terminal (g.O.Output.contents l.fn.writer) (g.O.Output.contents l.writer) l.lines.items l.made;
   within : l.made ≤ l.n;
 }

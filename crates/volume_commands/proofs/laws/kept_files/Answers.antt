@@ -1,3 +1,4 @@
+use Rattle.image_kind.specs.Kinds.{kind_of}
 use Rattle.volume_commands.proofs.KeepLemmas.{input-keeps, looks-at-keeps, looks-keeps, opens-keeps, prints-keeps, refuses-keeps}
 use Rattle.volume_commands.proofs.laws.kept_files.Goals as goal
 
@@ -8,7 +9,7 @@ pub returns-clause-looks_at : goal.returns-clause-looks_at
 returns-clause-looks_at c = looks-at-keeps
 
 pub returns-clause-opens : goal.returns-clause-opens
-returns-clause-opens c = opens-keeps
+returns-clause-opens c = opens-keeps kind_of
 
 pub returns-clause-input : goal.returns-clause-input
 returns-clause-input c = input-keeps

@@ -1,22 +1,23 @@
-use Rattle.std.proofs.Common.{◌≡◌, false, sym, subst}
+use Rattle.std.proofs.Common.{◌≡◌, false, sym, subst, Some}
 use Rattle.system_session.specs.Session.{state_of, NoCallFailed, IsLater, SessionView}
+use Rattle.system_session.specs.ShownAnswers.{ShowsOne}
 use Rattle.system_session.specs.System.{MayAnswer}
-use Rattle.std.proofs.KnownBytes.{Appends-nil}
 use Rattle.system_session.proofs.ToldLemmas.{entry_told, entry_undone}
 use Rattle.system_session.proofs.EntryLemmas.{memory_is, no_memory}
 use Rattle.system_session.proofs.sessions.Session.run_entry.Goals as goal
 
 pub returns-then-is_memory-clause-told : goal.returns-then-is_memory-clause-told
-returns-then-is_memory-clause-told g c quiet = entry_undone c.args.entry.now _ _ _ (c.step-answer.ensures.does.memory (memory_is _ (sym c.if-is_memory.ensures))).state (Appends-nil _)
+returns-then-is_memory-clause-told g c first quiet = entry_undone c.args.entry.now _ _ _ (c.step-answer.ensures.does.memory (memory_is _ (sym c.if-is_memory.ensures))).state
 
 pub returns-clause-told : goal.returns-clause-told
-returns-clause-told g c quiet =
+returns-clause-told g c first quiet =
+    let told = c.tell.ensures.told first in
     let before = subst (λ (s : SessionView). NoCallFailed c.args.self.now s) c.tell.ensures.same quiet in
-    entry_told _ c.step-answer.result _ _ _ _ c.tell.result
+    entry_told _ c.step-answer.result _ _ _ _ told.0 c.tell.result
     (subst (λ (s : SessionView). MayAnswer (state_of c.args.self.now) c.args.entry.now c.step-answer.result (state_of s)) (sym c.tell.ensures.same) (c.step-answer.ensures.does.step before))
     (no_memory _ (sym c.if-is_memory.ensures))
-    c.tell.ensures.ok
-    c.tell.ensures.err
+    (subst (λ (s : SessionView). ShowsOne (Some c.args.entry.now) c.step-answer.result (state_of s) told.0) (sym c.tell.ensures.same) told.1)
+    told.2
 
 pub returns-then-is_memory-clause-later : goal.returns-then-is_memory-clause-later
 returns-then-is_memory-clause-later g c = c.step-answer.ensures.does.later

@@ -4,7 +4,7 @@ use Rattle.script8.specs.Items.{WaitsForLines}
 use Rattle.std.specs.Io.KnownBytes.{Consumes}
 use Rattle.script8.specs.Reading.{IsRead, TakesBytes}
 use Rattle.system_session.specs.ReadSteps.{ReadsPiece}
-use Rattle.system_session.specs.RunSteps.{RunsGiven, IsRunTo}
+use Rattle.system_session.specs.RunSteps.{RunsGiven, IsRunTo, watch}
 use Rattle.system_session.specs.Session.{state_of}
 use Rattle.script8.proofs.ByteLemmas.{consumes_none}
 use Rattle.system_session.proofs.QuietLemmas.{quiet_first, quiet_second, later_trans}
@@ -25,15 +25,15 @@ more_read : (r r' : Option (List ℕ)) (before : List ℕ) (count : ℕ) (after 
 more_read r r' before count after lines' count' is fed = subst (λ b. ReadsPiece 16777216 r r' before count after lines' count' (Ok b)) is fed
 
 pub returns-in_err-piece-clause-told : goal.returns-in_err-piece-clause-told
-returns-in_err-piece-clause-told g c quiet =
+returns-in_err-piece-clause-told g c first quiet =
     let p = err_from_is_err_and c.from_residual.result c.from_residual.ensures.1 in
     rw (p.1, p.2)
-    (run_unread 16777216 _ _ _ _ _ (g.K.Watcher.contents c.args.watcher.now) _ 0 [] [] (none_run (state_of c.args.self.now) _ (g.K.Watcher.contents c.args.watcher.now) [] refl) (consumes_none (g.R.Read.remaining c.args.reader.now)) (omega arith))
+    (run_unread 16777216 _ _ _ _ _ (watch g.K.Watcher.contents g.K.Watcher.was_shown first c.args.watcher.now) _ 0 [] [] (none_run (state_of c.args.self.now) _ (watch g.K.Watcher.contents g.K.Watcher.was_shown first c.args.watcher.now) [] refl) (consumes_none (g.R.Read.remaining c.args.reader.now)) (omega arith))
 
 pub loop-init : goal.loop-init
 loop-init g c = record {
-  told = λ quiet. subst (λ n. IsRunTo (state_of c.args.self.now) (state_of c.args.self.now) (g.R.Read.remaining c.args.reader.now) (g.R.Read.remaining c.args.reader.now) (g.K.Watcher.contents c.args.watcher.now) (g.K.Watcher.contents c.args.watcher.now) n c.new-pending.result.bytes.items) (sym c.new-pending.ensures.count)
-      (none_run (state_of c.args.self.now) (g.R.Read.remaining c.args.reader.now) (g.K.Watcher.contents c.args.watcher.now) c.new-pending.result.bytes.items c.new-pending.ensures.bytes);
+  told = λ first quiet. subst (λ n. IsRunTo (state_of c.args.self.now) (state_of c.args.self.now) (g.R.Read.remaining c.args.reader.now) (g.R.Read.remaining c.args.reader.now) (watch g.K.Watcher.contents g.K.Watcher.was_shown first c.args.watcher.now) (watch g.K.Watcher.contents g.K.Watcher.was_shown first c.args.watcher.now) n c.new-pending.result.bytes.items) (sym c.new-pending.ensures.count)
+      (none_run (state_of c.args.self.now) (g.R.Read.remaining c.args.reader.now) (watch g.K.Watcher.contents g.K.Watcher.was_shown first c.args.watcher.now) c.new-pending.result.bytes.items c.new-pending.ensures.bytes);
   waits = (c.new-pending.ensures.lines.0, subst (λ (l : List ℕ). WaitsForLines l c.new-pending.result.lines) (sym c.new-pending.ensures.bytes) c.new-pending.ensures.lines.1);
   taken = record { bytes = []; taken = consumes_none _; count_is = sym c.new-pending.ensures.count };
   within = omega (arith, c.new-pending.ensures.count);
@@ -44,31 +44,31 @@ loop-init g c = record {
 }
 
 pub returns-then-ends-clause-told : goal.returns-then-ends-clause-told
-returns-then-ends-clause-told g c quiet =
+returns-then-ends-clause-told g c first quiet =
     let before = quiet_first _ c.loop.self _ quiet c.loop.invariant.later c.run_end.ensures.later in
     let following = quiet_second _ c.loop.self _ quiet c.loop.invariant.later c.run_end.ensures.later (c.loop.invariant.running before) in
-    run_over 16777216 _ (state_of c.loop.self) _ _ (g.R.Read.remaining c.loop.reader) _ _ (g.K.Watcher.contents c.loop.watcher) _ c.loop.pending.count c.loop.pending.bytes.items c.deref.result.now c.run_end.result
-    (c.loop.invariant.told before) c.loop.invariant.within c.if-ends.ensures c.deref.ensures.value (c.run_end.ensures.told following)
+    run_over 16777216 _ (state_of c.loop.self) _ _ (g.R.Read.remaining c.loop.reader) _ _ (watch g.K.Watcher.contents g.K.Watcher.was_shown first c.loop.watcher) _ c.loop.pending.count c.loop.pending.bytes.items c.deref.result.now c.run_end.result
+    (c.loop.invariant.told first before) c.loop.invariant.within c.if-ends.ensures c.deref.ensures.value (c.run_end.ensures.told first following)
 
 pub returns-then-ends-clause-taken : goal.returns-then-ends-clause-taken
 returns-then-ends-clause-taken g c =
     (c.loop.pending.count + 0, takes_more _ (g.R.Read.remaining c.loop.reader) _ c.loop.pending.count [] c.loop.invariant.taken c.if-ends.ensures.taken, omega (arith, c.loop.invariant.within), λ last. absurd (not_past c.loop.pending.count c.loop.invariant.within (omega (arith, last))))
 
 pub returns-then-pending-eq-MOST-clause-told : goal.returns-then-pending-eq-MOST-clause-told
-returns-then-pending-eq-MOST-clause-told g c quiet =
-    run_cut 16777216 _ _ _ (g.R.Read.remaining c.loop.reader) _ _ _ c.loop.pending.count c.loop.pending.lines c.loop.pending.bytes.items c.if-ends.ensures.0 (c.loop.invariant.told quiet) c.loop.invariant.waits.0 c.loop.invariant.waits.1 c.if-ends.ensures.1 c.loop.invariant.within (inr (c.if-pending-eq-MOST.true, c.if-ends.ensures.2))
+returns-then-pending-eq-MOST-clause-told g c first quiet =
+    run_cut 16777216 _ _ _ (g.R.Read.remaining c.loop.reader) _ _ _ c.loop.pending.count c.loop.pending.lines c.loop.pending.bytes.items c.if-ends.ensures.0 (c.loop.invariant.told first quiet) c.loop.invariant.waits.0 c.loop.invariant.waits.1 c.if-ends.ensures.1 c.loop.invariant.within (inr (c.if-pending-eq-MOST.true, c.if-ends.ensures.2))
 
 pub returns-then-pending-eq-MOST-clause-taken : goal.returns-then-pending-eq-MOST-clause-taken
 returns-then-pending-eq-MOST-clause-taken g c =
     (c.loop.pending.count + length c.if-ends.ensures.0, takes_more _ (g.R.Read.remaining c.loop.reader) _ c.loop.pending.count c.if-ends.ensures.0 c.loop.invariant.taken c.if-ends.ensures.1, omega (arith, c.loop.invariant.within, c.if-ends.ensures.2), λ last. refl)
 
 pub returns-then-at_end-clause-told : goal.returns-then-at_end-clause-told
-returns-then-at_end-clause-told g c quiet =
+returns-then-at_end-clause-told g c first quiet =
     let read = at_end (g.R.Read.remaining c.loop.reader) (g.R.Read.remaining c.read.new.reader) _ _ _ _ _ c.if-at_end.true c.in_ok-at_end.ensures in
     let before = quiet_first _ c.loop.self _ quiet c.loop.invariant.later c.run_end-then-at_end.ensures.later in
     let following = quiet_second _ c.loop.self _ quiet c.loop.invariant.later c.run_end-then-at_end.ensures.later (c.loop.invariant.running before) in
-    run_over 16777216 _ (state_of c.loop.self) _ _ (g.R.Read.remaining c.loop.reader) _ _ (g.K.Watcher.contents c.loop.watcher) _ c.loop.pending.count c.loop.pending.bytes.items c.deref-then-at_end.result.now c.run_end-then-at_end.result
-    (c.loop.invariant.told before) c.loop.invariant.within read.0 (c.deref-then-at_end.ensures.value ∙ read.1) (c.run_end-then-at_end.ensures.told following)
+    run_over 16777216 _ (state_of c.loop.self) _ _ (g.R.Read.remaining c.loop.reader) _ _ (watch g.K.Watcher.contents g.K.Watcher.was_shown first c.loop.watcher) _ c.loop.pending.count c.loop.pending.bytes.items c.deref-then-at_end.result.now c.run_end-then-at_end.result
+    (c.loop.invariant.told first before) c.loop.invariant.within read.0 (c.deref-then-at_end.ensures.value ∙ read.1) (c.run_end-then-at_end.ensures.told first following)
 
 pub returns-then-at_end-clause-taken : goal.returns-then-at_end-clause-taken
 returns-then-at_end-clause-taken g c =
@@ -76,15 +76,15 @@ returns-then-at_end-clause-taken g c =
     (c.loop.pending.count + 0, takes_more _ (g.R.Read.remaining c.loop.reader) _ c.loop.pending.count [] c.loop.invariant.taken read.0.taken, omega (arith, c.loop.invariant.within), λ last. absurd (not_past c.loop.pending.count c.loop.invariant.within (omega (arith, last))))
 
 pub returns-in_err-run_given-clause-told : goal.returns-in_err-run_given-clause-told
-returns-in_err-run_given-clause-told g c quiet =
+returns-in_err-run_given-clause-told g c first quiet =
     let p = err_from_is_err_and c.from_residual-in_err-run_given.result c.from_residual-in_err-run_given.ensures.1 in
     let read = more_read (g.R.Read.remaining c.loop.reader) (g.R.Read.remaining c.read.new.reader) _ _ _ _ _ c.if-at_end.false c.in_ok-at_end.ensures in
     let before = quiet_first _ c.loop.self _ quiet c.loop.invariant.later c.run_given.ensures.later in
     let following = quiet_second _ c.loop.self _ quiet c.loop.invariant.later c.run_given.ensures.later (c.loop.invariant.running before) in
-    let fed = run_fed _ (state_of c.loop.self) _ (g.R.Read.remaining c.loop.reader) _ _ (g.K.Watcher.contents c.loop.watcher) c.loop.pending.count c.loop.pending.bytes.items read.0 (c.loop.invariant.told before) read.1 in
-    rw (p.1, p.2) (run_stopped 16777216 _ (state_of c.loop.self) _ _ (g.R.Read.remaining c.read.new.reader) _ (g.K.Watcher.contents c.loop.watcher) _ (c.loop.pending.count + length read.0) (c.loop.pending.bytes.items ++ read.0) c.run_given.new.pending.bytes.items c.in_err-run_given.field-0.0
+    let fed = run_fed _ (state_of c.loop.self) _ (g.R.Read.remaining c.loop.reader) _ _ (watch g.K.Watcher.contents g.K.Watcher.was_shown first c.loop.watcher) c.loop.pending.count c.loop.pending.bytes.items read.0 (c.loop.invariant.told first before) read.1 in
+    rw (p.1, p.2) (run_stopped 16777216 _ (state_of c.loop.self) _ _ (g.R.Read.remaining c.read.new.reader) _ (watch g.K.Watcher.contents g.K.Watcher.was_shown first c.loop.watcher) _ (c.loop.pending.count + length read.0) (c.loop.pending.bytes.items ++ read.0) c.run_given.new.pending.bytes.items c.in_err-run_given.field-0.0
     fed (omega (arith, read.3, read.4))
-    (subst (λ (l : List ℕ). RunsGiven l c.run_given.new.pending.bytes.items (state_of c.loop.self) (state_of c.run_given.new.self) (g.K.Watcher.contents c.loop.watcher) (g.K.Watcher.contents c.run_given.new.watcher) (Err c.in_err-run_given.field-0.0)) read.2 (c.in_err-run_given.ensures.told following)))
+    (subst (λ (l : List ℕ). RunsGiven l c.run_given.new.pending.bytes.items (state_of c.loop.self) (state_of c.run_given.new.self) (watch g.K.Watcher.contents g.K.Watcher.was_shown first c.loop.watcher) (watch g.K.Watcher.contents g.K.Watcher.was_shown first c.run_given.new.watcher) (Err c.in_err-run_given.field-0.0)) read.2 (c.in_err-run_given.ensures.told first following)))
 
 pub returns-in_err-run_given-clause-taken : goal.returns-in_err-run_given-clause-taken
 returns-in_err-run_given-clause-taken g c =
@@ -96,10 +96,10 @@ returns-in_err-at_end g c =
     let p = err_from_is_err_and c.from_residual-in_err-at_end.result c.from_residual-in_err-at_end.ensures.1 in
     let lost = c.in_err-at_end.ensures in
     record {
-      told = λ quiet. elim lost.3 [
-        | inl none ↦ rw (p.1, p.2.0 none.0) (run_cut 16777216 _ _ _ (g.R.Read.remaining c.loop.reader) _ _ _ c.loop.pending.count c.loop.pending.lines c.loop.pending.bytes.items [] (c.loop.invariant.told quiet) c.loop.invariant.waits.0 c.loop.invariant.waits.1
+      told = λ first quiet. elim lost.3 [
+        | inl none ↦ rw (p.1, p.2.0 none.0) (run_cut 16777216 _ _ _ (g.R.Read.remaining c.loop.reader) _ _ _ c.loop.pending.count c.loop.pending.lines c.loop.pending.bytes.items [] (c.loop.invariant.told first quiet) c.loop.invariant.waits.0 c.loop.invariant.waits.1
             (subst (λ (l : List ℕ). Consumes (g.R.Read.remaining c.loop.reader) (g.R.Read.remaining c.read.new.reader) l) none.1 lost.1) c.loop.invariant.within (inl refl))
-        | inr lack ↦ rw (p.1, p.2.1 lack) (run_unread 16777216 _ _ _ (g.R.Read.remaining c.loop.reader) _ _ _ c.loop.pending.count c.loop.pending.bytes.items lost.0 (c.loop.invariant.told quiet) lost.1 lost.2)
+        | inr lack ↦ rw (p.1, p.2.1 lack) (run_unread 16777216 _ _ _ (g.R.Read.remaining c.loop.reader) _ _ _ c.loop.pending.count c.loop.pending.bytes.items lost.0 (c.loop.invariant.told first quiet) lost.1 lost.2)
       ];
       later = c.loop.invariant.later;
       stopped = elim lost.3 [
@@ -115,14 +115,14 @@ pub loop-preserved : goal.loop-preserved
 loop-preserved g c =
     let read = more_read (g.R.Read.remaining c.loop.reader) (g.R.Read.remaining c.read.new.reader) _ _ _ _ _ c.if-at_end.false c.in_ok-at_end.ensures in
     record {
-      told = λ quiet.
+      told = λ first quiet.
           let before = quiet_first _ c.loop.self _ quiet c.loop.invariant.later c.run_given.ensures.later in
           let following = quiet_second _ c.loop.self _ quiet c.loop.invariant.later c.run_given.ensures.later (c.loop.invariant.running before) in
-          let fed = run_fed _ (state_of c.loop.self) _ (g.R.Read.remaining c.loop.reader) _ _ (g.K.Watcher.contents c.loop.watcher) c.loop.pending.count c.loop.pending.bytes.items read.0 (c.loop.invariant.told before) read.1 in
-          subst (λ n. IsRunTo (state_of c.args.self.now) (state_of c.run_given.new.self) (g.R.Read.remaining c.args.reader.now) (g.R.Read.remaining c.read.new.reader) (g.K.Watcher.contents c.args.watcher.now) (g.K.Watcher.contents c.run_given.new.watcher) n c.run_given.new.pending.bytes.items)
+          let fed = run_fed _ (state_of c.loop.self) _ (g.R.Read.remaining c.loop.reader) _ _ (watch g.K.Watcher.contents g.K.Watcher.was_shown first c.loop.watcher) c.loop.pending.count c.loop.pending.bytes.items read.0 (c.loop.invariant.told first before) read.1 in
+          subst (λ n. IsRunTo (state_of c.args.self.now) (state_of c.run_given.new.self) (g.R.Read.remaining c.args.reader.now) (g.R.Read.remaining c.read.new.reader) (watch g.K.Watcher.contents g.K.Watcher.was_shown first c.args.watcher.now) (watch g.K.Watcher.contents g.K.Watcher.was_shown first c.run_given.new.watcher) n c.run_given.new.pending.bytes.items)
           (sym (c.run_given.ensures.count ∙ read.3))
-          (run_on _ (state_of c.loop.self) _ _ (g.R.Read.remaining c.read.new.reader) _ (g.K.Watcher.contents c.loop.watcher) _ (c.loop.pending.count + length read.0) (c.loop.pending.bytes.items ++ read.0) c.run_given.new.pending.bytes.items fed
-          (subst (λ (l : List ℕ). RunsGiven l c.run_given.new.pending.bytes.items (state_of c.loop.self) (state_of c.run_given.new.self) (g.K.Watcher.contents c.loop.watcher) (g.K.Watcher.contents c.run_given.new.watcher) (Ok tt)) read.2 (c.in_ok-run_given.ensures.told following)));
+          (run_on _ (state_of c.loop.self) _ _ (g.R.Read.remaining c.read.new.reader) _ (watch g.K.Watcher.contents g.K.Watcher.was_shown first c.loop.watcher) _ (c.loop.pending.count + length read.0) (c.loop.pending.bytes.items ++ read.0) c.run_given.new.pending.bytes.items fed
+          (subst (λ (l : List ℕ). RunsGiven l c.run_given.new.pending.bytes.items (state_of c.loop.self) (state_of c.run_given.new.self) (watch g.K.Watcher.contents g.K.Watcher.was_shown first c.loop.watcher) (watch g.K.Watcher.contents g.K.Watcher.was_shown first c.run_given.new.watcher) (Ok tt)) read.2 (c.in_ok-run_given.ensures.told first following)));
       waits = c.in_ok-run_given.ensures.waits;
       taken = subst (λ n. TakesBytes (g.R.Read.remaining c.args.reader.now) (g.R.Read.remaining c.read.new.reader) n) (sym (c.run_given.ensures.count ∙ read.3)) (takes_more _ (g.R.Read.remaining c.loop.reader) _ c.loop.pending.count read.0 c.loop.invariant.taken read.1);
       within = omega (arith, c.run_given.ensures.count, read.4);
@@ -135,5 +135,5 @@ loop-preserved g c =
     }
 
 pub returns-clause-told : goal.returns-clause-told
-returns-clause-told g c quiet =
-    run_cut 16777216 _ _ _ (g.R.Read.remaining c.loop.reader) _ _ _ c.loop.pending.count c.loop.pending.lines c.loop.pending.bytes.items [] (c.loop.invariant.told quiet) c.loop.invariant.waits.0 c.loop.invariant.waits.1 (consumes_none _) c.loop.invariant.within (inl refl)
+returns-clause-told g c first quiet =
+    run_cut 16777216 _ _ _ (g.R.Read.remaining c.loop.reader) _ _ _ c.loop.pending.count c.loop.pending.lines c.loop.pending.bytes.items [] (c.loop.invariant.told first quiet) c.loop.invariant.waits.0 c.loop.invariant.waits.1 (consumes_none _) c.loop.invariant.within (inl refl)

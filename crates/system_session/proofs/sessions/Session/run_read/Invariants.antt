@@ -1,15 +1,15 @@
 use Rattle.std.proofs.Common.{◌≡◌, ◌<◌, ◌≤◌, false, vec_len}
 use Rattle.script8.specs.Items.{WaitsForLines}
 use Rattle.script8.specs.Reading.{TakesBytes}
-use Rattle.system_session.specs.RunSteps.{IsRunTo}
+use Rattle.system_session.specs.RunSteps.{IsRunTo, watch}
 use Rattle.system_session.specs.Session.{state_of, NoCallFailed, IsLater}
 use Rattle.system_session.proofs.sessions.Session.run_read.Given as goal
 
 -- the items of what was taken are answered, up to those of the bytes that are left, of which none is whole
 abbrev pub invariant-loop : goal.invariant-loop
 invariant-loop g l = record {
-  told : NoCallFailed l.fn.self l.self → IsRunTo (state_of l.fn.self) (state_of l.self) (g.R.Read.remaining l.fn.reader) (g.R.Read.remaining l.reader)
-      (g.K.Watcher.contents l.fn.watcher) (g.K.Watcher.contents l.watcher) l.pending.count l.pending.bytes.items;
+  told : (first : _) → NoCallFailed l.fn.self l.self → IsRunTo (state_of l.fn.self) (state_of l.self) (g.R.Read.remaining l.fn.reader) (g.R.Read.remaining l.reader)
+      (watch g.K.Watcher.contents g.K.Watcher.was_shown first l.fn.watcher) (watch g.K.Watcher.contents g.K.Watcher.was_shown first l.watcher) l.pending.count l.pending.bytes.items;
   waits : (0 < l.pending.lines) × WaitsForLines l.pending.bytes.items l.pending.lines;
   taken : TakesBytes (g.R.Read.remaining l.fn.reader) (g.R.Read.remaining l.reader) l.pending.count;
   within : l.pending.count ≤ 16777216;

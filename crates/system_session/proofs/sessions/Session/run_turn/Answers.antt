@@ -1,16 +1,16 @@
-use Rattle.std.proofs.Common.{◌≡◌, ◌<◌, false, sym, subst}
-use Rattle.std.proofs.KnownBytes.{Appends-nil}
+use Rattle.std.proofs.Common.{◌≡◌, ◌<◌, false, sym, subst, Some}
 use Rattle.volume_jobs.specs.Jobs.{turns_left}
 use Rattle.script8.specs.declared.entries.Entry.TheVariants as entry
 use Rattle.script8.specs.declared.entries.JobEntry.TheVariants as order
 use Rattle.system_session.specs.Session.{SessionView, state_of, NoCallFailed, IsLater}
+use Rattle.system_session.specs.ShownAnswers.{ShowsOne}
 use Rattle.system_session.specs.System.{MayAnswer}
 use Rattle.system_session.proofs.EntryLemmas.{memory_is, no_memory, not_err, on_ok}
-use Rattle.system_session.proofs.ToldLemmas.{turn_told, turn_working}
+use Rattle.system_session.proofs.ToldLemmas.{tells_none, turn_told, turn_working}
 use Rattle.system_session.proofs.sessions.Session.run_turn.Goals as goal
 
 pub returns-then-is_memory-clause-told : goal.returns-then-is_memory-clause-told
-returns-then-is_memory-clause-told g c quiet = ((c.turn-answer.ensures.does.memory (memory_is _ (sym c.if-is_memory.ensures))).state, Appends-nil _)
+returns-then-is_memory-clause-told g c first quiet = ((c.turn-answer.ensures.does.memory (memory_is _ (sym c.if-is_memory.ensures))).state, tells_none _)
 
 pub returns-then-is_memory-clause-later : goal.returns-then-is_memory-clause-later
 returns-then-is_memory-clause-later g c = c.turn-answer.ensures.does.later
@@ -19,8 +19,8 @@ pub returns-then-is_memory-clause-running : goal.returns-then-is_memory-clause-r
 returns-then-is_memory-clause-running g c = c.turn-answer.ensures.does.running
 
 pub returns-then-is_working-clause-told : goal.returns-then-is_working-clause-told
-returns-then-is_working-clause-told g c quiet =
-    turn_working c.args.number c.turn-answer.result _ _ _ (c.turn-answer.ensures.does.step quiet) (no_memory _ (sym c.if-is_memory.ensures)) (sym c.if-is_working.ensures) (Appends-nil _)
+returns-then-is_working-clause-told g c first quiet =
+    turn_working c.args.number c.turn-answer.result _ _ _ (c.turn-answer.ensures.does.step quiet) (no_memory _ (sym c.if-is_memory.ensures)) (sym c.if-is_working.ensures)
 
 pub returns-then-is_working-clause-fewer : goal.returns-then-is_working-clause-fewer
 returns-then-is_working-clause-fewer g c = c.turn-answer.ensures.fewer (not_err _ (sym c.if-is_memory.ensures)) c.requires
@@ -32,12 +32,14 @@ pub returns-then-is_working-clause-running : goal.returns-then-is_working-clause
 returns-then-is_working-clause-running g c = c.turn-answer.ensures.does.running
 
 pub returns-clause-told : goal.returns-clause-told
-returns-clause-told g c quiet =
+returns-clause-told g c first quiet =
+    let told = c.tell.ensures.told first in
     let before = subst (λ (s : SessionView). NoCallFailed c.args.self.now s) c.tell.ensures.same quiet in
-    turn_told c.args.number c.turn-answer.result _ _ _ _ c.tell.result
+    turn_told c.args.number c.turn-answer.result _ _ _ _ told.0 c.tell.result
     (subst (λ (s : SessionView). MayAnswer (state_of c.args.self.now) (entry.Jobs (order.Turn c.args.number)) c.turn-answer.result (state_of s)) (sym c.tell.ensures.same) (c.turn-answer.ensures.does.step before))
     (no_memory _ (sym c.if-is_memory.ensures)) (sym c.if-is_working.ensures)
-    c.tell.ensures.ok c.tell.ensures.err
+    (subst (λ (s : SessionView). ShowsOne (Some (entry.Jobs (order.Turn c.args.number))) c.turn-answer.result (state_of s) told.0) (sym c.tell.ensures.same) told.1)
+    told.2
 
 pub returns-clause-fewer : goal.returns-clause-fewer
 returns-clause-fewer g c =

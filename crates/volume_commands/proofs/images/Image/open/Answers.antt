@@ -1,4 +1,4 @@
-use Rattle.std.proofs.Common.{◌∙◌, Ok, rules, inl, inr, refl}
+use Rattle.std.proofs.Common.{◌∙◌, Ok, rules, inl, inr}
 use Rattle.volume_commands.proofs.KeepLemmas.{holds-keeps}
 use Rattle.volume_commands.proofs.ReadLemmas.{held-output, unread-files, unread-output}
 use Rattle.volume_commands.proofs.images.Image.open.Goals as goal
@@ -7,7 +7,7 @@ pub returns-in_err-file-clause-opens : goal.returns-in_err-file-clause-opens
 returns-in_err-file-clause-opens g c = inr (record { given = c.in_ok-place.place; between = g.H.Host.history c.hold.new.host; done = search rules; after = inl (search rules) })
 
 pub returns-clause-opens : goal.returns-clause-opens
-returns-clause-opens g c = inr (record { given = c.in_ok-place.place; between = g.H.Host.history c.hold.new.host; done = search rules; after = inr (record { given = c.in_ok-file.file; between = g.H.Host.history c.look.new.host; done = search rules; after = (c.image_in.ensures, refl) }) })
+returns-clause-opens g c = inr (record { given = c.in_ok-place.place; between = g.H.Host.history c.hold.new.host; done = search rules; after = inr (record { given = c.in_ok-file.file; between = g.H.Host.history c.look.new.host; done = search rules; after = rw (c.kind_of-kind.ensures, c.deref.ensures.value) at c.image_in.ensures.makes }) })
 
 pub returns-in_err-file-clause-files : goal.returns-in_err-file-clause-files
 returns-in_err-file-clause-files g c path = unread-files _ _ _ _ _ c.in_err-file.ensures path ∙ holds-keeps _ _ (Ok c.in_ok-place.place) _ c.in_ok-place.ensures path

@@ -1,0 +1,171 @@
+-- The index of images changes no file.
+use Rattle.std.proofs.Common.{◌≡◌, ◌∙◌, ℕ, ◌+◌, Bool, true, false, Option, None, Result, Ok, Err, List, [], ◌∷◌, length, ap, inl, inr}
+use Rattle.std.specs.Global.{Vec}
+use Rattle.hosts.specs.Event.{Event}
+use Rattle.hosts.specs.Place.{about}
+use Rattle.disk_layouts.specs.declared.layouts.Layout.{Layout}
+use Rattle.program_reports.specs.Program.{program_line}
+use Rattle.program_reports.specs.Prefixes.{with_prefixes}
+use Rattle.outcome.specs.declared.endings.Ending.{Ending}
+use Rattle.outcome.specs.declared.endings.Ending.TheVariants.{Line, Fault, Failure, Busy, NotWritten, FullOutput, NoReader, Misuse}
+use Rattle.volume_index.specs.declared.styles.IndexStyle.{IndexStyle}
+use Rattle.volume_commands.specs.Ending.{TellsLine}
+use Rattle.volume_commands.specs.Laws.{KeepsFiles}
+use Rattle.volume_commands.specs.Reading.{Looks}
+use Rattle.volume_commands.specs.Saving.{Prints}
+use Rattle.volume_commands.specs.Work.{Then, Purely}
+use Rattle.host_progress.specs.Progressing.{BeginsProgress, EndsProgress, TellsDone, TellsProgress}
+use Rattle.index_commands.specs.Columns.{ChoosesColumns, Shows, lines_in}
+use Rattle.index_commands.specs.declared.columns.Columns.{Columns}
+use Rattle.index_commands.specs.declared.columns.LineShape.{LineShape}
+use Rattle.index_commands.specs.Found.{FindsSame, IsFound, KeepsLines, ShowsSame, TakesLines}
+use Rattle.index_commands.specs.declared.found.Found.{Found}
+use Rattle.index_commands.specs.Indexing.{ChecksWord, EndsIndex, Indexes, IndexesAll, IndexesImage, IndexesImages, IndexesInColumns, IndexesNext, IndexesRead, IndexesVolume, IndexesVolumes, IndexesWith, ShowsIndex, ending_of_refusal}
+use Rattle.index_commands.specs.Refusing.{PassesOver, RefusesVolume, prefix_of}
+use Rattle.index_commands.specs.Volumes.{body_of, layouts_in, number_of}
+
+same : {old new : List Event} (path : List ℕ) → new ≡ old → about path new ≡ about path old
+same path is = ap (λ (events : List Event). about path events) is
+
+then-keeps : {A B : Type 0} (first : List Event → Result A Ending → List Event → Type 0) (next : A → List Event → Result B Ending → List Event → Type 0)
+    → KeepsFiles first → ((given : A) → KeepsFiles (next given)) → KeepsFiles (Then first next)
+then-keeps first next f n old (Ok r) new (inl ends) path = absurd ends
+then-keeps first next f n old (Err e) new (inl ends) path = f old (Err e) new ends path
+then-keeps first next f n old result new (inr it) path = n it.given it.between result new it.after path ∙ f old (Ok it.given) it.between it.done path
+
+purely-keeps : {A : Type 0} (gives : Result A Ending → Type 0) → KeepsFiles (Purely gives)
+purely-keeps gives old result new p path = same path p.1
+
+line-keeps : (path line : List ℕ) (old new : List Event) → TellsLine line old new → about path new ≡ about path old
+line-keeps path line old new (inl (utf8, ok, p)) = same path p
+line-keeps path line old new (inr p) = same path p.1
+
+-- ## A volume
+
+passes-keeps : (name : List ℕ) (number : Option ℕ) (ending : Ending) → KeepsFiles (PassesOver name number ending)
+passes-keeps name number (Line line) old (Ok it) new p path = line-keeps path (with_prefixes (prefix_of name number) (program_line line)) old new p
+passes-keeps name number (Line line) old (Err ended) new p path = same path p.1
+passes-keeps name number (Fault fault) old (Ok it) new p path = absurd p
+passes-keeps name number (Fault fault) old (Err ended) new p path = same path p.1
+passes-keeps name number Failure old (Ok it) new p path = absurd p
+passes-keeps name number Failure old (Err ended) new p path = same path p.1
+passes-keeps name number (Busy content) old (Ok it) new p path = absurd p
+passes-keeps name number (Busy content) old (Err ended) new p path = same path p.1
+passes-keeps name number (NotWritten content left) old (Ok it) new p path = absurd p
+passes-keeps name number (NotWritten content left) old (Err ended) new p path = same path p.1
+passes-keeps name number FullOutput old (Ok it) new p path = absurd p
+passes-keeps name number FullOutput old (Err ended) new p path = same path p.1
+passes-keeps name number NoReader old (Ok it) new p path = absurd p
+passes-keeps name number NoReader old (Err ended) new p path = same path p.1
+passes-keeps name number Misuse old (Ok it) new p path = absurd p
+passes-keeps name number Misuse old (Err ended) new p path = same path p.1
+
+refuses-keeps : (name : List ℕ) (number : Option ℕ) (ending : Ending) (kept : List ℕ) → KeepsFiles (RefusesVolume name number ending kept)
+refuses-keeps name number ending kept = then-keeps (PassesOver name number ending) (λ it. Purely (IsFound true kept)) (passes-keeps name number ending) (λ it. purely-keeps (IsFound true kept))
+
+-- what is printed, by what a print of the lower crate leaves as it was
+abbrev PrintsKeep : Type 0
+PrintsKeep = (bytes : List ℕ) → KeepsFiles (Prints bytes)
+
+abbrev LooksKeep : Type 0
+LooksKeep = (name shown : List ℕ) → KeepsFiles (Looks name shown)
+
+shows-keeps : PrintsKeep → (columns : Columns) (lines : List ℕ) → KeepsFiles (Shows columns lines)
+shows-keeps prints columns lines old (Ok it) new p path = prints (lines_in columns lines) old (Ok it) new p path
+shows-keeps prints columns lines old (Err ending) new (inl p) path = prints (lines_in columns lines) old (Err ending) new p path
+shows-keeps prints columns lines old (Err ending) new (inr p) path = same path p.1
+
+takes-keeps : PrintsKeep → (is_same : Bool) (columns : Columns) (is_refused : Bool) (kept lines : List ℕ) → KeepsFiles (TakesLines is_same columns is_refused kept lines)
+takes-keeps prints true columns is_refused kept lines = purely-keeps (KeepsLines is_refused kept lines)
+takes-keeps prints false columns is_refused kept lines = then-keeps (Shows columns lines) (λ it. Purely (IsFound is_refused kept)) (shows-keeps prints columns lines) (λ it. purely-keeps (IsFound is_refused kept))
+
+index-keeps : PrintsKeep → (columns : Columns) (name : List ℕ) (number : Option ℕ) (lines : Result (Vec ℕ) Ending) (is_refused : Bool) (kept : List ℕ) → KeepsFiles (ShowsIndex columns name number lines is_refused kept)
+index-keeps prints columns name number (Ok lines) is_refused kept = takes-keeps prints columns.shape.is_same columns is_refused kept lines.items
+index-keeps prints columns name number (Err ending) is_refused kept = refuses-keeps name number ending kept
+
+volume-keeps : PrintsKeep → (columns : Columns) (style : IndexStyle) (name bytes : List ℕ) (layout : Option Layout) (is_refused : Bool) (kept : List ℕ) → KeepsFiles (IndexesVolume columns style name bytes layout is_refused kept)
+volume-keeps prints columns style name bytes layout is_refused kept old result new (lines, gives, p) path = index-keeps prints columns name (number_of layout) lines is_refused kept old result new p path
+
+-- ## A file
+
+volumes-keeps : PrintsKeep → (columns : Columns) (style : IndexStyle) (name bytes : List ℕ) (layouts : List (Option Layout)) (is_refused : Bool) (kept : List ℕ) → KeepsFiles (IndexesVolumes columns style name bytes layouts is_refused kept)
+volumes-keeps prints columns style name bytes [] is_refused kept = purely-keeps (IsFound is_refused kept)
+volumes-keeps prints columns style name bytes (layout ∷ layouts) is_refused kept =
+    then-keeps (IndexesVolume columns style name bytes layout is_refused kept) (λ (found : Found). IndexesVolumes columns style name bytes layouts found.is_refused found.lines.items)
+    (volume-keeps prints columns style name bytes layout is_refused kept) (λ (found : Found). volumes-keeps prints columns style name bytes layouts found.is_refused found.lines.items)
+
+read-keeps : PrintsKeep → (columns : Columns) (style : IndexStyle) (layout : Option Layout) (name : List ℕ) (file : Result (Vec ℕ) Ending) (is_refused : Bool) (kept : List ℕ) → KeepsFiles (IndexesRead columns style layout name file is_refused kept)
+read-keeps prints columns style layout name (Ok file) is_refused kept = volumes-keeps prints columns style name (body_of layout file.items) (layouts_in layout file.items) is_refused kept
+read-keeps prints columns style layout name (Err ending) is_refused kept = refuses-keeps name None ending kept
+
+image-keeps : LooksKeep → PrintsKeep → (columns : Columns) (style : IndexStyle) (layout : Option Layout) (name : List ℕ) (is_refused : Bool) (kept : List ℕ) → KeepsFiles (IndexesImage columns style layout name is_refused kept)
+image-keeps looks prints columns style layout name is_refused kept old result new (file, between, looked, p) path =
+    read-keeps prints columns style layout name file is_refused kept between result new p path ∙ looks name name old file between looked path
+
+-- ## All images
+
+done-keeps : (path : List ℕ) (is_told : Bool) (done all : ℕ) (old new : List Event) → TellsDone is_told done all old new → about path new ≡ about path old
+done-keeps path false done all old new p = same path p
+done-keeps path true done all old new (passed, inl p) = same path p
+done-keeps path true done all old new (passed, inr (ok, late, p)) = same path p
+
+progress-keeps : (is_told : Bool) (done all : ℕ) → KeepsFiles (TellsProgress is_told done all)
+progress-keeps is_told done all old result new p path = done-keeps path is_told done all old new p.1
+
+begins-keeps : (path : List ℕ) (is_told : Bool) (old new : List Event) → BeginsProgress is_told old new → about path new ≡ about path old
+begins-keeps path true old new p = same path p.1
+begins-keeps path false old new (inl p) = same path p
+begins-keeps path false old new (inr p) = same path p
+
+ends-keeps : (path : List ℕ) (is_told : Bool) (old new : List Event) → EndsProgress is_told old new → about path new ≡ about path old
+ends-keeps path false old new p = same path p
+ends-keeps path true old new (inl p) = same path p
+ends-keeps path true old new (inr (ok, p)) = same path p
+
+images-keeps : LooksKeep → PrintsKeep → (columns : Columns) (style : IndexStyle) (layout : Option Layout) (is_told : Bool) (done all : ℕ) (names : List (List ℕ)) (is_refused : Bool) (kept : List ℕ)
+    → KeepsFiles (IndexesImages columns style layout is_told done all names is_refused kept)
+images-keeps looks prints columns style layout is_told done all [] is_refused kept = purely-keeps (IsFound is_refused kept)
+images-keeps looks prints columns style layout is_told done all (name ∷ names) is_refused kept =
+    then-keeps (IndexesNext columns style layout is_told done all name is_refused kept) (λ (found : Found). IndexesImages columns style layout is_told (done + 1) all names found.is_refused found.lines.items)
+    (then-keeps (TellsProgress is_told done all) (λ it. IndexesImage columns style layout name is_refused kept) (progress-keeps is_told done all) (λ it. image-keeps looks prints columns style layout name is_refused kept))
+    (λ (found : Found). images-keeps looks prints columns style layout is_told (done + 1) all names found.is_refused found.lines.items)
+
+all-keeps : LooksKeep → PrintsKeep → (columns : Columns) (style : IndexStyle) (layout : Option Layout) (names : List (List ℕ)) → KeepsFiles (IndexesAll columns style layout names)
+all-keeps looks prints columns style layout names old result new p path =
+    ends-keeps path p.is_told p.done new p.ends
+    ∙ images-keeps looks prints columns style layout p.is_told 0 (length names) names false [] p.begun result p.done p.works path
+    ∙ begins-keeps path p.is_told old p.begun p.begins
+
+groups-keep : PrintsKeep → (is_same : Bool) (columns : Columns) (lines : List ℕ) → KeepsFiles (ShowsSame is_same columns lines)
+groups-keep prints true columns lines = then-keeps (Purely (FindsSame lines)) (λ (same : Vec ℕ). Shows columns same.items) (purely-keeps (FindsSame lines)) (λ (same : Vec ℕ). shows-keeps prints columns same.items)
+groups-keep prints false columns lines = purely-keeps (λ (result : Result (Unit {0}) Ending). result ≡ Ok tt)
+
+end-keeps : PrintsKeep → (columns : Columns) (is_refused : Bool) (kept : List ℕ) → KeepsFiles (EndsIndex columns is_refused kept)
+end-keeps prints columns is_refused kept =
+    then-keeps (ShowsSame columns.shape.is_same columns kept) (λ it. Purely (λ (result : Result (Unit {0}) Ending). result ≡ ending_of_refusal is_refused))
+    (groups-keep prints columns.shape.is_same columns kept) (λ it. purely-keeps (λ (result : Result (Unit {0}) Ending). result ≡ ending_of_refusal is_refused))
+
+with-keeps : LooksKeep → PrintsKeep → (style : IndexStyle) (layout : Option Layout) (names : List (List ℕ)) (columns : Columns) → KeepsFiles (IndexesWith style layout names columns)
+with-keeps looks prints style layout names columns =
+    then-keeps (IndexesAll columns style layout names) (λ (found : Found). EndsIndex columns found.is_refused found.lines.items)
+    (all-keeps looks prints columns style layout names) (λ (found : Found). end-keeps prints columns found.is_refused found.lines.items)
+
+chooses-keeps : (shape : LineShape) (names : List (List ℕ)) → KeepsFiles (ChoosesColumns shape names)
+chooses-keeps shape names old (Ok columns) new (is_terminal, p, is_shape, are, widths) path = same path p
+chooses-keeps shape names old (Err ending) new (is_terminal, p, is) path = same path p
+
+word-keeps : (word : List ℕ) → KeepsFiles (ChecksWord word)
+word-keeps word old (Ok it) new p path = same path p.1
+word-keeps word old (Err (Line line)) new p path = absurd p
+word-keeps word old (Err (Fault fault)) new p path = absurd p
+word-keeps word old (Err Failure) new p path = absurd p
+word-keeps word old (Err (Busy content)) new p path = absurd p
+word-keeps word old (Err (NotWritten content left)) new p path = absurd p
+word-keeps word old (Err FullOutput) new p path = absurd p
+word-keeps word old (Err NoReader) new p path = absurd p
+word-keeps word old (Err Misuse) new (is, ok, p) path = same path p
+
+pub indexes-keeps : LooksKeep → PrintsKeep → (style : IndexStyle) (shape : LineShape) (layout : Option Layout) (names : List (List ℕ)) → KeepsFiles (Indexes style shape layout names)
+indexes-keeps looks prints style shape layout names =
+    then-keeps (ChecksWord style.find.bytes.items) (λ it. IndexesInColumns style shape layout names) (word-keeps style.find.bytes.items)
+    (λ it. then-keeps (ChoosesColumns shape names) (IndexesWith style layout names) (chooses-keeps shape names) (with-keeps looks prints style layout names))

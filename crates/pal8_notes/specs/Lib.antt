@@ -1,0 +1,4 @@
+pub mod Closer
+pub mod Notes
+pub mod Steps
+pub mod Texts

@@ -1,0 +1,4 @@
+pub mod Digests
+pub mod Lines
+pub mod Same
+pub mod Steps
