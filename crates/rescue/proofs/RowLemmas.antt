@@ -17,7 +17,7 @@ use Rattle.os8_files.specs.Failed.{with_list}
 use Rattle.os8_files.specs.Mounted.{MountState}
 use Rattle.os8_files.specs.Puts.{HasPutWith, blocks_filled}
 use Rattle.word12.specs.declared.sizes.TheConstants.{FIRST_FILE_BLOCK}
-use Rattle.rescue.specs.Rows.{Differ, HasNone, files_by_place, in_a_row, laid_at}
+use Rattle.rescue.specs.Rows.{Differ, HasNone, files_by_place, in_a_row, file_place}
 use Rattle.rescue.specs.Steps.{HaveBlocks, IsRow, free_entries, row}
 use Rattle.rescue.specs.declared.volumes.KeptFile.{KeptFile}
 
@@ -42,7 +42,7 @@ rooms-row info place (f ∷ fs) others = rooms-row info (place + size f) fs othe
 files-row : (info place : ℕ) (kept : List KeptFile) (free : ℕ) → HaveBlocks kept → files_at place (row info kept (free_entries free)) ≡ in_a_row info place kept
 files-row info place [] zero some = refl
 files-row info place [] (suc k) some = refl
-files-row info place (f ∷ fs) free some = rw (not-zero (size f) some.0) (ap (λ l. laid_at info place f ∷ l) (files-row info (place + size f) fs free some.1))
+files-row info place (f ∷ fs) free some = rw (not-zero (size f) some.0) (ap (λ l. file_place info place f ∷ l) (files-row info (place + size f) fs free some.1))
 
 without-none : (info name : ℕ) (kept : List KeptFile) (free : ℕ) → HasNone name kept → entries_without name (row info kept (free_entries free)) ≡ row info kept (free_entries free)
 without-none info name [] zero none = refl

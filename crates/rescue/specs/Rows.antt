@@ -23,10 +23,10 @@ files_by_place (Ok d) = files_at d.first d.entries
 files_by_place (Err fault) = []
 
 -- a file as it lies from a block on, in a directory with so many information words
-abbrev pub laid_at : ℕ → ℕ → KeptFile → FilePlace
-laid_at info place f = record { name = f.name; info = with_end_zeros 10 (take info f.info); place = place; size = blocks_filled f.words.items }
+abbrev pub file_place : ℕ → ℕ → KeptFile → FilePlace
+file_place info place f = record { name = f.name; info = with_end_zeros 10 (take info f.info); place = place; size = blocks_filled f.words.items }
 
 -- files in their order, each right after the one before it, from a block on
 abbrev pub in_a_row : ℕ → ℕ → List KeptFile → List FilePlace
 in_a_row info place [] = []
-in_a_row info place (f ∷ fs) = laid_at info place f ∷ in_a_row info (place + blocks_filled f.words.items) fs
+in_a_row info place (f ∷ fs) = file_place info place f ∷ in_a_row info (place + blocks_filled f.words.items) fs
