@@ -1,5 +1,5 @@
 -- How a volume of a disk is named: the name of its file, a colon, and its number.
-use Rattle.std.specs.Prelude.{◌×◌, ◌-◌, ℕ, codes, drop, if◌then◌else◌, length, nat_eq, nat_lt, take, List, Option, None, Some}
+use Rattle.std.specs.Prelude.{◌-◌, ℕ, codes, drop, if◌then◌else◌, length, nat_eq, nat_lt, take, List, Option, None, Some}
 use Rattle.std.specs.List.{ends_with}
 use Rattle.disk_layouts.specs.declared.layouts.Layout.{Layout}
 use Rattle.disk_layouts.specs.declared.layouts.Layout.TheVariants.{First, Second}
