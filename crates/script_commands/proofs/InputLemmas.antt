@@ -1,7 +1,6 @@
 -- How many bytes a reader gave.
-use Rattle.std.proofs.Common.{◌≡◌, ◌∙◌, ◌<◌, ◌≤◌, ◌+◌, ◌-◌, ◌^◌, ◌++◌, ℕ, min, Option, None, Some, List, [], length, take, nat_lt, true, refl, ap, sym, arith}
+use Rattle.std.proofs.Common.{◌≡◌, ◌∙◌, ◌<◌, ◌≤◌, ◌+◌, ◌-◌, ◌^◌, ◌++◌, ℕ, min, Option, None, Some, List, [], length, take, refl, ap, sym, arith}
 use Rattle.std.proofs.Math.Nat.{min-eq_left}
-use Rattle.std.proofs.lemmas.Bool.{ltb-true}
 use Rattle.std.proofs.lemmas.List.{append_assoc, length-append, length-take}
 use Rattle.script8.specs.declared.readings.TheConstants.{MOST}
 use Rattle.std.specs.Io.KnownBytes.{Consumes}
@@ -31,10 +30,10 @@ given_more start old new count n buf sum g bound taken is = record { bytes = g.b
   counted = rw (size, g.counted) (least (length g.bytes) (2 ^ 64 - 1) n)
 
 -- a count that is too large is one of as many bytes
-pub taken_more : (start now : Option (List ℕ)) (count : ℕ) → HasGiven start now count → nat_lt MOST count ≡ true → (n : ℕ) × TakesBytes start now n × (MOST < n)
+pub taken_more : (start now : Option (List ℕ)) (count : ℕ) → HasGiven start now count → MOST < count → (n : ℕ) × TakesBytes start now n × (MOST < n)
 taken_more start now count g more = (length g.bytes, record { bytes = g.bytes; taken = g.taken; count_is = refl }, within) where
   most : MOST < min (length g.bytes) (2 ^ 64 - 1)
-  most = rw (sym g.counted) (ltb-true MOST count more)
+  most = rw (sym g.counted) more
 
   within : MOST < length g.bytes
   within = omega (arith, most)
