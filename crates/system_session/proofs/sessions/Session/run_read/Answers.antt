@@ -43,8 +43,8 @@ returns-in_err-piece-clause-told g c first quiet =
     rw (p.1, p.2)
     (run_unread 16777216 _ _ _ _ _ (watch g.K.Watcher.contents g.K.Watcher.was_shown first c.args.watcher.now) _ 0 [] [] (none_run (state_of c.args.self.now) _ (watch g.K.Watcher.contents g.K.Watcher.was_shown first c.args.watcher.now) [] refl) (consumes_none (g.R.ByteReader.remaining c.args.reader.now)) (omega arith))
 
-pub LOOP-init : goal.LOOP-init
-LOOP-init g c = record {
+pub loop-pending-init : goal.loop-pending-init
+loop-pending-init g c = record {
   told = λ first quiet. subst (λ n. IsRunTo (state_of c.args.self.now) (state_of c.args.self.now) (g.R.ByteReader.remaining c.args.reader.now) (g.R.ByteReader.remaining c.args.reader.now) (watch g.K.Watcher.contents g.K.Watcher.was_shown first c.args.watcher.now) (watch g.K.Watcher.contents g.K.Watcher.was_shown first c.args.watcher.now) n c.new-pending.result.bytes.items) (sym c.new-pending.ensures.count)
       (none_run (state_of c.args.self.now) (g.R.ByteReader.remaining c.args.reader.now) (watch g.K.Watcher.contents g.K.Watcher.was_shown first c.args.watcher.now) c.new-pending.result.bytes.items c.new-pending.ensures.bytes);
   waits = (c.new-pending.ensures.lines.0, subst (λ (l : List ℕ). WaitsForLines l c.new-pending.result.lines) (sym c.new-pending.ensures.bytes) c.new-pending.ensures.lines.1);
@@ -59,74 +59,74 @@ LOOP-init g c = record {
 
 pub returns-then-branch-clause-told : goal.returns-then-branch-clause-told
 returns-then-branch-clause-told g c first quiet =
-    let before = quiet_first _ c.LOOP.self _ quiet c.LOOP.invariant.later c.run_end.ensures.later in
-    let following = quiet_second _ c.LOOP.self _ quiet c.LOOP.invariant.later c.run_end.ensures.later (c.LOOP.invariant.running before) in
-    run_over 16777216 _ (state_of c.LOOP.self) _ _ (g.R.ByteReader.remaining c.LOOP.reader) _ _ (watch g.K.Watcher.contents g.K.Watcher.was_shown first c.LOOP.watcher) _ c.LOOP.pending.count c.LOOP.pending.bytes.items c.deref.result.now c.run_end.result
-    (c.LOOP.invariant.told first before) c.LOOP.invariant.within (at_last _ (g.R.ByteReader.remaining c.ends.new.reader) c.if-branch.true c.in_ok-ends.ensures.end) c.deref.ensures.value (c.run_end.ensures.told first following)
+    let before = quiet_first _ c.loop-pending.self _ quiet c.loop-pending.invariant.later c.run_end.ensures.later in
+    let following = quiet_second _ c.loop-pending.self _ quiet c.loop-pending.invariant.later c.run_end.ensures.later (c.loop-pending.invariant.running before) in
+    run_over 16777216 _ (state_of c.loop-pending.self) _ _ (g.R.ByteReader.remaining c.loop-pending.reader) _ _ (watch g.K.Watcher.contents g.K.Watcher.was_shown first c.loop-pending.watcher) _ c.loop-pending.pending.count c.loop-pending.pending.bytes.items c.deref.result.now c.run_end.result
+    (c.loop-pending.invariant.told first before) c.loop-pending.invariant.within (at_last _ (g.R.ByteReader.remaining c.ends.new.reader) c.if-branch.true c.in_ok-ends.ensures.end) c.deref.ensures.value (c.run_end.ensures.told first following)
 
 pub returns-then-branch-clause-taken : goal.returns-then-branch-clause-taken
 returns-then-branch-clause-taken g c =
-    (c.LOOP.pending.count + 0, takes_more _ (g.R.ByteReader.remaining c.LOOP.reader) _ c.LOOP.pending.count [] c.LOOP.invariant.taken (at_last _ (g.R.ByteReader.remaining c.ends.new.reader) c.if-branch.true c.in_ok-ends.ensures.end).taken, omega (arith, c.LOOP.invariant.within), λ last. absurd (not_past c.LOOP.pending.count c.LOOP.invariant.within (omega (arith, last))))
+    (c.loop-pending.pending.count + 0, takes_more _ (g.R.ByteReader.remaining c.loop-pending.reader) _ c.loop-pending.pending.count [] c.loop-pending.invariant.taken (at_last _ (g.R.ByteReader.remaining c.ends.new.reader) c.if-branch.true c.in_ok-ends.ensures.end).taken, omega (arith, c.loop-pending.invariant.within), λ last. absurd (not_past c.loop-pending.pending.count c.loop-pending.invariant.within (omega (arith, last))))
 
 pub returns-then-pending-eq-MOST-clause-told : goal.returns-then-pending-eq-MOST-clause-told
 returns-then-pending-eq-MOST-clause-told g c first quiet =
-    let one = one_more (g.R.ByteReader.remaining c.LOOP.reader) (g.R.ByteReader.remaining c.ends.new.reader) c.if-branch.false c.in_ok-ends.ensures.end in
-    run_cut 16777216 _ _ _ (g.R.ByteReader.remaining c.LOOP.reader) _ _ _ c.LOOP.pending.count c.LOOP.pending.lines c.LOOP.pending.bytes.items one.bytes (c.LOOP.invariant.told first quiet) c.LOOP.invariant.waits.0 c.LOOP.invariant.waits.1 one.taken c.LOOP.invariant.within (inr (c.if-pending-eq-MOST.true, at_most (length one.bytes) one.count_is))
+    let one = one_more (g.R.ByteReader.remaining c.loop-pending.reader) (g.R.ByteReader.remaining c.ends.new.reader) c.if-branch.false c.in_ok-ends.ensures.end in
+    run_cut 16777216 _ _ _ (g.R.ByteReader.remaining c.loop-pending.reader) _ _ _ c.loop-pending.pending.count c.loop-pending.pending.lines c.loop-pending.pending.bytes.items one.bytes (c.loop-pending.invariant.told first quiet) c.loop-pending.invariant.waits.0 c.loop-pending.invariant.waits.1 one.taken c.loop-pending.invariant.within (inr (c.if-pending-eq-MOST.true, at_most (length one.bytes) one.count_is))
 
 pub returns-then-pending-eq-MOST-clause-taken : goal.returns-then-pending-eq-MOST-clause-taken
 returns-then-pending-eq-MOST-clause-taken g c =
-    let one = one_more (g.R.ByteReader.remaining c.LOOP.reader) (g.R.ByteReader.remaining c.ends.new.reader) c.if-branch.false c.in_ok-ends.ensures.end in
-    (c.LOOP.pending.count + length one.bytes, takes_more _ (g.R.ByteReader.remaining c.LOOP.reader) _ c.LOOP.pending.count one.bytes c.LOOP.invariant.taken one.taken, omega (arith, c.LOOP.invariant.within, one.count_is), λ last. refl)
+    let one = one_more (g.R.ByteReader.remaining c.loop-pending.reader) (g.R.ByteReader.remaining c.ends.new.reader) c.if-branch.false c.in_ok-ends.ensures.end in
+    (c.loop-pending.pending.count + length one.bytes, takes_more _ (g.R.ByteReader.remaining c.loop-pending.reader) _ c.loop-pending.pending.count one.bytes c.loop-pending.invariant.taken one.taken, omega (arith, c.loop-pending.invariant.within, one.count_is), λ last. refl)
 
 pub returns-then-pending-eq-MOST-clause-cause : goal.returns-then-pending-eq-MOST-clause-cause
 returns-then-pending-eq-MOST-clause-cause g c is =
-    let one = one_more (g.R.ByteReader.remaining c.LOOP.reader) (g.R.ByteReader.remaining c.ends.new.reader) c.if-branch.false c.in_ok-ends.ensures.end in
-    inr (subst (λ n. TakesBytes (g.R.ByteReader.remaining c.args.reader.now) (g.R.ByteReader.remaining c.ends.new.reader) n) (all_and_one _ (length one.bytes) c.if-pending-eq-MOST.true one.count_is) (takes_more _ (g.R.ByteReader.remaining c.LOOP.reader) _ c.LOOP.pending.count one.bytes c.LOOP.invariant.taken one.taken))
+    let one = one_more (g.R.ByteReader.remaining c.loop-pending.reader) (g.R.ByteReader.remaining c.ends.new.reader) c.if-branch.false c.in_ok-ends.ensures.end in
+    inr (subst (λ n. TakesBytes (g.R.ByteReader.remaining c.args.reader.now) (g.R.ByteReader.remaining c.ends.new.reader) n) (all_and_one _ (length one.bytes) c.if-pending-eq-MOST.true one.count_is) (takes_more _ (g.R.ByteReader.remaining c.loop-pending.reader) _ c.loop-pending.pending.count one.bytes c.loop-pending.invariant.taken one.taken))
 
 pub returns-in_err-ends : goal.returns-in_err-ends
 returns-in_err-ends g c =
     let p = err_from_is_err_and c.from_residual-in_err-ends.result c.from_residual-in_err-ends.ensures.1 in
     let failed = c.in_err-ends.ensures.end in
     record {
-      told = λ first quiet. rw (p.1, p.2.0 failed.0) (run_cut 16777216 _ _ _ (g.R.ByteReader.remaining c.LOOP.reader) _ _ _ c.LOOP.pending.count c.LOOP.pending.lines c.LOOP.pending.bytes.items [] (c.LOOP.invariant.told first quiet) c.LOOP.invariant.waits.0 c.LOOP.invariant.waits.1
-          failed.1 c.LOOP.invariant.within (inl refl));
-      later = c.LOOP.invariant.later;
+      told = λ first quiet. rw (p.1, p.2.0 failed.0) (run_cut 16777216 _ _ _ (g.R.ByteReader.remaining c.loop-pending.reader) _ _ _ c.loop-pending.pending.count c.loop-pending.pending.lines c.loop-pending.pending.bytes.items [] (c.loop-pending.invariant.told first quiet) c.loop-pending.invariant.waits.0 c.loop-pending.invariant.waits.1
+          failed.1 c.loop-pending.invariant.within (inl refl));
+      later = c.loop-pending.invariant.later;
       cause = rw (p.1) (λ is. inl c.in_err-ends.ensures.cause);
-      reader = λ first follows. c.ends.ensures.kept first (c.LOOP.invariant.reader first follows);
+      reader = λ first follows. c.ends.ensures.kept first (c.loop-pending.invariant.reader first follows);
       stopped = rw (p.1, p.2.0 failed.0) (search rules);
-      kept = c.LOOP.invariant.kept;
-      running = c.LOOP.invariant.running;
-      taken = (c.LOOP.pending.count + 0, takes_more _ (g.R.ByteReader.remaining c.LOOP.reader) _ c.LOOP.pending.count [] c.LOOP.invariant.taken failed.1, omega (arith, c.LOOP.invariant.within), λ last. absurd (not_past c.LOOP.pending.count c.LOOP.invariant.within (omega (arith, last))));
+      kept = c.loop-pending.invariant.kept;
+      running = c.loop-pending.invariant.running;
+      taken = (c.loop-pending.pending.count + 0, takes_more _ (g.R.ByteReader.remaining c.loop-pending.reader) _ c.loop-pending.pending.count [] c.loop-pending.invariant.taken failed.1, omega (arith, c.loop-pending.invariant.within), λ last. absurd (not_past c.loop-pending.pending.count c.loop-pending.invariant.within (omega (arith, last))));
     }
 
 pub returns-then-at_end-clause-told : goal.returns-then-at_end-clause-told
 returns-then-at_end-clause-told g c first quiet =
-    let read = at_end (g.R.ByteReader.remaining c.LOOP.reader) (g.R.ByteReader.remaining c.read.new.reader) _ _ _ _ _ c.if-at_end.true c.in_ok-at_end.ensures.read in
-    let before = quiet_first _ c.LOOP.self _ quiet c.LOOP.invariant.later c.run_end-then-at_end.ensures.later in
-    let following = quiet_second _ c.LOOP.self _ quiet c.LOOP.invariant.later c.run_end-then-at_end.ensures.later (c.LOOP.invariant.running before) in
-    run_over 16777216 _ (state_of c.LOOP.self) _ _ (g.R.ByteReader.remaining c.LOOP.reader) _ _ (watch g.K.Watcher.contents g.K.Watcher.was_shown first c.LOOP.watcher) _ c.LOOP.pending.count c.LOOP.pending.bytes.items c.deref-then-at_end.result.now c.run_end-then-at_end.result
-    (c.LOOP.invariant.told first before) c.LOOP.invariant.within read.0 (c.deref-then-at_end.ensures.value ∙ read.1) (c.run_end-then-at_end.ensures.told first following)
+    let read = at_end (g.R.ByteReader.remaining c.loop-pending.reader) (g.R.ByteReader.remaining c.read.new.reader) _ _ _ _ _ c.if-at_end.true c.in_ok-at_end.ensures.read in
+    let before = quiet_first _ c.loop-pending.self _ quiet c.loop-pending.invariant.later c.run_end-then-at_end.ensures.later in
+    let following = quiet_second _ c.loop-pending.self _ quiet c.loop-pending.invariant.later c.run_end-then-at_end.ensures.later (c.loop-pending.invariant.running before) in
+    run_over 16777216 _ (state_of c.loop-pending.self) _ _ (g.R.ByteReader.remaining c.loop-pending.reader) _ _ (watch g.K.Watcher.contents g.K.Watcher.was_shown first c.loop-pending.watcher) _ c.loop-pending.pending.count c.loop-pending.pending.bytes.items c.deref-then-at_end.result.now c.run_end-then-at_end.result
+    (c.loop-pending.invariant.told first before) c.loop-pending.invariant.within read.0 (c.deref-then-at_end.ensures.value ∙ read.1) (c.run_end-then-at_end.ensures.told first following)
 
 pub returns-then-at_end-clause-taken : goal.returns-then-at_end-clause-taken
 returns-then-at_end-clause-taken g c =
-    let read = at_end (g.R.ByteReader.remaining c.LOOP.reader) (g.R.ByteReader.remaining c.read.new.reader) _ _ _ _ _ c.if-at_end.true c.in_ok-at_end.ensures.read in
-    (c.LOOP.pending.count + 0, takes_more _ (g.R.ByteReader.remaining c.LOOP.reader) _ c.LOOP.pending.count [] c.LOOP.invariant.taken read.0.taken, omega (arith, c.LOOP.invariant.within), λ last. absurd (not_past c.LOOP.pending.count c.LOOP.invariant.within (omega (arith, last))))
+    let read = at_end (g.R.ByteReader.remaining c.loop-pending.reader) (g.R.ByteReader.remaining c.read.new.reader) _ _ _ _ _ c.if-at_end.true c.in_ok-at_end.ensures.read in
+    (c.loop-pending.pending.count + 0, takes_more _ (g.R.ByteReader.remaining c.loop-pending.reader) _ c.loop-pending.pending.count [] c.loop-pending.invariant.taken read.0.taken, omega (arith, c.loop-pending.invariant.within), λ last. absurd (not_past c.loop-pending.pending.count c.loop-pending.invariant.within (omega (arith, last))))
 
 pub returns-in_err-run_given-clause-told : goal.returns-in_err-run_given-clause-told
 returns-in_err-run_given-clause-told g c first quiet =
     let p = err_from_is_err_and c.from_residual-in_err-run_given.result c.from_residual-in_err-run_given.ensures.1 in
-    let read = more_read (g.R.ByteReader.remaining c.LOOP.reader) (g.R.ByteReader.remaining c.read.new.reader) _ _ _ _ _ c.if-at_end.false c.in_ok-at_end.ensures.read in
-    let before = quiet_first _ c.LOOP.self _ quiet c.LOOP.invariant.later c.run_given.ensures.later in
-    let following = quiet_second _ c.LOOP.self _ quiet c.LOOP.invariant.later c.run_given.ensures.later (c.LOOP.invariant.running before) in
-    let fed = run_fed _ (state_of c.LOOP.self) _ (g.R.ByteReader.remaining c.LOOP.reader) _ _ (watch g.K.Watcher.contents g.K.Watcher.was_shown first c.LOOP.watcher) c.LOOP.pending.count c.LOOP.pending.bytes.items read.0 (c.LOOP.invariant.told first before) read.1 in
-    rw (p.1, p.2) (run_stopped 16777216 _ (state_of c.LOOP.self) _ _ (g.R.ByteReader.remaining c.read.new.reader) _ (watch g.K.Watcher.contents g.K.Watcher.was_shown first c.LOOP.watcher) _ (c.LOOP.pending.count + length read.0) (c.LOOP.pending.bytes.items ++ read.0) c.run_given.new.pending.bytes.items c.in_err-run_given.field-0.0
+    let read = more_read (g.R.ByteReader.remaining c.loop-pending.reader) (g.R.ByteReader.remaining c.read.new.reader) _ _ _ _ _ c.if-at_end.false c.in_ok-at_end.ensures.read in
+    let before = quiet_first _ c.loop-pending.self _ quiet c.loop-pending.invariant.later c.run_given.ensures.later in
+    let following = quiet_second _ c.loop-pending.self _ quiet c.loop-pending.invariant.later c.run_given.ensures.later (c.loop-pending.invariant.running before) in
+    let fed = run_fed _ (state_of c.loop-pending.self) _ (g.R.ByteReader.remaining c.loop-pending.reader) _ _ (watch g.K.Watcher.contents g.K.Watcher.was_shown first c.loop-pending.watcher) c.loop-pending.pending.count c.loop-pending.pending.bytes.items read.0 (c.loop-pending.invariant.told first before) read.1 in
+    rw (p.1, p.2) (run_stopped 16777216 _ (state_of c.loop-pending.self) _ _ (g.R.ByteReader.remaining c.read.new.reader) _ (watch g.K.Watcher.contents g.K.Watcher.was_shown first c.loop-pending.watcher) _ (c.loop-pending.pending.count + length read.0) (c.loop-pending.pending.bytes.items ++ read.0) c.run_given.new.pending.bytes.items c.in_err-run_given.field-0.0
     fed (omega (arith, read.3, read.4))
-    (subst (λ (l : List ℕ). RunsGiven l c.run_given.new.pending.bytes.items (state_of c.LOOP.self) (state_of c.run_given.new.self) (watch g.K.Watcher.contents g.K.Watcher.was_shown first c.LOOP.watcher) (watch g.K.Watcher.contents g.K.Watcher.was_shown first c.run_given.new.watcher) (Err c.in_err-run_given.field-0.0)) read.2 (c.in_err-run_given.ensures.told first following)))
+    (subst (λ (l : List ℕ). RunsGiven l c.run_given.new.pending.bytes.items (state_of c.loop-pending.self) (state_of c.run_given.new.self) (watch g.K.Watcher.contents g.K.Watcher.was_shown first c.loop-pending.watcher) (watch g.K.Watcher.contents g.K.Watcher.was_shown first c.run_given.new.watcher) (Err c.in_err-run_given.field-0.0)) read.2 (c.in_err-run_given.ensures.told first following)))
 
 pub returns-in_err-run_given-clause-taken : goal.returns-in_err-run_given-clause-taken
 returns-in_err-run_given-clause-taken g c =
-    let read = more_read (g.R.ByteReader.remaining c.LOOP.reader) (g.R.ByteReader.remaining c.read.new.reader) _ _ _ _ _ c.if-at_end.false c.in_ok-at_end.ensures.read in
-    (c.LOOP.pending.count + length read.0, takes_more _ (g.R.ByteReader.remaining c.LOOP.reader) _ c.LOOP.pending.count read.0 c.LOOP.invariant.taken read.1, omega (arith, read.3, read.4), λ last. absurd (not_past (c.LOOP.pending.count + length read.0) (omega (arith, read.3, read.4)) last))
+    let read = more_read (g.R.ByteReader.remaining c.loop-pending.reader) (g.R.ByteReader.remaining c.read.new.reader) _ _ _ _ _ c.if-at_end.false c.in_ok-at_end.ensures.read in
+    (c.loop-pending.pending.count + length read.0, takes_more _ (g.R.ByteReader.remaining c.loop-pending.reader) _ c.loop-pending.pending.count read.0 c.loop-pending.invariant.taken read.1, omega (arith, read.3, read.4), λ last. absurd (not_past (c.loop-pending.pending.count + length read.0) (omega (arith, read.3, read.4)) last))
 
 pub returns-in_err-at_end : goal.returns-in_err-at_end
 returns-in_err-at_end g c =
@@ -134,45 +134,45 @@ returns-in_err-at_end g c =
     let lost = c.in_err-at_end.ensures.read in
     record {
       told = λ first quiet. elim lost.3 [
-        | inl none ↦ rw (p.1, p.2.0 none.0) (run_cut 16777216 _ _ _ (g.R.ByteReader.remaining c.LOOP.reader) _ _ _ c.LOOP.pending.count c.LOOP.pending.lines c.LOOP.pending.bytes.items [] (c.LOOP.invariant.told first quiet) c.LOOP.invariant.waits.0 c.LOOP.invariant.waits.1
-            (subst (λ (l : List ℕ). Consumes (g.R.ByteReader.remaining c.LOOP.reader) (g.R.ByteReader.remaining c.read.new.reader) l) none.1 lost.1) c.LOOP.invariant.within (inl refl))
-        | inr lack ↦ rw (p.1, p.2.1 lack) (run_unread 16777216 _ _ _ (g.R.ByteReader.remaining c.LOOP.reader) _ _ _ c.LOOP.pending.count c.LOOP.pending.bytes.items lost.0 (c.LOOP.invariant.told first quiet) lost.1 lost.2)
+        | inl none ↦ rw (p.1, p.2.0 none.0) (run_cut 16777216 _ _ _ (g.R.ByteReader.remaining c.loop-pending.reader) _ _ _ c.loop-pending.pending.count c.loop-pending.pending.lines c.loop-pending.pending.bytes.items [] (c.loop-pending.invariant.told first quiet) c.loop-pending.invariant.waits.0 c.loop-pending.invariant.waits.1
+            (subst (λ (l : List ℕ). Consumes (g.R.ByteReader.remaining c.loop-pending.reader) (g.R.ByteReader.remaining c.read.new.reader) l) none.1 lost.1) c.loop-pending.invariant.within (inl refl))
+        | inr lack ↦ rw (p.1, p.2.1 lack) (run_unread 16777216 _ _ _ (g.R.ByteReader.remaining c.loop-pending.reader) _ _ _ c.loop-pending.pending.count c.loop-pending.pending.bytes.items lost.0 (c.loop-pending.invariant.told first quiet) lost.1 lost.2)
       ];
-      later = c.LOOP.invariant.later;
+      later = c.loop-pending.invariant.later;
       cause = elim lost.3 [
         | inl none ↦ rw (p.1) (λ is. inl (c.in_err-at_end.ensures.cause none.0))
         | inr lack ↦ rw (p.1, p.2.1 lack) (search rules)
       ];
-      reader = λ first follows. c.read.ensures.kept first (c.LOOP.invariant.reader first follows);
+      reader = λ first follows. c.read.ensures.kept first (c.loop-pending.invariant.reader first follows);
       stopped = elim lost.3 [
         | inl none ↦ rw (p.1, p.2.0 none.0) (search rules)
         | inr lack ↦ rw (p.1, p.2.1 lack) (search rules)
       ];
-      kept = c.LOOP.invariant.kept;
-      running = c.LOOP.invariant.running;
-      taken = (c.LOOP.pending.count + length lost.0, takes_more _ (g.R.ByteReader.remaining c.LOOP.reader) _ c.LOOP.pending.count lost.0 c.LOOP.invariant.taken lost.1, omega (arith, lost.2), λ last. absurd (not_past (c.LOOP.pending.count + length lost.0) lost.2 last));
+      kept = c.loop-pending.invariant.kept;
+      running = c.loop-pending.invariant.running;
+      taken = (c.loop-pending.pending.count + length lost.0, takes_more _ (g.R.ByteReader.remaining c.loop-pending.reader) _ c.loop-pending.pending.count lost.0 c.loop-pending.invariant.taken lost.1, omega (arith, lost.2), λ last. absurd (not_past (c.loop-pending.pending.count + length lost.0) lost.2 last));
     }
 
-pub LOOP-preserved : goal.LOOP-preserved
-LOOP-preserved g c =
-    let read = more_read (g.R.ByteReader.remaining c.LOOP.reader) (g.R.ByteReader.remaining c.read.new.reader) _ _ _ _ _ c.if-at_end.false c.in_ok-at_end.ensures.read in
+pub loop-pending-preserved : goal.loop-pending-preserved
+loop-pending-preserved g c =
+    let read = more_read (g.R.ByteReader.remaining c.loop-pending.reader) (g.R.ByteReader.remaining c.read.new.reader) _ _ _ _ _ c.if-at_end.false c.in_ok-at_end.ensures.read in
     record {
       told = λ first quiet.
-          let before = quiet_first _ c.LOOP.self _ quiet c.LOOP.invariant.later c.run_given.ensures.later in
-          let following = quiet_second _ c.LOOP.self _ quiet c.LOOP.invariant.later c.run_given.ensures.later (c.LOOP.invariant.running before) in
-          let fed = run_fed _ (state_of c.LOOP.self) _ (g.R.ByteReader.remaining c.LOOP.reader) _ _ (watch g.K.Watcher.contents g.K.Watcher.was_shown first c.LOOP.watcher) c.LOOP.pending.count c.LOOP.pending.bytes.items read.0 (c.LOOP.invariant.told first before) read.1 in
+          let before = quiet_first _ c.loop-pending.self _ quiet c.loop-pending.invariant.later c.run_given.ensures.later in
+          let following = quiet_second _ c.loop-pending.self _ quiet c.loop-pending.invariant.later c.run_given.ensures.later (c.loop-pending.invariant.running before) in
+          let fed = run_fed _ (state_of c.loop-pending.self) _ (g.R.ByteReader.remaining c.loop-pending.reader) _ _ (watch g.K.Watcher.contents g.K.Watcher.was_shown first c.loop-pending.watcher) c.loop-pending.pending.count c.loop-pending.pending.bytes.items read.0 (c.loop-pending.invariant.told first before) read.1 in
           subst (λ n. IsRunTo (state_of c.args.self.now) (state_of c.run_given.new.self) (g.R.ByteReader.remaining c.args.reader.now) (g.R.ByteReader.remaining c.read.new.reader) (watch g.K.Watcher.contents g.K.Watcher.was_shown first c.args.watcher.now) (watch g.K.Watcher.contents g.K.Watcher.was_shown first c.run_given.new.watcher) n c.run_given.new.pending.bytes.items)
           (sym (c.run_given.ensures.count ∙ read.3))
-          (run_on _ (state_of c.LOOP.self) _ _ (g.R.ByteReader.remaining c.read.new.reader) _ (watch g.K.Watcher.contents g.K.Watcher.was_shown first c.LOOP.watcher) _ (c.LOOP.pending.count + length read.0) (c.LOOP.pending.bytes.items ++ read.0) c.run_given.new.pending.bytes.items fed
-          (subst (λ (l : List ℕ). RunsGiven l c.run_given.new.pending.bytes.items (state_of c.LOOP.self) (state_of c.run_given.new.self) (watch g.K.Watcher.contents g.K.Watcher.was_shown first c.LOOP.watcher) (watch g.K.Watcher.contents g.K.Watcher.was_shown first c.run_given.new.watcher) (Ok tt)) read.2 (c.in_ok-run_given.ensures.told first following)));
+          (run_on _ (state_of c.loop-pending.self) _ _ (g.R.ByteReader.remaining c.read.new.reader) _ (watch g.K.Watcher.contents g.K.Watcher.was_shown first c.loop-pending.watcher) _ (c.loop-pending.pending.count + length read.0) (c.loop-pending.pending.bytes.items ++ read.0) c.run_given.new.pending.bytes.items fed
+          (subst (λ (l : List ℕ). RunsGiven l c.run_given.new.pending.bytes.items (state_of c.loop-pending.self) (state_of c.run_given.new.self) (watch g.K.Watcher.contents g.K.Watcher.was_shown first c.loop-pending.watcher) (watch g.K.Watcher.contents g.K.Watcher.was_shown first c.run_given.new.watcher) (Ok tt)) read.2 (c.in_ok-run_given.ensures.told first following)));
       waits = c.in_ok-run_given.ensures.waits;
-      taken = subst (λ n. TakesBytes (g.R.ByteReader.remaining c.args.reader.now) (g.R.ByteReader.remaining c.read.new.reader) n) (sym (c.run_given.ensures.count ∙ read.3)) (takes_more _ (g.R.ByteReader.remaining c.LOOP.reader) _ c.LOOP.pending.count read.0 c.LOOP.invariant.taken read.1);
+      taken = subst (λ n. TakesBytes (g.R.ByteReader.remaining c.args.reader.now) (g.R.ByteReader.remaining c.read.new.reader) n) (sym (c.run_given.ensures.count ∙ read.3)) (takes_more _ (g.R.ByteReader.remaining c.loop-pending.reader) _ c.loop-pending.pending.count read.0 c.loop-pending.invariant.taken read.1);
       within = omega (arith, c.run_given.ensures.count, read.4);
-      piece = c.LOOP.invariant.piece;
-      later = later_trans _ _ _ c.LOOP.invariant.later c.run_given.ensures.later;
-      kept = λ first follows. c.run_given.ensures.kept first (c.LOOP.invariant.kept first follows);
-      reader = λ first follows. c.read.ensures.kept first (c.LOOP.invariant.reader first follows);
+      piece = c.loop-pending.invariant.piece;
+      later = later_trans _ _ _ c.loop-pending.invariant.later c.run_given.ensures.later;
+      kept = λ first follows. c.run_given.ensures.kept first (c.loop-pending.invariant.kept first follows);
+      reader = λ first follows. c.read.ensures.kept first (c.loop-pending.invariant.reader first follows);
       running = λ quiet.
-          let before = quiet_first _ c.LOOP.self _ quiet c.LOOP.invariant.later c.run_given.ensures.later in
-          c.run_given.ensures.running (quiet_second _ c.LOOP.self _ quiet c.LOOP.invariant.later c.run_given.ensures.later (c.LOOP.invariant.running before));
+          let before = quiet_first _ c.loop-pending.self _ quiet c.loop-pending.invariant.later c.run_given.ensures.later in
+          c.run_given.ensures.running (quiet_second _ c.loop-pending.self _ quiet c.loop-pending.invariant.later c.run_given.ensures.later (c.loop-pending.invariant.running before));
     }

@@ -6,8 +6,8 @@ use Rattle.system_session.specs.Session.{state_of, NoCallFailed, IsLater}
 use Rattle.system_session.proofs.sessions.Session.run_read.Given as goal
 
 -- the items of what was taken are answered, up to those of the bytes that are left, of which none is whole
-abbrev pub invariant-LOOP : goal.invariant-LOOP
-invariant-LOOP g l = record {
+abbrev pub invariant-loop-pending : goal.invariant-loop-pending
+invariant-loop-pending g l = record {
   told : (first : _) → NoCallFailed l.fn.self l.self → IsRunTo (state_of l.fn.self) (state_of l.self) (g.R.ByteReader.remaining l.fn.reader) (g.R.ByteReader.remaining l.reader)
       (watch g.K.Watcher.contents g.K.Watcher.was_shown first l.fn.watcher) (watch g.K.Watcher.contents g.K.Watcher.was_shown first l.watcher) l.pending.count l.pending.bytes.items;
   waits : (0 < l.pending.lines) × WaitsForLines l.pending.bytes.items l.pending.lines;
@@ -21,5 +21,5 @@ invariant-LOOP g l = record {
 }
 
 -- each read gives one byte at least
-abbrev pub decreases-LOOP : goal.decreases-LOOP
-decreases-LOOP g l = 16777216 - l.pending.count
+abbrev pub decreases-loop-pending : goal.decreases-loop-pending
+decreases-loop-pending g l = 16777216 - l.pending.count
