@@ -1,6 +1,7 @@
 -- What the program does with the words that it was started with (this project's profile).
-use Rattle.std.specs.Prelude.{◌≡◌, ◌⊎◌, ℕ, suc, Bool, false, codes, decimal, Option, Some, None, String, Result, Ok, Err, List, [], ◌∷◌, ◌++◌, IsUtf8, length, map}
+use Rattle.std.specs.Prelude.{◌≡◌, ◌⊎◌, ℕ, suc, Bool, false, codes, decimal, Some, None, String, Result, Ok, Err, List, [], ◌∷◌, ◌++◌, IsUtf8, length, map}
 use Rattle.std.specs.Global.{Global, Vec}
+use Rattle.byte_reader.specs.Readings.{Reading}
 use Rattle.clap.specs.Words.{Text}
 use Rattle.hosts.specs.Event.{Event, Word, failed_call, print_call, tell_call, terminal_call, word_call}
 use Rattle.hosts.specs.declared.faults.HostFault.TheVariants as host
@@ -59,7 +60,7 @@ GetsWords old (Err ending) new = (words : List Text) × (mid : List Event) × Ar
 -- ## The program
 
 -- The words of a command line are done as they ask, unless memory is wanted for them first. It is asked whether a person types the input.
-abbrev pub RunsGiven : List Text → Option (List ℕ) → List Event → List Event → ℕ → Type 0
+abbrev pub RunsGiven : List Text → Reading → List Event → List Event → ℕ → Type 0
 RunsGiven words input old new status = WantsMemory old new status ⊎ ((is_typed : Bool) × RunsWords words is_typed input (terminal_call is_typed 0 ∷ old) new status)
 
 -- there is no memory for the last line of a command, and nothing is done
@@ -70,12 +71,12 @@ pub record LacksRoom (old new : List Event) (status : ℕ) : Type 0 where
   pub failure : status ≡ 1
 
 -- the words that a program has are done as they ask, and else it ends
-abbrev pub RunsGot : Option (List ℕ) → List Event → Result (Vec (String Global)) Ending → List Event → ℕ → Type 0
+abbrev pub RunsGot : Reading → List Event → Result (Vec (String Global)) Ending → List Event → ℕ → Type 0
 RunsGot input old (Ok words) new status = RunsGiven (map (λ word. word.bytes.items) words.items) input old new status
 RunsGot input old (Err ending) new status = EndsSo false (Err ending) old new status
 
 -- The words that the host gives are done as they ask. Before anything else memory for the last line is taken.
-abbrev pub RunsProgram : Option (List ℕ) → List Event → List Event → ℕ → Type 0
+abbrev pub RunsProgram : Reading → List Event → List Event → ℕ → Type 0
 RunsProgram input old new status =
     LacksRoom old new status
     ⊎ ((words : Result (Vec (String Global)) Ending) × (between : List Event) × GetsWords old words between × RunsGot input between words new status)

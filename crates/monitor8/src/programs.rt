@@ -1,14 +1,16 @@
 //! The program: what the words that it was started with ask for, over any host, and over the system that it runs in.
 ghost use Rattle.std.specs.Prelude.{◌≡◌, map};
+ghost use Rattle.byte_reader.specs.Readings.{reading};
 ghost use Rattle.monitor8.specs.Words.{RunsGiven, RunsProgram};
 
 use crate::words::{texts_of, words_of};
+use byte_reader::{ByteReader, WatchedReader};
 use hosts::{Host, Stream};
 use outcome::{Ending, no_memory_line};
 use std::alloc::Global;
 use std::env::Env;
 use std::fs::{File, Files};
-use std::io::{Input, IsTerminal, Read};
+use std::io::{Input, IsTerminal};
 use std::process::ExitCode;
 use std::time::Clock;
 use system::System;
@@ -22,15 +24,17 @@ pub fn program<R: Env + Files<File = File> + Input + Print + Eprint + Clock + Al
 where
     R::Reader: IsTerminal,
 {
-    let (_, status) = run_program(System::new(rt), rt.alloc(), rt.reader());
+    let mut reader = rt.reader();
+    let mut input = WatchedReader::new(&mut reader);
+    let (_, status) = run_program(System::new(rt), rt.alloc(), &mut input);
     ExitCode::from(status)
 }
 
 /// Does what the words of the command line ask for, as `task_commands::run_words` has it. The exit status is 0, 1 after a fault, 141 where
 /// nobody reads standard output, and 2 for words that are refused (this project's profile). The memory for the last line is taken before
 /// anything else. The keys of a Teletype, or a script, are read from the input.
-pub fn run_program<H: Host, I: Read + Drop>(host: H, alloc: Global, input: I) -> (H, u8)
-    ensures { RunsProgram (I.remaining input) (H.history host) (H.history result.0) result.1 }
+pub fn run_program<H: Host, I: ByteReader>(host: H, alloc: Global, input: &mut I) -> (H, u8)
+    ensures { RunsProgram (reading I.remaining I.has_failed input.old input.new) (H.history host) (H.history result.0) result.1 }
 {
     let mut host = host;
     let Ok(rooms) = Rooms::new(alloc) else {
@@ -47,14 +51,14 @@ pub fn run_program<H: Host, I: Read + Drop>(host: H, alloc: Global, input: I) ->
 }
 
 /// Does what the words of a command line ask for, and gives the exit status. Memory may be wanted for them first.
-fn run_given<H: Host, I: Read + Drop>(
+fn run_given<H: Host, I: ByteReader>(
     host: H,
     alloc: Global,
     rooms: Rooms,
     words: &[String],
-    input: I,
+    input: &mut I,
 ) -> (H, u8)
-    ensures { RunsGiven (map (λ word. word.bytes.items) words.now) (I.remaining input) (H.history host) (H.history result.0) result.1 }
+    ensures { RunsGiven (map (λ word. word.bytes.items) words.now) (reading I.remaining I.has_failed input.old input.new) (H.history host) (H.history result.0) result.1 }
 {
     let mut host = host;
     match texts_of(alloc, words) {

@@ -1,5 +1,5 @@
 -- What is taken of a reader's bytes.
-use Rattle.std.specs.Prelude.{◌≡◌, ℕ, ◌+◌, ◌≤◌, ◌⊎◌, Result, Ok, Err, Option, Bool, true, false, List, [], ◌++◌, length}
+use Rattle.std.specs.Prelude.{◌≡◌, ℕ, ◌+◌, ◌<◌, ◌≤◌, ◌⊎◌, Result, Ok, Err, Option, Bool, true, false, List, [], ◌++◌, length}
 use Rattle.std.specs.Io.KnownBytes.{Consumes, IsAtEnd}
 use Rattle.script8.specs.declared.faults.SessionFault.{SessionFault}
 use Rattle.script8.specs.declared.faults.SessionFault.TheVariants.{Reader, Memory}
@@ -33,12 +33,17 @@ pub record IsReadFault (most : ℕ) (old new : Option (List ℕ)) (fault : Sessi
 abbrev pub ReadsOnce : ℕ → Option (List ℕ) → Option (List ℕ) → List ℕ → List ℕ → Result Bool SessionFault → Type 0
 ReadsOnce room old new before after (Ok true) = IsRead old new [] × (after ≡ before)
 ReadsOnce room old new before after (Ok false) =
-    (bytes : List ℕ) × Consumes old new bytes × (after ≡ before ++ bytes) × (length bytes ≤ room)
+    (bytes : List ℕ) × Consumes old new bytes × (after ≡ before ++ bytes) × (0 < length bytes) × (length bytes ≤ room)
 ReadsOnce room old new before after (Err fault) =
     (bytes : List ℕ) × Consumes old new bytes × (after ≡ before) × (length bytes ≤ room)
     × (((fault ≡ Reader) × (bytes ≡ [])) ⊎ (fault ≡ Memory))
 
--- whether a reader was at its end; one more byte may have been taken to see it
-abbrev pub IsReaderEnd : Option (List ℕ) → Option (List ℕ) → Bool → Type 0
-IsReaderEnd old new true = IsRead old new []
-IsReaderEnd old new false = (bytes : List ℕ) × Consumes old new bytes × (length bytes ≤ 1)
+-- whether a reader was at its end; if not, one byte was taken to see it, or it failed
+abbrev pub IsReaderEnd : Option (List ℕ) → Option (List ℕ) → Result Bool SessionFault → Type 0
+IsReaderEnd old new (Ok true) = IsRead old new []
+IsReaderEnd old new (Ok false) = TakesBytes old new 1
+IsReaderEnd old new (Err fault) = (fault ≡ Reader) × Consumes old new []
+
+-- why no more is read: the reader has failed, or one byte more was taken than may be read
+abbrev pub MayReadNoMore : ℕ → Type 0 → Option (List ℕ) → Option (List ℕ) → Type 0
+MayReadNoMore most has_failed old new = has_failed ⊎ TakesBytes old new (most + 1)

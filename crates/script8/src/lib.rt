@@ -33,6 +33,6 @@ pub use lines::Line;
 pub use names::Names;
 pub use operands::are_steps;
 pub use parsing::parse_line;
-pub use readings::read_all;
+pub use readings::{read_all, read_whole};
 pub use refusals::put_directory_fault;
 pub use replies::{LineReply, Reply, Report, StepEnd};

@@ -1,15 +1,15 @@
 //! What a reader gives, in pieces and to its end.
 
-ghost use Rattle.std.specs.Prelude.{◌≡◌, ◌<◌, [], true, length, vec_len, IfOk, MatchResult};
-ghost use Rattle.std.specs.IoError.{error_kind};
-ghost use Rattle.std.specs.declared.io.ErrorKind.TheVariants.{Interrupted};
+ghost use Rattle.std.specs.Prelude.{◌≡◌, ◌<◌, [], length, vec_len, IfErr, IfOk, MatchResult, OnErr};
 ghost use Rattle.script8.specs.Reading.{ReadsOnce, IsReaderEnd};
 ghost use Rattle.script8.specs.ReadSteps.{ReadsWithin};
-ghost use Rattle.script8.specs.Reading.{IsReadWithin, IsReadFault};
+ghost use Rattle.script8.specs.Reading.{IsReadWithin, IsReadFault, MayReadNoMore};
+ghost use Rattle.script8.specs.declared.faults.SessionFault.TheVariants as fault;
 
 use crate::SessionFault;
+use byte_reader::{ByteReader, WatchedReader, read_bytes};
 use std::alloc::{AllocError, Global};
-use std::io::{self, ErrorKind, Read};
+use std::io::Read;
 
 /// How many bytes are read at most.
 pub const MOST: usize = 16_777_216;
@@ -23,12 +23,25 @@ pub fn read_all<R: Read>(alloc: Global, reader: &mut R) -> Result<Vec<u8>, Sessi
         (λ bytes. IsReadWithin 16777216 (R.remaining reader.old) (R.remaining reader.new) bytes.items)
         (λ fault. IsReadFault 16777216 (R.remaining reader.old) (R.remaining reader.new) fault) }
 {
+    read_whole(alloc, &mut WatchedReader::new(reader))
+}
+
+/// The same of a reader of which it is known whether it has failed.
+pub fn read_whole<R: ByteReader>(alloc: Global, reader: &mut R) -> Result<Vec<u8>, SessionFault>
+    ensures read { MatchResult result
+        (λ bytes. IsReadWithin 16777216 (R.remaining reader.old) (R.remaining reader.new) bytes.items)
+        (λ fault. IsReadFault 16777216 (R.remaining reader.old) (R.remaining reader.new) fault) }
+    ensures cause { IfErr result (λ e. e ≡ fault.Reader → MayReadNoMore 16777216 (R.has_failed reader.new)
+        (R.remaining reader.old) (R.remaining reader.new)) }
+    ensures kept { (first : R) → R.follows first reader.old → R.follows first reader.new }
+{
     let mut bytes = Vec::new(alloc);
     let at_end = read_within(alloc, reader, &mut bytes)?;
     if at_end {
         return Ok(bytes);
     }
-    if ends(reader) {
+    let at_end = ends(reader)?;
+    if at_end {
         return Ok(bytes);
     }
     Err(SessionFault::Reader)
@@ -36,80 +49,59 @@ pub fn read_all<R: Read>(alloc: Global, reader: &mut R) -> Result<Vec<u8>, Sessi
 
 /// Reads `MOST` bytes at most, and answers whether the reader ended with them. Where it fails, the bytes that it gave are
 /// kept.
-fn read_within<R: Read>(
+fn read_within<R: ByteReader>(
     alloc: Global,
     reader: &mut R,
     bytes: &mut Vec<u8>,
 ) -> Result<bool, SessionFault>
     requires { bytes.old.items ≡ [] }
-    ensures { ReadsWithin 16777216 (R.remaining reader.old) (R.remaining reader.new) bytes.new.items result }
+    ensures read { ReadsWithin 16777216 (R.remaining reader.old) (R.remaining reader.new) bytes.new.items result }
+    ensures cause { IfErr result (λ e. e ≡ fault.Reader → R.has_failed reader.new) }
+    ensures kept { (first : R) → R.follows first reader.old → R.follows first reader.new }
 {
     let mut piece = zero_bytes(alloc, PIECE)?;
-    for _ in 0..u64::MAX {
-        if bytes.len() == MOST {
-            return Ok(false);
-        }
+    while bytes.len() < MOST {
         let room = PIECE.min(MOST - bytes.len());
         if read_piece(reader, &mut piece[..room], bytes)? {
             return Ok(true);
         }
     }
-    Err(SessionFault::Reader)
+    Ok(false)
 }
 
-/// Reads once, as much as a piece takes, and answers whether that was the reader's end.
-pub fn read_piece<R: Read>(
+/// Reads once, as much as a piece takes, and answers whether that was the reader's end. A call that is interrupted is made again.
+pub fn read_piece<R: ByteReader>(
     reader: &mut R,
     piece: &mut [u8],
     bytes: &mut Vec<u8>,
 ) -> Result<bool, SessionFault>
     requires piece { 0 < length piece.old }
-    ensures { ReadsOnce (length piece.old) (R.remaining reader.old) (R.remaining reader.new)
+    ensures read { ReadsOnce (length piece.old) (R.remaining reader.old) (R.remaining reader.new)
         bytes.old.items bytes.new.items result }
+    ensures cause { IfErr result (λ e. e ≡ fault.Reader → R.has_failed reader.new) }
+    ensures kept { (first : R) → R.follows first reader.old → R.follows first reader.new }
 {
-    match reader.read(piece) {
+    match read_bytes(reader, piece) {
         Ok(0) => Ok(true),
         Ok(count) => {
             bytes.extend_from_slice(&piece[..count])?;
             Ok(false)
         }
-        Err(error) => {
-            if is_interrupted(&error) {
-                Ok(false)
-            } else {
-                Err(SessionFault::Reader)
-            }
-        }
+        Err(_) => Err(SessionFault::Reader),
     }
 }
 
-/// Whether the reader has no byte more; else it takes one more, or the reader failed.
-pub fn ends<R: Read>(reader: &mut R) -> bool
-    ensures { IsReaderEnd (R.remaining reader.old) (R.remaining reader.new) result }
+/// Whether the reader has no byte more; else it takes one more.
+pub fn ends<R: ByteReader>(reader: &mut R) -> Result<bool, SessionFault>
+    ensures end { IsReaderEnd (R.remaining reader.old) (R.remaining reader.new) result }
+    ensures cause { OnErr result (R.has_failed reader.new) }
+    ensures kept { (first : R) → R.follows first reader.old → R.follows first reader.new }
 {
-    for _ in 0..u64::MAX {
-        let mut byte = [0u8];
-        match reader.read(&mut byte) {
-            Ok(0) => return true,
-            Ok(_) => return false,
-            Err(error) => {
-                if !is_interrupted(&error) {
-                    return false;
-                }
-            }
-        }
-    }
-    false
-}
-
-/// Whether a reader only says that it was interrupted.
-fn is_interrupted(error: &io::Error) -> bool
-    ensures it { result ≡ true → error_kind error.now ≡ Interrupted }
-    ensures all { error_kind error.now ≡ Interrupted → result ≡ true }
-{
-    match error.kind() {
-        ErrorKind::Interrupted => true,
-        _ => false,
+    let mut byte = [0u8];
+    match read_bytes(reader, &mut byte) {
+        Ok(0) => Ok(true),
+        Ok(_) => Ok(false),
+        Err(_) => Err(SessionFault::Reader),
     }
 }
 

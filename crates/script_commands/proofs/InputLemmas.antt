@@ -1,10 +1,10 @@
 -- How many bytes a reader gave.
-use Rattle.std.proofs.Common.{◌≡◌, ◌∙◌, ◌<◌, ◌≤◌, ◌+◌, ◌-◌, ◌^◌, ◌++◌, ℕ, min, Option, None, Some, List, [], length, take, nat_lt, true, refl, ap, sym, arith}
+use Rattle.std.proofs.Common.{◌≡◌, ◌∙◌, ◌<◌, ◌≤◌, ◌+◌, ◌-◌, ◌^◌, ◌++◌, ℕ, min, Option, None, Some, List, [], length, take, refl, ap, sym, arith}
 use Rattle.std.proofs.Math.Nat.{min-eq_left}
-use Rattle.std.proofs.lemmas.Bool.{ltb-true}
 use Rattle.std.proofs.lemmas.List.{append_assoc, length-append, length-take}
 use Rattle.script8.specs.declared.readings.TheConstants.{MOST}
-use Rattle.std.specs.Io.KnownBytes.{Consumes}
+use Rattle.std.specs.Io.KnownBytes.{Consumes, Keeps}
+use Rattle.std.proofs.KnownBytes.{Consumes-kept}
 use Rattle.script8.specs.Reading.{TakesBytes}
 use Rattle.script_commands.specs.InputSteps.{HasGiven}
 
@@ -30,11 +30,15 @@ given_more start old new count n buf sum g bound taken is = record { bytes = g.b
   counted : min (count + n) (2 ^ 64 - 1) ≡ min (length (g.bytes ++ take n buf)) (2 ^ 64 - 1)
   counted = rw (size, g.counted) (least (length g.bytes) (2 ^ 64 - 1) n)
 
+-- a read that fails gives none
+pub given_kept : (start old new : Option (List ℕ)) (count : ℕ) → HasGiven start old count → Keeps old new → HasGiven start new count
+given_kept start old new count g kept = record { bytes = g.bytes; taken = Consumes-kept start old new g.bytes g.taken kept; counted = g.counted }
+
 -- a count that is too large is one of as many bytes
-pub taken_more : (start now : Option (List ℕ)) (count : ℕ) → HasGiven start now count → nat_lt MOST count ≡ true → (n : ℕ) × TakesBytes start now n × (MOST < n)
+pub taken_more : (start now : Option (List ℕ)) (count : ℕ) → HasGiven start now count → MOST < count → (n : ℕ) × TakesBytes start now n × (MOST < n)
 taken_more start now count g more = (length g.bytes, record { bytes = g.bytes; taken = g.taken; count_is = refl }, within) where
   most : MOST < min (length g.bytes) (2 ^ 64 - 1)
-  most = rw (sym g.counted) (ltb-true MOST count more)
+  most = rw (sym g.counted) more
 
   within : MOST < length g.bytes
   within = omega (arith, most)

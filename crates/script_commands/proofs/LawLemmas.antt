@@ -1,5 +1,6 @@
 -- The laws of runs.
 use Rattle.std.proofs.Common.{◌≡◌, ◌∙◌, ◌⊎◌, ◌++◌, ℕ, Bool, true, false, List, [], ◌∷◌, Option, None, Some, Result, Ok, Err, ap, refl, sym, subst, inl, inr, length}
+use Rattle.byte_reader.specs.Readings.{Reading}
 use Rattle.hosts.specs.Event.{Event}
 use Rattle.disk_layouts.specs.Files.{Disk}
 use Rattle.hosts.specs.Place.{Place, Leaves, Allows, Just, Remainder, Step as HostStep, about, ever}
@@ -60,7 +61,7 @@ steps-keep is_typed start (RefusesPrint why bytes ∷ earlier) old new path (mid
 steps-keep is_typed start (Shows form ∷ earlier) old new path (mid, done, (typed, ok, is)) none = same path is ∙ steps-keep is_typed start earlier old mid path done none
 steps-keep is_typed start (Cuts ∷ earlier) old new path (mid, done, (ok, is)) none = same path is ∙ steps-keep is_typed start earlier old mid path done none
 
-session-keeps : (form : RunForm) (is_typed : Bool) (image : Image) (session : SessionView) (input : Option (List ℕ)) → form.saving ≡ Never → KeepsFiles (RunsSession form is_typed image session input)
+session-keeps : (form : RunForm) (is_typed : Bool) (image : Image) (session : SessionView) (input : Reading) → form.saving ≡ Never → KeepsFiles (RunsSession form is_typed image session input)
 session-keeps form is_typed image session input never old result new p path = steps-keep is_typed image p.steps old new path p.done (p.never never)
 
 -- what the crates below know of their steps is handed in
@@ -79,7 +80,7 @@ module _
     opens-keeps : (saving : Saving) (named : ImageForm) → saving ≡ Never → KeepsFiles (OpensFor saving named)
     opens-keeps saving named never = subst (λ (s : Saving). KeepsFiles (OpensFor s named)) (sym never) (reads-keeps named)
 
-    pub script-keeps : (named : ImageForm) (form : RunForm) (is_typed : Bool) (input : Option (List ℕ)) → form.saving ≡ Never → KeepsFiles (RunsScript named form is_typed input)
+    pub script-keeps : (named : ImageForm) (form : RunForm) (is_typed : Bool) (input : Reading) → form.saving ≡ Never → KeepsFiles (RunsScript named form is_typed input)
     script-keeps named form is_typed input never = then-keeps _ _ (opens-keeps form.saving named never)
         (λ image. then-keeps _ _ (purely-keeps _) (λ room. then-keeps _ _ (answers-keeps (MountsSession (is_parted image) image.bytes.items) (length image.bytes.items)) (λ session. session-keeps form is_typed image session input never)))
 

@@ -9,10 +9,10 @@ use Rattle.outcome.specs.declared.endings.Ending.{Ending}
 use Rattle.program_tasks.specs.declared.tasks.RunForm.{RunForm}
 use Rattle.program_tasks.specs.declared.tasks.Saving.{Saving}
 use Rattle.program_tasks.specs.declared.tasks.Saving.TheVariants.{Never}
-use Rattle.script8.specs.Reading.{TakesBytes}
+use Rattle.script8.specs.Reading.{MayReadNoMore, TakesBytes}
 use Rattle.script8.specs.declared.readings.TheConstants.{MOST}
 use Rattle.script8.specs.declared.faults.SessionFault.{SessionFault}
-use Rattle.script8.specs.declared.faults.SessionFault.TheVariants.{Writer}
+use Rattle.script8.specs.declared.faults.SessionFault.TheVariants.{Reader, Writer}
 use Rattle.system_session.specs.Script.{RunsText}
 use Rattle.system_session.specs.ShownAnswers.{ShownAnswer, ShowsText}
 use Rattle.system_session.specs.State.{State}
@@ -61,10 +61,6 @@ pub shows_at : (a b : State) (shown : List ShownAnswer) (input given left after 
 shows_at a b shown input given left after answer old h p shows is same none = subst (λ (t : List ℕ). ShowsText 16777216 a shown b input left (Some t) after answer) (ap (λ (l : List ℕ). output_text h ++ l) none ∙ (append-nil _ ∙ ap output_text same))
     (subst (λ (i : Option (List ℕ)). ShowsText 16777216 a shown b i left (Some (output_text h ++ p.lines.items)) after answer) is shows)
 
--- more bytes came than a script may have
-pub long_at : (start input left : Option (List ℕ)) (is_long : Bool) → input ≡ start → (is_long ≡ true → (count : ℕ) × TakesBytes start left count × (MOST < count)) → is_long ≡ true → (count : ℕ) × TakesBytes input left count × (MOST < count)
-long_at start input left is_long is long = subst (λ (i : Option (List ℕ)). is_long ≡ true → (count : ℕ) × TakesBytes i left count × (MOST < count)) (sym is) long
-
 none_more : (old new : ℕ) → 0 ≡ new → old ≤ new → new ≡ old
 none_more old new zero within = omega (arith, zero, within)
 
@@ -74,15 +70,16 @@ quiet old new running reads writes later = record { running = running; reads = n
 
 -- ## After
 
-stopped_by : (Ended : Type 0) (answer : Result (Unit {0}) SessionFault) → IfErr answer (λ e. e ≡ Writer → Ended) → answer ≡ Err Writer → Ended
-stopped_by Ended answer ends is = subst (λ (a : Result (Unit {0}) SessionFault). IfErr a (λ e. e ≡ Writer → Ended)) is ends refl
+ended_by : (fault : SessionFault) (Cause : Type 0) (answer : Result (Unit {0}) SessionFault) → IfErr answer (λ e. e ≡ fault → Cause) → answer ≡ Err fault → Cause
+ended_by fault Cause answer ends is = subst (λ (a : Result (Unit {0}) SessionFault). IfErr a (λ e. e ≡ fault → Cause)) is ends refl
 
 module _
     (form : RunForm) (is_typed : Bool) (image : Image) (session end : SessionView) (input left : Option (List ℕ)) (answer : Result (Unit {0}) SessionFault) (result : Result (Unit {0}) Ending)
-    (old ran limit last new : List Event) (p q r s : Progress) (blocks : List (List ℕ)) (is_long : Bool) (shown : List ShownAnswer)
+    (has_failed : Type 0) (old ran limit last new : List Event) (p q r s : Progress) (blocks : List (List ℕ)) (is_long : Bool) (shown : List ShownAnswer)
     (done : HasDone image old shown p ran) (saving : p.saving ≡ form.saving) (typed : p.is_typed ≡ is_typed)
     (told : RunsText 16777216 (state_of session) (state_of end) input left (Some (output_text old)) (Some (output_text ran ++ p.lines.items)) answer)
     (shows : ShowsText 16777216 (state_of session) shown (state_of end) input left (Some (output_text old)) (Some (output_text ran ++ p.lines.items)) answer)
+    (cause : IfErr answer (λ e. e ≡ Reader → MayReadNoMore 16777216 has_failed input left))
     (stopped : IfErr answer (λ e. e ≡ Writer → (p.save_ending ≡ None → ⊥) ⊎ (p.fault ≡ None → ⊥)))
     (long : is_long ≡ true → (count : ℕ) × TakesBytes input left count × (MOST < count))
     (done-q : (start : Image) (before : List Event) (those : List ShownAnswer) → HasDone start before those p ran → HasDone start before those q limit)
@@ -133,12 +130,11 @@ module _
         (subst (λ (u : Option Ending). EndsRun form.is_strict s.is_refused u (print_fault d.steps) answer result) d.why
         (subst (λ (f : Option PrintFault). EndsRun form.is_strict s.is_refused s.save_ending f answer result) d.fault ends))
 
-    pub session_ran : RunsSession form is_typed image session input old result new
+    pub session_ran : RunsSession form is_typed image session (record { before = input; after = left; has_failed = has_failed }) old result new
     session_ran = record {
       steps = d.steps;
       done = subst (λ (t : Bool). AreDone t image d.steps old new) s-typed d.done;
       end = end;
-      left = left;
       answer = answer;
       told = subst (λ (t : List ℕ). RunsText 16777216 (state_of session) (state_of end) input left (Some (output_text old)) (Some t) answer) (sym given ∙ replies) told;
       shown = shown;
@@ -151,7 +147,8 @@ module _
       never = λ never. d.never (s-saving ∙ never);
       kept = λ always. d.kept (s-saving ∙ always);
       saved = saved;
-      stopped = λ is. stops (stopped_by _ answer stopped is);
+      cause = λ is. ended_by Reader _ answer cause is;
+      stopped = λ is. stops (ended_by Writer _ answer stopped is);
       cut = λ is. long (cut-q (sym (cut-s ∙ cut-r) ∙ (d.cut ∙ is)));
       ends = ended;
     }

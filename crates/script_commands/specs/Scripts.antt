@@ -13,6 +13,7 @@ use Rattle.volume_jobs.specs.Jobs.{no_jobs}
 use Rattle.archive_files.specs.Opening.{IsUnopened}
 use Rattle.archive_files.specs.declared.faults.ArchiveFault.{ArchiveFault}
 use Rattle.archive_files.specs.declared.faults.ArchiveFault.TheVariants as archive
+use Rattle.byte_reader.specs.Readings.{Reading}
 use Rattle.hosts.specs.Event.{Event}
 use Rattle.hosts.specs.declared.faults.PrintFault.{PrintFault}
 use Rattle.hosts.specs.declared.faults.PrintFault.TheVariants.{Abandoned, Failed}
@@ -23,10 +24,10 @@ use Rattle.program_tasks.specs.declared.tasks.Saving.{Saving}
 use Rattle.program_tasks.specs.declared.tasks.Saving.TheVariants.{Never, AtEnd, Always}
 use Rattle.outcome.specs.declared.endings.Ending.{Ending}
 use Rattle.outcome.specs.declared.endings.Ending.TheVariants.{Fault, Failure, FullOutput, NoReader}
-use Rattle.script8.specs.Reading.{TakesBytes}
+use Rattle.script8.specs.Reading.{MayReadNoMore, TakesBytes}
 use Rattle.script8.specs.declared.readings.TheConstants.{MOST}
 use Rattle.script8.specs.declared.faults.SessionFault.{SessionFault}
-use Rattle.script8.specs.declared.faults.SessionFault.TheVariants.{Memory, Writer}
+use Rattle.script8.specs.declared.faults.SessionFault.TheVariants.{Memory, Reader, Writer}
 use Rattle.system_session.specs.Script.{RunsText}
 use Rattle.system_session.specs.Session.{SessionView, state_of}
 use Rattle.system_session.specs.ShownAnswers.{ShownAnswer, ShowsText}
@@ -113,17 +114,16 @@ EndsRun is_strict is_refused why fault answer = IsEndedBy (ending_of (is_strict 
 -- ## The run
 
 -- What a run of a script over a session does. The reader's bytes are its script, and the lines of its answers are printed, but for some
--- where standard output takes no more. The file has the image of the volume at the end, where it is to be saved and could be. Where each change
+-- where standard output takes no more. The reader's fault is an answer only where it has failed, or gave a byte too many. The file has the image of the volume at the end, where it is to be saved and could be. Where each change
 -- is to be kept, it had that of the volume right after each reply before the reply's lines. `shows` says which states these are of.
-pub record RunsSession (form : RunForm) (is_typed : Bool) (image : Image) (session : SessionView) (input : Option (List ℕ)) (old : List Event) (result : Result (Unit {0}) Ending) (new : List Event) : Type 0 where
+pub record RunsSession (form : RunForm) (is_typed : Bool) (image : Image) (session : SessionView) (input : Reading) (old : List Event) (result : Result (Unit {0}) Ending) (new : List Event) : Type 0 where
   pub steps : List Step
   pub done : AreDone is_typed image steps old new
   pub end : SessionView
-  pub left : Option (List ℕ)
   pub answer : Result (Unit {0}) SessionFault
-  pub told : RunsText 16777216 (state_of session) (state_of end) input left (Some (output_text old)) (Some (output_text old ++ reply_text steps)) answer
+  pub told : RunsText 16777216 (state_of session) (state_of end) input.before input.after (Some (output_text old)) (Some (output_text old ++ reply_text steps)) answer
   pub shown : List ShownAnswer
-  pub shows : ShowsText 16777216 (state_of session) shown (state_of end) input left (Some (output_text old)) (Some (output_text old ++ reply_text steps)) answer
+  pub shows : ShowsText 16777216 (state_of session) shown (state_of end) input.before input.after (Some (output_text old)) (Some (output_text old ++ reply_text steps)) answer
   pub replies : AreReplies steps shown
   pub waiting : List ℕ
   pub printed : reply_text steps ≡ printed_text steps ++ waiting
@@ -132,14 +132,15 @@ pub record RunsSession (form : RunForm) (is_typed : Bool) (image : Image) (sessi
   pub never : form.saving ≡ Never → AreUnsaved steps
   pub kept : form.saving ≡ Always → AreKept image steps
   pub saved : form.saving ≢ Never → save_ending steps ≡ None → IsImageOf (last_image image steps).bytes.items end.volume.blocks
+  pub cause : answer ≡ Err Reader → MayReadNoMore 16777216 input.has_failed input.before input.after
   pub stopped : answer ≡ Err Writer → (save_ending steps ≢ None) ⊎ (print_fault steps ≢ None)
-  pub cut : has_cut steps ≡ true → (count : ℕ) × TakesBytes input left count × (MOST < count)
+  pub cut : has_cut steps ≡ true → (count : ℕ) × TakesBytes input.before input.after count × (MOST < count)
   pub ends : EndsRun form.is_strict (has_refusal steps) (save_ending steps) (print_fault steps) answer result
 
 -- A script runs over a session of an image's volume, unless memory is wanted, or the image is refused.
-abbrev pub RunsOver : RunForm → Bool → Image → Option (List ℕ) → List Event → Result (Unit {0}) Ending → List Event → Type 0
+abbrev pub RunsOver : RunForm → Bool → Image → Reading → List Event → Result (Unit {0}) Ending → List Event → Type 0
 RunsOver form is_typed image input = Then (Purely (IsRoom {A = Unit {0}})) (λ room. Then (Answers (MountsSession (is_parted image) image.bytes.items) (length image.bytes.items)) (λ session. RunsSession form is_typed image session input))
 
 -- An image file is held and read, and the script runs over it.
-abbrev pub RunsScript : ImageForm → RunForm → Bool → Option (List ℕ) → List Event → Result (Unit {0}) Ending → List Event → Type 0
+abbrev pub RunsScript : ImageForm → RunForm → Bool → Reading → List Event → Result (Unit {0}) Ending → List Event → Type 0
 RunsScript named form is_typed input = Then (OpensFor form.saving named) (λ image. RunsOver form is_typed image input)

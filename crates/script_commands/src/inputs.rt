@@ -1,69 +1,56 @@
 //! A reader of which it is known how many bytes it gave.
-ghost use Rattle.std.specs.Prelude.{◌≡◌, ◌<◌, ℕ, List, Option, true};
-ghost use Rattle.script8.specs.Reading.{TakesBytes};
+ghost use Rattle.std.specs.Prelude.{◌≡◌, ◌<◌, true};
 ghost use Rattle.script8.specs.declared.readings.TheConstants.{MOST};
 
+use byte_reader::ByteReader;
 use script8::readings::MOST;
-use std::io::{self, Read};
-use std::marker::{Brand, Model, PhantomData};
+use std::io;
 
-/// What a reader has left before its bytes are counted. A function that counts them has a parameter of this bound, and a call of it at `Brand`
-/// picks what is left then in its proof.
-pub(crate) trait Start {
-    ghost bytes: { Option (List ℕ) };
-}
-
-impl Start for Brand {
-    ghost use Rattle.std.specs.Prelude.{None};
-
-    ghost bytes = { None };
-}
-
-/// A reader that counts its bytes.
+/// A reader that is lent, and how many bytes it gave.
 #[derive(Drop)]
-pub(crate) struct CountedInput<I: Read, B: Start> {
-    from: I,
-    count: usize,
-    start: PhantomData<B>,
+pub(crate) struct CountedInput<'a, I> {
+    pub(crate) from: &'a mut I,
+    pub(crate) count: usize,
 }
 
-impl<I: Read, B: Start> Model for CountedInput<I, B> {
-    ghost use Rattle.script_commands.specs.InputSteps.{HasGiven};
-
-    ghost Value = { I };
-
-    ghost view = { λ it. it.from };
-
-    ghost invariant = { λ it. HasGiven B.bytes (I.remaining it.from) it.count };
-}
-
-impl<I: Read, B: Start> CountedInput<I, B> {
+impl<'a, I> CountedInput<'a, I> {
     /// One of which nothing is read.
-    pub(crate) fn new(from: I) -> CountedInput<I, B>
-        requires { I.remaining from ≡ B.bytes }
-        ensures { result ≡ from }
+    pub(crate) fn new(from: &'a mut I) -> CountedInput<'a, I>
+        ensures from { result.from ≡ from.entry }
+        ensures count { result.count ≡ 0 }
     {
-        CountedInput {
-            from,
-            count: 0,
-            start: PhantomData,
-        }
+        CountedInput { from, count: 0 }
     }
 
     /// Whether it gave more bytes than a script may have.
     pub(crate) fn is_too_long(&self) -> bool
-        ensures { result ≡ true → (count : ℕ) × TakesBytes B.bytes (I.remaining self.now) count × (MOST < count) }
+        ensures { result ≡ true → MOST < self.now.count }
     {
         self.count > MOST
     }
 }
 
-impl<I: Read, B: Start> Read for CountedInput<I, B> {
-    ghost remaining = { λ it. I.remaining it };
+impl<'a, I: ByteReader> ByteReader for CountedInput<'a, I> {
+    ghost use Rattle.std.specs.Prelude.{◌≡◌, ℕ, List, Option};
+    ghost use Rattle.script_commands.specs.InputSteps.{HasGiven};
 
-    fn read(&mut self, buf: &mut [u8]) -> io::Result<usize> {
-        let count = self.from.read(buf)?;
-        self.count = self.count.saturating_add(count);
-        Ok(count)
+    ghost remaining = { λ it. I.remaining it.from.now };
+
+    ghost has_failed = { λ it. I.has_failed it.from.now };
+
+    ghost calls_left = { λ it. I.calls_left it.from.now };
+
+    ghost follows = { λ first it. (it.from.ghost_name ≡ first.from.ghost_name)
+        × ((start : Option (List ℕ)) → HasGiven start (I.remaining first.from.now) first.count
+        → HasGiven start (I.remaining it.from.now) it.count) };
+
+    fn read(&mut self, buffer: &mut [u8]) -> io::Result<usize> {
+        match self.from.read(buffer) {
+            Ok(count) => {
+                self.count = self.count.saturating_add(count);
+                Ok(count)
+            }
+            Err(error) => Err(error),
+        }
     }
 }

@@ -1,5 +1,6 @@
 //! What a run of a script leaves as it was, and what a crash may leave, as laws.
 ghost use Rattle.std.specs.Prelude.{◌≡◌, ◌⊎◌, ◌∷◌, ◌++◌, ℕ, Bool, List, None, Option, Result, true};
+ghost use Rattle.byte_reader.specs.Readings.{Reading};
 ghost use Rattle.hosts.specs.Event.{Event};
 ghost use Rattle.hosts.specs.Place.{Place, Leaves, about, ever};
 ghost use Rattle.program_tasks.specs.declared.forms.ImageForm.{ImageForm};
@@ -18,7 +19,7 @@ use volume_commands::laws::kept_files;
 
 /// Where the image is never to be saved, a run changes no file of the host, in whichever way it ends.
 pub fn unchanged_files()
-    ensures { (named : ImageForm) (form : RunForm) (is_typed : Bool) (input : Option (List ℕ)) → form.saving ≡ Never
+    ensures { (named : ImageForm) (form : RunForm) (is_typed : Bool) (input : Reading) → form.saving ≡ Never
         → KeepsFiles (RunsScript named form is_typed input) }
 {
     kept_files();

@@ -1,5 +1,6 @@
 //! The command that runs a script.
 ghost use Rattle.std.specs.Prelude.{◌≡◌, ◌++◌, List, [], None, is_some, length, true, false};
+ghost use Rattle.byte_reader.specs.Readings.{reading};
 ghost use Rattle.hosts.specs.Event.{Event};
 ghost use Rattle.hosts.specs.Streams.{output_text};
 ghost use Rattle.system_session.specs.ShownAnswers.{ShownAnswer};
@@ -9,21 +10,20 @@ ghost use Rattle.script_commands.specs.RunSteps.{HasDone, TellsCut};
 ghost use Rattle.script_commands.specs.Scripts as spec;
 ghost use Rattle.script_commands.specs.Scripts.{IsRoom, MountsSession, OpensFor, OnlyReads, RunsOver, RunsScript, RunsSession, EndsRun};
 
-use crate::inputs::{CountedInput, Start};
+use crate::inputs::CountedInput;
 use crate::printing::{ROOM, print_waiting};
 use crate::progress::Progress;
 use crate::saves::save_last;
 use crate::watching::Run;
 use archive_files::ArchiveFault;
 use archive_files::parts::volume_of;
+use byte_reader::ByteReader;
 use hosts::{Host, PrintFault};
 use os8_dir::DirFault;
 use outcome::{Ending, NameNote, Note};
 use program_tasks::{ImageForm, RunForm, Saving};
 use script8::SessionFault;
 use std::alloc::Global;
-use std::io::Read;
-use std::marker::Brand;
 use system_session::Session;
 use volume_commands::{Image, ImagePlace, look_file, refuse_image, script_volume_in, tell_note};
 use volume_image::{ImageFault, MemoryVolume};
@@ -31,15 +31,15 @@ use volume_image::{ImageFault, MemoryVolume};
 /// Runs the script of a reader over the volume of an image file, and prints its replies. The image is written when it is to be, if it
 /// changed; the memory for that is taken before the script. Where the forms of lines are given, a person types the script, and is shown the
 /// form of a bad line.
-pub fn run_script<H: Host, I: Read + Drop>(
+pub fn run_script<H: Host, I: ByteReader>(
     host: &mut H,
     alloc: Global,
-    input: I,
+    input: &mut I,
     named: &ImageForm,
     form: RunForm,
     forms: Option<&'static str>,
 ) -> Result<(), Ending>
-    ensures { RunsScript named.now form (is_some forms.entry) (I.remaining input) (H.history host.old) result (H.history host.new) }
+    ensures { RunsScript named.now form (is_some forms.entry) (reading I.remaining I.has_failed input.old input.new) (H.history host.old) result (H.history host.new) }
 {
     let image = open_image(host, alloc, named, form.saving)?;
     run_over(host, alloc, input, image, form, forms)
@@ -79,19 +79,19 @@ fn read_image<H: Host>(host: &mut H, alloc: Global, named: &ImageForm) -> Result
 }
 
 /// Runs the script of a reader over the volume of an image that was opened for it, as `run_script` does.
-pub fn run_over<H: Host, I: Read + Drop>(
+pub fn run_over<H: Host, I: ByteReader>(
     host: &mut H,
     alloc: Global,
-    input: I,
+    input: &mut I,
     image: Image,
     form: RunForm,
     forms: Option<&'static str>,
 ) -> Result<(), Ending>
-    ensures { RunsOver form (is_some forms.entry) image (I.remaining input) (H.history host.old) result (H.history host.new) }
+    ensures { RunsOver form (is_some forms.entry) image (reading I.remaining I.has_failed input.old input.new) (H.history host.old) result (H.history host.new) }
 {
     let rooms = Rooms::new(alloc, &image.bytes)?;
     let session = session_over(host, alloc, &image.bytes, is_parted(&image))?;
-    run_session::<H, I, Brand>(host, alloc, input, image, rooms, session, form, forms)
+    run_session(host, alloc, input, image, rooms, session, form, forms)
 }
 
 /// Room for what a run takes memory for.
@@ -162,22 +162,21 @@ fn mounted_session(alloc: Global, image: &[u8]) -> Result<Session<MemoryVolume>,
 }
 
 /// Runs a script over a session, and ends with the image in the file, where it is to be there.
-fn run_session<H: Host, I: Read + Drop, B: Start>(
+fn run_session<H: Host, I: ByteReader>(
     host: &mut H,
     alloc: Global,
-    input: I,
+    input: &mut I,
     image: Image,
     rooms: Rooms,
     session: Session<MemoryVolume>,
     form: RunForm,
     forms: Option<&'static str>,
 ) -> Result<(), Ending>
-    requires input { I.remaining input ≡ B.bytes }
-    requires running { session.volume.stopped ≡ false }
-    ensures { RunsSession form (is_some forms.entry) image session (I.remaining input) (H.history host.old) result (H.history host.new) }
+    requires { session.volume.stopped ≡ false }
+    ensures { RunsSession form (is_some forms.entry) image session (reading I.remaining I.has_failed input.old input.new) (H.history host.old) result (H.history host.new) }
 {
     let mut session = session;
-    let mut input: CountedInput<I, B> = CountedInput::new(input);
+    let mut input = CountedInput::new(input);
     let Rooms { spare, lines } = rooms;
     let progress = Progress::new(image, form.saving, forms.is_some(), lines);
     let mut run = Run::new(host, alloc, progress, spare, forms);

@@ -370,6 +370,23 @@ ended_reader state run w w' (Ok done) ended was = absurd (subst is_failed (sym w
 ended_reader state run w w' (Err why) (inl is) was = inr (ap (λ (e : SessionFault). Err e) is.0)
 ended_reader state run w w' (Err why) (inr is) was = inl (ap (λ (e : SessionFault). Err e) (is.2 ∙ ap (λ (r : Result (Unit {0}) Ending). fault_of (reason_of r)) (sym is.1 ∙ was)))
 
+abbrev is_reader : SessionFault → Type 0
+is_reader fault.Reader = Unit {0}
+is_reader _ = ⊥
+
+of_reader : (e : Ending) → fault_of e ≡ fault.Reader → e ≡ ending.Reader
+of_reader ending.Reader is = refl
+of_reader ending.Memory is = absurd (subst is_reader (sym is) tt)
+of_reader ending.Writer is = absurd (subst is_reader (sym is) tt)
+
+-- only a run that the reader ended is ended with its fault
+pub ended_by_reader : (Cause : Type 0) (state : State) (run : Result (Unit {0}) Ending) (w w' : Watch) (result : Result (Unit {0}) SessionFault) → IsEnded state run w w' result
+    → IfErr run (λ e. e ≡ ending.Reader → Cause) → IfErr result (λ e. e ≡ fault.Reader → Cause)
+ended_by_reader Cause state run w w' (Ok done) ended cause = tt
+ended_by_reader Cause state run w w' (Err why) (inl is) cause = λ reader. absurd (subst is_reader (sym (sym is.0 ∙ reader)) tt)
+ended_by_reader Cause state run w w' (Err why) (inr is) cause = λ reader.
+    subst (λ (r : Result (Unit {0}) Ending). IfErr r (λ e. e ≡ ending.Reader → Cause)) is.1 cause (of_reader is.0 (sym is.2 ∙ reader))
+
 fault_kind : (e : Ending) (why : SessionFault) → why ≡ fault_of e → (why ≡ fault.Reader) ⊎ ((why ≡ fault.Memory) ⊎ (why ≡ fault.Writer))
 fault_kind ending.Reader why is = inl is
 fault_kind ending.Memory why is = inr (inl is)

@@ -1,5 +1,5 @@
 -- The steps of reading a script, for private clauses.
-use Rattle.std.specs.Prelude.{◌≡◌, ℕ, ◌+◌, ◌≤◌, ◌⊎◌, Result, Ok, Err, Option, Bool, true, false, List, [], ◌++◌, length}
+use Rattle.std.specs.Prelude.{◌≡◌, ℕ, ◌+◌, ◌<◌, ◌≤◌, ◌⊎◌, Result, Ok, Err, Option, Bool, true, false, List, [], ◌++◌, length}
 use Rattle.std.specs.Io.KnownBytes.{Consumes}
 use Rattle.script8.specs.Items.{WaitsForLines}
 use Rattle.script8.specs.Reading.{IsRead}
@@ -13,7 +13,7 @@ abbrev pub ReadsPiece : ℕ → Option (List ℕ) → Option (List ℕ) → List
 ReadsPiece most old new before count after lines' count' (Ok true) = IsRead old new [] × (after ≡ before)
 ReadsPiece most old new before count after lines' count' (Ok false) =
     (bytes : List ℕ) × Consumes old new bytes × (after ≡ before ++ bytes) × (count' ≡ count + length bytes)
-    × (count' ≤ most) × WaitsForLines after lines'
+    × (count' ≤ most) × WaitsForLines after lines' × (0 < length bytes)
 ReadsPiece most old new before count after lines' count' (Err fault) =
     (bytes : List ℕ) × Consumes old new bytes × (count + length bytes ≤ most)
     × (((fault ≡ Reader) × (bytes ≡ [])) ⊎ (fault ≡ Memory))

@@ -1,13 +1,14 @@
 //! What a reader gave of a script, and is not run yet.
 
-ghost use Rattle.std.specs.Prelude.{◌≡◌, ◌≤◌, ◌<◌, [], length, drop};
+ghost use Rattle.std.specs.Prelude.{◌≡◌, ◌≤◌, ◌<◌, [], length, drop, IfErr};
 ghost use Rattle.script8.specs.Items.{WaitsForLines};
+ghost use Rattle.script8.specs.declared.faults.SessionFault.TheVariants as fault;
 ghost use Rattle.system_session.specs.ReadSteps.{ReadsPiece};
 
+use byte_reader::ByteReader;
 use script8::readings::{MOST, read_piece};
 use script8::{SessionFault, lines_left, one_line_wanted};
 use std::alloc::Global;
-use std::io::Read;
 
 /// The bytes of a script that were read and are not run.
 #[derive(Drop)]
@@ -48,7 +49,7 @@ impl Pending {
 
     /// Reads once, as much as a piece takes and a script may have, and answers whether that was the reader's end. The reader is
     /// only asked where no whole item is left.
-    pub(crate) fn read<R: Read>(
+    pub(crate) fn read<R: ByteReader>(
         &mut self,
         reader: &mut R,
         piece: &mut [u8],
@@ -56,8 +57,10 @@ impl Pending {
         requires piece { 0 < length piece.old }
         requires count { self.old.count < 16777216 }
         requires waits { (0 < self.old.lines) × WaitsForLines self.old.bytes.items self.old.lines }
-        ensures { ReadsPiece 16777216 (R.remaining reader.old) (R.remaining reader.new)
+        ensures read { ReadsPiece 16777216 (R.remaining reader.old) (R.remaining reader.new)
             self.old.bytes.items self.old.count self.new.bytes.items self.new.lines self.new.count result }
+        ensures cause { IfErr result (λ e. e ≡ fault.Reader → R.has_failed reader.new) }
+        ensures kept { (first : R) → R.follows first reader.old → R.follows first reader.new }
     {
         let room = piece.len().min(MOST - self.count);
         let before = self.bytes.len();

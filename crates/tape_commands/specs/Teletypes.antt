@@ -1,5 +1,6 @@
 -- The command that runs a program at the Teletype.
-use Rattle.std.specs.Prelude.{◌≡◌, ◌⊎◌, ◌-◌, ◌^◌, ℕ, Bool, true, false, is_some, unwrap_or, IfErr, Option, Some, Result, Ok, Err, List, slice_index}
+use Rattle.std.specs.Prelude.{◌≡◌, ◌⊎◌, ◌-◌, ◌^◌, Bool, true, false, is_some, unwrap_or, IfErr, Option, Some, Result, Ok, Err, List, slice_index}
+use Rattle.byte_reader.specs.Readings.{Reading}
 use Rattle.cpu8.specs.State.{State, next_cell}
 use Rattle.terminal8.specs.Run.{RunsProgram}
 use Rattle.terminal8.specs.declared.inputs.Input.{Input}
@@ -61,14 +62,15 @@ input_of true = input.Live
 input_of false = input.Ending
 
 -- a machine runs at the Teletype: the reader gives its keys, and standard output is its paper
-pub record RunsMachine (form : TeletypeForm) (machine : State) (keys keys' : Option (List ℕ)) (old : List Event) (result : Result (Unit {0}) Ending) (new : List Event) : Type 0 where
+pub record RunsMachine (form : TeletypeForm) (machine : State) (keys : Reading) (old : List Event) (result : Result (Unit {0}) Ending) (new : List Event) : Type 0 where
   pub done : Result Ended TerminalFault
   pub after : State
   pub between : List Event
-  pub runs : RunsProgram (form_of form.is_raw) (input_of form.is_live) (unwrap_or form.steps (2 ^ 64 - 1)) machine after keys keys' (Some (output_text old)) (Some (output_text between)) done
+  pub runs : RunsProgram (form_of form.is_raw) (input_of form.is_live) (unwrap_or form.steps (2 ^ 64 - 1)) machine after keys.before keys.after (Some (output_text old)) (Some (output_text between)) done
   pub fault : Option PrintFault
   pub prints : HasPrinted old between fault
   pub cause : IfErr done (λ it. it ≡ Writer → is_some fault ≡ true)
+  pub failed : IfErr done (λ it. it ≡ Reader → keys.has_failed)
   pub ends : EndsRun after fault done between result new
 
 -- the program is read, and a machine stands at its start
@@ -76,6 +78,6 @@ abbrev pub ReadsMachine : TeletypeForm → List Event → Result State Ending �
 ReadsMachine form = Then (ReadsProgram form.tape) (λ program. Stands program.frames.items (start_or form.start program.start) form.switches)
 
 -- The program is read, and runs at the Teletype. Where there is none to run, no key is read. No file changes.
-abbrev pub RunsTeletype : TeletypeForm → Option (List ℕ) → Option (List ℕ) → List Event → Result (Unit {0}) Ending → List Event → Type 0
-RunsTeletype form keys keys' old result new = (Ends (ReadsMachine form) old result new × (keys' ≡ keys))
-    ⊎ Follows (ReadsMachine form) (λ machine. RunsMachine form machine keys keys') old result new
+abbrev pub RunsTeletype : TeletypeForm → Reading → List Event → Result (Unit {0}) Ending → List Event → Type 0
+RunsTeletype form keys old result new = (Ends (ReadsMachine form) old result new × (keys.after ≡ keys.before))
+    ⊎ Follows (ReadsMachine form) (λ machine. RunsMachine form machine keys) old result new

@@ -1,5 +1,6 @@
 //! A program of a tape at the Teletype: the keys of a reader, and standard output as the paper.
 ghost use Rattle.std.specs.Prelude.{◌≡◌, ◌-◌, ◌^◌, Some, true, is_some, unwrap_or, IfErr};
+ghost use Rattle.byte_reader.specs.Readings.{reading};
 ghost use Rattle.terminal8.specs.Run.{RunsProgram};
 ghost use Rattle.terminal8.specs.declared.outcomes.TerminalFault.TheVariants as fault;
 ghost use Rattle.hosts.specs.Streams.{output_text};
@@ -10,6 +11,7 @@ ghost use Rattle.tape_commands.specs.Teletypes.{EndsRun, IsEndOf, ReadsMachine, 
 use crate::lines::{ending_of_output, tell_program};
 use crate::machines::machine_of;
 use crate::runs::start_or;
+use byte_reader::ByteReader;
 use cpu8::Machine;
 use host_output::{Before, Printer};
 use hosts::{Host, PrintFault};
@@ -19,19 +21,18 @@ use program_reports::ProgramLine;
 use program_tasks::TeletypeForm;
 use script8::SessionFault;
 use std::alloc::Global;
-use std::io::Read;
 use std::marker::Brand;
 use terminal8::{Ended, Form, Input, TerminalEnd, TerminalFault, run};
 
 /// Loads a tape or a core image into a new machine, and runs it at the Teletype, whose keys a reader gives. The line of its end is printed
 /// on standard error. No file changes. The host is given back.
-pub fn run_teletype<H: Host, I: Read>(
+pub fn run_teletype<H: Host, I: ByteReader>(
     host: H,
     alloc: Global,
     keys: &mut I,
     form: &TeletypeForm,
 ) -> (H, Result<(), Ending>)
-    ensures { RunsTeletype form.now (I.remaining keys.old) (I.remaining keys.new) (H.history host) result.1 (H.history result.0) }
+    ensures { RunsTeletype form.now (reading I.remaining I.has_failed keys.old keys.new) (H.history host) result.1 (H.history result.0) }
 {
     let mut host = host;
     match read_machine(&mut host, alloc, form) {
@@ -54,14 +55,14 @@ fn read_machine<H: Host>(
 }
 
 /// Runs a machine, and prints the line of its end.
-fn run_machine<H: Host, I: Read>(
+fn run_machine<H: Host, I: ByteReader>(
     host: H,
     alloc: Global,
     keys: &mut I,
     form: &TeletypeForm,
     machine: Machine,
 ) -> (H, Result<(), Ending>)
-    ensures { RunsMachine form.now machine (I.remaining keys.old) (I.remaining keys.new) (H.history host) result.1 (H.history result.0) }
+    ensures { RunsMachine form.now machine (reading I.remaining I.has_failed keys.old keys.new) (H.history host) result.1 (H.history result.0) }
 {
     let mut machine = machine;
     let (host, fault, done) = run_onto::<H, I, Brand>(host, keys, form, &mut machine);
@@ -71,7 +72,7 @@ fn run_machine<H: Host, I: Read>(
 }
 
 /// Runs a machine whose paper is standard output.
-fn run_onto<H: Host, I: Read, B: Before>(
+fn run_onto<H: Host, I: ByteReader, B: Before>(
     host: H,
     keys: &mut I,
     form: &TeletypeForm,
@@ -83,6 +84,7 @@ fn run_onto<H: Host, I: Read, B: Before>(
         (Some (output_text (H.history host))) (Some (output_text (H.history result.0))) result.2 }
     ensures prints { HasPrinted (H.history host) (H.history result.0) result.1 }
     ensures cause { IfErr result.2 (λ it. it ≡ fault.Writer → is_some result.1 ≡ true) }
+    ensures failed { IfErr result.2 (λ it. it ≡ fault.Reader → I.has_failed keys.new) }
 {
     let steps = form.steps.unwrap_or(u64::MAX);
     let mut printer: Printer<H, B> = Printer::new(host);

@@ -1,6 +1,7 @@
 -- What each task does over a host: which command it is, and what is printed at its end (this project's profile).
 use Rattle.std.specs.Prelude.{◌≡◌, ℕ, Bool, true, false, codes, map, Option, None, Some, String, Result, Ok, Err, List}
 use Rattle.std.specs.Global.{Global}
+use Rattle.byte_reader.specs.Readings.{Reading}
 use Rattle.hosts.specs.Event.{Event}
 use Rattle.program_tasks.specs.declared.archives.IndexForm.{IndexForm}
 use Rattle.program_tasks.specs.declared.archives.LineForm.{LineForm}
@@ -9,7 +10,6 @@ use Rattle.program_tasks.specs.declared.archives.PatchForm.{PatchForm}
 use Rattle.program_tasks.specs.declared.forms.GetTextsForm.{GetTextsForm}
 use Rattle.program_tasks.specs.declared.forms.ImageForm.{ImageForm}
 use Rattle.program_tasks.specs.declared.tasks.RunForm.{RunForm}
-use Rattle.program_tasks.specs.declared.tasks.TeletypeForm.{TeletypeForm}
 use Rattle.program_tasks.specs.declared.tasks.Task.{Task}
 use Rattle.program_tasks.specs.declared.tasks.Task.TheVariants as task
 use Rattle.archive_files.specs.Getting.{Gets}
@@ -97,21 +97,17 @@ ScansBlocks (Some folder) image = WritesPieces folder.bytes.items image
 
 -- ## Tasks
 
--- a program runs at the Teletype, and some keys may be left
-abbrev pub RunsAtTeletype : TeletypeForm → Option (List ℕ) → List Event → Result (Unit {0}) Ending → List Event → Type 0
-RunsAtTeletype form keys old result new = (rest : Option (List ℕ)) × RunsTeletype form keys rest old result new
-
 -- An image file is opened for a run, which is tried again while another program holds it. Then the input is run as a script over its volume.
-abbrev pub RunsImage : ImageForm → RunForm → Bool → Option (List ℕ) → List Event → Result (Unit {0}) Ending → List Event → Type 0
+abbrev pub RunsImage : ImageForm → RunForm → Bool → Reading → List Event → Result (Unit {0}) Ending → List Event → Type 0
 RunsImage named form is_typed input = Then (Within named.wait (OpensFor form.saving named)) (λ image. RunsOver form is_typed image input)
 
 -- A task is one command. The keys of a Teletype come from the input, and so does a script, which a person may type at a terminal.
-abbrev pub DoesTask : Task → Bool → Option (List ℕ) → List Event → Result (Unit {0}) Ending → List Event → Type 0
+abbrev pub DoesTask : Task → Bool → Reading → List Event → Result (Unit {0}) Ending → List Event → Type 0
 DoesTask (task.Tape tape) is_typed input = ListsTape tape
 DoesTask (task.Rim tape form) is_typed input = WritesRim form tape
 DoesTask (task.Source form) is_typed input = WritesSource form
 DoesTask (task.Assemble form) is_typed input = Within (seconds_for form.from) (Assembles form)
-DoesTask (task.Teletype form) is_typed input = RunsAtTeletype form input
+DoesTask (task.Teletype form) is_typed input = RunsTeletype form input
 DoesTask (task.Trace form) is_typed input = TracesTape form
 DoesTask (task.Profile form) is_typed input = ProfilesTape form
 DoesTask (task.Create form blocks) is_typed input = Within form.wait (CreatesFile (IsBlankImage blocks) form blocks)
@@ -140,7 +136,7 @@ DoesTask (task.Scan form) is_typed input = ScansBlocks form.into form.image
 DoesTask (task.Run image form) is_typed input = RunsImage image form is_typed input
 
 -- A task is done, and then what its end prints is printed: that is the status.
-pub record RunsTask (task : Task) (is_typed : Bool) (input : Option (List ℕ)) (old new : List Event) (status : ℕ) : Type 0 where
+pub record RunsTask (task : Task) (is_typed : Bool) (input : Reading) (old new : List Event) (status : ℕ) : Type 0 where
   pub work : Result (Unit {0}) Ending
   pub between : List Event
   pub does : DoesTask task is_typed input old work between

@@ -1,5 +1,6 @@
 -- What a command line does: the words that ask for a task have it done, and others are refused (this project's profile).
-use Rattle.std.specs.Prelude.{◌≡◌, ◌⊎◌, ℕ, Bool, true, false, Option, Result, Ok, Err, List, ◌∷◌}
+use Rattle.std.specs.Prelude.{◌≡◌, ◌⊎◌, ℕ, Bool, true, false, Result, Ok, Err, List, ◌∷◌}
+use Rattle.byte_reader.specs.Readings.{Reading}
 use Rattle.clap.specs.Words.{Text, kind_of}
 use Rattle.clap.specs.declared.error.kind.ErrorKind.{ErrorKind}
 use Rattle.clap.specs.declared.error.kind.ErrorKind.TheVariants.{DisplayHelp, DisplayVersion}
@@ -51,7 +52,7 @@ RefusesWords (Words error) old new status = WantsMemory old new status ⊎ Shows
 RefusesWords (Refused usage refusal) old new status = WantsMemory old new status ⊎ IsMisuse old new status
 
 -- The words of a command line, the program's own name first, ask for a task, which is done; or they are refused, and nothing else is done.
-abbrev pub RunsWords : List Text → Bool → Option (List ℕ) → List Event → List Event → ℕ → Type 0
+abbrev pub RunsWords : List Text → Bool → Reading → List Event → List Event → ℕ → Type 0
 RunsWords words is_typed input old new status =
     ((task : Task) × Answers words (Ok task) × RunsTask task is_typed input old new status)
     ⊎ ((fault : TaskFault) × Answers words (Err fault) × RefusesWords fault old new status)

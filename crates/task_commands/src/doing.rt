@@ -1,11 +1,13 @@
 //! What a task does: the command that it is, and its end.
 ghost use Rattle.std.specs.Prelude.{◌≡◌, IfOk, is_some};
+ghost use Rattle.byte_reader.specs.Readings.{reading};
 ghost use Rattle.task_commands.specs.declared.changes.Change.TheVariants as change;
 ghost use Rattle.task_commands.specs.Tasks as spec;
 ghost use Rattle.task_commands.specs.Tasks.{ChoosesStyle, DoesTask, ListsIndex, PrintsTexts, RunsImage, RunsTask, ScansBlocks, word_patch};
 
 use crate::changes::{Change, change_image, open_within};
 use archive_commands::{WordPatch, dump_blocks};
+use byte_reader::ByteReader;
 use choice_commands::{list_some, show_texts};
 use command_table::SCRIPT_LINES;
 use hosts::Host;
@@ -19,7 +21,6 @@ use program_tasks::{
 use salvage_commands::{rescue_image, scan_blocks, scan_into};
 use script_commands::run_over;
 use std::alloc::{AllocError, Global};
-use std::io::Read;
 use tape_commands::{profile_tape, run_teletype, trace_tape};
 use volume_commands::{Rooms, end, file_asked, get_bin, get_blocks, get_file};
 use volume_index::IndexStyle;
@@ -27,15 +28,15 @@ use volume_index::IndexStyle;
 /// Does a task, and prints what its end asks for. The answer is the exit status: 0, 1 after a fault, 141 where nobody reads standard output,
 /// and 2 for words that a command refuses (this project's profile). The keys of a Teletype, or a script, are read from the
 /// input; a person may type them at a terminal.
-pub fn run_task<H: Host, I: Read + Drop>(
+pub fn run_task<H: Host, I: ByteReader>(
     host: H,
     alloc: Global,
     rooms: Rooms,
-    input: I,
+    input: &mut I,
     is_typed: bool,
     task: Task,
 ) -> (H, u8)
-    ensures { RunsTask task is_typed (I.remaining input) (H.history host) (H.history result.0) result.1 }
+    ensures { RunsTask task is_typed (reading I.remaining I.has_failed input.old input.new) (H.history host) (H.history result.0) result.1 }
 {
     let is_data = gives_data(&task);
     let (host, work) = do_task(host, alloc, input, is_typed, task);
@@ -45,22 +46,21 @@ pub fn run_task<H: Host, I: Read + Drop>(
 }
 
 /// Does a task. The host is handed over, since the output of a machine that runs is the host itself, and is given back.
-pub fn do_task<H: Host, I: Read + Drop>(
+pub fn do_task<H: Host, I: ByteReader>(
     host: H,
     alloc: Global,
-    input: I,
+    input: &mut I,
     is_typed: bool,
     task: Task,
 ) -> (H, Result<(), Ending>)
-    ensures { DoesTask task is_typed (I.remaining input) (H.history host) result.1 (H.history result.0) }
+    ensures { DoesTask task is_typed (reading I.remaining I.has_failed input.old input.new) (H.history host) result.1 (H.history result.0) }
 {
     let mut host = host;
-    let mut keys = input;
     let work = match task {
-        Task::Teletype(form) => return run_teletype(host, alloc, &mut keys, &form),
+        Task::Teletype(form) => return run_teletype(host, alloc, input, &form),
         Task::Trace(form) => return trace_tape(host, alloc, &form),
         Task::Run(image, form) => {
-            let work = run_image(&mut host, alloc, keys, is_typed, &image, form);
+            let work = run_image(&mut host, alloc, input, is_typed, &image, form);
             return (host, work);
         }
         Task::Profile(form) => profile_tape(&mut host, alloc, &form),
@@ -101,15 +101,15 @@ pub fn do_task<H: Host, I: Read + Drop>(
 }
 
 /// Runs the script of a reader over the volume of an image file, which is waited for while another program holds it.
-fn run_image<H: Host, I: Read + Drop>(
+fn run_image<H: Host, I: ByteReader>(
     host: &mut H,
     alloc: Global,
-    input: I,
+    input: &mut I,
     is_typed: bool,
     named: &ImageForm,
     form: RunForm,
 ) -> Result<(), Ending>
-    ensures { RunsImage named.now form is_typed (I.remaining input) (H.history host.old) result (H.history host.new) }
+    ensures { RunsImage named.now form is_typed (reading I.remaining I.has_failed input.old input.new) (H.history host.old) result (H.history host.new) }
 {
     let image = open_within(host, alloc, named, form.saving)?;
     run_over(host, alloc, input, image, form, forms_for(is_typed))

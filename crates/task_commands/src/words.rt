@@ -1,16 +1,17 @@
 //! The words of a command line: what they ask for is done, or why they ask for nothing is printed.
 ghost use Rattle.std.specs.Prelude.{◌≡◌, map};
+ghost use Rattle.byte_reader.specs.Readings.{reading};
 ghost use Rattle.task_commands.specs.Words as spec;
 ghost use Rattle.task_commands.specs.Words.{RefusesWords, RunsWords, ShowsText, WantsMemory};
 
 use crate::doing::run_task;
+use byte_reader::ByteReader;
 use clap::Error;
 use clap::error::ErrorKind;
 use command_table::{Refusal, TaskFault, task};
 use hosts::Host;
 use outcome::Ending;
 use std::alloc::{AllocError, Global};
-use std::io::Read;
 use volume_commands::{Rooms, end, print};
 
 /// The exit status where words are refused.
@@ -19,15 +20,15 @@ const MISUSE: u8 = 2;
 /// Does what the words of a command line ask for, the program's own name first, and gives the exit status. Where they ask for nothing, why is
 /// printed on standard error, and the status is 2. Help and the version, where they are asked for, go to standard output with status 0
 /// (this project's profile). A person may type the input at a terminal.
-pub fn run_words<H: Host, I: Read + Drop>(
+pub fn run_words<H: Host, I: ByteReader>(
     host: H,
     alloc: Global,
     rooms: Rooms,
     words: &[&str],
-    input: I,
+    input: &mut I,
     is_typed: bool,
 ) -> (H, u8)
-    ensures { RunsWords (map (λ given. given.now) words.now) is_typed (I.remaining input) (H.history host) (H.history result.0) result.1 }
+    ensures { RunsWords (map (λ given. given.now) words.now) is_typed (reading I.remaining I.has_failed input.old input.new) (H.history host) (H.history result.0) result.1 }
 {
     match task(alloc, words) {
         Ok(task) => run_task(host, alloc, rooms, input, is_typed, task),

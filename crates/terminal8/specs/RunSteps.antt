@@ -1,5 +1,5 @@
 -- The steps of a run, for private clauses.
-use Rattle.std.specs.Prelude.{◌≡◌, ℕ, ◌≤◌, Bool, true, false, List, [], ◌∷◌, ◌++◌, length, take, Option, Some, None, Result, Ok, Err}
+use Rattle.std.specs.Prelude.{◌≡◌, ℕ, ◌≤◌, Bool, true, false, List, [], ◌∷◌, ◌++◌, Option, Some, None, Result, Ok, Err}
 use Rattle.std.specs.Io.KnownBytes.{Consumes, Appends, IsAtEnd}
 use Rattle.cpu8.specs.State.{State}
 use Rattle.terminal8.specs.Keys.{Keyboard, keys_from}
@@ -14,11 +14,6 @@ use Rattle.terminal8.specs.declared.outcomes.TerminalFault.{TerminalFault}
 use Rattle.terminal8.specs.declared.outcomes.TerminalFault.TheVariants.{Reader, Writer}
 
 -- ## Bytes that are read ahead
-
--- what a read into a buffer gives: so many bytes at its prefix, none only at the reader's end
-abbrev pub ReadsSome : List ℕ → Option (List ℕ) → Option (List ℕ) → Result ℕ TerminalFault → Type 0
-ReadsSome buffer reader reader' (Ok count) = (count ≤ length buffer) × Consumes reader reader' (take count buffer) × (count ≡ 0 → IsAtEnd reader')
-ReadsSome buffer reader reader' (Err fault) = (fault ≡ Reader) × Consumes reader reader' []
 
 -- what filling gives, where no byte was ahead
 abbrev pub FillsBuffer : List ℕ → Option (List ℕ) → Option (List ℕ) → Result Unit TerminalFault → Type 0

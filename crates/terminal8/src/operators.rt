@@ -12,8 +12,8 @@ use crate::outcomes::TerminalFault;
 use crate::outputs::Output;
 use crate::readings::{ReadAhead, next_key};
 use crate::writing::Paper;
+use byte_reader::ByteReader;
 use cpu8::Machine;
-use std::io::Read;
 
 /// Who strikes the keys of a reader.
 #[derive(Drop)]
@@ -47,7 +47,7 @@ impl Operator {
     /// Looks for a key where the program asks for one. The answer is whether the keys have ended and the machine waits
     /// for one.
     #[inline(always)]
-    pub(crate) fn attend<R: Read, O: Output>(
+    pub(crate) fn attend<R: ByteReader, O: Output>(
         &mut self,
         machine: &mut Machine,
         paper: &mut Paper,
@@ -59,6 +59,7 @@ impl Operator {
             self.old.since self.new.since (R.remaining reader.old) (R.remaining reader.new)) }
         ensures paper { Holds (O.contents writer.old) (O.contents writer.new) paper.old paper.new result }
         ensures cause { IfErr result (λ e. e ≡ fault.Writer → O.has_failed writer.new) }
+        ensures failed { IfErr result (λ e. e ≡ fault.Reader → R.has_failed reader.new) }
         ensures err { IfErr result
             (λ _. Misses self.old.keyboard self.new.keyboard self.old.ahead self.new.ahead
             self.old.is_over (R.remaining reader.old) (R.remaining reader.new)) }
@@ -73,7 +74,7 @@ impl Operator {
     }
 
     /// Looks for the reader's next key, and strikes it if there is one.
-    fn look<R: Read, O: Output>(
+    fn look<R: ByteReader, O: Output>(
         &mut self,
         machine: &mut Machine,
         paper: &mut Paper,
@@ -85,6 +86,7 @@ impl Operator {
             (R.remaining reader.old) (R.remaining reader.new)) }
         ensures paper { Holds (O.contents writer.old) (O.contents writer.new) paper.old paper.new result }
         ensures cause { IfErr result (λ e. e ≡ fault.Writer → O.has_failed writer.new) }
+        ensures failed { IfErr result (λ e. e ≡ fault.Reader → R.has_failed reader.new) }
         ensures since { OnOk result (self.new.since ≡ 0) }
         ensures input { self.new.input ≡ self.old.input }
         ensures err { IfErr result

@@ -1,16 +1,14 @@
 //! The bytes of a reader, up to the next key.
 
-ghost use Rattle.std.specs.Prelude.{◌≡◌, ◌<◌, ◌≤◌, [], true, length, IfErr};
-ghost use Rattle.std.specs.IoError.{error_kind};
-ghost use Rattle.std.specs.declared.io.ErrorKind.TheVariants.{Interrupted};
-ghost use Rattle.terminal8.specs.RunSteps.{FillsBuffer, GivesByte, Holds, ReadsSome, ReadsByte, ReadsKey};
+ghost use Rattle.std.specs.Prelude.{◌≡◌, ◌<◌, ◌≤◌, ◌+◌, ◌*◌, [], length, IfErr, OnErr, OnOk};
+ghost use Rattle.terminal8.specs.RunSteps.{FillsBuffer, GivesByte, Holds, ReadsByte, ReadsKey};
 ghost use Rattle.terminal8.specs.declared.outcomes.TerminalFault.TheVariants as fault;
 
 use crate::keyboards::Keyboard;
 use crate::outcomes::TerminalFault;
 use crate::outputs::Output;
 use crate::writing::Paper;
-use std::io::{self, ErrorKind, Read};
+use byte_reader::{ByteReader, read_bytes};
 use std::marker::Model;
 
 /// Bytes that were read ahead: those from the place of the next to an end. A contract sees these.
@@ -57,37 +55,27 @@ impl ReadAhead {
     }
 
     /// Reads bytes where none are left, one at least if the reader gives any.
-    fn fill<R: Read>(&mut self, reader: &mut R) -> Result<(), TerminalFault>
+    fn fill<R: ByteReader>(&mut self, reader: &mut R) -> Result<(), TerminalFault>
         requires { self.old ≡ [] }
-        ensures { FillsBuffer self.new (R.remaining reader.old) (R.remaining reader.new) result }
+        ensures bytes { FillsBuffer self.new (R.remaining reader.old) (R.remaining reader.new) result }
+        ensures failed { OnErr result (R.has_failed reader.new) }
+        ensures size { length self.new ≤ 0o10000 }
+        ensures calls { OnOk result (R.calls_left reader.new < R.calls_left reader.old) }
     {
         self.next = 0;
         self.end = 0;
-        self.end = read(&mut self.bytes, reader)?;
-        Ok(())
-    }
-}
-
-/// Reads bytes into the prefix of a buffer that has room. The answer is how many.
-fn read<R: Read>(bytes: &mut [u8], reader: &mut R) -> Result<usize, TerminalFault>
-    requires { 0 < length bytes.old }
-    ensures { ReadsSome bytes.new (R.remaining reader.old) (R.remaining reader.new) result }
-{
-    for _ in 0..u64::MAX {
-        match reader.read(bytes) {
-            Ok(count) => return Ok(count),
-            Err(error) => {
-                if !is_interrupted(&error) {
-                    return Err(TerminalFault::Reader);
-                }
+        match read_bytes(reader, &mut self.bytes) {
+            Ok(count) => {
+                self.end = count;
+                Ok(())
             }
+            Err(_) => Err(TerminalFault::Reader),
         }
     }
-    Err(TerminalFault::Reader)
 }
 
 /// Strikes bytes up to the first that is a key, and answers it. It answers none where the reader gives no byte before.
-pub(crate) fn next_key<R: Read, O: Output>(
+pub(crate) fn next_key<R: ByteReader, O: Output>(
     keyboard: &mut Keyboard,
     ahead: &mut ReadAhead,
     paper: &mut Paper,
@@ -98,8 +86,9 @@ pub(crate) fn next_key<R: Read, O: Output>(
         (R.remaining reader.old) (R.remaining reader.new) result }
     ensures paper { Holds (O.contents writer.old) (O.contents writer.new) paper.old paper.new result }
     ensures cause { IfErr result (λ e. e ≡ fault.Writer → O.has_failed writer.new) }
+    ensures failed { IfErr result (λ e. e ≡ fault.Reader → R.has_failed reader.new) }
 {
-    for _ in 0..u64::MAX {
+    loop {
         let Some(byte) = next_byte(ahead, paper, reader, writer)? else {
             return Ok(None);
         };
@@ -107,13 +96,12 @@ pub(crate) fn next_key<R: Read, O: Output>(
             return Ok(Some(key));
         }
     }
-    Err(TerminalFault::Reader)
 }
 
 /// The next byte, of those read ahead or else of a reader, which may keep us waiting. What was printed is handed on
 /// before.
 #[inline(always)]
-fn next_byte<R: Read, O: Output>(
+fn next_byte<R: ByteReader, O: Output>(
     ahead: &mut ReadAhead,
     paper: &mut Paper,
     reader: &mut R,
@@ -122,6 +110,9 @@ fn next_byte<R: Read, O: Output>(
     ensures byte { ReadsByte ahead.old ahead.new (R.remaining reader.old) (R.remaining reader.new) result }
     ensures paper { Holds (O.contents writer.old) (O.contents writer.new) paper.old paper.new result }
     ensures cause { IfErr result (λ e. e ≡ fault.Writer → O.has_failed writer.new) }
+    ensures failed { IfErr result (λ e. e ≡ fault.Reader → R.has_failed reader.new) }
+    ensures calls { OnOk result (R.calls_left reader.new * 0o10001 + length ahead.new
+        < R.calls_left reader.old * 0o10001 + length ahead.old) }
 {
     if let Some(byte) = ahead.take_next() {
         return Ok(Some(byte));
@@ -129,17 +120,6 @@ fn next_byte<R: Read, O: Output>(
     paper.flush(writer)?;
     ahead.fill(reader)?;
     Ok(ahead.take_next())
-}
-
-/// Whether the error of a reader is only that it was interrupted.
-fn is_interrupted(error: &io::Error) -> bool
-    ensures it { result ≡ true → error_kind error.now ≡ Interrupted }
-    ensures all { error_kind error.now ≡ Interrupted → result ≡ true }
-{
-    match error.kind() {
-        ErrorKind::Interrupted => true,
-        _ => false,
-    }
 }
 
 /// The bytes that are read ahead at most.

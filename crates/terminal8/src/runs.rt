@@ -16,8 +16,8 @@ use crate::operators::Operator;
 use crate::outcomes::{Ended, TerminalEnd, TerminalFault};
 use crate::outputs::Output;
 use crate::writing::Paper;
+use byte_reader::ByteReader;
 use cpu8::{Machine, Stepped};
-use std::io::Read;
 
 /// Runs a machine, at most n steps of it, each an instruction or an interrupt, with a printer that ends its character
 /// before the next step. A key is looked for only where the program asks for one, and is struck there. What is printed
@@ -26,8 +26,8 @@ use std::io::Read;
 ///
 /// It ends at a HLT, or where the machine stands stopped, or at an unassigned word. It ends where the keys have ended and the
 /// machine waits for one for ever, or after n steps. Live keys never end: a look that finds none is made again where the
-/// program next asks for one. The answer is `Reader` or `Writer` where one of these fails. It takes no memory.
-pub fn run<R: Read, O: Output>(
+/// program next asks for one. The answer is `Reader` or `Writer` only where one of these has failed. It takes no memory.
+pub fn run<R: ByteReader, O: Output>(
     machine: &mut Machine,
     n: u64,
     form: Form,
@@ -39,6 +39,7 @@ pub fn run<R: Read, O: Output>(
         (R.remaining reader.old) (R.remaining reader.new)
         (O.contents writer.old) (O.contents writer.new) result }
     ensures cause { IfErr result (λ e. e ≡ fault.Writer → O.has_failed writer.new) }
+    ensures failed { IfErr result (λ e. e ≡ fault.Reader → R.has_failed reader.new) }
 {
     let mut paper = Paper::new();
     let ran = run_steps(machine, n, form, input, &mut paper, reader, writer);
@@ -53,7 +54,7 @@ pub fn run<R: Read, O: Output>(
 
 /// The same, but what was printed last may still be on the paper. Each round of the loop is one step, and then, for speed
 /// alone, several at once: without `go_on` each step is a round.
-fn run_steps<R: Read, O: Output>(
+fn run_steps<R: ByteReader, O: Output>(
     machine: &mut Machine,
     n: u64,
     form: Form,
@@ -66,6 +67,7 @@ fn run_steps<R: Read, O: Output>(
     ensures runs { RunsInto form input n machine.old machine.new (R.remaining reader.old) (R.remaining reader.new)
         (O.contents writer.old) (O.contents writer.new) paper.new result }
     ensures cause { IfErr result (λ e. e ≡ fault.Writer → O.has_failed writer.new) }
+    ensures failed { IfErr result (λ e. e ≡ fault.Reader → R.has_failed reader.new) }
 {
     if !machine.is_running() {
         return Ok(Ended {

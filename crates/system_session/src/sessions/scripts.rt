@@ -6,7 +6,7 @@ ghost use Rattle.script8.specs.Replies.{answer_lines, IsShort};
 ghost use Rattle.script8.specs.declared.faults.SessionFault.TheVariants as fault;
 ghost use Rattle.script8.specs.declared.items.Item.TheVariants.{Do, Finish};
 ghost use Rattle.volume_jobs.specs.Jobs.{lowest_job, turns_left};
-ghost use Rattle.script8.specs.Reading.{TakesBytes};
+ghost use Rattle.script8.specs.Reading.{MayReadNoMore, TakesBytes};
 ghost use Rattle.system_session.specs.RunSteps.{EndsWith, IsBegun, IsEnded, IsTold, RunsGiven, RunsItems, RunsNext, RunsPrefix, RunsRead, RunsTurn, Tells, WasShown, watch};
 ghost use Rattle.system_session.specs.Script.{RunsText, is_working};
 ghost use Rattle.system_session.specs.ShownAnswers.{ShownAnswer, ShowsOne, ShowsText};
@@ -17,6 +17,7 @@ use super::{Session, is_memory};
 use crate::endings::Ending;
 use crate::pending::{Begun, Pending};
 use crate::watchers::{Unwatched, Watcher};
+use byte_reader::{ByteReader, WatchedReader};
 use script8::readings::{MOST, PIECE, ends, zero_bytes};
 use script8::{Entry, Item, JobEntry, LineReply, Next, Reply, SessionFault, next_item, put_reply};
 use std::alloc::Global;
@@ -48,13 +49,14 @@ impl<S: BlockStore> Session<S> {
             × (count ≡ 16777217 → (result ≡ Err fault.Reader) ⊎ (result ≡ Err fault.Writer)) }
         ensures kind { IfErr result (λ e. (e ≡ fault.Reader) ⊎ (e ≡ fault.Memory) ⊎ (e ≡ fault.Writer)) }
     {
-        self.run_watched(alloc, reader, &mut Unwatched::new(writer))
+        let mut watched = WatchedReader::new(reader);
+        self.run_watched(alloc, &mut watched, &mut Unwatched::new(writer))
     }
 
     /// The same, where a watcher gets each item before it is done, and prints the lines. It is shown each answer with its lines, and with
     /// the store right after it: just these, one after another, in the run that `told` says of. Where the watcher ends the run, the answer
-    /// is `Writer`, as where printing fails.
-    pub fn run_watched<R: Read, K: Watcher<S>>(
+    /// is `Writer`, as where printing fails. It is `Reader` only where the reader has failed, or one byte too many was taken.
+    pub fn run_watched<R: ByteReader, K: Watcher<S>>(
         &mut self,
         alloc: Global,
         reader: &mut R,
@@ -70,7 +72,10 @@ impl<S: BlockStore> Session<S> {
             × (count ≤ 16777217)
             × (count ≡ 16777217 → (result ≡ Err fault.Reader) ⊎ (result ≡ Err fault.Writer)) }
         ensures kind { IfErr result (λ e. (e ≡ fault.Reader) ⊎ (e ≡ fault.Memory) ⊎ (e ≡ fault.Writer)) }
+        ensures cause { IfErr result (λ e. e ≡ fault.Reader → MayReadNoMore 16777216 (R.has_failed reader.new)
+            (R.remaining reader.old) (R.remaining reader.new)) }
         ensures stopped { IfErr result (λ e. e ≡ fault.Writer → K.has_ended watcher.new) }
+        ensures reader { (first : R) → R.follows first reader.old → R.follows first reader.new }
         ensures kept { (first : K) → K.follows first watcher.old → K.follows first watcher.new }
         ensures shown { (first : K) (before : List ShownAnswer) → NoCallFailed self.old self.new
             → K.was_shown first before watcher.old → (shown : List ShownAnswer)
@@ -84,7 +89,7 @@ impl<S: BlockStore> Session<S> {
     }
 
     /// Reads the script of a reader, and runs it as it comes.
-    fn run_read<R: Read, K: Watcher<S>>(
+    fn run_read<R: ByteReader, K: Watcher<S>>(
         &mut self,
         alloc: Global,
         reader: &mut R,
@@ -100,14 +105,17 @@ impl<S: BlockStore> Session<S> {
         ensures taken { (count : ℕ) × TakesBytes (R.remaining reader.old) (R.remaining reader.new) count
             × (count ≤ 16777217)
             × (count ≡ 16777217 → result ≡ Err ending.Reader) }
+        ensures cause { IfErr result (λ e. e ≡ ending.Reader → MayReadNoMore 16777216 (R.has_failed reader.new)
+            (R.remaining reader.old) (R.remaining reader.new)) }
+        ensures reader { (first : R) → R.follows first reader.old → R.follows first reader.new }
         ensures stopped { IfErr result (λ e. e ≡ ending.Writer → K.has_ended watcher.new) }
         ensures kept { (first : K) → K.follows first watcher.old → K.follows first watcher.new }
     {
         let mut piece = zero_bytes(alloc, PIECE)?;
         let mut pending = Pending::new(alloc);
-        for _ in 0..u64::MAX {
+        loop {
             if pending.count == MOST {
-                if ends(reader) {
+                if ends(reader)? {
                     return self.run_end(alloc, &pending.bytes, watcher);
                 }
                 return Err(Ending::Reader);
@@ -118,7 +126,6 @@ impl<S: BlockStore> Session<S> {
             }
             self.run_given(alloc, &mut pending, watcher)?;
         }
-        Err(Ending::Reader)
     }
 
     /// Runs the whole items of what a reader gave and may go on from, and hands their lines on.
@@ -139,6 +146,7 @@ impl<S: BlockStore> Session<S> {
         ensures later { IsLater self.old self.new }
         ensures running { NoCallFailed self.old self.new → self.new.volume.stopped ≡ false }
         ensures stopped { IfErr result (λ e. e ≡ ending.Writer → K.has_ended watcher.new) }
+        ensures unread { IfErr result (λ e. e ≢ ending.Reader) }
         ensures kept { (first : K) → K.follows first watcher.old → K.follows first watcher.new }
     {
         if pending.lines > 0 {
@@ -163,6 +171,7 @@ impl<S: BlockStore> Session<S> {
         ensures later { IsLater self.old self.new }
         ensures running { NoCallFailed self.old self.new → self.new.volume.stopped ≡ false }
         ensures stopped { IfErr result (λ e. e ≡ ending.Writer → K.has_ended watcher.new) }
+        ensures unread { IfErr result (λ e. e ≢ ending.Reader) }
         ensures kept { (first : K) → K.follows first watcher.old → K.follows first watcher.new }
     {
         let _rest = self.run_items(alloc, text, true, watcher)?;
@@ -187,6 +196,7 @@ impl<S: BlockStore> Session<S> {
         ensures later { IsLater self.old self.new }
         ensures running { NoCallFailed self.old self.new → self.new.volume.stopped ≡ false }
         ensures stopped { IfErr result (λ e. e ≡ ending.Writer → K.has_ended watcher.new) }
+        ensures unread { IfErr result (λ e. e ≢ ending.Reader) }
         ensures kept { (first : K) → K.follows first watcher.old → K.follows first watcher.new }
     {
         let mut done = 0;
@@ -215,6 +225,7 @@ impl<S: BlockStore> Session<S> {
         ensures later { IsLater self.old self.new }
         ensures running { NoCallFailed self.old self.new → self.new.volume.stopped ≡ false }
         ensures stopped { IfErr result (λ e. e ≡ ending.Writer → K.has_ended watcher.new) }
+        ensures unread { IfErr result (λ e. e ≢ ending.Reader) }
         ensures kept { (first : K) → K.follows first watcher.old → K.follows first watcher.new }
     {
         match next_item(alloc, text, is_end)? {
@@ -243,6 +254,7 @@ impl<S: BlockStore> Session<S> {
         ensures later { IsLater self.old self.new }
         ensures running { NoCallFailed self.old self.new → self.new.volume.stopped ≡ false }
         ensures stopped { IfErr result (λ e. e ≡ ending.Writer → K.has_ended watcher.new) }
+        ensures unread { IfErr result (λ e. e ≢ ending.Reader) }
         ensures kept { (first : K) → K.follows first watcher.old → K.follows first watcher.new }
     {
         match item {
@@ -266,6 +278,7 @@ impl<S: BlockStore> Session<S> {
         ensures later { IsLater self.old self.new }
         ensures running { NoCallFailed self.old self.new → self.new.volume.stopped ≡ false }
         ensures stopped { IfErr result (λ e. e ≡ ending.Writer → K.has_ended watcher.new) }
+        ensures unread { IfErr result (λ e. e ≢ ending.Reader) }
         ensures kept { (first : K) → K.follows first watcher.old → K.follows first watcher.new }
     {
         let answer = self.step(alloc, entry);
@@ -284,6 +297,7 @@ impl<S: BlockStore> Session<S> {
         ensures later { IsLater self.old self.new }
         ensures running { NoCallFailed self.old self.new → self.new.volume.stopped ≡ false }
         ensures stopped { IfErr result (λ e. e ≡ ending.Writer → K.has_ended watcher.new) }
+        ensures unread { IfErr result (λ e. e ≢ ending.Reader) }
         ensures kept { (first : K) → K.follows first watcher.old → K.follows first watcher.new }
     {
         while let Some(number) = self.jobs.lowest() {
@@ -308,6 +322,7 @@ impl<S: BlockStore> Session<S> {
         ensures later { IsLater self.old self.new }
         ensures running { NoCallFailed self.old self.new → self.new.volume.stopped ≡ false }
         ensures stopped { IfErr result (λ e. e ≡ ending.Writer → K.has_ended watcher.new) }
+        ensures unread { IfErr result (λ e. e ≢ ending.Reader) }
         ensures kept { (first : K) → K.follows first watcher.old → K.follows first watcher.new }
     {
         let answer = self.turn(alloc, number);
@@ -333,6 +348,7 @@ impl<S: BlockStore> Session<S> {
             × IsTold (watch K.contents K.was_shown first watcher.old) (watch K.contents K.was_shown first watcher.new) answer.now shown result }
         ensures same { self.new ≡ self.old }
         ensures stopped { IfErr result (λ e. e ≡ ending.Writer → K.has_ended watcher.new) }
+        ensures unread { IfErr result (λ e. e ≢ ending.Reader) }
         ensures kept { (first : K) → K.follows first watcher.old → K.follows first watcher.new }
     {
         Self::put_lines(&mut self.line, entry, answer)?;
@@ -362,6 +378,7 @@ impl<S: BlockStore> Session<S> {
         ensures err { IfErr result (λ e. e ≡ ending.Writer) }
         ensures shown { (first : K) → WasShown (watch K.contents K.was_shown first watcher.old) (watch K.contents K.was_shown first watcher.new) [] }
         ensures stopped { IfErr result (λ e. e ≡ ending.Writer → K.has_ended watcher.new) }
+        ensures unread { IfErr result (λ e. e ≢ ending.Reader) }
         ensures kept { (first : K) → K.follows first watcher.old → K.follows first watcher.new }
     {
         watcher.flush()?;
@@ -374,6 +391,7 @@ impl<S: BlockStore> Session<S> {
             × IsTold (watch K.contents K.was_shown first watcher.old) (watch K.contents K.was_shown first watcher.new) (Err why) shown result }
         ensures same { self.new ≡ self.old }
         ensures stopped { IfErr result (λ e. e ≡ ending.Writer → K.has_ended watcher.new) }
+        ensures unread { IfErr result (λ e. e ≢ ending.Reader) }
         ensures kept { (first : K) → K.follows first watcher.old → K.follows first watcher.new }
     {
         self.tell(None, &Err(why), watcher)

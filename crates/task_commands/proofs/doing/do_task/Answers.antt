@@ -2,7 +2,7 @@ use Rattle.task_commands.proofs.doing.do_task.Goals as goal
 use Rattle.task_commands.proofs.doing.do_task.Goals.{in-Profile, in-Tape, in-Rim, in-Source, in-List, in-ListLong, in-ListSome, in-Get, in-GetBin, in-GetMany, in-GetTexts, in-GetBlocks, in-Check, in-Index, in-Dump, in-Scan, in-Rescue, in-Create, in-CreateTape, in-Put, in-PutMany, in-Delete, in-Rename, in-Copy, in-CopyMany, in-Squeeze, in-Patch, in-Assemble}
 
 pub returns-in-Teletype : goal.returns-in-Teletype
-returns-in-Teletype g c = rw c.in-Teletype.is (g.I.Read.remaining c.run_teletype.new.keys, c.run_teletype.ensures)
+returns-in-Teletype g c = rw c.in-Teletype.is c.run_teletype.ensures
 
 pub returns-in-Trace : goal.returns-in-Trace
 returns-in-Trace g c = rw c.in-Trace.is c.trace_tape.ensures

@@ -32,10 +32,10 @@ returns-then-branch-clause-runs g c =
     let i = c.loop-made.invariant in
     let attends = subst (λ (b : Bool). Attends c.loop-made.operator.input c.loop-made.operator.keyboard c.attend.new.self.keyboard c.loop-made.operator.ahead c.attend.new.self.ahead
     c.loop-made.operator.is_over c.attend.new.self.is_over c.loop-made.machine c.attend.new.machine c.loop-made.operator.since c.attend.new.self.since
-    (g.R.Read.remaining c.loop-made.reader) (g.R.Read.remaining c.attend.new.reader) b) c.if-branch.true c.in_ok-attend.ensures.ok in
+    (g.R.ByteReader.remaining c.loop-made.reader) (g.R.ByteReader.remaining c.attend.new.reader) b) c.if-branch.true c.in_ok-attend.ensures.ok in
     let at = subst (λ (x : Input). Attends x c.loop-made.operator.keyboard c.attend.new.self.keyboard c.loop-made.operator.ahead c.attend.new.self.ahead
     c.loop-made.operator.is_over c.attend.new.self.is_over c.loop-made.machine c.attend.new.machine c.loop-made.operator.since c.attend.new.self.since
-    (g.R.Read.remaining c.loop-made.reader) (g.R.Read.remaining c.attend.new.reader) true) i.input attends in
+    (g.R.ByteReader.remaining c.loop-made.reader) (g.R.ByteReader.remaining c.attend.new.reader) true) i.input attends in
     starved-run c.args.form c.args.input c.args.n c.args.machine.now c.loop-made.machine c.attend.new.machine _ _ _ _ _ _ c.loop-made.operator.since c.attend.new.self.since
     _ _ _ _ _ _ c.loop-made.paper c.attend.new.paper c.loop-made.made i.running c.loop-made-test.true at c.in_ok-attend.ensures.paper
 
@@ -45,10 +45,10 @@ returns-in_err-did-clause-runs g c =
     let i = c.loop-made.invariant in
     let attends = subst (λ (b : Bool). Attends c.loop-made.operator.input c.loop-made.operator.keyboard c.attend.new.self.keyboard c.loop-made.operator.ahead c.attend.new.self.ahead
     c.loop-made.operator.is_over c.attend.new.self.is_over c.loop-made.machine c.attend.new.machine c.loop-made.operator.since c.attend.new.self.since
-    (g.R.Read.remaining c.loop-made.reader) (g.R.Read.remaining c.attend.new.reader) b) c.if-branch.false c.in_ok-attend.ensures.ok in
+    (g.R.ByteReader.remaining c.loop-made.reader) (g.R.ByteReader.remaining c.attend.new.reader) b) c.if-branch.false c.in_ok-attend.ensures.ok in
     let at = subst (λ (x : Input). Attends x c.loop-made.operator.keyboard c.attend.new.self.keyboard c.loop-made.operator.ahead c.attend.new.self.ahead
     c.loop-made.operator.is_over c.attend.new.self.is_over c.loop-made.machine c.attend.new.machine c.loop-made.operator.since c.attend.new.self.since
-    (g.R.Read.remaining c.loop-made.reader) (g.R.Read.remaining c.attend.new.reader) false) i.input attends in
+    (g.R.ByteReader.remaining c.loop-made.reader) (g.R.ByteReader.remaining c.attend.new.reader) false) i.input attends in
     rw (p.1, p.2, c.in_err-did.ensures.err)
     (unwritten-run c.args.form c.args.input c.args.n c.args.machine.now c.loop-made.machine c.attend.new.machine c.step.new.machine _ _ _ _ _ _
     c.loop-made.operator.since c.attend.new.self.since _ _ _ _ _ c.loop-made.paper c.loop-made.made i.running c.loop-made-test.true at c.step.ensures.state)
@@ -58,10 +58,10 @@ returns-in-Some-clause-runs g c =
     let i = c.loop-made.invariant in
     let attends = subst (λ (b : Bool). Attends c.loop-made.operator.input c.loop-made.operator.keyboard c.attend.new.self.keyboard c.loop-made.operator.ahead c.attend.new.self.ahead
     c.loop-made.operator.is_over c.attend.new.self.is_over c.loop-made.machine c.attend.new.machine c.loop-made.operator.since c.attend.new.self.since
-    (g.R.Read.remaining c.loop-made.reader) (g.R.Read.remaining c.attend.new.reader) b) c.if-branch.false c.in_ok-attend.ensures.ok in
+    (g.R.ByteReader.remaining c.loop-made.reader) (g.R.ByteReader.remaining c.attend.new.reader) b) c.if-branch.false c.in_ok-attend.ensures.ok in
     let at = subst (λ (x : Input). Attends x c.loop-made.operator.keyboard c.attend.new.self.keyboard c.loop-made.operator.ahead c.attend.new.self.ahead
     c.loop-made.operator.is_over c.attend.new.self.is_over c.loop-made.machine c.attend.new.machine c.loop-made.operator.since c.attend.new.self.since
-    (g.R.Read.remaining c.loop-made.reader) (g.R.Read.remaining c.attend.new.reader) false) i.input attends in
+    (g.R.ByteReader.remaining c.loop-made.reader) (g.R.ByteReader.remaining c.attend.new.reader) false) i.input attends in
     let did = c.in_ok-did.ensures.ok in
     ended-run c.args.form c.args.input c.args.n c.args.machine.now c.loop-made.machine c.attend.new.machine c.step.new.machine _ _ _ _ _ _
     c.loop-made.operator.since c.attend.new.self.since _ _ _ _ _ _ _ c.loop-made.paper c.attend.new.paper c.step.new.paper c.loop-made.made
@@ -72,10 +72,10 @@ loop-made-preserved g c =
     let i = c.loop-made.invariant in
     let attends = subst (λ (b : Bool). Attends c.loop-made.operator.input c.loop-made.operator.keyboard c.attend.new.self.keyboard c.loop-made.operator.ahead c.attend.new.self.ahead
     c.loop-made.operator.is_over c.attend.new.self.is_over c.loop-made.machine c.attend.new.machine c.loop-made.operator.since c.attend.new.self.since
-    (g.R.Read.remaining c.loop-made.reader) (g.R.Read.remaining c.attend.new.reader) b) c.if-branch.false c.in_ok-attend.ensures.ok in
+    (g.R.ByteReader.remaining c.loop-made.reader) (g.R.ByteReader.remaining c.attend.new.reader) b) c.if-branch.false c.in_ok-attend.ensures.ok in
     let at = subst (λ (x : Input). Attends x c.loop-made.operator.keyboard c.attend.new.self.keyboard c.loop-made.operator.ahead c.attend.new.self.ahead
     c.loop-made.operator.is_over c.attend.new.self.is_over c.loop-made.machine c.attend.new.machine c.loop-made.operator.since c.attend.new.self.since
-    (g.R.Read.remaining c.loop-made.reader) (g.R.Read.remaining c.attend.new.reader) false) i.input attends in
+    (g.R.ByteReader.remaining c.loop-made.reader) (g.R.ByteReader.remaining c.attend.new.reader) false) i.input attends in
     let did = c.in_ok-did.ensures.ok in
     let stepped = running-next c.args.form c.args.input c.args.machine.now c.loop-made.machine c.attend.new.machine c.step.new.machine _ _ _ _ _ _
     c.loop-made.operator.since c.attend.new.self.since _ _ _ _ _ _ _ c.loop-made.paper c.attend.new.paper c.step.new.paper c.loop-made.made

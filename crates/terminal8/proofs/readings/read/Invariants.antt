@@ -1,7 +1,0 @@
-use Rattle.std.proofs.Common.{[]}
-use Rattle.std.specs.Io.KnownBytes.{Consumes}
-use Rattle.terminal8.proofs.readings.read.Given as goal
-
--- nothing was taken
-abbrev pub invariant-loop : goal.invariant-loop
-invariant-loop g l = Consumes (g.R.Read.remaining l.fn.reader) (g.R.Read.remaining l.reader) []
