@@ -276,7 +276,12 @@ fn several(found: &ArgMatches<'_>, image: ImageForm, names: Vec<String>, file: S
 {
     let layout = layout_of(found, Verb::Copy, "to-volume", "to-dectape");
     let wait = wait_of(found, Verb::Copy);
-    let to = ImageForm { file, layout, wait };
+    let to = ImageForm {
+        file,
+        layout,
+        wait,
+        is_lenient: false,
+    };
     Task::CopyMany(CopyManyForm {
         image,
         names,
@@ -343,6 +348,7 @@ fn copy_one(alloc: Global, found: &ArgMatches<'_>) -> Read<Task>
         file: to,
         layout: layout_of(found, Verb::Copy, "to-volume", "to-dectape"),
         wait: wait_of(found, Verb::Copy),
+        is_lenient: false,
     };
     Ok(Task::Copy(CopyForm {
         image,

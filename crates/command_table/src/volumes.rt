@@ -31,6 +31,7 @@ pub fn image_of(alloc: Global, found: &ArgMatches<'_>, verb: Verb, id: &str) -> 
         file,
         layout,
         wait: 0,
+        is_lenient: false,
     })
 }
 
@@ -46,7 +47,12 @@ pub fn changed_image(alloc: Global, found: &ArgMatches<'_>, verb: Verb, id: &str
     let file = value_of(alloc, found, verb, id)?;
     let layout = layout_of(found, verb, "volume", "dectape");
     let wait = wait_of(found, verb);
-    Ok(ImageForm { file, layout, wait })
+    Ok(ImageForm {
+        file,
+        layout,
+        wait,
+        is_lenient: false,
+    })
 }
 
 /// The run of a script.
@@ -135,5 +141,6 @@ pub fn check(alloc: Global, found: &ArgMatches<'_>) -> Read<Task>
         images,
         layout: layout_of(found, Verb::Check, "volume", "dectape"),
         is_all: flag(found, Verb::Check, "all"),
+        is_lenient: false,
     }))
 }

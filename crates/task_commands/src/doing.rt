@@ -151,6 +151,7 @@ fn list_index<H: Host>(host: &mut H, alloc: Global, form: IndexForm) -> Result<(
         is_same,
         find,
         grep,
+        is_lenient: _,
     } = form;
     let style = IndexStyle {
         find: pattern_or_all(alloc, find)?,
