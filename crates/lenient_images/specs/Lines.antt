@@ -1,19 +1,24 @@
 -- The lines that say what was done to an image file (this project's profile).
-use Rattle.std.specs.Prelude.{ℕ, zero, suc, ◌-◌, ◌/◌, ◌%◌, codes, decimal, min, take, List, [], ◌∷◌, ◌++◌, length}
+use Rattle.std.specs.Prelude.{ℕ, nat_eq, if◌then◌else◌, ◌-◌, ◌/◌, ◌%◌, codes, decimal, min, take, List, [], ◌∷◌, ◌++◌, length}
 use Rattle.word12.specs.Octal.{octal4}
 use Rattle.lenient_images.specs.declared.lines.TheConstants.{MOST_LINES}
 use Rattle.lenient_images.specs.declared.mending.WideWord.{WideWord}
 use Rattle.lenient_images.specs.declared.mending.MendedFile.{MendedFile}
 
--- sixteen bits in octal: the top one, three others, and the low twelve
-abbrev pub six_digits : ℕ → List ℕ
-six_digits bits = decimal (bits / 0o100000) ++ decimal (bits / 0o10000 % 8) ++ octal4 (bits % 0o10000)
+-- where a word of the file of this name is
+abbrev pub place_text : List ℕ → ℕ → ℕ → List ℕ
+place_text name block word = codes "note: " ++ name ++ codes ": block " ++ decimal block ++ codes ", word " ++ decimal word ++ codes " is "
 
--- the line of a word of the file of this name: where it is, its sixteen bits, and what is read in their place
+-- its sixteen bits in octal, the top one, the next three and the low twelve, and what is read in their place
+abbrev pub bits_text : ℕ → ℕ → ℕ → List ℕ
+bits_text top next low = decimal top ++ decimal next ++ octal4 low ++ codes ", read as " ++ octal4 low ++ codes "\n"
+
+-- the line of a word
+abbrev pub line_of : List ℕ → ℕ → ℕ → ℕ → ℕ → ℕ → List ℕ
+line_of name block word top next low = place_text name block word ++ bits_text top next low
+
 abbrev pub word_line : List ℕ → WideWord → List ℕ
-word_line name it =
-    codes "note: " ++ name ++ codes ": block " ++ decimal it.block ++ codes ", word " ++ decimal it.word ++ codes " is "
-    ++ six_digits it.bits ++ codes ", read as " ++ octal4 (it.bits % 0o10000) ++ codes "\n"
+word_line name it = line_of name it.block it.word (it.bits / 0o100000) (it.bits / 0o10000 % 8) (it.bits % 0o10000)
 
 abbrev pub word_lines : List ℕ → List WideWord → List ℕ
 word_lines name [] = []
@@ -25,8 +30,7 @@ first_lines name words = word_lines name (take (min (length words) MOST_LINES) w
 
 -- a line with a number, unless it is 0
 abbrev pub count_line : List ℕ → List ℕ → ℕ → List ℕ
-count_line name what zero = []
-count_line name what (suc k) = codes "note: " ++ name ++ what ++ decimal (suc k) ++ codes "\n"
+count_line name what number = if nat_eq number 0 then [] else codes "note: " ++ name ++ what ++ decimal number ++ codes "\n"
 
 -- the count of further words, and of the bytes that were added or cut
 abbrev pub count_lines : List ℕ → MendedFile → List ℕ

@@ -55,11 +55,44 @@ fn put_word(
 fn word_line(alloc: Global, name: &str, it: WideWord) -> Result<String, AllocError>
     ensures { IfOk result (λ line. line.bytes.items ≡ spec.word_line name.now it) }
 {
-    let WideWord { block, word, bits } = it;
-    let top = bits / 0o100000;
-    let next = bits / 0o10000 % 8;
-    let low = Word::low(bits);
-    format!(in alloc; "note: {name}: block {block}, word {word} is {top}{next}{low}, read as {low}\n")
+    let top = it.bits / 0o100000;
+    let next = it.bits / 0o10000 % 8;
+    let line = line_of(alloc, name, it.block, it.word, top, next, Word::low(it.bits))?;
+    Ok(line)
+}
+
+/// The line of a word by its place, its top bit, the three after that, and the others.
+fn line_of(
+    alloc: Global,
+    name: &str,
+    block: usize,
+    word: usize,
+    top: u16,
+    next: u16,
+    low: Word,
+) -> Result<String, AllocError>
+    ensures { IfOk result (λ line. line.bytes.items ≡ spec.line_of name.now block word top next low) }
+{
+    let mut line = place_text(alloc, name, block, word)?;
+    let bits = bits_text(alloc, top, next, low)?;
+    line.push_str(bits.as_str())?;
+    Ok(line)
+}
+
+/// Where a word of the file of this name is.
+fn place_text(alloc: Global, name: &str, block: usize, word: usize) -> Result<String, AllocError>
+    ensures { IfOk result (λ text. text.bytes.items ≡ spec.place_text name.now block word) }
+{
+    let text = format!(in alloc; "note: {name}: block {block}, word {word} is ")?;
+    Ok(text)
+}
+
+/// The bits of a word, and what is read in their place.
+fn bits_text(alloc: Global, top: u16, next: u16, low: Word) -> Result<String, AllocError>
+    ensures { IfOk result (λ text. text.bytes.items ≡ spec.bits_text top next low) }
+{
+    let text = format!(in alloc; "{top}{next}{low}, read as {low}\n")?;
+    Ok(text)
 }
 
 /// Appends the counts of further words, and of bytes that were added or cut.
@@ -86,7 +119,8 @@ fn put_counts(
         ": bytes of zeros added at the end: ",
         it.zeros,
     )?;
-    put_count(alloc, text, name, ": bytes cut from the end: ", it.cut)
+    put_count(alloc, text, name, ": bytes cut from the end: ", it.cut)?;
+    Ok(())
 }
 
 /// Appends a line with a number, unless it is 0.
