@@ -317,6 +317,7 @@ pub const LIST: &[Argument] = rows! {
     "year" option Kind::One(Form::Year), "N", "The last of the eight years that dates mean, 1977 to 9999; else the one that block 0 gives";
     "volume" 'v' option Kind::One(Form::Volume), "N", "The volume of an RK05 disk, 1 or 2, where IMAGE is the file of one";
     "dectape" flag Kind::Flag, "", "IMAGE is the file of a DECtape, of 129 words a block";
+    "lenient" flag Kind::Flag, "", "Read an image with faults: top bits are taken off, a length is made whole; each is printed on standard error";
 };
 
 pub const GET: &[Argument] = rows! {
@@ -333,6 +334,7 @@ pub const GET: &[Argument] = rows! {
     "blocks" flag Kind::Flag, "", "Write blocks of the volume: COUNT from block FIRST on";
     "volume" 'v' option Kind::One(Form::Volume), "N", "The volume of an RK05 disk, 1 or 2, where IMAGE is the file of one";
     "dectape" flag Kind::Flag, "", "IMAGE is the file of a DECtape, of 129 words a block";
+    "lenient" flag Kind::Flag, "", "Read an image with faults: top bits are taken off, a length is made whole; each is printed on standard error";
 };
 
 pub const PUT: &[Argument] = rows! {
@@ -397,6 +399,7 @@ pub const CHECK: &[Argument] = rows! {
     "all" 'a' flag Kind::Flag, "", "Show each fault of the directory, and the files that are sound";
     "volume" 'v' option Kind::One(Form::Volume), "N", "The volume of an RK05 disk, 1 or 2, where IMAGE is the file of one";
     "dectape" flag Kind::Flag, "", "IMAGE is the file of a DECtape, of 129 words a block";
+    "lenient" flag Kind::Flag, "", "Read an image with faults: top bits are taken off, a length is made whole; each is printed on standard error";
 };
 
 pub const DUMP: &[Argument] = rows! {
@@ -427,6 +430,7 @@ pub const INDEX: &[Argument] = rows! {
     "year" option Kind::One(Form::Year), "N", "The last of the eight years that dates mean, 1977 to 9999; else the one that block 0 gives";
     "volume" 'v' option Kind::One(Form::Volume), "N", "The volume of an RK05 disk, 1 or 2, where IMAGE is the file of one";
     "dectape" flag Kind::Flag, "", "IMAGE is the file of a DECtape, of 129 words a block";
+    "lenient" flag Kind::Flag, "", "Read an image with faults: top bits are taken off, a length is made whole; each is printed on standard error";
 };
 
 pub const RESCUE: &[Argument] = rows! {
