@@ -139,9 +139,11 @@ looked : (is_lenient : Bool) (given : Option Layout) (name : List ℕ) (old : Li
     → (file : List ℕ) × IsReadAs is_lenient given file bytes.items × (read new ≡ look_call name file ∷ read old)
 looked false given name old bytes new p = (bytes.items, refl, reads (look_call name bytes.items ∷ old) new p.1)
 looked true given name old bytes new (inl ends) = absurd ends
-looked true given name old bytes new (inr it) =
-    (it.given.items, (it.after.0, it.after.1, it.after.2),
-      lines-read (mended_lines name it.after.0) it.between new it.after.3 ∙ reads (look_call name it.given.items ∷ old) it.between it.done.1)
+looked true given name old bytes new (inr it) = (
+  it.given.items,
+  (it.after.0, it.after.1, it.after.2),
+  lines-read (mended_lines name it.after.0) it.between new it.after.3 ∙ reads (look_call name it.given.items ∷ old) it.between it.done.1,
+)
 
 one-sound : (is_all : Bool) (reading : ImageReading) (name : List ℕ) (old new : List Event) → ReportsOne (kind_of_check is_all) reading name old (Ok tt) new → HasReadSound is_all reading name old new
 one-sound is_all reading name old new (inl ends) = absurd ends
