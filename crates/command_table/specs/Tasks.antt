@@ -1,6 +1,6 @@
 -- What a command line asks of the program. The words are read as the library `clap` reads them: its own definitions say which words a command
 -- takes, what they mean, and the kinds of error that others meet.
-use Rattle.std.specs.Prelude.{◌≡◌, ◌≢◌, ◌≤◌, ◌<◌, ◌+◌, ⊤, true, false, if◌then◌else◌, ℕ, codes, List, [], ◌∷◌, ◌++◌, Option, None, Some, Result, Ok, Err, is_some, length, map, IfSome, option_and_then, option_map}
+use Rattle.std.specs.Prelude.{◌≡◌, ◌≢◌, ◌≤◌, ◌<◌, ◌+◌, ⊤, Bool, true, false, if◌then◌else◌, ℕ, codes, List, [], ◌∷◌, ◌++◌, Option, None, Some, Result, Ok, Err, is_some, length, map, IfSome, option_and_then, option_map}
 use Rattle.clap.specs.Words.{Row, Text, all_of, first_of, fault_of, kind_of, one_of, subcommand_of, IsAmong}
 use Rattle.clap.specs.declared.error.Error.{Error}
 use Rattle.clap.specs.declared.error.kind.ErrorKind.TheVariants.{OutOfMemory}
@@ -9,6 +9,8 @@ use Rattle.char_pack.specs.declared.forms.GetForm.TheVariants as get_as
 use Rattle.char_pack.specs.declared.forms.PutForm.{PutForm}
 use Rattle.char_pack.specs.declared.forms.PutForm.TheVariants as put_as
 use Rattle.word12.specs.declared.sizes.TheConstants.{MOST_BLOCKS}
+use Rattle.disk_layouts.specs.declared.layouts.Layout.{Layout}
+use Rattle.program_tasks.specs.Names.{volume_named}
 use Rattle.program_tasks.specs.declared.archives.LineForm.{LineForm}
 use Rattle.program_tasks.specs.declared.archives.LineForm.TheVariants.{Columns, Json}
 use Rattle.program_tasks.specs.declared.forms.CreateForm.{CreateForm}
@@ -54,10 +56,14 @@ put_form values = if is_set (codes "text") values then put_as.Text else put_as.F
 abbrev pub saving_of : List Row → Saving
 saving_of values = if is_set (codes "look") values then Never else if is_set (codes "keep") values then Always else AtEnd
 
--- the volume in the file that an argument names, where in it, and how many seconds are waited for it
+-- The volume that an argument names: its file, and where in that it lies, as options say or else the name. It is waited for so many seconds, and
+-- its faults are mended or not.
+abbrev pub IsVolume : Option Layout → Text → ℕ → Bool → List Row → ImageForm → Type 0
+IsVolume given id wait is_lenient values image = (option_map (volume_named given) (first_of id values) ≡ Some (image.file.bytes.items, image.layout))
+    × (image.wait ≡ wait) × (image.is_lenient ≡ is_lenient)
+
 abbrev pub IsImage : Text → ℕ → List Row → ImageForm → Type 0
-IsImage id wait values image = (first_of id values ≡ Some image.file.bytes.items)
-    × (layout_of (codes "volume") (codes "dectape") values ≡ image.layout) × (image.wait ≡ wait)
+IsImage id wait values image = IsVolume (layout_of (codes "volume") (codes "dectape") values) id wait false values image
 
 -- ## The sources and the Teletype
 
@@ -90,12 +96,19 @@ IsTraceForm values form = IsTape values form.tape
 
 -- ## The files of volumes
 
--- one that is only looked at, and one that may be changed
+-- one that is only looked at, one of these whose faults are mended where it is asked for, and one that may be changed
 abbrev pub IsSeen : List Row → ImageForm → Type 0
 IsSeen values image = IsImage (codes "IMAGE") 0 values image
 
+abbrev pub IsRead : List Row → ImageForm → Type 0
+IsRead values image = IsVolume (layout_of (codes "volume") (codes "dectape") values) (codes "IMAGE") 0 (is_set (codes "lenient") values) values image
+
 abbrev pub IsChanged : List Row → ImageForm → Type 0
 IsChanged values image = IsImage (codes "IMAGE") (wait_of values) values image
+
+-- and one that files are copied to
+abbrev pub IsTarget : Text → List Row → ImageForm → Type 0
+IsTarget id values image = IsVolume (layout_of (codes "to-volume") (codes "to-dectape") values) id (wait_of values) false values image
 
 -- the file whose first block `--at` gives, else that of the name
 abbrev pub IsFile : List Row → FileForm → Type 0
@@ -177,28 +190,28 @@ AsksFor which values (Create form blocks) = (which ≡ verb.Create) × IsCreateF
     × (is_set (codes "dectape") values ≡ false) × (option_map number_of (one_of (codes "BLOCKS") values) ≡ Some blocks)
 AsksFor which values (CreateTape form) = (which ≡ verb.Create) × IsCreateForm values form
     × (is_set (codes "dectape") values ≡ true)
-AsksFor which values (task.List image) = (which ≡ verb.List) × (has (codes "NAME") values ≡ false) × IsSeen values image
+AsksFor which values (task.List image) = (which ≡ verb.List) × (has (codes "NAME") values ≡ false) × IsRead values image
     × (is_set (codes "long") values ≡ false)
-AsksFor which values (ListLong image year) = (which ≡ verb.List) × (has (codes "NAME") values ≡ false) × IsSeen values image
+AsksFor which values (ListLong image year) = (which ≡ verb.List) × (has (codes "NAME") values ≡ false) × IsRead values image
     × (is_set (codes "long") values ≡ true) × (year ≡ year_of values)
-AsksFor which values (ListSome form) = (which ≡ verb.List) × (has (codes "NAME") values ≡ true) × IsSeen values form.image
+AsksFor which values (ListSome form) = (which ≡ verb.List) × (has (codes "NAME") values ≡ true) × IsRead values form.image
     × (names_in (codes "NAME") values ≡ map (λ name. name.bytes.items) form.names.items)
     × (form.is_long ≡ is_set (codes "long") values) × (form.year ≡ year_of values)
-AsksFor which values (Get image file form) = (which ≡ verb.Get) × GetsOne values × IsSeen values image
+AsksFor which values (Get image file form) = (which ≡ verb.Get) × GetsOne values × IsRead values image
     × IsFile values file × (form ≡ get_form values) × (is_set (codes "bin") values ≡ false)
-AsksFor which values (GetBin image file) = (which ≡ verb.Get) × GetsOne values × IsSeen values image
+AsksFor which values (GetBin image file) = (which ≡ verb.Get) × GetsOne values × IsRead values image
     × IsFile values file × (is_set (codes "bin") values ≡ true)
 AsksFor which values (GetMany form) = (which ≡ verb.Get) × (is_set (codes "blocks") values ≡ false)
-    × IsSeen values form.image
+    × IsRead values form.image
     × (names_in (codes "NAME") values ≡ map (λ name. name.bytes.items) form.names.items)
     × ArePlaces values form.places.items × (form.is_all ≡ is_set (codes "all") values)
     × (first_of (codes "into") values ≡ Some form.folder.bytes.items) × AreTexts values form.texts
     × (form.is_forced ≡ is_set (codes "force") values)
 AsksFor which values (GetTexts form) = (which ≡ verb.Get) × (is_set (codes "blocks") values ≡ false) × (prints_texts values ≡ true)
-    × IsSeen values form.image × (names_in (codes "NAME") values ≡ map (λ name. name.bytes.items) form.names.items)
+    × IsRead values form.image × (names_in (codes "NAME") values ≡ map (λ name. name.bytes.items) form.names.items)
     × ArePlaces values form.places.items × (form.is_all ≡ is_set (codes "all") values)
 AsksFor which values (GetBlocks form) = (which ≡ verb.Get) × (is_set (codes "blocks") values ≡ true)
-    × IsSeen values form.image × (number_in 0 4094 (blocks_word 0 values) ≡ Some form.first)
+    × IsRead values form.image × (number_in 0 4094 (blocks_word 0 values) ≡ Some form.first)
     × (number_in 1 MOST_BLOCKS (blocks_word 1 values) ≡ Some form.count) × (form.form ≡ get_form values)
 AsksFor which values (Put form) = (which ≡ verb.Put) × (puts_many values ≡ false) × IsChanged values form.image
     × (first_of (codes "FILE") values ≡ Some form.file.bytes.items)
@@ -214,16 +227,15 @@ AsksFor which values (Delete form) = (which ≡ verb.Delete) × IsChanged values
 AsksFor which values (Rename image file new) = (which ≡ verb.Rename) × IsChanged values image × IsFile values file
     × (name_in (after (codes "NAME") (codes "NEW") values) values ≡ Some new.bytes.items)
 AsksFor which values (Copy form) = (which ≡ verb.Copy) × (has (codes "to") values ≡ false) × (copies_pattern values ≡ false) × IsSeen values form.image × IsFile values form.file
-    × (first_of (after (codes "NAME") (codes "TO") values) values ≡ Some form.to.file.bytes.items)
-    × (layout_of (codes "to-volume") (codes "to-dectape") values ≡ form.to.layout) × (form.to.wait ≡ wait_of values)
+    × IsTarget (after (codes "NAME") (codes "TO") values) values form.to
     × (name_in (after (codes "TO") (codes "NEW") values) values ≡ option_map (λ name. name.bytes.items) form.new)
 AsksFor which values (CopyMany form) = (which ≡ verb.Copy) × IsSeen values form.image
-    × (copied_names values ≡ map (λ name. name.bytes.items) form.names.items) × (first_of (target_id values) values ≡ Some form.to.file.bytes.items)
-    × (layout_of (codes "to-volume") (codes "to-dectape") values ≡ form.to.layout) × (form.to.wait ≡ wait_of values)
+    × (copied_names values ≡ map (λ name. name.bytes.items) form.names.items) × IsTarget (target_id values) values form.to
     × (form.is_forced ≡ is_set (codes "force") values)
 AsksFor which values (Squeeze image) = (which ≡ verb.Squeeze) × IsChanged values image
 AsksFor which values (Check form) = (which ≡ verb.Check) × (values_of (codes "IMAGE") values ≡ map (λ image. image.bytes.items) form.images.items)
     × (layout_of (codes "volume") (codes "dectape") values ≡ form.layout) × (form.is_all ≡ is_set (codes "all") values)
+    × (form.is_lenient ≡ is_set (codes "lenient") values)
 AsksFor which values (Dump form) = (which ≡ verb.Dump) × IsSeen values form.image × (form.span ≡ option_and_then span_of (first_of (codes "BLOCK") values))
     × (form.is_sixbit ≡ is_set (codes "sixbit") values)
 AsksFor which values (Patch form) = (which ≡ verb.Patch) × IsChanged values form.image
@@ -234,7 +246,7 @@ AsksFor which values (Patch form) = (which ≡ verb.Patch) × IsChanged values f
 AsksFor which values (Index form) = (which ≡ verb.Index) × (values_of (codes "IMAGE") values ≡ map (λ image. image.bytes.items) form.images.items)
     × (layout_of (codes "volume") (codes "dectape") values ≡ form.layout) × (form.year ≡ year_of values)
     × (form.form ≡ line_form values) × (form.is_same ≡ is_set (codes "same") values) × (name_in (codes "find") values ≡ option_map (λ pattern. pattern.bytes.items) form.find)
-    × (first_of (codes "grep") values ≡ option_map (λ text. text.bytes.items) form.grep)
+    × (first_of (codes "grep") values ≡ option_map (λ text. text.bytes.items) form.grep) × (form.is_lenient ≡ is_set (codes "lenient") values)
 AsksFor which values (Rescue form) = (which ≡ verb.Rescue) × IsSeen values form.image × (first_of (codes "NEW") values ≡ Some form.new.bytes.items)
 AsksFor which values (Scan form) = (which ≡ verb.Scan) × IsSeen values form.image × (first_of (codes "into") values ≡ option_map (λ folder. folder.bytes.items) form.into)
 AsksFor which values (Assemble form) = (which ≡ verb.Assemble) × (source_names values ≡ map (λ file. file.bytes.items) form.sources.items)

@@ -64,6 +64,7 @@ pub fn index(alloc: Global, found: &ArgMatches<'_>) -> Read<Task>
         is_same: flag(found, Verb::Index, "same"),
         find,
         grep,
+        is_lenient: flag(found, Verb::Index, "lenient"),
     }))
 }
 

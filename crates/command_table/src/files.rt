@@ -1,27 +1,26 @@
 //! What is asked of the files of volumes.
 ghost use Rattle.std.specs.Prelude.{◌≡◌, ◌≤◌, ◌∷◌, ◌++◌, [], codes, false, true, if◌then◌else◌, is_some, map, option_map, IfOk, OnOk, Some};
-ghost use Rattle.clap.specs.Words.{first_of};
 ghost use Rattle.command_table.specs.Found.{capitals, has, is_set, number_in};
 ghost use Rattle.command_table.specs.Steps.{Has, IsFirst, has_text, kind_at, takes_block, takes_texts, IsAskedBy, Needs, values_in};
 ghost use Rattle.command_table.specs.Refusals.{copies_pattern};
 ghost use Rattle.command_table.specs.Refusals as refusals;
 ghost use Rattle.command_table.specs.Tables.{rows_for};
-ghost use Rattle.command_table.specs.Tasks.{AreTexts, IsFile, IsSeen, name_or_none};
+ghost use Rattle.command_table.specs.Tasks.{AreTexts, IsFile, IsSeen, IsTarget, name_or_none};
 ghost use Rattle.command_table.specs.Tasks as spec;
 ghost use Rattle.command_table.specs.declared.table.Form.TheVariants as form;
 ghost use Rattle.command_table.specs.declared.table.Kind.TheVariants as kind;
 ghost use Rattle.command_table.specs.declared.table.Verb.TheVariants as verb;
 
 use crate::found::{
-    Read, block_of, flag, has, layout_of, name_if_given, name_of, names_of, text_of, texts_in,
-    value_of, values_of, wait_of,
+    Read, block_of, flag, has, name_if_given, name_of, names_of, text_of, texts_in, value_of,
+    values_of,
 };
 use crate::judging::blocks_word;
 use crate::lists::{blocks_of, info_of};
 use crate::missing::{copies_pattern, prints_texts, puts_many};
 use crate::numbers::number_of;
 use crate::table::Verb;
-use crate::volumes::{changed_image, image_of};
+use crate::volumes::{changed_image, image_of, read_image, target_of};
 use char_pack::{GetForm, PutForm};
 use clap::ArgMatches;
 use program_tasks::{
@@ -55,7 +54,7 @@ fn get_blocks(alloc: Global, found: &ArgMatches<'_>) -> Read<Task>
     requires blocks { is_set (codes "blocks") (values_in found.now) ≡ true }
     ensures { IfOk result (IsAskedBy verb.Get (values_in found.now)) }
 {
-    let image = image_of(alloc, found, Verb::Get, "IMAGE")?;
+    let image = read_image(alloc, found, Verb::Get)?;
     let first = block_number(found, 0, 0, 4094);
     let count = block_number(found, 1, 1, MOST_BLOCKS);
     Ok(Task::GetBlocks(BlocksForm {
@@ -82,7 +81,7 @@ fn get_many(alloc: Global, found: &ArgMatches<'_>) -> Read<Task>
     requires many { has (codes "into") (values_in found.now) ≡ true }
     ensures { IfOk result (IsAskedBy verb.Get (values_in found.now)) }
 {
-    let image = image_of(alloc, found, Verb::Get, "IMAGE")?;
+    let image = read_image(alloc, found, Verb::Get)?;
     let names = names_of(alloc, found, Verb::Get, "NAME")?;
     let places = blocks_of(alloc, found, Verb::Get, "at")?;
     let folder = value_of(alloc, found, Verb::Get, "into")?;
@@ -105,7 +104,7 @@ fn get_texts(alloc: Global, found: &ArgMatches<'_>) -> Read<Task>
     requires texts { refusals.prints_texts (values_in found.now) ≡ true }
     ensures { IfOk result (IsAskedBy verb.Get (values_in found.now)) }
 {
-    let image = image_of(alloc, found, Verb::Get, "IMAGE")?;
+    let image = read_image(alloc, found, Verb::Get)?;
     let names = names_of(alloc, found, Verb::Get, "NAME")?;
     let places = blocks_of(alloc, found, Verb::Get, "at")?;
     Ok(Task::GetTexts(GetTextsForm {
@@ -125,7 +124,7 @@ fn get_one(alloc: Global, found: &ArgMatches<'_>) -> Read<Task>
     requires no_texts { refusals.prints_texts (values_in found.now) ≡ false }
     ensures { IfOk result (IsAskedBy verb.Get (values_in found.now)) }
 {
-    let image = image_of(alloc, found, Verb::Get, "IMAGE")?;
+    let image = read_image(alloc, found, Verb::Get)?;
     let file = file_of(alloc, found, Verb::Get)?;
     if flag(found, Verb::Get, "bin") {
         return Ok(Task::GetBin(image, file));
@@ -251,8 +250,8 @@ fn copy_fitting(alloc: Global, found: &ArgMatches<'_>) -> Read<Task>
     let image = image_of(alloc, found, Verb::Copy, "IMAGE")?;
     let mut names = Vec::new(alloc);
     add_name(alloc, text_of(found, "NAME"), &mut names)?;
-    let file = value_of(alloc, found, Verb::Copy, "TO")?;
-    Ok(several(found, image, names, file))
+    let to = target_of(alloc, found, "TO")?;
+    Ok(several(found, image, names, to))
 }
 
 /// The files that are to be copied at once, to the volume that an option gives.
@@ -263,20 +262,17 @@ fn copy_many(alloc: Global, found: &ArgMatches<'_>) -> Read<Task>
 {
     let image = image_of(alloc, found, Verb::Copy, "IMAGE")?;
     let names = names_given(alloc, found)?;
-    let file = value_of(alloc, found, Verb::Copy, "to")?;
-    Ok(several(found, image, names, file))
+    let to = target_of(alloc, found, "to")?;
+    Ok(several(found, image, names, to))
 }
 
-/// Files of these names that are to be copied at once, to the volume in this file.
-fn several(found: &ArgMatches<'_>, image: ImageForm, names: Vec<String>, file: String) -> Task
+/// Files of these names that are to be copied at once, to this volume.
+fn several(found: &ArgMatches<'_>, image: ImageForm, names: Vec<String>, to: ImageForm) -> Task
     requires image { IsSeen (values_in found.now) image }
     requires names { spec.copied_names (values_in found.now) ≡ map (λ name. name.bytes.items) names.items }
-    requires to { first_of (spec.target_id (values_in found.now)) (values_in found.now) ≡ Some file.bytes.items }
+    requires to { IsTarget (spec.target_id (values_in found.now)) (values_in found.now) to }
     ensures { IsAskedBy verb.Copy (values_in found.now) result }
 {
-    let layout = layout_of(found, Verb::Copy, "to-volume", "to-dectape");
-    let wait = wait_of(found, Verb::Copy);
-    let to = ImageForm { file, layout, wait };
     Task::CopyMany(CopyManyForm {
         image,
         names,
@@ -337,13 +333,8 @@ fn copy_one(alloc: Global, found: &ArgMatches<'_>) -> Read<Task>
 {
     let image = image_of(alloc, found, Verb::Copy, "IMAGE")?;
     let file = file_of(alloc, found, Verb::Copy)?;
-    let to = value_of(alloc, found, Verb::Copy, after(found, "NAME", "TO"))?;
+    let to = target_of(alloc, found, after(found, "NAME", "TO"))?;
     let new = name_if_given(alloc, found, Verb::Copy, after(found, "TO", "NEW"))?;
-    let to = ImageForm {
-        file: to,
-        layout: layout_of(found, Verb::Copy, "to-volume", "to-dectape"),
-        wait: wait_of(found, Verb::Copy),
-    };
     Ok(Task::Copy(CopyForm {
         image,
         file,

@@ -2,6 +2,7 @@
 ghost use Rattle.std.specs.Prelude.{◌≡◌, ◌∷◌, [], ℕ, List, codes, map, option_map, true, None, Some};
 ghost use Rattle.std.specs.List.{list_all};
 ghost use Rattle.clap.specs.Words.{IsUnsignedIn};
+ghost use Rattle.program_tasks.specs.Names.{volume_named};
 ghost use Rattle.program_tasks.specs.declared.archives.LineForm.TheVariants.{Columns, Json};
 ghost use Rattle.program_tasks.specs.declared.tasks.RimForm.TheVariants.{Lines, Bin};
 ghost use Rattle.program_tasks.specs.declared.tasks.Saving.TheVariants.{AtEnd, Never, Always};
@@ -34,11 +35,13 @@ pub fn plain_words()
         → IsTaken (codes "create") (in_place (codes "IMAGE") image ∷ in_place (codes "BLOCKS") blocks ∷ []) }
     ensures list { (image text : List ℕ) → AreTaken (codes "list") (after (in_place (codes "IMAGE") image) ([] ∷
         (alone (codes "long") ∷ []) ∷ (with_value (codes "volume") text ∷ []) ∷ (alone (codes "dectape") ∷ []) ∷
-        (in_place (codes "NAME") text ∷ []) ∷ (in_place (codes "NAME") text ∷ alone (codes "long") ∷ []) ∷ [])) }
+        (in_place (codes "NAME") text ∷ []) ∷ (in_place (codes "NAME") text ∷ alone (codes "long") ∷ []) ∷
+        (alone (codes "lenient") ∷ []) ∷ [])) }
     ensures get { (image file text : List ℕ) → AreTaken (codes "get") (after (in_place (codes "IMAGE") image) (
         (in_place (codes "NAME") file ∷ []) ∷ (in_place (codes "NAME") file ∷ alone (codes "text") ∷ []) ∷
         (in_place (codes "NAME") file ∷ alone (codes "tape") ∷ []) ∷ (in_place (codes "NAME") file ∷ alone (codes "bin") ∷ []) ∷
         (with_value (codes "at") text ∷ []) ∷ (in_place (codes "NAME") file ∷ with_value (codes "into") text ∷ []) ∷
+        (in_place (codes "NAME") file ∷ alone (codes "lenient") ∷ []) ∷
         (alone (codes "all") ∷ with_value (codes "into") text ∷ []) ∷
         (alone (codes "blocks") ∷ in_place (codes "NAME") file ∷ in_place (codes "NAME") text ∷ []) ∷ [])) }
     ensures put { (image file text info : List ℕ) → AreTaken (codes "put") (after (in_place (codes "IMAGE") image) (
@@ -78,10 +81,11 @@ pub fn plain_words()
         (in_place (codes "NAME") text ∷ []) ∷ (with_value (codes "keys") text ∷ []) ∷ [])) }
     ensures check { (image text : List ℕ) → AreTaken (codes "check") (after (in_place (codes "IMAGE") image) ([] ∷
         (in_place (codes "IMAGE") text ∷ []) ∷ (alone (codes "all") ∷ []) ∷ (with_value (codes "volume") text ∷ []) ∷
-        (alone (codes "dectape") ∷ []) ∷ [])) }
+        (alone (codes "dectape") ∷ []) ∷ (alone (codes "all") ∷ alone (codes "lenient") ∷ []) ∷ [])) }
     ensures index { (image text : List ℕ) → AreTaken (codes "index") (after (in_place (codes "IMAGE") image) ([] ∷
         (in_place (codes "IMAGE") text ∷ []) ∷ (alone (codes "json") ∷ []) ∷ (with_value (codes "find") text ∷ []) ∷
-        (with_value (codes "grep") text ∷ []) ∷ (alone (codes "same") ∷ []) ∷ (alone (codes "dectape") ∷ []) ∷ [])) }
+        (with_value (codes "grep") text ∷ []) ∷ (alone (codes "same") ∷ []) ∷ (alone (codes "dectape") ∷ []) ∷
+        (alone (codes "lenient") ∷ []) ∷ [])) }
     ensures dump { (image text : List ℕ) → AreTaken (codes "dump") (after (in_place (codes "IMAGE") image) ([] ∷
         (in_place (codes "BLOCK") text ∷ []) ∷ (alone (codes "sixbit") ∷ []) ∷ [])) }
     ensures patch { (image block number old new : List ℕ) → AreTaken (codes "patch") (after (in_place (codes "IMAGE") image) (
@@ -111,6 +115,10 @@ pub fn options()
         × (layout_of (codes "volume") (codes "dectape") (only_gives (codes "list") (with_value (codes "volume") (codes "1") ∷ [])) ≡ Some First)
         × (layout_of (codes "volume") (codes "dectape") (only_gives (codes "list") (with_value (codes "volume") (codes "2") ∷ [])) ≡ Some Second)
         × (layout_of (codes "volume") (codes "dectape") (only_gives (codes "list") (alone (codes "dectape") ∷ [])) ≡ Some Dectape) }
+    ensures named { (volume_named None (codes "disk.rk05:1") ≡ (codes "disk.rk05", Some First))
+        × (volume_named None (codes "disk.rk05:2") ≡ (codes "disk.rk05", Some Second))
+        × (volume_named None (codes "disk.rk05:3") ≡ (codes "disk.rk05:3", None)) × (volume_named None (codes ":1") ≡ (codes ":1", None))
+        × (volume_named (Some Second) (codes "disk.rk05:1") ≡ (codes "disk.rk05:1", Some Second)) }
     ensures wait { (wait_of (only_gives (codes "squeeze") []) ≡ 0)
         × (wait_of (only_gives (codes "squeeze") (with_value (codes "wait") (codes "30") ∷ [])) ≡ 30) }
     ensures names { (file other : List ℕ) → (name_in (codes "NAME") (only_gives (codes "tape") (in_place (codes "NAME") file ∷ [])) ≡ Some (capitals file))

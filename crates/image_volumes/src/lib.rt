@@ -9,6 +9,6 @@ mod margins;
 mod parts;
 mod volumes;
 
-pub use margins::{Margins, body_by, body_of, margins_in, margins_with, parts_of};
+pub use margins::{Margins, body_by, body_of, margins_in, margins_with, may_be, parts_of};
 pub use parts::PartedFile;
 pub use volumes::{Volumes, script_kind, volumes_in, volumes_with};

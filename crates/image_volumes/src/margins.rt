@@ -50,7 +50,7 @@ fn margins_for(given: Option<Layout>, kind: ImageKind) -> Margins
 }
 
 /// Whether a file of this form may be read at the layout that is given, if one is.
-fn may_be(given: Option<Layout>, form: Form) -> bool
+pub fn may_be(given: Option<Layout>, form: Form) -> bool
     ensures { result ≡ spec.may_be given form }
 {
     match given {

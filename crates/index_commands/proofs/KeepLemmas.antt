@@ -11,7 +11,8 @@ use Rattle.outcome.specs.declared.endings.Ending.TheVariants.{Line, Fault, Failu
 use Rattle.volume_index.specs.declared.styles.IndexStyle.{IndexStyle}
 use Rattle.volume_commands.specs.Ending.{TellsLine}
 use Rattle.volume_commands.specs.Laws.{KeepsFiles}
-use Rattle.volume_commands.specs.Reading.{Looks}
+use Rattle.volume_commands.specs.declared.mending.ImageReading.{ImageReading}
+use Rattle.volume_commands.specs.Reading.{LooksImage}
 use Rattle.volume_commands.specs.Saving.{Prints}
 use Rattle.volume_commands.specs.Work.{Then, Purely}
 use Rattle.host_progress.specs.Progressing.{BeginsProgress, EndsProgress, TellsDone, TellsProgress}
@@ -68,7 +69,7 @@ abbrev PrintsKeep : Type 0
 PrintsKeep = (bytes : List ℕ) → KeepsFiles (Prints bytes)
 
 abbrev LooksKeep : Type 0
-LooksKeep = (name shown : List ℕ) → KeepsFiles (Looks name shown)
+LooksKeep = (reading : ImageReading) (name : List ℕ) → KeepsFiles (LooksImage reading name)
 
 shows-keeps : PrintsKeep → (columns : Columns) (lines : List ℕ) → KeepsFiles (Shows columns lines)
 shows-keeps prints columns lines old (Ok it) new p path = prints (lines_in columns lines) old (Ok it) new p path
@@ -98,9 +99,9 @@ read-keeps : PrintsKeep → (columns : Columns) (style : IndexStyle) (layout : O
 read-keeps prints columns style layout name (Ok file) is_refused kept = volumes-keeps prints columns style name (body_of layout file.items) (layouts_in layout file.items) is_refused kept
 read-keeps prints columns style layout name (Err ending) is_refused kept = refuses-keeps name None ending kept
 
-image-keeps : LooksKeep → PrintsKeep → (columns : Columns) (style : IndexStyle) (layout : Option Layout) (name : List ℕ) (is_refused : Bool) (kept : List ℕ) → KeepsFiles (IndexesImage columns style layout name is_refused kept)
-image-keeps looks prints columns style layout name is_refused kept old result new (file, between, looked, p) path =
-    read-keeps prints columns style layout name file is_refused kept between result new p path ∙ looks name name old file between looked path
+image-keeps : LooksKeep → PrintsKeep → (columns : Columns) (style : IndexStyle) (reading : ImageReading) (name : List ℕ) (is_refused : Bool) (kept : List ℕ) → KeepsFiles (IndexesImage columns style reading name is_refused kept)
+image-keeps looks prints columns style reading name is_refused kept old result new (file, between, looked, p) path =
+    read-keeps prints columns style reading.layout name file is_refused kept between result new p path ∙ looks reading name old file between looked path
 
 -- ## All images
 
@@ -122,18 +123,18 @@ ends-keeps path false old new p = same path p
 ends-keeps path true old new (inl p) = same path p
 ends-keeps path true old new (inr (ok, p)) = same path p
 
-images-keeps : LooksKeep → PrintsKeep → (columns : Columns) (style : IndexStyle) (layout : Option Layout) (is_told : Bool) (done all : ℕ) (names : List (List ℕ)) (is_refused : Bool) (kept : List ℕ)
-    → KeepsFiles (IndexesImages columns style layout is_told done all names is_refused kept)
-images-keeps looks prints columns style layout is_told done all [] is_refused kept = purely-keeps (IsFound is_refused kept)
-images-keeps looks prints columns style layout is_told done all (name ∷ names) is_refused kept =
-    then-keeps (IndexesNext columns style layout is_told done all name is_refused kept) (λ (found : Found). IndexesImages columns style layout is_told (done + 1) all names found.is_refused found.lines.items)
-    (then-keeps (TellsProgress is_told done all) (λ it. IndexesImage columns style layout name is_refused kept) (progress-keeps is_told done all) (λ it. image-keeps looks prints columns style layout name is_refused kept))
-    (λ (found : Found). images-keeps looks prints columns style layout is_told (done + 1) all names found.is_refused found.lines.items)
+images-keeps : LooksKeep → PrintsKeep → (columns : Columns) (style : IndexStyle) (reading : ImageReading) (is_told : Bool) (done all : ℕ) (names : List (List ℕ)) (is_refused : Bool) (kept : List ℕ)
+    → KeepsFiles (IndexesImages columns style reading is_told done all names is_refused kept)
+images-keeps looks prints columns style reading is_told done all [] is_refused kept = purely-keeps (IsFound is_refused kept)
+images-keeps looks prints columns style reading is_told done all (name ∷ names) is_refused kept =
+    then-keeps (IndexesNext columns style reading is_told done all name is_refused kept) (λ (found : Found). IndexesImages columns style reading is_told (done + 1) all names found.is_refused found.lines.items)
+    (then-keeps (TellsProgress is_told done all) (λ it. IndexesImage columns style reading name is_refused kept) (progress-keeps is_told done all) (λ it. image-keeps looks prints columns style reading name is_refused kept))
+    (λ (found : Found). images-keeps looks prints columns style reading is_told (done + 1) all names found.is_refused found.lines.items)
 
-all-keeps : LooksKeep → PrintsKeep → (columns : Columns) (style : IndexStyle) (layout : Option Layout) (names : List (List ℕ)) → KeepsFiles (IndexesAll columns style layout names)
-all-keeps looks prints columns style layout names old result new p path =
+all-keeps : LooksKeep → PrintsKeep → (columns : Columns) (style : IndexStyle) (reading : ImageReading) (names : List (List ℕ)) → KeepsFiles (IndexesAll columns style reading names)
+all-keeps looks prints columns style reading names old result new p path =
     ends-keeps path p.is_told p.done new p.ends
-    ∙ images-keeps looks prints columns style layout p.is_told 0 (length names) names false [] p.begun result p.done p.works path
+    ∙ images-keeps looks prints columns style reading p.is_told 0 (length names) names false [] p.begun result p.done p.works path
     ∙ begins-keeps path p.is_told old p.begun p.begins
 
 groups-keep : PrintsKeep → (is_same : Bool) (columns : Columns) (lines : List ℕ) → KeepsFiles (ShowsSame is_same columns lines)
@@ -145,10 +146,10 @@ end-keeps prints columns is_refused kept =
     then-keeps (ShowsSame columns.shape.is_same columns kept) (λ it. Purely (λ (result : Result (Unit {0}) Ending). result ≡ ending_of_refusal is_refused))
     (groups-keep prints columns.shape.is_same columns kept) (λ it. purely-keeps (λ (result : Result (Unit {0}) Ending). result ≡ ending_of_refusal is_refused))
 
-with-keeps : LooksKeep → PrintsKeep → (style : IndexStyle) (layout : Option Layout) (names : List (List ℕ)) (columns : Columns) → KeepsFiles (IndexesWith style layout names columns)
-with-keeps looks prints style layout names columns =
-    then-keeps (IndexesAll columns style layout names) (λ (found : Found). EndsIndex columns found.is_refused found.lines.items)
-    (all-keeps looks prints columns style layout names) (λ (found : Found). end-keeps prints columns found.is_refused found.lines.items)
+with-keeps : LooksKeep → PrintsKeep → (style : IndexStyle) (reading : ImageReading) (names : List (List ℕ)) (columns : Columns) → KeepsFiles (IndexesWith style reading names columns)
+with-keeps looks prints style reading names columns =
+    then-keeps (IndexesAll columns style reading names) (λ (found : Found). EndsIndex columns found.is_refused found.lines.items)
+    (all-keeps looks prints columns style reading names) (λ (found : Found). end-keeps prints columns found.is_refused found.lines.items)
 
 chooses-keeps : (shape : LineShape) (names : List (List ℕ)) → KeepsFiles (ChoosesColumns shape names)
 chooses-keeps shape names old (Ok columns) new (is_terminal, p, is_shape, are, widths) path = same path p
@@ -165,7 +166,7 @@ word-keeps word old (Err FullOutput) new p path = absurd p
 word-keeps word old (Err NoReader) new p path = absurd p
 word-keeps word old (Err Misuse) new (is, ok, p) path = same path p
 
-pub indexes-keeps : LooksKeep → PrintsKeep → (style : IndexStyle) (shape : LineShape) (layout : Option Layout) (names : List (List ℕ)) → KeepsFiles (Indexes style shape layout names)
-indexes-keeps looks prints style shape layout names =
-    then-keeps (ChecksWord style.find.bytes.items) (λ it. IndexesInColumns style shape layout names) (word-keeps style.find.bytes.items)
-    (λ it. then-keeps (ChoosesColumns shape names) (IndexesWith style layout names) (chooses-keeps shape names) (with-keeps looks prints style layout names))
+pub indexes-keeps : LooksKeep → PrintsKeep → (style : IndexStyle) (shape : LineShape) (reading : ImageReading) (names : List (List ℕ)) → KeepsFiles (Indexes style shape reading names)
+indexes-keeps looks prints style shape reading names =
+    then-keeps (ChecksWord style.find.bytes.items) (λ it. IndexesInColumns style shape reading names) (word-keeps style.find.bytes.items)
+    (λ it. then-keeps (ChoosesColumns shape names) (IndexesWith style reading names) (chooses-keeps shape names) (with-keeps looks prints style reading names))

@@ -11,7 +11,8 @@ use Rattle.outcome.specs.Endings.{ending_of_archive}
 use Rattle.outcome.specs.declared.endings.Ending.{Ending}
 use Rattle.outcome.specs.declared.endings.Ending.TheVariants.{Failure, Misuse}
 use Rattle.volume_commands.specs.Work.{Then, Purely}
-use Rattle.volume_commands.specs.Reading.{Looks}
+use Rattle.volume_commands.specs.declared.mending.ImageReading.{ImageReading}
+use Rattle.volume_commands.specs.Reading.{LooksImage}
 use Rattle.host_progress.specs.Progressing.{TellsProgress, WithProgress}
 use Rattle.index_commands.specs.Columns.{ChoosesColumns}
 use Rattle.index_commands.specs.declared.columns.Columns.{Columns}
@@ -54,9 +55,9 @@ IndexesRead columns style layout name (Ok file) is_refused kept = IndexesVolumes
 IndexesRead columns style layout name (Err ending) is_refused kept = RefusesVolume name None ending kept
 
 -- an image file is read whole, and then its volumes
-abbrev pub IndexesImage : Columns → IndexStyle → Option Layout → List ℕ → Bool → List ℕ → List Event → Result Found Ending → List Event → Type 0
-IndexesImage columns style layout name is_refused kept old result new =
-    (file : Result (Vec ℕ) Ending) × (between : List Event) × Looks name name old file between × IndexesRead columns style layout name file is_refused kept between result new
+abbrev pub IndexesImage : Columns → IndexStyle → ImageReading → List ℕ → Bool → List ℕ → List Event → Result Found Ending → List Event → Type 0
+IndexesImage columns style reading name is_refused kept old result new =
+    (file : Result (Vec ℕ) Ending) × (between : List Event) × LooksImage reading name old file between × IndexesRead columns style reading.layout name file is_refused kept between result new
 
 -- ## The command
 
@@ -66,29 +67,29 @@ ending_of_refusal true = Err Failure
 ending_of_refusal false = Ok tt
 
 -- how many of all images are done may be printed, and then the next one is indexed
-abbrev pub IndexesNext : Columns → IndexStyle → Option Layout → Bool → ℕ → ℕ → List ℕ → Bool → List ℕ → List Event → Result Found Ending → List Event → Type 0
-IndexesNext columns style layout is_told done all name is_refused kept = Then (TellsProgress is_told done all) (λ it. IndexesImage columns style layout name is_refused kept)
+abbrev pub IndexesNext : Columns → IndexStyle → ImageReading → Bool → ℕ → ℕ → List ℕ → Bool → List ℕ → List Event → Result Found Ending → List Event → Type 0
+IndexesNext columns style reading is_told done all name is_refused kept = Then (TellsProgress is_told done all) (λ it. IndexesImage columns style reading name is_refused kept)
 
 -- Images are read in order, one at a time; of each the index is taken, or it is printed why it is passed over.
-abbrev pub IndexesImages : Columns → IndexStyle → Option Layout → Bool → ℕ → ℕ → List (List ℕ) → Bool → List ℕ → List Event → Result Found Ending → List Event → Type 0
-IndexesImages columns style layout is_told done all [] is_refused kept = Purely (IsFound is_refused kept)
-IndexesImages columns style layout is_told done all (name ∷ names) is_refused kept =
-    Then (IndexesNext columns style layout is_told done all name is_refused kept) (λ found. IndexesImages columns style layout is_told (done + 1) all names found.is_refused found.lines.items)
+abbrev pub IndexesImages : Columns → IndexStyle → ImageReading → Bool → ℕ → ℕ → List (List ℕ) → Bool → List ℕ → List Event → Result Found Ending → List Event → Type 0
+IndexesImages columns style reading is_told done all [] is_refused kept = Purely (IsFound is_refused kept)
+IndexesImages columns style reading is_told done all (name ∷ names) is_refused kept =
+    Then (IndexesNext columns style reading is_told done all name is_refused kept) (λ found. IndexesImages columns style reading is_told (done + 1) all names found.is_refused found.lines.items)
 
 -- the same with its progress
-abbrev pub IndexesAll : Columns → IndexStyle → Option Layout → List (List ℕ) → List Event → Result Found Ending → List Event → Type 0
-IndexesAll columns style layout names = WithProgress (λ is_told. IndexesImages columns style layout is_told 0 (length names) names false [])
+abbrev pub IndexesAll : Columns → IndexStyle → ImageReading → List (List ℕ) → List Event → Result Found Ending → List Event → Type 0
+IndexesAll columns style reading names = WithProgress (λ is_told. IndexesImages columns style reading is_told 0 (length names) names false [])
 
 -- Where just the lines of equal files are wanted these are printed. The command ends with a refusal where an image was refused.
 abbrev pub EndsIndex : Columns → Bool → List ℕ → List Event → Result (Unit {0}) Ending → List Event → Type 0
 EndsIndex columns is_refused kept = Then (ShowsSame columns.shape.is_same columns kept) (λ it. Purely (λ result. result ≡ ending_of_refusal is_refused))
 
-abbrev pub IndexesWith : IndexStyle → Option Layout → List (List ℕ) → Columns → List Event → Result (Unit {0}) Ending → List Event → Type 0
-IndexesWith style layout names columns = Then (IndexesAll columns style layout names) (λ found. EndsIndex columns found.is_refused found.lines.items)
+abbrev pub IndexesWith : IndexStyle → ImageReading → List (List ℕ) → Columns → List Event → Result (Unit {0}) Ending → List Event → Type 0
+IndexesWith style reading names columns = Then (IndexesAll columns style reading names) (λ found. EndsIndex columns found.is_refused found.lines.items)
 
 -- the columns are chosen before
-abbrev pub IndexesInColumns : IndexStyle → LineShape → Option Layout → List (List ℕ) → List Event → Result (Unit {0}) Ending → List Event → Type 0
-IndexesInColumns style shape layout names = Then (ChoosesColumns shape names) (IndexesWith style layout names)
+abbrev pub IndexesInColumns : IndexStyle → LineShape → ImageReading → List (List ℕ) → List Event → Result (Unit {0}) Ending → List Event → Type 0
+IndexesInColumns style shape reading names = Then (ChoosesColumns shape names) (IndexesWith style reading names)
 
 -- a word that is no name and no pattern is refused
 abbrev pub ChecksWord : List ℕ → List Event → Result (Unit {0}) Ending → List Event → Type 0
@@ -98,5 +99,5 @@ ChecksWord word old (Err Misuse) new =
 ChecksWord word old (Err _) new = ⊥
 
 -- The word that chooses files is looked at, and then the index of all images is printed.
-abbrev pub Indexes : IndexStyle → LineShape → Option Layout → List (List ℕ) → List Event → Result (Unit {0}) Ending → List Event → Type 0
-Indexes style shape layout names = Then (ChecksWord style.find.bytes.items) (λ it. IndexesInColumns style shape layout names)
+abbrev pub Indexes : IndexStyle → LineShape → ImageReading → List (List ℕ) → List Event → Result (Unit {0}) Ending → List Event → Type 0
+Indexes style shape reading names = Then (ChecksWord style.find.bytes.items) (λ it. IndexesInColumns style shape reading names)

@@ -14,7 +14,7 @@ use hosts::Host;
 use image_kind::{Form, kind_of};
 use outcome::Ending;
 use std::alloc::Global;
-use volume_commands::look_file;
+use volume_commands::{ImageReading, look_image};
 use volume_index::{IndexStyle, index_volume};
 
 /// Prints the index of the volumes in image files: a line for each file of each that is wanted, images as they are given and files as they
@@ -29,12 +29,12 @@ pub fn index_images<H: Host>(
     style: &IndexStyle,
     shape: LineShape,
     images: &[String],
-    layout: Option<Layout>,
+    reading: ImageReading,
 ) -> Result<(), Ending>
-    ensures { Indexes style.now shape layout (map (λ image. image.bytes.items) images.now) (H.history host.old) result (H.history host.new) }
+    ensures { Indexes style.now shape reading (map (λ image. image.bytes.items) images.now) (H.history host.old) result (H.history host.new) }
 {
     check_word(host, alloc, style.find.as_bytes())?;
-    index_in_columns(host, alloc, style, shape, images, layout)
+    index_in_columns(host, alloc, style, shape, images, reading)
 }
 
 /// Prints the index of all image files, in columns that line up at a terminal.
@@ -44,12 +44,12 @@ fn index_in_columns<H: Host>(
     style: &IndexStyle,
     shape: LineShape,
     images: &[String],
-    layout: Option<Layout>,
+    reading: ImageReading,
 ) -> Result<(), Ending>
-    ensures { IndexesInColumns style.now shape layout (map (λ image. image.bytes.items) images.now) (H.history host.old) result (H.history host.new) }
+    ensures { IndexesInColumns style.now shape reading (map (λ image. image.bytes.items) images.now) (H.history host.old) result (H.history host.new) }
 {
     let columns = Columns::choose(host, alloc, shape, images)?;
-    index_with(host, alloc, &columns, style, images, layout)
+    index_with(host, alloc, &columns, style, images, reading)
 }
 
 /// Prints the index of all image files in these columns.
@@ -59,11 +59,11 @@ fn index_with<H: Host>(
     columns: &Columns,
     style: &IndexStyle,
     images: &[String],
-    layout: Option<Layout>,
+    reading: ImageReading,
 ) -> Result<(), Ending>
-    ensures { IndexesWith style.now layout (map (λ image. image.bytes.items) images.now) columns.now (H.history host.old) result (H.history host.new) }
+    ensures { IndexesWith style.now reading (map (λ image. image.bytes.items) images.now) columns.now (H.history host.old) result (H.history host.new) }
 {
-    let found = index_all(host, alloc, columns, style, images, layout)?;
+    let found = index_all(host, alloc, columns, style, images, reading)?;
     end_index(host, alloc, columns, &found)
 }
 
@@ -97,12 +97,12 @@ fn index_all<H: Host>(
     columns: &Columns,
     style: &IndexStyle,
     images: &[String],
-    layout: Option<Layout>,
+    reading: ImageReading,
 ) -> Result<Found, Ending>
-    ensures { IndexesAll columns.now style.now layout (map (λ image. image.bytes.items) images.now) (H.history host.old) result (H.history host.new) }
+    ensures { IndexesAll columns.now style.now reading (map (λ image. image.bytes.items) images.now) (H.history host.old) result (H.history host.new) }
 {
     let mut progress = Progress::begin(host, images.len());
-    let found = index_each(host, alloc, columns, style, images, layout, &mut progress);
+    let found = index_each(host, alloc, columns, style, images, reading, &mut progress);
     progress.end(host);
     found
 }
@@ -129,10 +129,10 @@ fn index_each<H: Host>(
     columns: &Columns,
     style: &IndexStyle,
     images: &[String],
-    layout: Option<Layout>,
+    reading: ImageReading,
     progress: &mut Progress,
 ) -> Result<Found, Ending>
-    ensures indexes { IndexesImages columns.now style.now layout progress.old.is_told 0 progress.old.all (map (λ image. image.bytes.items) images.now) false [] (H.history host.old) result (H.history host.new) }
+    ensures indexes { IndexesImages columns.now style.now reading progress.old.is_told 0 progress.old.all (map (λ image. image.bytes.items) images.now) false [] (H.history host.old) result (H.history host.new) }
     ensures told { progress.new.is_told ≡ progress.old.is_told }
 {
     let mut done = 0;
@@ -145,7 +145,7 @@ fn index_each<H: Host>(
             columns,
             style,
             image.as_str(),
-            layout,
+            reading,
             progress,
             done,
             found,
@@ -163,17 +163,17 @@ fn index_next<H: Host>(
     columns: &Columns,
     style: &IndexStyle,
     name: &str,
-    layout: Option<Layout>,
+    reading: ImageReading,
     progress: &mut Progress,
     done: usize,
     found: Found,
 ) -> Result<Found, Ending>
-    ensures indexes { IndexesNext columns.now style.now layout progress.old.is_told done progress.old.all name.now found.is_refused found.lines.items (H.history host.old) result (H.history host.new) }
+    ensures indexes { IndexesNext columns.now style.now reading progress.old.is_told done progress.old.all name.now found.is_refused found.lines.items (H.history host.old) result (H.history host.new) }
     ensures told { progress.new.is_told ≡ progress.old.is_told }
     ensures all { progress.new.all ≡ progress.old.all }
 {
     progress.tell(host, done);
-    index_image(host, alloc, columns, style, name, layout, found)
+    index_image(host, alloc, columns, style, name, reading, found)
 }
 
 /// Reads an image file, and takes the index of its volumes.
@@ -183,12 +183,12 @@ fn index_image<H: Host>(
     columns: &Columns,
     style: &IndexStyle,
     name: &str,
-    layout: Option<Layout>,
+    reading: ImageReading,
     found: Found,
 ) -> Result<Found, Ending>
-    ensures { IndexesImage columns.now style.now layout name.now found.is_refused found.lines.items (H.history host.old) result (H.history host.new) }
+    ensures { IndexesImage columns.now style.now reading name.now found.is_refused found.lines.items (H.history host.old) result (H.history host.new) }
 {
-    match look_file(host, alloc, name) {
+    match look_image(host, alloc, name, reading) {
         Ok(file) => index_file(
             host,
             alloc,
@@ -196,7 +196,7 @@ fn index_image<H: Host>(
             style,
             name.as_bytes(),
             &file,
-            layout,
+            reading.layout,
             found,
         ),
         Err(ending) => refuse_volume(host, alloc, name.as_bytes(), None, ending, found),

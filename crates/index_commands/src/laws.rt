@@ -1,8 +1,8 @@
 //! What an index of images leaves as it was, as a law.
-ghost use Rattle.std.specs.Prelude.{ℕ, Option, List};
-ghost use Rattle.disk_layouts.specs.declared.layouts.Layout.{Layout};
+ghost use Rattle.std.specs.Prelude.{ℕ, List};
 ghost use Rattle.volume_index.specs.declared.styles.IndexStyle.{IndexStyle};
 ghost use Rattle.volume_commands.specs.Laws.{KeepsFiles};
+ghost use Rattle.volume_commands.specs.declared.mending.ImageReading.{ImageReading};
 ghost use Rattle.index_commands.specs.Indexing.{Indexes};
 ghost use Rattle.index_commands.specs.declared.columns.LineShape.{LineShape};
 
@@ -10,7 +10,7 @@ use volume_commands::laws::kept_files;
 
 /// A law: an index of images changes no file of the host, in whichever way it ends.
 pub fn unchanged_files()
-    ensures { (style : IndexStyle) (shape : LineShape) (layout : Option Layout) (names : List (List ℕ)) → KeepsFiles (Indexes style shape layout names) }
+    ensures { (style : IndexStyle) (shape : LineShape) (reading : ImageReading) (names : List (List ℕ)) → KeepsFiles (Indexes style shape reading names) }
 {
     kept_files();
 }

@@ -1,5 +1,5 @@
 -- Steps that change no file.
-use Rattle.std.proofs.Common.{◌≡◌, ◌∙◌, ◌∷◌, ℕ, Bool, true, false, Option, None, Some, Result, Ok, Err, List, ap, inl, inr, refl}
+use Rattle.std.proofs.Common.{◌≡◌, ◌∙◌, ◌∷◌, ℕ, Bool, true, false, Option, None, Some, Result, Ok, Err, List, [], ap, inl, inr, refl}
 use Rattle.std.specs.Str.{bytes_eq}
 use Rattle.hosts.specs.Event.{Event, tell_call}
 use Rattle.hosts.specs.Place.{about}
@@ -18,7 +18,11 @@ use Rattle.archive_files.specs.declared.faults.ArchiveFault.{ArchiveFault}
 use Rattle.program_tasks.specs.declared.forms.ImageForm.{ImageForm}
 use Rattle.volume_commands.specs.Answers.{Answers, Refuses}
 use Rattle.volume_commands.specs.Notes.{Tells}
-use Rattle.volume_commands.specs.Reading.{IsUnread, FindsIn, FindsOne, Holds, HoldsAt, Looks, LooksAt, MakesOne, Opens, hold_calls, looked_name, with_lock_note}
+use Rattle.volume_commands.specs.Mending.{Mends, TellsLines}
+use Rattle.volume_commands.specs.declared.mending.ImageReading.{ImageReading}
+use Rattle.disk_layouts.specs.declared.layouts.Layout.{Layout}
+use Rattle.lenient_images.specs.Lines.{mended_lines}
+use Rattle.volume_commands.specs.Reading.{IsUnread, FindsIn, FindsOne, Holds, HoldsAt, Looks, LooksAt, LooksIf, LooksImage, MakesOne, Opens, hold_calls, looked_name, reading_of, with_lock_note}
 use Rattle.volume_commands.specs.Saving.{Prints, SavesIf, Stores, Writes}
 use Rattle.volume_commands.specs.Work.{Then, Purely}
 use Rattle.volume_commands.specs.declared.images.Image.{Image}
@@ -85,9 +89,24 @@ finds-never (One layout) body old result new p = same old new p.1
 finds-never Both body old (Ok image) new p = absurd p
 finds-never Both body old (Err ending) new (is, ok, p) = told ok _ old new p
 
+lines-never : (lines : List ℕ) (old new : List Event) → TellsLines lines old new → ChangesNothing old new
+lines-never [] old new p = same old new p
+lines-never (c ∷ lines) old new p = told p.0 (c ∷ lines) old new p.1
+
+mends-never : (given : Option Layout) (name file : List ℕ) → NeverChanges (Mends given name file)
+mends-never given name file old (Ok bytes) new p = lines-never (mended_lines name p.0) old new p.3
+mends-never given name file old (Err ending) new p = same old new p.1
+
+looks-if-never : (is_lenient : Bool) (given : Option Layout) (name : List ℕ) → NeverChanges (LooksIf is_lenient given name)
+looks-if-never true given name = then-never (Looks name name) (λ file. Mends given name file.items) (looks-never name name) (λ file. mends-never given name file.items)
+looks-if-never false given name = looks-never name name
+
+pub looks-image-never : (reading : ImageReading) (name : List ℕ) → NeverChanges (LooksImage reading name)
+looks-image-never reading name = looks-if-never reading.is_lenient reading.layout name
+
 pub looks-at-never : (form : ImageForm) → NeverChanges (LooksAt form)
-looks-at-never form = then-never (Looks form.file.bytes.items form.file.bytes.items) (λ file. FindsOne form.layout file.items)
-    (looks-never form.file.bytes.items form.file.bytes.items) (λ file. finds-never (volumes_in form.layout file.items) (body_of form.layout file.items))
+looks-at-never form = then-never (LooksImage (reading_of form) form.file.bytes.items) (λ file. FindsOne form.layout file.items)
+    (looks-image-never (reading_of form) form.file.bytes.items) (λ file. finds-never (volumes_in form.layout file.items) (body_of form.layout file.items))
 
 noted-lock : (has ok : Bool) (path : List ℕ) (old : List Event) → about path (with_lock_note content.Image has ok old) ≡ about path old
 noted-lock true ok path old = refl

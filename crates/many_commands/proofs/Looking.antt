@@ -22,14 +22,15 @@ use Rattle.program_tasks.specs.declared.forms.FileForm.{FileForm}
 use Rattle.program_tasks.specs.declared.forms.ImageForm.{ImageForm}
 use Rattle.volume_commands.specs.Answers.{Answers, AreLines}
 use Rattle.volume_commands.specs.Ending.{TellsLine}
-use Rattle.volume_commands.specs.Reading.{FindsVolume, Looks, LooksAt}
+use Rattle.volume_commands.specs.declared.mending.ImageReading.{ImageReading}
+use Rattle.volume_commands.specs.Reading.{FindsVolume, LooksAt, LooksImage}
 use Rattle.volume_commands.specs.Saving.{Prints}
 use Rattle.volume_commands.specs.Showing.{Shows, wanted_file}
 use Rattle.volume_commands.specs.ShowingParts.{EndsTelling, GivesBlocks, GivesTape, PrintsTape, RefusesBlocks, ShowsBlocks, ShowsTape}
 use Rattle.volume_commands.specs.Work.{Then, Purely}
 use Rattle.many_commands.specs.declared.reports.Report.{Report}
 use Rattle.many_commands.specs.declared.reports.ReportKind.{ReportKind}
-use Rattle.many_commands.specs.Checking.{ChecksEach, ChecksFiles, ChecksImages, ChecksNext, ChecksSeveral, PrintsCount, kind_of_check, with_refusal}
+use Rattle.many_commands.specs.Checking.{ChecksEach, ChecksFiles, ChecksImages, ChecksNext, ChecksSeveral, PrintsCount, kind_of_check, reading_of_check, with_refusal}
 use Rattle.many_commands.specs.Reporting.{EndsSound, PrintsNamed, PrintsReport, Reports, TellsRefusal, named_lines}
 use Rattle.many_commands.specs.Volumes.{IsVolumeName, ReportsAlone, ReportsAt, ReportsBoth, ReportsFile, ReportsNext, ReportsNumbered, ReportsOne, ReportsRead, ReportsVolume, ReportsVolumes}
 use Rattle.many_commands.specs.Laws.{ChangesNothing, NeverChanges}
@@ -108,10 +109,10 @@ file-never : (kind : ReportKind) (file : List ℕ) (volumes : Volumes) (body : L
 file-never kind file (One layout) body = alone-never kind layout body
 file-never kind file Both body = then-never (ReportsBoth kind file body) (λ is_sound. Purely (EndsSound is_sound)) (both-never kind file body) (λ is_sound. purely-never (EndsSound is_sound))
 
-pub one-never : (kind : ReportKind) (given : Option Layout) (file : List ℕ) → NeverChanges (ReportsOne kind given file)
-one-never kind given file =
-    then-never (Looks file file) (λ bytes. ReportsFile kind file (volumes_in given bytes.items) (body_of given bytes.items)) (looks-never file file)
-    (λ bytes. file-never kind file (volumes_in given bytes.items) (body_of given bytes.items))
+pub one-never : (kind : ReportKind) (reading : ImageReading) (file : List ℕ) → NeverChanges (ReportsOne kind reading file)
+one-never kind reading file =
+    then-never (LooksImage reading file) (λ bytes. ReportsFile kind file (volumes_in reading.layout bytes.items) (body_of reading.layout bytes.items)) (looks-image-never reading file)
+    (λ bytes. file-never kind file (volumes_in reading.layout bytes.items) (body_of reading.layout bytes.items))
 
 volumes-never : (kind : ReportKind) (file : List ℕ) (volumes : Volumes) (body : List ℕ) → NeverChanges (ReportsVolumes kind file volumes body)
 volumes-never kind file (One layout) body = reports-volume-never kind file layout body
@@ -121,8 +122,8 @@ read-never : (kind : ReportKind) (given : Option Layout) (file : List ℕ) (byte
 read-never kind given file (Ok bytes) = volumes-never kind file (volumes_in given bytes.items) (body_of given bytes.items)
 read-never kind given file (Err ending) = then-never (Purely (TellsRefusal ending)) (PrintsNamed file) (purely-never (TellsRefusal ending)) (prints-named-never file)
 
-reports-next-never : (kind : ReportKind) (given : Option Layout) (file : List ℕ) → NeverChanges (ReportsNext kind given file)
-reports-next-never kind given file old result new (bytes, between, looks, p) = λ path. read-never kind given file bytes between result new p path ∙ looks-never file file old bytes between looks path
+reports-next-never : (kind : ReportKind) (reading : ImageReading) (file : List ℕ) → NeverChanges (ReportsNext kind reading file)
+reports-next-never kind reading file old result new (bytes, between, looks, p) = λ path. read-never kind reading.layout file bytes between result new p path ∙ looks-image-never reading file old bytes between looks path
 
 tells-done-never : (is_told : Bool) (done all : ℕ) (old new : List Event) → TellsDone is_told done all old new → ChangesNothing old new
 tells-done-never false done all old new p = same old new p
@@ -134,7 +135,7 @@ progress-never is_told done all old result new p = tells-done-never is_told done
 
 next-never : (form : CheckForm) (is_told : Bool) (done all : ℕ) (file : List ℕ) → NeverChanges (ChecksNext form is_told done all file)
 next-never form is_told done all file =
-    then-never (TellsProgress is_told done all) (λ it. ReportsNext (kind_of_check form.is_all) form.layout file) (progress-never is_told done all) (λ it. reports-next-never (kind_of_check form.is_all) form.layout file)
+    then-never (TellsProgress is_told done all) (λ it. ReportsNext (kind_of_check form.is_all) (reading_of_check form) file) (progress-never is_told done all) (λ it. reports-next-never (kind_of_check form.is_all) (reading_of_check form) file)
 
 each-never : (form : CheckForm) (is_told : Bool) (done all refused : ℕ) (files : List (List ℕ)) → NeverChanges (ChecksEach form is_told done all refused files)
 each-never form is_told done all refused [] = purely-never (λ (result : Result ℕ Ending). result ≡ Ok refused)
@@ -167,7 +168,7 @@ several-never form files =
 
 files-never : (form : CheckForm) (files : List (List ℕ)) → NeverChanges (ChecksFiles form files)
 files-never form [] = several-never form []
-files-never form (file ∷ []) = one-never (kind_of_check form.is_all) form.layout file
+files-never form (file ∷ []) = one-never (kind_of_check form.is_all) (reading_of_check form) file
 files-never form (file ∷ other ∷ files) = several-never form (file ∷ other ∷ files)
 
 pub checks-never : (form : CheckForm) → NeverChanges (ChecksImages form)

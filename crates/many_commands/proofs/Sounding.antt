@@ -14,11 +14,16 @@ use Rattle.outcome.specs.declared.endings.Ending.{Ending}
 use Rattle.program_reports.specs.declared.programs.ProgramLine.{ProgramLine}
 use Rattle.program_tasks.specs.declared.forms.CheckForm.{CheckForm}
 use Rattle.volume_commands.specs.Answers.{Answers, AreLines}
+use Rattle.std.specs.Global.{Vec}
+use Rattle.lenient_images.specs.Lines.{mended_lines}
+use Rattle.volume_commands.specs.Mending.{TellsLines}
+use Rattle.volume_commands.specs.Reading.{LooksIf}
 use Rattle.volume_commands.specs.Saving.{Prints}
+use Rattle.volume_commands.specs.declared.mending.ImageReading.{ImageReading}
 use Rattle.volume_commands.specs.Work.{Then, Purely}
 use Rattle.many_commands.specs.declared.reports.Report.{Report}
-use Rattle.many_commands.specs.Checking.{ChecksEach, ChecksFiles, ChecksNext, ChecksSeveral, PrintsCount, kind_of_check, with_refusal}
-use Rattle.many_commands.specs.Laws.{AreSound, AreSoundIn, IsSoundFile, IsSoundVolume}
+use Rattle.many_commands.specs.Checking.{ChecksEach, ChecksFiles, ChecksNext, ChecksSeveral, PrintsCount, kind_of_check, reading_of_check, with_refusal}
+use Rattle.many_commands.specs.Laws.{AreSound, AreSoundIn, IsReadAs, IsSoundFile, IsSoundVolume}
 use Rattle.host_progress.specs.Progressing.{BeginsProgress, EndsProgress, TellsDone, progress_text}
 use Rattle.many_commands.specs.Reporting.{EndsSound, PrintsNamed, PrintsReport, Reports, TellsLine, TellsRefusal, line_in}
 use Rattle.many_commands.specs.Volumes.{ReportsAlone, ReportsAt, ReportsBoth, ReportsFile, ReportsNext, ReportsNumbered, ReportsOne, ReportsVolume, ReportsVolumes}
@@ -111,8 +116,8 @@ both-sound is_all file body old new is_sound (inr it) sound =
 
 -- ## The one file that is asked for
 
-abbrev HasReadSound : Bool → Option Layout → List ℕ → List Event → List Event → Type 0
-HasReadSound is_all given name old new = (bytes : List ℕ) × IsSoundFile is_all given bytes × (read new ≡ look_call name bytes ∷ read old)
+abbrev HasReadSound : Bool → ImageReading → List ℕ → List Event → List Event → Type 0
+HasReadSound is_all reading name old new = (bytes : List ℕ) × IsSoundFile is_all reading bytes × (read new ≡ look_call name bytes ∷ read old)
 
 printed : (report : Report) (old new : List Event) → PrintsReport report old (Ok tt) new → (report.is_sound ≡ true) × (read new ≡ read old)
 printed report old new (inl ends) = absurd ends
@@ -125,24 +130,27 @@ answered is_all image old new (inr it) =
     let end = printed it.given it.between new it.after in
     (it.given, it.done.0, end.0, end.1 ∙ reads old it.between it.done.1)
 
-alone-sound : (is_all : Bool) (layout : Option Layout) (body : List ℕ) (old new : List Event) → ReportsAlone (kind_of_check is_all) layout body old (Ok tt) new → IsSoundVolume is_all layout body × (read new ≡ read old)
-alone-sound is_all layout body old new (inl ends) = absurd ends
-alone-sound is_all layout body old new (inr it) =
-    let end = answered is_all it.given.items it.between new it.after in
-    (record { image = it.given; found = it.done.0; report = end.0; reports = end.1; sound = end.2 }, end.3 ∙ reads old it.between it.done.1)
+allines-read : (lines : List ℕ) (old new : List Event) → TellsLines lines old new → read new ≡ read old
+lines-read [] old new p = reads old new p
+lines-read (c ∷ lines) old new p = reads (tell_call p.0 (c ∷ lines) ∷ old) new p.1
 
-file-sound : (is_all : Bool) (file : List ℕ) (volumes : Volumes) (body : List ℕ) (old new : List Event) → ReportsFile (kind_of_check is_all) file volumes body old (Ok tt) new → AreSoundIn is_all volumes body × (read new ≡ read old)
-file-sound is_all file (One layout) body old new reports = alone-sound is_all layout body old new reports
-file-sound is_all file Both body old new (inl ends) = absurd ends
-file-sound is_all file Both body old new (inr it) =
-    let both = both-sound is_all file body old it.between it.given it.done (ends-sound it.given it.after.0) in
-    (both.0, reads it.between new it.after.1 ∙ both.1)
+-- which bytes a file is read as, and that it was read
+looked : (is_lenient : Bool) (given : Option Layout) (name : List ℕ) (old : List Event) (bytes : Vec ℕ) (new : List Event) → LooksIf is_lenient given name old (Ok bytes) new
+    → (file : List ℕ) × IsReadAs is_lenient given file bytes.items × (read new ≡ look_call name file ∷ read old)
+looked false given name old bytes new p = (bytes.items, refl, reads (look_call name bytes.items ∷ old) new p.1)
+looked true given name old bytes new (inl ends) = absurd ends
+looked true given name old bytes new (inr it) = (
+  it.given.items,
+  (it.after.0, it.after.1, it.after.2),
+  lines-read (mended_lines name it.after.0) it.between new it.after.3 ∙ reads (look_call name it.given.items ∷ old) it.between it.done.1,
+)
 
-one-sound : (is_all : Bool) (given : Option Layout) (name : List ℕ) (old new : List Event) → ReportsOne (kind_of_check is_all) given name old (Ok tt) new → HasReadSound is_all given name old new
-one-sound is_all given name old new (inl ends) = absurd ends
-one-sound is_all given name old new (inr it) =
-    let sound = file-sound is_all name (volumes_in given it.given.items) (body_of given it.given.items) it.between new it.after in
-    (it.given.items, sound.0, sound.1 ∙ reads (look_call name it.given.items ∷ old) it.between it.done.1)
+one-sound : (is_all : Bool) (reading : ImageReading) (name : List ℕ) (old new : List Event) → ReportsOne (kind_of_check is_all) reading name old (Ok tt) new → HasReadSound is_all reading name old new
+one-sound is_all reading name old new (inl ends) = absurd ends
+one-sound is_all reading name old new (inr it) =
+    let sound = file-sound is_all name (volumes_in reading.layout it.given.items) (body_of reading.layout it.given.items) it.between new it.after in
+    let file = looked reading.is_lenient reading.layout name old it.given it.between it.done in
+    (file.0, (it.given.items, file.1, sound.0), sound.1 ∙ file.2)
 
 -- ## Several files
 
@@ -155,15 +163,16 @@ unread : (file : List ℕ) (ending : Ending) (old new : List Event) (is_sound : 
 unread file ending old new is_sound (inl ends) sound = ends
 unread file ending old new is_sound (inr it) sound = unsound-line (line_in ending) ending it.given it.done.0 (sym (named file it.given it.between new is_sound it.after).0 ∙ sound)
 
-next-read : (is_all : Bool) (given : Option Layout) (name : List ℕ) (old new : List Event) (is_sound : Bool) → ReportsNext (kind_of_check is_all) given name old (Ok is_sound) new → is_sound ≡ true → HasReadSound is_all given name old new
-next-read is_all given name old new is_sound (Ok bytes, between, looks, reports) sound =
-    let are = volumes-sound is_all name (volumes_in given bytes.items) (body_of given bytes.items) between new is_sound reports sound in
-    (bytes.items, are.0, are.1 ∙ reads (look_call name bytes.items ∷ old) between looks.1)
-next-read is_all given name old new is_sound (Err ending, between, looks, reports) sound = absurd (unread name ending between new is_sound reports sound)
+next-read : (is_all : Bool) (reading : ImageReading) (name : List ℕ) (old new : List Event) (is_sound : Bool) → ReportsNext (kind_of_check is_all) reading name old (Ok is_sound) new → is_sound ≡ true → HasReadSound is_all reading name old new
+next-read is_all reading name old new is_sound (Ok bytes, between, looks, reports) sound =
+    let are = volumes-sound is_all name (volumes_in reading.layout bytes.items) (body_of reading.layout bytes.items) between new is_sound reports sound in
+    let file = looked reading.is_lenient reading.layout name old bytes between looks in
+    (file.0, (bytes.items, file.1, are.0), are.1 ∙ file.2)
+next-read is_all reading name old new is_sound (Err ending, between, looks, reports) sound = absurd (unread name ending between new is_sound reports sound)
 
-with-others : (is_all : Bool) (given : Option Layout) (name : List ℕ) (old new : List Event) → HasReadSound is_all given name old new
-    → (names : List (List ℕ)) (last : List Event) → AreSound is_all given names (read new) last → AreSound is_all given (name ∷ names) (read old) last
-with-others is_all given name old new (bytes, sound, is) names last others = (bytes, sound, subst (λ r. AreSound is_all given names r last) is others)
+with-others : (is_all : Bool) (reading : ImageReading) (name : List ℕ) (old new : List Event) → HasReadSound is_all reading name old new
+    → (names : List (List ℕ)) (last : List Event) → AreSound is_all reading names (read new) last → AreSound is_all reading (name ∷ names) (read old) last
+with-others is_all reading name old new (bytes, sound, is) names last others = (bytes, sound, subst (λ r. AreSound is_all reading names r last) is others)
 
 done-reads : (is_told : Bool) (done all : ℕ) (old new : List Event) → TellsDone is_told done all old new → read new ≡ read old
 done-reads false done all old new p = reads old new p
@@ -171,18 +180,18 @@ done-reads true done all old new (passed, inl p) = reads (seconds_call passed �
 done-reads true done all old new (passed, inr p) = reads (tell_call p.0 (progress_text done all) ∷ seconds_call passed ∷ old) new p.2
 
 next-sound : (form : CheckForm) (is_told : Bool) (done all : ℕ) (name : List ℕ) (old new : List Event) (is_sound : Bool) → ChecksNext form is_told done all name old (Ok is_sound) new → is_sound ≡ true
-    → (names : List (List ℕ)) (last : List Event) → AreSound form.is_all form.layout names (read new) last → AreSound form.is_all form.layout (name ∷ names) (read old) last
+    → (names : List (List ℕ)) (last : List Event) → AreSound form.is_all (reading_of_check form) names (read new) last → AreSound form.is_all (reading_of_check form) (name ∷ names) (read old) last
 next-sound form is_told done all name old new is_sound (inl ends) sound names last others = absurd ends
 next-sound form is_told done all name old new is_sound (inr it) sound names last others =
-    subst (λ r. AreSound form.is_all form.layout (name ∷ names) r last) (done-reads is_told done all old it.between it.done.1)
-    (with-others form.is_all form.layout name it.between new (next-read form.is_all form.layout name it.between new is_sound it.after sound) names last others)
+    subst (λ r. AreSound form.is_all (reading_of_check form) (name ∷ names) r last) (done-reads is_told done all old it.between it.done.1)
+    (with-others form.is_all (reading_of_check form) name it.between new (next-read form.is_all (reading_of_check form) name it.between new is_sound it.after sound) names last others)
 
 none-refused : (is_sound : Bool) (refused : ℕ) → with_refusal is_sound refused ≡ 0 → (is_sound ≡ true) × (refused ≡ 0)
 none-refused true refused is = (refl, is)
 none-refused false refused is = absurd (omega (arith, is))
 
 each-sound : (form : CheckForm) (is_told : Bool) (done all refused : ℕ) (names : List (List ℕ)) (count : ℕ) (old new : List Event) → ChecksEach form is_told done all refused names old (Ok count) new → count ≡ 0
-    → (refused ≡ 0) × AreSound form.is_all form.layout names (read old) (read new)
+    → (refused ≡ 0) × AreSound form.is_all (reading_of_check form) names (read old) (read new)
 each-sound form is_told done all refused [] count old new it none = (sym (ap count_or it.0) ∙ none, reads old new it.1)
 each-sound form is_told done all refused (name ∷ names) count old new (inl ends) none = absurd ends
 each-sound form is_told done all refused (name ∷ names) count old new (inr it) none =
@@ -211,16 +220,16 @@ counted count refused old new (inr it) = lines it.after
     lines (inl ends) = absurd ends
     lines (inr e) = (is-zero refused (ends-sound (nat_eq refused 0) e.after.0), reads e.between new e.after.1 ∙ reads (print_call true 0 it.given.items ∷ it.between) e.between e.done ∙ reads old it.between it.done.1)
 
-several-sound : (form : CheckForm) (names : List (List ℕ)) (old new : List Event) → ChecksSeveral form names old (Ok tt) new → AreSound form.is_all form.layout names (read old) (read new)
+several-sound : (form : CheckForm) (names : List (List ℕ)) (old new : List Event) → ChecksSeveral form names old (Ok tt) new → AreSound form.is_all (reading_of_check form) names (read old) (read new)
 several-sound form names old new (inl ends) = absurd ends
 several-sound form names old new (inr it) =
     let work = it.done in
     let end = counted (length names) it.given it.between new it.after in
     let each = each-sound form work.is_told 0 (length names) 0 names it.given work.begun work.done work.works end.0 in
-    subst (λ r. AreSound form.is_all form.layout names (read old) r) (sym (end.1 ∙ end-reads work.is_told work.done it.between work.ends))
-    (subst (λ r. AreSound form.is_all form.layout names r (read work.done)) (begun-reads work.is_told old work.begun work.begins) each.1)
+    subst (λ r. AreSound form.is_all (reading_of_check form) names (read old) r) (sym (end.1 ∙ end-reads work.is_told work.done it.between work.ends))
+    (subst (λ r. AreSound form.is_all (reading_of_check form) names r (read work.done)) (begun-reads work.is_told old work.begun work.begins) each.1)
 
-pub files-sound : (form : CheckForm) (names : List (List ℕ)) (old new : List Event) → ChecksFiles form names old (Ok tt) new → AreSound form.is_all form.layout names (read old) (read new)
+pub files-sound : (form : CheckForm) (names : List (List ℕ)) (old new : List Event) → ChecksFiles form names old (Ok tt) new → AreSound form.is_all (reading_of_check form) names (read old) (read new)
 files-sound form [] old new checks = several-sound form [] old new checks
-files-sound form (name ∷ []) old new checks = with-others form.is_all form.layout name old new (one-sound form.is_all form.layout name old new checks) [] (read new) refl
+files-sound form (name ∷ []) old new checks = with-others form.is_all (reading_of_check form) name old new (one-sound form.is_all (reading_of_check form) name old new checks) [] (read new) refl
 files-sound form (name ∷ other ∷ names) old new checks = several-sound form (name ∷ other ∷ names) old new checks

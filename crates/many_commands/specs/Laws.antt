@@ -13,6 +13,9 @@ use Rattle.image_volumes.specs.Volumes.{volumes_in}
 use Rattle.image_volumes.specs.declared.volumes.Volumes.{Volumes}
 use Rattle.image_volumes.specs.declared.volumes.Volumes.TheVariants.{One, Both}
 use Rattle.volume_commands.specs.Reading.{FindsVolume}
+use Rattle.volume_commands.specs.declared.mending.ImageReading.{ImageReading}
+use Rattle.lenient_images.specs.Mending.{IsMended}
+use Rattle.lenient_images.specs.declared.mending.MendedFile.{MendedFile}
 use Rattle.many_commands.specs.Checking.{kind_of_check}
 use Rattle.many_commands.specs.Reporting.{Reports}
 use Rattle.many_commands.specs.GettingMany.{path_in}
@@ -72,11 +75,17 @@ abbrev pub AreSoundIn : Bool → Volumes → List ℕ → Type 0
 AreSoundIn is_all (One layout) body = IsSoundVolume is_all layout body
 AreSoundIn is_all Both body = IsSoundVolume is_all (Some First) body × IsSoundVolume is_all (Some Second) body
 
+-- what a file is read as: its own bytes, or those of the mended file
+abbrev pub IsReadAs : Bool → Option Layout → List ℕ → List ℕ → Type 0
+IsReadAs false given file bytes = bytes ≡ file
+IsReadAs true given file bytes = (it : MendedFile) × IsMended given file it × (bytes ≡ it.bytes.items)
+
 -- each volume in a file of these bytes is
-abbrev pub IsSoundFile : Bool → Option Layout → List ℕ → Type 0
-IsSoundFile is_all given file = AreSoundIn is_all (volumes_in given file) (body_of given file)
+abbrev pub IsSoundFile : Bool → ImageReading → List ℕ → Type 0
+IsSoundFile is_all reading file =
+    (bytes : List ℕ) × IsReadAs reading.is_lenient reading.layout file bytes × AreSoundIn is_all (volumes_in reading.layout bytes) (body_of reading.layout bytes)
 
 -- each of these files was read, in their order and nothing else, and each volume in it is sound; by what was read before and after
-abbrev pub AreSound : Bool → Option Layout → List (List ℕ) → List Event → List Event → Type 0
-AreSound is_all layout [] old new = new ≡ old
-AreSound is_all layout (name ∷ names) old new = (file : List ℕ) × IsSoundFile is_all layout file × AreSound is_all layout names (look_call name file ∷ old) new
+abbrev pub AreSound : Bool → ImageReading → List (List ℕ) → List Event → List Event → Type 0
+AreSound is_all reading [] old new = new ≡ old
+AreSound is_all reading (name ∷ names) old new = (file : List ℕ) × IsSoundFile is_all reading file × AreSound is_all reading names (look_call name file ∷ old) new

@@ -12,8 +12,9 @@ use Rattle.script8.specs.declared.faults.SessionFault.TheVariants.{Memory}
 use Rattle.outcome.specs.declared.endings.Ending.{Ending}
 use Rattle.outcome.specs.declared.endings.Ending.TheVariants.{Fault}
 use Rattle.volume_commands.specs.Answers.{Answers, AreLines}
-use Rattle.volume_commands.specs.Reading.{FindsVolume, Looks}
+use Rattle.volume_commands.specs.Reading.{FindsVolume, LooksImage}
 use Rattle.volume_commands.specs.Work.{Then, Purely}
+use Rattle.volume_commands.specs.declared.mending.ImageReading.{ImageReading}
 use Rattle.many_commands.specs.Reporting.{EndsSound, PrintsNamed, PrintsReport, Reports, ReportsAmong, TellsRefusal}
 use Rattle.many_commands.specs.declared.reports.Report.{Report}
 use Rattle.many_commands.specs.declared.reports.ReportKind.{ReportKind}
@@ -59,8 +60,9 @@ ReportsFile kind file (One layout) body = ReportsAlone kind layout body
 ReportsFile kind file Both body = Then (ReportsBoth kind file body) (λ is_sound. Purely (EndsSound is_sound))
 
 -- the image file is read, and then its volumes are reported
-abbrev pub ReportsOne : ReportKind → Option Layout → List ℕ → List Event → Result (Unit {0}) Ending → List Event → Type 0
-ReportsOne kind given file = Then (Looks file file) (λ bytes. ReportsFile kind file (volumes_in given bytes.items) (body_of given bytes.items))
+abbrev pub ReportsOne : ReportKind → ImageReading → List ℕ → List Event → Result (Unit {0}) Ending → List Event → Type 0
+ReportsOne kind reading file =
+    Then (LooksImage reading file) (λ bytes. ReportsFile kind file (volumes_in reading.layout bytes.items) (body_of reading.layout bytes.items))
 
 -- ## One of several
 
@@ -73,5 +75,6 @@ abbrev pub ReportsRead : ReportKind → Option Layout → List ℕ → Result (V
 ReportsRead kind given file (Ok bytes) = ReportsVolumes kind file (volumes_in given bytes.items) (body_of given bytes.items)
 ReportsRead kind given file (Err ending) = Then (Purely (TellsRefusal ending)) (PrintsNamed file)
 
-abbrev pub ReportsNext : ReportKind → Option Layout → List ℕ → List Event → Result Bool Ending → List Event → Type 0
-ReportsNext kind given file old result new = (bytes : Result (Vec ℕ) Ending) × (between : List Event) × Looks file file old bytes between × ReportsRead kind given file bytes between result new
+abbrev pub ReportsNext : ReportKind → ImageReading → List ℕ → List Event → Result Bool Ending → List Event → Type 0
+ReportsNext kind reading file old result new =
+    (bytes : Result (Vec ℕ) Ending) × (between : List Event) × LooksImage reading file old bytes between × ReportsRead kind reading.layout file bytes between result new

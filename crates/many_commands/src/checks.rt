@@ -15,7 +15,7 @@ use outcome::Ending;
 use program_reports::{ProgramLine, put_program};
 use program_tasks::CheckForm;
 use std::alloc::Global;
-use volume_commands::print;
+use volume_commands::{ImageReading, print};
 
 /// Reports on the volumes in image files. Of several volumes each line has the name of its file or volume before it, and of several files the
 /// last line counts them (this project's profile).
@@ -39,7 +39,7 @@ fn check_files<H: Host>(
             host,
             alloc,
             kind_of_check(form.is_all),
-            form.layout,
+            reading_of_check(form),
             file.as_str(),
         ),
         _ => check_several(host, alloc, form, files),
@@ -122,7 +122,8 @@ fn check_next<H: Host>(
     ensures all { progress.new.all ≡ progress.old.all }
 {
     progress.tell(host, done);
-    report_next(host, alloc, kind_of_check(form.is_all), form.layout, file)
+    let kind = kind_of_check(form.is_all);
+    report_next(host, alloc, kind, reading_of_check(form), file)
 }
 
 /// What is reported of each volume: its directory with the first fault, or with each.
@@ -133,6 +134,16 @@ fn kind_of_check(is_all: bool) -> ReportKind
         return ReportKind::Survey;
     }
     ReportKind::Directory
+}
+
+/// How each image file is read.
+fn reading_of_check(form: &CheckForm) -> ImageReading
+    ensures { result ≡ spec.reading_of_check form.now }
+{
+    ImageReading {
+        layout: form.layout,
+        is_lenient: form.is_lenient,
+    }
 }
 
 /// Prints the line that counts images, and ends the command.

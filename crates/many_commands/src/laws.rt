@@ -21,7 +21,8 @@ ghost use Rattle.volume_commands.specs.Deleting.{Deletes};
 ghost use Rattle.volume_commands.specs.Putting.{Puts};
 ghost use Rattle.volume_commands.specs.Showing.{Shows, wanted_file};
 ghost use Rattle.volume_commands.specs.ShowingParts.{ShowsBlocks, ShowsTape};
-ghost use Rattle.many_commands.specs.Checking.{ChecksImages};
+ghost use Rattle.volume_commands.specs.declared.mending.ImageReading.{ImageReading as Reading};
+ghost use Rattle.many_commands.specs.Checking.{ChecksImages, reading_of_check};
 ghost use Rattle.many_commands.specs.GettingMany.{GetsMany};
 ghost use Rattle.many_commands.specs.Laws.{AreSound, ChangesIn, LeavesFiles, NeverChanges, NeverReplaces};
 ghost use Rattle.many_commands.specs.PuttingMany.{PutsMany};
@@ -30,7 +31,7 @@ ghost use Rattle.many_commands.specs.declared.reports.ReportKind.{ReportKind as 
 
 /// A command that shows what images have changes no file, in whichever way it ends.
 pub fn shown_images()
-    ensures reports { (kind : Kind) (given : Option Where) (file : List ℕ) → NeverChanges (ReportsOne kind given file) }
+    ensures reports { (kind : Kind) (reading : Reading) (file : List ℕ) → NeverChanges (ReportsOne kind reading file) }
     ensures gets { (file : File) (how : How) (form : Image) → NeverChanges (Shows (λ bytes. Gets bytes (wanted_file file) how) form) }
     ensures blocks { (form : Blocks) → NeverChanges (ShowsBlocks form) }
     ensures tape { (file : File) (form : Image) → NeverChanges (ShowsTape file form) }
@@ -54,8 +55,9 @@ pub fn gotten_files()
     ensures older { (form : GetMany) → form.is_forced ≡ false → NeverReplaces (GetsMany form) }
 {}
 
-/// Where a check ends well, each image file was read whole, in its order and nothing else, and each volume in it is sound.
+/// Where a check ends well, each image file was read whole, in its order and nothing else. Each volume in it is sound, or where faults are to be
+/// mended each in the mended file.
 pub fn sound_images()
     ensures { (form : Check) (old new : List Event) → ChecksImages form old (Ok tt) new
-        → AreSound form.is_all form.layout (map (λ file. file.bytes.items) form.images.items) (read old) (read new) }
+        → AreSound form.is_all (reading_of_check form) (map (λ file. file.bytes.items) form.images.items) (read old) (read new) }
 {}

@@ -3,6 +3,7 @@ ghost use Rattle.std.specs.Prelude.{◌≡◌, ◌&&◌};
 ghost use Rattle.volume_commands.specs.Answers.{AreLines};
 ghost use Rattle.image_volumes.specs.Margins as margins;
 ghost use Rattle.image_volumes.specs.Volumes as meant;
+ghost use Rattle.volume_commands.specs.Reading.{reading_of};
 ghost use Rattle.volume_commands.specs.Work.{Then, Purely};
 ghost use Rattle.many_commands.specs.Reporting.{EndsSound, PrintsNamed, TellsRefusal};
 ghost use Rattle.many_commands.specs.Volumes.{IsVolumeName, ReportsAlone, ReportsAt, ReportsBoth, ReportsFile, ReportsNext, ReportsNumbered, ReportsOne, ReportsVolume, ReportsVolumes};
@@ -18,15 +19,15 @@ use image_volumes::{Volumes, body_of, volumes_in};
 use outcome::Ending;
 use program_tasks::ImageForm;
 use std::alloc::Global;
-use volume_commands::{look_file, volume_in};
+use volume_commands::{ImageReading, look_image, volume_in};
 
 /// Lists the files of the volumes in an image file by name. Of a disk of two volumes each line has the volume's name before it. No file
 /// changes (this project's profile).
 pub fn list_files<H: Host>(host: &mut H, alloc: Global, form: &ImageForm) -> Result<(), Ending>
-    ensures { ReportsOne kinds.Files form.now.layout form.now.file.bytes.items (H.history host.old) result (H.history host.new) }
+    ensures { ReportsOne kinds.Files (reading_of form.now) form.now.file.bytes.items (H.history host.old) result (H.history host.new) }
 {
     let file = form.file.as_str();
-    report_one(host, alloc, ReportKind::Files, form.layout, file)
+    report_one(host, alloc, ReportKind::Files, ImageReading::of(form), file)
 }
 
 /// Lists them in order of their blocks, with where they lie, their information words and their dates. These are of the eight years up to the
@@ -37,10 +38,11 @@ pub fn list_places<H: Host>(
     form: &ImageForm,
     year: Option<usize>,
 ) -> Result<(), Ending>
-    ensures { ReportsOne (kinds.Places year) form.now.layout form.now.file.bytes.items (H.history host.old) result (H.history host.new) }
+    ensures { ReportsOne (kinds.Places year) (reading_of form.now) form.now.file.bytes.items (H.history host.old) result (H.history host.new) }
 {
     let file = form.file.as_str();
-    report_one(host, alloc, ReportKind::Places(year), form.layout, file)
+    let reading = ImageReading::of(form);
+    report_one(host, alloc, ReportKind::Places(year), reading, file)
 }
 
 /// Reports on the volumes in the one image file that is asked for.
@@ -48,13 +50,13 @@ pub(crate) fn report_one<H: Host>(
     host: &mut H,
     alloc: Global,
     kind: ReportKind,
-    given: Option<Layout>,
+    reading: ImageReading,
     file: &str,
 ) -> Result<(), Ending>
-    ensures { ReportsOne kind given file.now (H.history host.old) result (H.history host.new) }
+    ensures { ReportsOne kind reading file.now (H.history host.old) result (H.history host.new) }
 {
-    let bytes = look_file(host, alloc, file)?;
-    report_file(host, alloc, kind, given, file, bytes)
+    let bytes = look_image(host, alloc, file, reading)?;
+    report_file(host, alloc, kind, reading.layout, file, bytes)
 }
 
 /// Reports on the volumes in a file of these bytes.
@@ -192,13 +194,13 @@ pub(crate) fn report_next<H: Host>(
     host: &mut H,
     alloc: Global,
     kind: ReportKind,
-    given: Option<Layout>,
+    reading: ImageReading,
     file: &str,
 ) -> Result<bool, Ending>
-    ensures { ReportsNext kind given file.now (H.history host.old) result (H.history host.new) }
+    ensures { ReportsNext kind reading file.now (H.history host.old) result (H.history host.new) }
 {
-    match look_file(host, alloc, file) {
-        Ok(bytes) => report_volumes(host, alloc, kind, given, file, bytes),
+    match look_image(host, alloc, file, reading) {
+        Ok(bytes) => report_volumes(host, alloc, kind, reading.layout, file, bytes),
         Err(ending) => report_refusal(host, alloc, file, ending),
     }
 }

@@ -64,6 +64,9 @@ pub struct IndexForm {
 
     /// The text that its files hold, as it was typed, if one is given.
     pub grep: Option<String>,
+
+    /// Whether faults of the images are mended as they are read.
+    pub is_lenient: bool,
 }
 
 /// From which volume files are rescued, and where to.

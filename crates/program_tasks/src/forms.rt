@@ -13,6 +13,9 @@ pub struct ImageForm {
 
     /// How many seconds are waited where another program holds the file, 0 to 3600.
     pub wait: usize,
+
+    /// Whether faults of the image are mended as it is read.
+    pub is_lenient: bool,
 }
 
 /// Where a paper tape, or a program that may stand for one, is.
@@ -212,4 +215,7 @@ pub struct CheckForm {
 
     /// Whether each fault is reported, and not the first alone.
     pub is_all: bool,
+
+    /// Whether faults of the images are mended as they are read.
+    pub is_lenient: bool,
 }

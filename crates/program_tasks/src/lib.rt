@@ -1,8 +1,10 @@
-//! What can be asked of the program: the tasks, as the words of a command line name them. No words are read here, and no task is done.
+//! What can be asked of the program: the tasks, as the words of a command line name them, and what a name of a volume
+//! means. No other words are read here, and no task is done.
 #![tactic(auto)]
 
 mod archives;
 mod forms;
+mod names;
 mod tasks;
 
 pub use archives::{BlockSpan, IndexForm, LineForm, PatchForm, RescueForm, ScanForm};
@@ -10,6 +12,7 @@ pub use forms::{
     BlocksForm, CheckForm, CopyForm, CopyManyForm, CreateForm, DeleteForm, FileForm, GetManyForm,
     GetTextsForm, ImageForm, ListForm, PutManyForm, PutOneForm, TapeForm, TextsForm,
 };
+pub use names::volume_named;
 pub use tasks::{
     AssembleForm, RimForm, RunForm, Saving, SourceForm, Task, TeletypeForm, TraceForm,
 };

@@ -6,10 +6,12 @@ use Rattle.os8_dir.specs.Names.{with_end_zeros}
 use Rattle.os8_files.specs.Calls.{IsReady, info_of}
 use Rattle.os8_files.specs.Mounted.{MountState}
 use Rattle.rescue.specs.Rescued.{AreJudged, HasNoPlace, files_to_keep, with_files}
-use Rattle.rescue.specs.Steps.{FitsFile}
+use Rattle.rescue.specs.Rows.{Differ}
+use Rattle.rescue.specs.Steps.{FitsFile, IsRow}
 use Rattle.rescue.specs.declared.faults.Refusal.{Refusal}
 use Rattle.rescue.specs.declared.volumes.KeptFile.{KeptFile}
 use Rattle.rescue.proofs.RescueLemmas.{ready-again}
+use Rattle.rescue.proofs.RowLemmas.{differ-init, row-more, same-row}
 
 with-more : (info : ℕ) (files : Files) (kept : List KeptFile) (f : KeptFile) → with_files info files (kept ++ f ∷ []) ≡ insert (with_files info files kept) f.name (with_end_zeros info f.info, f.words.items)
 with-more info files [] f = refl
@@ -22,6 +24,7 @@ pub record IsSoFar (start : MountState) (all : List KeptFile) (now : MountState)
   pub capacity : capacity_of now.blocks ≡ capacity_of start.blocks
   pub kept : List KeptFile
   pub files : files_of now.blocks ≡ with_files (info_of start.blocks) (from_entries []) kept
+  pub row : IsRow start.blocks [] → Differ kept → IsRow now.blocks kept
   pub keeps : (more : List (Option Refusal)) → files_to_keep all (refusals ++ more) ≡ kept ++ files_to_keep rest more
   pub judges : (more : List (Option Refusal)) → AreJudged (info_of start.blocks) (capacity_of start.blocks) kept place rest more
       → AreJudged (info_of start.blocks) (capacity_of start.blocks) [] 0 all (refusals ++ more)
@@ -33,6 +36,7 @@ none-so-far start all ready none = record {
   capacity = refl;
   kept = [];
   files = none;
+  row = λ empty differ. empty;
   keeps = λ more. refl;
   judges = λ more judged. judged;
 }
@@ -46,7 +50,7 @@ next-place place = omega arith
 pub one-fitted : (start now next : MountState) (all rest others : List KeptFile) (f : KeptFile) (place : ℕ) (refusals new : List (Option Refusal)) (refusal : Option Refusal)
     → IsSoFar start all now refusals place rest → rest ≡ f ∷ others → FitsFile now f place (Ok refusal) next → new ≡ refusals ++ refusal ∷ []
     → IsSoFar start all next new (place + 1) others
-one-fitted start now next all rest others f place refusals new None so is put is_new =
+one-fitted start now next all rest others f place refusals new None so is (are, put) is_new =
     let info = info_of start.blocks in
     let capacity = capacity_of start.blocks in
     record {
@@ -58,6 +62,7 @@ one-fitted start now next all rest others f place refusals new None so is put is
           ∙ ap (λ i. insert (files_of now.blocks) f.name (with_end_zeros i f.info, f.words.items)) so.info
           ∙ ap (λ (files : Files). insert files f.name (with_end_zeros info f.info, f.words.items)) so.files
           ∙ sym (with-more info (from_entries []) so.kept f);
+      row = λ empty differ. let before = differ-init so.kept f differ in row-more now next f so.kept (so.row empty before.0) before.1 are.some put;
       keeps = λ more. ap (files_to_keep all) (joined refusals more new None is_new) ∙ so.keeps (None ∷ more) ∙ ap (λ l. so.kept ++ files_to_keep l (None ∷ more)) is
           ∙ sym (append_assoc so.kept (f ∷ []) (files_to_keep others more));
       judges = λ more judged.
@@ -74,6 +79,7 @@ one-fitted start now next all rest others f place refusals new (Some refusal) so
       capacity = same.capacity ∙ so.capacity;
       kept = so.kept;
       files = same.files ∙ so.files;
+      row = λ empty differ. same-row now next so.kept same.directory (so.row empty differ);
       keeps = λ more. ap (files_to_keep all) (joined refusals more new (Some refusal) is_new) ∙ so.keeps (Some refusal ∷ more) ∙ ap (λ l. so.kept ++ files_to_keep l (Some refusal ∷ more)) is;
       judges = λ more judged.
           let refused : HasNoPlace info capacity so.kept place f refusal = record { old = now; new = next; files = so.files; capacity_is = so.capacity; of_file = of_file; why = why } in
@@ -86,6 +92,7 @@ pub all-fitted : (start now : MountState) (all rest : List KeptFile) (place : �
     → (info_of now.blocks ≡ info_of start.blocks)
     × (files_of now.blocks ≡ with_files (info_of start.blocks) (from_entries []) (files_to_keep all refusals))
     × AreJudged (info_of start.blocks) (capacity_of start.blocks) [] 0 all refusals
+    × (IsRow start.blocks [] → Differ (files_to_keep all refusals) → IsRow now.blocks (files_to_keep all refusals))
 all-fitted start now all rest place refusals so is =
     let info = info_of start.blocks in
     let capacity = capacity_of start.blocks in
@@ -95,4 +102,5 @@ all-fitted start now all rest place refusals so is =
       so.info,
       so.files ∙ ap (with_files info (from_entries [])) (sym keeps),
       subst (AreJudged info capacity [] 0 all) (append-nil refusals) (so.judges [] nothing),
+      λ empty differ. subst (IsRow now.blocks) (sym keeps) (so.row empty (subst Differ keeps differ)),
     )

@@ -7,7 +7,8 @@ use Rattle.std.proofs.lemmas.Bool.Decides.{nat_tests, eqb_tells}
 use Rattle.os8_dir.specs.Files.{Files, FileData}
 use Rattle.os8_dir.specs.Names.{with_end_zeros}
 use Rattle.rescue.specs.Rescued.{with_files}
-use Rattle.rescue.specs.Laws.{AreThere, Differ, HasNone}
+use Rattle.rescue.specs.Laws.{AreThere}
+use Rattle.rescue.specs.Rows.{Differ, HasNone}
 use Rattle.rescue.specs.declared.volumes.KeptFile.{KeptFile}
 
 tied : (a b : ℕ) → eq_by_cmp nat_cmp b a ≡ eqb a b

@@ -1,3 +1,4 @@
 pub mod RescueLemmas
 pub mod LawLemmas
+pub mod RowLemmas
 pub mod FitLemmas

@@ -1,20 +1,11 @@
 -- What holds of the files of a rescued volume.
-use Rattle.std.specs.Prelude.{◌≡◌, ◌≢◌, ℕ, Some, None, List, [], ◌∷◌}
+use Rattle.std.specs.Prelude.{◌≡◌, ℕ, Some, None, List, [], ◌∷◌}
 use Rattle.std.specs.FinMap.{from_entries, get}
 use Rattle.os8_dir.specs.Files.{Files}
 use Rattle.os8_dir.specs.Names.{with_end_zeros}
 use Rattle.rescue.specs.Rescued.{with_files}
+use Rattle.rescue.specs.Rows.{Differ, HasNone}
 use Rattle.rescue.specs.declared.volumes.KeptFile.{KeptFile}
-
--- no file has the name
-abbrev pub HasNone : ℕ → List KeptFile → Type 0
-HasNone name [] = Unit {0}
-HasNone name (f ∷ fs) = (f.name ≢ name) × HasNone name fs
-
--- no two files have one name
-abbrev pub Differ : List KeptFile → Type 0
-Differ [] = Unit {0}
-Differ (f ∷ fs) = HasNone f.name fs × Differ fs
 
 -- each of these files is there, with its words and so many information words
 abbrev pub AreThere : ℕ → Files → List KeptFile → Type 0

@@ -1,3 +1,4 @@
+pub mod Rows
 pub mod Rescued
 pub mod Laws
 pub mod Steps

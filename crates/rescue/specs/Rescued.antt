@@ -9,9 +9,11 @@ use Rattle.os8_dir.specs.declared.file_faults.FileFault.TheVariants as file
 use Rattle.os8_dir.specs.Entries.{IsNamed}
 use Rattle.os8_dir.specs.Files.{Files, capacity_of, files_of}
 use Rattle.os8_dir.specs.Names.{with_end_zeros}
+use Rattle.os8_dir.specs.Reading.{directory_of}
 use Rattle.os8_files.specs.Calls.{info_of}
 use Rattle.os8_files.specs.Mounted.{MountState}
 use Rattle.os8_files.specs.Puts.{HasPutWith, PutsFileWith, blocks_filled}
+use Rattle.rescue.specs.Rows.{Differ, files_by_place, in_a_row}
 use Rattle.rescue.specs.declared.faults.RescueFault.{RescueFault}
 use Rattle.rescue.specs.declared.faults.RescueFault.TheVariants.{Image, Unread, Refused}
 use Rattle.rescue.specs.declared.faults.Refusal.{Refusal}
@@ -24,11 +26,13 @@ abbrev pub with_files : ℕ → Files → List KeptFile → Files
 with_files info files [] = files
 with_files info files (f ∷ fs) = with_files info (insert files f.name (with_end_zeros info f.info, f.words.items)) fs
 
--- The image is that of a volume which has just these files.
+-- The image is that of a volume which has just these files. Where no two have one name, they lie in their order, each right after the one
+-- before it.
 pub record IsRescued (kept : List KeptFile) (image : List ℕ) : Type 0 where
   pub blocks : List (List ℕ)
   pub is_image : IsImageOf image blocks
   pub files : files_of blocks ≡ with_files (info_of blocks) (from_entries []) kept
+  pub order : Differ kept → files_by_place (directory_of blocks) ≡ in_a_row (info_of blocks) FIRST_FILE_BLOCK kept
 
 -- at least one whole block of words
 pub record AreBlocks (words : List ℕ) : Type 0 where
@@ -50,7 +54,7 @@ pub record Refuses (old : MountState) (f : KeptFile) (fault : FileFault) (new : 
 
 -- A file is put into a volume, or why not.
 abbrev pub Keeps : MountState → KeptFile → ℕ → Result (Unit {0}) Refusal → MountState → Type 0
-Keeps old f place (Ok done) new = HasPutWith old f.name f.info f.words.items new
+Keeps old f place (Ok done) new = AreBlocks f.words.items × HasPutWith old f.name f.info f.words.items new
 Keeps old f place (Err (NoName at)) new = (at ≡ place) × (IsNamed f.name → ⊥) × (new ≡ old)
 Keeps old f place (Err (NotWhole at)) new = (at ≡ place) × (AreBlocks f.words.items → ⊥) × (new ≡ old)
 Keeps old f place (Err (NoRoom at largest)) new = (at ≡ place) × Refuses old f (file.NoRoom largest) new

@@ -7,7 +7,7 @@ ghost use Rattle.rescue.specs.Steps.{KeepsFiles, Mounts};
 
 use crate::{Refusal, RescueFault};
 use os8_dir::Name;
-use os8_dir::laws::new_volumes;
+use os8_dir::laws::{directory_numbers, files_found, new_volumes, sound_directory};
 use os8_files::{FileFault, FileService};
 use std::alloc::Global;
 use volume_image::MemoryVolume;
@@ -51,6 +51,9 @@ pub(crate) fn mount_new(
 {
     let _size = blocks;
     new_volumes();
+    directory_numbers();
+    sound_directory();
+    files_found();
     match FileService::mount(alloc, volume) {
         Ok(service) => Ok(service),
         Err(_) => Err(RescueFault::Unread),

@@ -18,7 +18,10 @@ use Rattle.archive_many.specs.declared.faults.BlocksFault.TheVariants.{Archive, 
 use Rattle.program_tasks.specs.declared.forms.ImageForm.{ImageForm}
 use Rattle.volume_commands.specs.Answers.{Answers, AreLines, Refuses}
 use Rattle.volume_commands.specs.Notes.{Tells}
-use Rattle.volume_commands.specs.Reading.{IsUnread, FindsIn, FindsOne, Looks, LooksAt}
+use Rattle.disk_layouts.specs.declared.layouts.Layout.{Layout}
+use Rattle.lenient_images.specs.Lines.{mended_lines}
+use Rattle.volume_commands.specs.Mending.{Mends, TellsLines}
+use Rattle.volume_commands.specs.Reading.{IsUnread, FindsIn, FindsOne, Looks, LooksAt, LooksIf, LooksImage, reading_of}
 use Rattle.volume_commands.specs.Saving.{Prints}
 use Rattle.volume_commands.specs.ShowingParts.{RefusesBlocks}
 use Rattle.volume_commands.specs.Work.{Then, Purely}
@@ -83,9 +86,22 @@ finds-stays path (One layout) body old result new p = same path p.1
 finds-stays path Both body old (Ok image) new p = absurd p
 finds-stays path Both body old (Err ending) new (is, ok, p) = same path p
 
+lines-stay : (path lines : List ℕ) (old new : List Event) → TellsLines lines old new → about path new ≡ about path old
+lines-stay path [] old new p = same path p
+lines-stay path (c ∷ lines) old new p = same path p.1
+
+mends-stays : (path : List ℕ) (given : Option Layout) (name file : List ℕ) → Stays path (Mends given name file)
+mends-stays path given name file old (Ok bytes) new p = lines-stay path (mended_lines name p.0) old new p.3
+mends-stays path given name file old (Err ending) new p = same path p.1
+
+looks-if-stays : (path : List ℕ) (is_lenient : Bool) (given : Option Layout) (name : List ℕ) → Stays path (LooksIf is_lenient given name)
+looks-if-stays path true given name = then-stays path (Looks name name) (λ file. Mends given name file.items)
+    (looks-stays path name name) (λ file old between done. mends-stays path given name file.items between)
+looks-if-stays path false given name = looks-stays path name name
+
 looks-at-stays : (path : List ℕ) (form : ImageForm) → Stays path (LooksAt form)
-looks-at-stays path form = then-stays path (Looks form.file.bytes.items form.file.bytes.items) (λ file. FindsOne form.layout file.items)
-    (looks-stays path form.file.bytes.items form.file.bytes.items) (λ file old between done. finds-stays path (volumes_in form.layout file.items) (body_of form.layout file.items) between)
+looks-at-stays path form = then-stays path (LooksImage (reading_of form) form.file.bytes.items) (λ file. FindsOne form.layout file.items)
+    (looks-if-stays path form.is_lenient form.layout form.file.bytes.items) (λ file old between done. finds-stays path (volumes_in form.layout file.items) (body_of form.layout file.items) between)
 
 gives-stays : (path image : List ℕ) (piece : Piece) → Stays path (GivesPiece image piece)
 gives-stays path image piece old (Ok bytes) new p = same path p.1

@@ -26,8 +26,10 @@ use Rattle.volume_commands.specs.Changing.{Renames, Squeezes}
 use Rattle.volume_commands.specs.Copying.{Copies}
 use Rattle.volume_commands.specs.Deleting.{Deletes}
 use Rattle.volume_commands.specs.Putting.{Puts}
+use Rattle.volume_commands.specs.Reading.{reading_of}
 use Rattle.volume_commands.specs.Showing.{Shows, wanted_file}
 use Rattle.volume_commands.specs.ShowingParts.{ShowsBlocks, ShowsTape}
+use Rattle.volume_commands.specs.declared.mending.ImageReading.{ImageReading}
 use Rattle.many_commands.specs.Checking.{ChecksImages}
 use Rattle.many_commands.specs.GettingMany.{GetsMany}
 use Rattle.many_commands.specs.PuttingMany.{PutsMany}
@@ -78,13 +80,17 @@ pub record IsStyle (form : IndexForm) (style : IndexStyle) : Type 0 where
 abbrev pub shape_of : IndexForm → LineShape
 shape_of form = record { is_json = is_json form.form; is_same = form.is_same }
 
+-- how the images of an index are read
+abbrev pub reading_of_index : IndexForm → ImageReading
+reading_of_index form = record { layout = form.layout; is_lenient = form.is_lenient }
+
 abbrev pub ChoosesStyle : IndexForm → Result IndexStyle Ending → Type 0
 ChoosesStyle form (Ok style) = IsStyle form style
 ChoosesStyle form (Err ending) = ending ≡ Fault Memory
 
 -- the index of the images that are given, of the files that it is to have
 abbrev pub ListsIndex : IndexForm → List Event → Result (Unit {0}) Ending → List Event → Type 0
-ListsIndex form = Then (Purely (ChoosesStyle form)) (λ style. Indexes style (shape_of form) form.layout (map (λ image. image.bytes.items) form.images.items))
+ListsIndex form = Then (Purely (ChoosesStyle form)) (λ style. Indexes style (shape_of form) (reading_of_index form) (map (λ image. image.bytes.items) form.images.items))
 
 -- the texts of the files that are asked for are printed
 abbrev pub PrintsTexts : GetTextsForm → List Event → Result (Unit {0}) Ending → List Event → Type 0
@@ -112,8 +118,8 @@ DoesTask (task.Trace form) is_typed input = TracesTape form
 DoesTask (task.Profile form) is_typed input = ProfilesTape form
 DoesTask (task.Create form blocks) is_typed input = Within form.wait (CreatesFile (IsBlankImage blocks) form blocks)
 DoesTask (task.CreateTape form) is_typed input = Within form.wait (CreatesFile IsBlankTapeFile form TAPE_BLOCKS)
-DoesTask (task.List image) is_typed input = ReportsOne report.Files image.layout image.file.bytes.items
-DoesTask (task.ListLong image year) is_typed input = ReportsOne (report.Places year) image.layout image.file.bytes.items
+DoesTask (task.List image) is_typed input = ReportsOne report.Files (reading_of image) image.file.bytes.items
+DoesTask (task.ListLong image year) is_typed input = ReportsOne (report.Places year) (reading_of image) image.file.bytes.items
 DoesTask (task.ListSome form) is_typed input = ListsSome form
 DoesTask (task.Get image file form) is_typed input = Shows (λ bytes. Gets bytes (wanted_file file) form) image
 DoesTask (task.GetBin image file) is_typed input = ShowsTape file image

@@ -22,7 +22,7 @@ use salvage_commands::{rescue_image, scan_blocks, scan_into};
 use script_commands::run_over;
 use std::alloc::{AllocError, Global};
 use tape_commands::{profile_tape, run_teletype, trace_tape};
-use volume_commands::{Rooms, end, file_asked, get_bin, get_blocks, get_file};
+use volume_commands::{ImageReading, Rooms, end, file_asked, get_bin, get_blocks, get_file};
 use volume_index::IndexStyle;
 
 /// Does a task, and prints what its end asks for. The answer is the exit status: 0, 1 after a fault, 141 where nobody reads standard output,
@@ -151,6 +151,7 @@ fn list_index<H: Host>(host: &mut H, alloc: Global, form: IndexForm) -> Result<(
         is_same,
         find,
         grep,
+        is_lenient,
     } = form;
     let style = IndexStyle {
         find: pattern_or_all(alloc, find)?,
@@ -161,7 +162,8 @@ fn list_index<H: Host>(host: &mut H, alloc: Global, form: IndexForm) -> Result<(
         is_json: is_json(form),
         is_same,
     };
-    index_images(host, alloc, &style, shape, &images, layout)
+    let reading = ImageReading { layout, is_lenient };
+    index_images(host, alloc, &style, shape, &images, reading)
 }
 
 /// Whether lines of this form are JSON objects.

@@ -1,5 +1,5 @@
 -- The steps that read and print change no file.
-use Rattle.std.proofs.Common.{◌≡◌, ◌∙◌, ℕ, Bool, true, false, Option, None, Some, Result, Ok, Err, List, ap, refl, inl, inr}
+use Rattle.std.proofs.Common.{◌≡◌, ◌∙◌, ℕ, Bool, true, false, Option, None, Some, Result, Ok, Err, List, [], ◌∷◌, ap, refl, inl, inr}
 use Rattle.hosts.specs.Event.{Event}
 use Rattle.hosts.specs.Place.{about}
 use Rattle.outcome.specs.Hints.{image_note}
@@ -14,16 +14,20 @@ use Rattle.image_volumes.specs.Margins.{body_of, margins_by}
 use Rattle.image_volumes.specs.Volumes.{volumes_in, volumes_with}
 use Rattle.image_volumes.specs.declared.margins.Margins.{Margins}
 use Rattle.image_volumes.specs.declared.volumes.Volumes.{Volumes}
+use Rattle.disk_layouts.specs.declared.layouts.Layout.{Layout}
+use Rattle.lenient_images.specs.Lines.{mended_lines}
 use Rattle.image_volumes.specs.declared.volumes.Volumes.TheVariants.{One, Both}
 use Rattle.program_tasks.specs.declared.forms.ImageForm.{ImageForm}
 use Rattle.volume_commands.specs.Answers.{Refuses}
 use Rattle.volume_commands.specs.Laws.{KeepsFiles}
+use Rattle.volume_commands.specs.Mending.{Mends, TellsLines}
 use Rattle.volume_commands.specs.Notes.{Tells}
 use Rattle.volume_commands.specs.Putting.{TakesInput}
-use Rattle.volume_commands.specs.Reading.{IsUnread, FindsIn, FindsOne, Holds, HoldsAt, Looks, LooksAt, MakesOne, OpensAs, hold_calls, looked_name, with_lock_note}
+use Rattle.volume_commands.specs.Reading.{IsUnread, FindsIn, FindsOne, Holds, HoldsAt, Looks, LooksAt, LooksIf, LooksImage, MakesOne, OpensAs, hold_calls, looked_name, reading_of, with_lock_note}
 use Rattle.volume_commands.specs.Saving.{Prints}
 use Rattle.volume_commands.specs.Work.{Then, Purely}
 use Rattle.volume_commands.specs.declared.images.Image.{Image}
+use Rattle.volume_commands.specs.declared.mending.ImageReading.{ImageReading}
 use Rattle.volume_commands.specs.declared.reading.ImagePlace.{ImagePlace}
 
 same : {old new : List Event} (path : List ℕ) → new ≡ old → about path new ≡ about path old
@@ -72,9 +76,25 @@ finds-keeps (One layout) body old result new p path = same path p.1
 finds-keeps Both body old (Ok image) new p path = absurd p
 finds-keeps Both body old (Err ending) new (is, ok, p) path = same path p
 
+-- the notes on what is mended are none
+pub lines-keep : (lines : List ℕ) (old new : List Event) → TellsLines lines old new → (path : List ℕ) → about path new ≡ about path old
+lines-keep [] old new p path = same path p
+lines-keep (c ∷ lines) old new p path = same path p.1
+
+mends-keeps : (given : Option Layout) (name file : List ℕ) → KeepsFiles (Mends given name file)
+mends-keeps given name file old (Ok bytes) new p path = lines-keep (mended_lines name p.0) old new p.3 path
+mends-keeps given name file old (Err ending) new p path = same path p.1
+
+pub looks-if-keeps : (is_lenient : Bool) (given : Option Layout) (name : List ℕ) → KeepsFiles (LooksIf is_lenient given name)
+looks-if-keeps true given name = then-keeps (Looks name name) (λ file. Mends given name file.items) (looks-keeps name name) (λ file. mends-keeps given name file.items)
+looks-if-keeps false given name = looks-keeps name name
+
+pub looks-image-keeps : (reading : ImageReading) (name : List ℕ) → KeepsFiles (LooksImage reading name)
+looks-image-keeps reading name = looks-if-keeps reading.is_lenient reading.layout name
+
 pub looks-at-keeps : (form : ImageForm) → KeepsFiles (LooksAt form)
-looks-at-keeps form = then-keeps (Looks form.file.bytes.items form.file.bytes.items) (λ file. FindsOne form.layout file.items)
-    (looks-keeps form.file.bytes.items form.file.bytes.items) (λ file. finds-keeps (volumes_in form.layout file.items) (body_of form.layout file.items))
+looks-at-keeps form = then-keeps (LooksImage (reading_of form) form.file.bytes.items) (λ file. FindsOne form.layout file.items)
+    (looks-image-keeps (reading_of form) form.file.bytes.items) (λ file. finds-keeps (volumes_in form.layout file.items) (body_of form.layout file.items))
 
 pub input-keeps : KeepsFiles TakesInput
 input-keeps old (Ok bytes) new p path = same path p.1

@@ -12,6 +12,7 @@ pub mod Ending
 pub mod Faults
 pub mod Laws
 pub mod Making
+pub mod Mending
 pub mod MakingSteps
 pub mod Notes
 pub mod PutSteps

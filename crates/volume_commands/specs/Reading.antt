@@ -34,9 +34,11 @@ use Rattle.outcome.specs.declared.endings.Ending.TheVariants.{Line, Fault, Busy}
 use Rattle.program_tasks.specs.declared.forms.ImageForm.{ImageForm}
 use Rattle.volume_image.specs.declared.faults.ImageFault.{ImageFault}
 use Rattle.volume_image.specs.declared.faults.ImageFault.TheVariants as image
+use Rattle.volume_commands.specs.Mending.{Mends}
 use Rattle.volume_commands.specs.Work.{Then, Purely}
 use Rattle.volume_commands.specs.declared.reading.ImagePlace.{ImagePlace}
 use Rattle.volume_commands.specs.declared.images.Image.{Image as Opened}
+use Rattle.volume_commands.specs.declared.mending.ImageReading.{ImageReading}
 
 -- no file was changed, nothing was printed, and nothing was read
 pub record IsIdle (old new : List Event) : Type 0 where
@@ -159,9 +161,25 @@ FindsIn Both body old (Err ending) new = RefusesDisk (length body) old ending ne
 abbrev pub FindsOne : Option Layout → List ℕ → List Event → Result (Vec ℕ) Ending → List Event → Type 0
 FindsOne given file = FindsIn (volumes_in given file) (body_of given file)
 
--- an image file is read
+-- a file is read, and its faults are mended in memory
+abbrev pub LooksLeniently : Option Layout → List ℕ → List Event → Result (Vec ℕ) Ending → List Event → Type 0
+LooksLeniently given name = Then (Looks name name) (λ file. Mends given name file.items)
+
+-- a file is read so, or as it is
+abbrev pub LooksIf : Bool → Option Layout → List ℕ → List Event → Result (Vec ℕ) Ending → List Event → Type 0
+LooksIf true given name = LooksLeniently given name
+LooksIf false given name = Looks name name
+
+abbrev pub LooksImage : ImageReading → List ℕ → List Event → Result (Vec ℕ) Ending → List Event → Type 0
+LooksImage reading name = LooksIf reading.is_lenient reading.layout name
+
+-- how the image file that is asked for is read
+abbrev pub reading_of : ImageForm → ImageReading
+reading_of form = record { layout = form.layout; is_lenient = form.is_lenient }
+
+-- it is read so, and its volume is found
 abbrev pub LooksAt : ImageForm → List Event → Result (Vec ℕ) Ending → List Event → Type 0
-LooksAt form = Then (Looks form.file.bytes.items form.file.bytes.items) (λ file. FindsOne form.layout file.items)
+LooksAt form = Then (LooksImage (reading_of form) form.file.bytes.items) (λ file. FindsOne form.layout file.items)
 
 -- a script's image file is read: the volume that is asked for, or else the one of what the file is taken for where a script runs over it
 abbrev pub FindsForScript : Option Layout → List ℕ → List Event → Result (Vec ℕ) Ending → List Event → Type 0

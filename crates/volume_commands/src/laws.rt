@@ -11,8 +11,9 @@ ghost use Rattle.program_tasks.specs.declared.forms.ImageForm.{ImageForm};
 ghost use Rattle.volume_commands.specs.Answers.{Refuses};
 ghost use Rattle.volume_commands.specs.Laws.{KeepsFiles};
 ghost use Rattle.volume_commands.specs.Putting.{TakesInput};
-ghost use Rattle.volume_commands.specs.Reading.{Looks, LooksAt, Opens};
+ghost use Rattle.volume_commands.specs.Reading.{Looks, LooksAt, LooksImage, Opens};
 ghost use Rattle.volume_commands.specs.Saving.{HasSaved, IsUnsaved, Prints};
+ghost use Rattle.volume_commands.specs.declared.mending.ImageReading.{ImageReading as How};
 
 use hosts::laws;
 
@@ -36,6 +37,7 @@ pub fn unsaved_images()
 /// What only reads or prints changes no file of the host, in whichever way it ends.
 pub fn kept_files()
     ensures looks { (name shown : List ℕ) → KeepsFiles (Looks name shown) }
+    ensures looks_image { (reading : How) (name : List ℕ) → KeepsFiles (LooksImage reading name) }
     ensures looks_at { (form : ImageForm) → KeepsFiles (LooksAt form) }
     ensures opens { (form : ImageForm) → KeepsFiles (Opens form) }
     ensures input { KeepsFiles TakesInput }

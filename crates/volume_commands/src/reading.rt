@@ -6,6 +6,7 @@ ghost use Rattle.volume_commands.specs.Reading.{FindsForScript, FindsOne, FindsV
 ghost use Rattle.volume_commands.specs.ReadingSteps.{IsAnswer};
 
 use crate::faults::ending_of_image;
+use crate::mending::{ImageReading, look_image};
 use crate::notes::{tell, tell_note};
 use disk_layouts::{DiskFile, Layout};
 use hosts::{Host, HostFault, hold_file};
@@ -109,7 +110,7 @@ pub fn look_at<H: Host>(host: &mut H, alloc: Global, form: &ImageForm) -> Result
     ensures files { (path : List ℕ) → about path (H.history host.new) ≡ about path (H.history host.old) }
     ensures output { output (H.history host.new) ≡ output (H.history host.old) }
 {
-    let file = look_file(host, alloc, form.file.as_str())?;
+    let file = look_image(host, alloc, form.file.as_str(), ImageReading::of(form))?;
     one_volume_in(host, alloc, file, form.layout)
 }
 

@@ -1,19 +1,23 @@
 -- The files that a new volume has of those that a survey tells.
-use Rattle.std.proofs.Common.{◌≡◌, ◌≢◌, ◌∙◌, ℕ, false, true≢false, Option, Some, None, List, [], ◌∷◌, sym, ap, subst, inl, inr}
+use Rattle.std.proofs.Common.{◌≡◌, ◌≢◌, ◌∙◌, ◌+◌, ℕ, map, refl, false, true≢false, Option, Some, None, List, [], ◌∷◌, sym, ap, subst, inl, inr}
 use Rattle.std.specs.FinMap.{get}
 use Rattle.std.proofs.lemmas.Bool.Decides.{eqb_tells}
 use Rattle.os8_dir.specs.Entries.{AreDistinct, contains}
 use Rattle.os8_dir.specs.Files.{Files, files_of}
 use Rattle.os8_files.specs.Calls.{info_of}
+use Rattle.os8_files.specs.Puts.{blocks_filled}
+use Rattle.os8_dir.specs.Found.{FilePlace}
 use Rattle.os8_dir.specs.Names.{with_end_zeros}
-use Rattle.rescue.specs.Laws.{AreThere, Differ, HasNone, KeptAreThere, OthersAreNot}
+use Rattle.word12.specs.declared.sizes.TheConstants.{FIRST_FILE_BLOCK}
+use Rattle.rescue.specs.Rows.{Differ, HasNone, in_a_row}
+use Rattle.rescue.specs.Laws.{AreThere, KeptAreThere, OthersAreNot}
 use Rattle.rescue.specs.Rescued.{AreJudged, files_to_keep}
 use Rattle.rescue.specs.declared.faults.Refusal.{Refusal}
 use Rattle.rescue.specs.declared.volumes.KeptFile.{KeptFile}
 use Rattle.archive_survey.specs.declared.answers.FoundFile.{FoundFile}
 use Rattle.archive_survey.specs.Findings.{findings, files_found}
 use Rattle.archive_survey.specs.Laws.{EachSurveyIsSound, names_of_found}
-use Rattle.volume_salvage.specs.Laws.{AreFilesThere, EachFileIsThere, OtherFilesAreNot}
+use Rattle.volume_salvage.specs.Laws.{AreFilesThere, EachFileIsThere, FilesAreInOrder, OtherFilesAreNot, names_kept}
 use Rattle.volume_salvage.specs.Salvaging.{AreFilesOf}
 
 -- a name that is not among some is not the first of them, nor among the others
@@ -61,6 +65,20 @@ found-are-there info start capacity place there blocks before (f ∷ found) (k �
 found-are-there info start capacity place there blocks before (f ∷ found) (k ∷ kept) (Some refusal ∷ refusals) of judged are =
     found-are-there info start capacity _ there blocks before found kept refusals of.3 judged.1 are
 
+names-in-row : (info place : ℕ) (kept : List KeptFile) → map (λ (f : FilePlace). f.name) (in_a_row info place kept) ≡ map (λ (f : KeptFile). f.name) kept
+names-in-row info place [] = refl
+names-in-row info place (k ∷ kept) = ap (λ names. k.name ∷ names) (names-in-row info (place + blocks_filled k.words.items) kept)
+
+names-to-keep : (blocks : List (List ℕ)) (found : List FoundFile) (kept : List KeptFile) (refusals : List (Option Refusal)) → AreFilesOf blocks found kept
+    → map (λ (f : KeptFile). f.name) (files_to_keep kept refusals) ≡ names_kept found refusals
+names-to-keep blocks [] [] refusals of = refl
+names-to-keep blocks [] (k ∷ kept) refusals of = absurd of
+names-to-keep blocks (f ∷ found) [] refusals of = absurd of
+names-to-keep blocks (f ∷ found) (k ∷ kept) [] of = refl
+names-to-keep blocks (f ∷ found) (k ∷ kept) (None ∷ refusals) of =
+    ap (λ name. name ∷ map (λ (f : KeptFile). f.name) (files_to_keep kept refusals)) of.0 ∙ ap (λ names. f.name ∷ names) (names-to-keep blocks found kept refusals of.3)
+names-to-keep blocks (f ∷ found) (k ∷ kept) (Some refusal ∷ refusals) of = names-to-keep blocks found kept refusals of.3
+
 -- ## The laws
 
 pub there-by : KeptAreThere → EachSurveyIsSound → EachFileIsThere
@@ -78,3 +96,12 @@ none-by others image salvage s name none =
     let refusals = s.of_blocks.volume.refusals.items in
     ap (λ (there : Files). get there name) new.files
     ∙ others (info_of new.blocks) name (files_to_keep s.of_blocks.kept refusals) (none-of-name name s.blocks (files_found (findings s.blocks)) s.of_blocks.kept refusals s.of_blocks.files none)
+
+pub order-by : EachSurveyIsSound → FilesAreInOrder
+order-by sound image salvage s =
+    let new = s.of_blocks.fitted.rescued in
+    let refusals = s.of_blocks.volume.refusals.items in
+    let found = files_found (findings s.blocks) in
+    let kept = files_to_keep s.of_blocks.kept refusals in
+    let differ = kept-differ s.blocks found s.of_blocks.kept refusals s.of_blocks.files (sound s.blocks).distinct in
+    ap (map (λ (f : FilePlace). f.name)) (new.order differ) ∙ names-in-row (info_of new.blocks) FIRST_FILE_BLOCK kept ∙ names-to-keep s.blocks found s.of_blocks.kept refusals s.of_blocks.files

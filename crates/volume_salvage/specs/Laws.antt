@@ -1,10 +1,13 @@
 -- What holds of each salvage.
-use Rattle.std.specs.Prelude.{◌≡◌, ℕ, false, Option, None, Some, List, [], ◌∷◌}
+use Rattle.std.specs.Prelude.{◌≡◌, ℕ, false, Option, None, Some, List, [], ◌∷◌, map}
 use Rattle.std.specs.FinMap.{get}
 use Rattle.os8_dir.specs.Entries.{contains}
 use Rattle.os8_dir.specs.Files.{Files, files_of, run}
+use Rattle.os8_dir.specs.Found.{FilePlace}
 use Rattle.os8_dir.specs.Names.{with_end_zeros}
+use Rattle.os8_dir.specs.Reading.{directory_of}
 use Rattle.os8_files.specs.Calls.{info_of}
+use Rattle.rescue.specs.Rows.{files_by_place}
 use Rattle.rescue.specs.declared.faults.Refusal.{Refusal}
 use Rattle.archive_survey.specs.declared.answers.FoundFile.{FoundFile}
 use Rattle.archive_survey.specs.Findings.{findings, files_found}
@@ -29,3 +32,15 @@ EachFileIsThere = (image : List ℕ) (salvage : Salvage) (s : IsSalvaged image s
 abbrev pub OtherFilesAreNot : Type 0
 OtherFilesAreNot = (image : List ℕ) (salvage : Salvage) (s : IsSalvaged image salvage) (name : ℕ) → contains (names_of_found (files_found (findings s.blocks))) name ≡ false
     → get (files_of s.of_blocks.fitted.rescued.blocks) name ≡ None
+
+-- the names of the files that are not refused
+abbrev pub names_kept : List FoundFile → List (Option Refusal) → List ℕ
+names_kept [] refusals = []
+names_kept (f ∷ files) [] = []
+names_kept (f ∷ files) (None ∷ refusals) = f.name ∷ names_kept files refusals
+names_kept (f ∷ files) (Some refusal ∷ refusals) = names_kept files refusals
+
+-- by their blocks the files of the new volume have the order in which the survey reports them
+abbrev pub FilesAreInOrder : Type 0
+FilesAreInOrder = (image : List ℕ) (salvage : Salvage) (s : IsSalvaged image salvage)
+    → map (λ (f : FilePlace). f.name) (files_by_place (directory_of s.of_blocks.fitted.rescued.blocks)) ≡ names_kept (files_found (findings s.blocks)) s.of_blocks.volume.refusals.items

@@ -9,13 +9,13 @@ use Rattle.command_table.proofs.files.copy_one.Goals as goal
 pub file_of-requires-clause-given : goal.file_of-requires-clause-given
 file_of-requires-clause-given c = λ free. moved_named (codes "TO") what.To what.NameAndTo (values_in c.args.found.now) (copied_alone (values_in c.args.found.now) c.requires.needs.2 c.requires.one)
 
-pub value_of-requires-clause-kind : goal.value_of-requires-clause-kind
-value_of-requires-clause-kind c =
+pub target_of-requires-clause-kind : goal.target_of-requires-clause-kind
+target_of-requires-clause-kind c =
     subst (λ (id : Text). has_text (kind_at id (rows_for verb.Copy)) ≡ true) (sym c.after.ensures)
     (after_takes has_text verb.Copy (codes "NAME") (codes "TO") (values_in c.args.found.now) refl refl)
 
-pub value_of-requires-clause-given : goal.value_of-requires-clause-given
-value_of-requires-clause-given c =
+pub target_of-requires-clause-given : goal.target_of-requires-clause-given
+target_of-requires-clause-given c =
     let rows = values_in c.args.found.now in
     subst (λ (id : Text). Has id rows) (sym c.after.ensures) (moved_after (codes "TO") what.To what.NameAndTo rows (copied_alone rows c.requires.needs.2 c.requires.one))
 

@@ -12,8 +12,8 @@ invariant-loop-rest g l = record {
   all : l.progress.all ≡ l.fn.progress.all;
   count : l.done + length l.rest ≡ length l.fn.images;
   goes_on : (result : Result Found Ending) (new : List Event)
-      → IndexesImages l.fn.columns l.fn.style l.fn.layout l.progress.is_told l.done l.progress.all (map (λ image. image.bytes.items) l.rest) l.found.is_refused l.found.lines.items (g.H.Host.history l.host) result new
-      → IndexesImages l.fn.columns l.fn.style l.fn.layout l.fn.progress.is_told 0 l.fn.progress.all (map (λ image. image.bytes.items) l.fn.images) false [] (g.H.Host.history l.fn.host) result new;
+      → IndexesImages l.fn.columns l.fn.style l.fn.reading l.progress.is_told l.done l.progress.all (map (λ image. image.bytes.items) l.rest) l.found.is_refused l.found.lines.items (g.H.Host.history l.host) result new
+      → IndexesImages l.fn.columns l.fn.style l.fn.reading l.fn.progress.is_told 0 l.fn.progress.all (map (λ image. image.bytes.items) l.fn.images) false [] (g.H.Host.history l.fn.host) result new;
 }
 
 abbrev pub decreases-loop-rest : goal.decreases-loop-rest

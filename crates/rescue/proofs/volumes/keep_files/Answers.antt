@@ -2,6 +2,7 @@ use Rattle.std.proofs.Common.{[], ◌∷◌, ◌++◌, ◌-◌, length, take, dr
 use Rattle.std.proofs.lemmas.Result.{err_from_is_err_and}
 use Rattle.os8_files.specs.Calls.{info_of}
 use Rattle.rescue.proofs.RescueLemmas.{files-left, first-and-others, one-at, one-longer, one-more, ready-again}
+use Rattle.rescue.proofs.RowLemmas.{differ-init, row-more}
 use Rattle.rescue.proofs.volumes.keep_files.Goals as goal
 
 pub returns-in_err-keep_file : goal.returns-in_err-keep_file
@@ -24,7 +25,8 @@ returns-in_err-keep_file c =
 
 pub loop-rest-preserved : goal.loop-rest-preserved
 loop-rest-preserved c =
-    let put = c.in_ok-keep_file.ensures in
+    let are = c.in_ok-keep_file.ensures.0 in
+    let put = c.in_ok-keep_file.ensures.1 in
     let is = first-and-others c.loop-rest.rest.now c.file-item.result c.in-len1-up.len_at_least c.file-item.is in
     let done = c.loop-rest.invariant.done in
     let others = take (length c.loop-rest.rest.now - 1) (drop 1 c.loop-rest.rest.now) in
@@ -38,5 +40,6 @@ loop-rest-preserved c =
         done.0 ++ c.file-item.result ∷ [],
         one-more c.args.files.now done.0 c.loop-rest.rest.now others c.file-item.result done.1 is,
         one-longer done.0 c.file-item.result c.loop-rest.place done.2,
+        λ empty differ. let before = differ-init done.0 c.file-item.result differ in row-more c.loop-rest.service c.keep_file.new.service c.file-item.result done.0 (done.3 empty before.0) before.1 are.some put,
       );
     }

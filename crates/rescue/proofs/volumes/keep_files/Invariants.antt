@@ -1,7 +1,9 @@
-use Rattle.std.proofs.Common.{◌≡◌, List, ◌++◌, length}
+use Rattle.std.proofs.Common.{◌≡◌, List, [], ◌++◌, length}
 use Rattle.os8_dir.specs.Files.{files_of}
 use Rattle.os8_files.specs.Calls.{IsReady, info_of}
 use Rattle.rescue.specs.Rescued.{with_files}
+use Rattle.rescue.specs.Rows.{Differ}
+use Rattle.rescue.specs.Steps.{IsRow}
 use Rattle.rescue.specs.declared.volumes.KeptFile.{KeptFile}
 use Rattle.rescue.proofs.volumes.keep_files.Given as goal
 
@@ -12,7 +14,8 @@ invariant-loop-rest l = record {
   info : info_of l.service.blocks ≡ info_of l.fn.service.blocks;
   files : with_files (info_of l.fn.service.blocks) (files_of l.service.blocks) l.rest
       ≡ with_files (info_of l.fn.service.blocks) (files_of l.fn.service.blocks) l.fn.files;
-  done : (before : List KeptFile) × (l.fn.files ≡ before ++ l.rest) × (l.place ≡ length before);
+  done : (before : List KeptFile) × (l.fn.files ≡ before ++ l.rest) × (l.place ≡ length before)
+      × (IsRow l.fn.service.blocks [] → Differ before → IsRow l.service.blocks before);
 }
 
 abbrev pub decreases-loop-rest : goal.decreases-loop-rest

@@ -1,9 +1,12 @@
 use Rattle.image_kind.specs.Kinds.{kind_of}
-use Rattle.volume_commands.proofs.KeepLemmas.{input-keeps, looks-at-keeps, looks-keeps, opens-keeps, prints-keeps, refuses-keeps}
+use Rattle.volume_commands.proofs.KeepLemmas.{input-keeps, looks-at-keeps, looks-image-keeps, looks-keeps, opens-keeps, prints-keeps, refuses-keeps}
 use Rattle.volume_commands.proofs.laws.kept_files.Goals as goal
 
 pub returns-clause-looks : goal.returns-clause-looks
 returns-clause-looks c = looks-keeps
+
+pub returns-clause-looks_image : goal.returns-clause-looks_image
+returns-clause-looks_image c = looks-image-keeps
 
 pub returns-clause-looks_at : goal.returns-clause-looks_at
 returns-clause-looks_at c = looks-at-keeps

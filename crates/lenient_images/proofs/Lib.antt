@@ -1,0 +1,4 @@
+pub mod FileLemmas
+pub mod Joined
+pub mod LawLemmas
+pub mod WideLemmas

@@ -1,0 +1,22 @@
+-- How the faults of an image file are mended in memory, and what is printed of that (this project's profile).
+use Rattle.std.specs.Prelude.{◌≡◌, ℕ, Bool, Option, Result, Ok, Err, List, [], ◌∷◌}
+use Rattle.std.specs.Global.{Vec}
+use Rattle.hosts.specs.Event.{Event, tell_call}
+use Rattle.disk_layouts.specs.declared.layouts.Layout.{Layout}
+use Rattle.lenient_images.specs.Lines.{mended_lines}
+use Rattle.lenient_images.specs.Mending.{IsMended}
+use Rattle.lenient_images.specs.declared.mending.MendedFile.{MendedFile}
+use Rattle.script8.specs.declared.faults.SessionFault.TheVariants.{Memory}
+use Rattle.outcome.specs.declared.endings.Ending.{Ending}
+use Rattle.outcome.specs.declared.endings.Ending.TheVariants.{Fault}
+
+-- lines are printed on standard error, if there are any
+abbrev pub TellsLines : List ℕ → List Event → List Event → Type 0
+TellsLines [] old new = new ≡ old
+TellsLines (c ∷ lines) old new = (ok : Bool) × (new ≡ tell_call ok (c ∷ lines) ∷ old)
+
+-- the bytes of a mended file, of which each fault is printed; or memory is wanted for it
+abbrev pub Mends : Option Layout → List ℕ → List ℕ → List Event → Result (Vec ℕ) Ending → List Event → Type 0
+Mends given name file old (Ok bytes) new =
+    (it : MendedFile) × IsMended given file it × (bytes.items ≡ it.bytes.items) × TellsLines (mended_lines name it) old new
+Mends given name file old (Err ending) new = (ending ≡ Fault Memory) × (new ≡ old)
