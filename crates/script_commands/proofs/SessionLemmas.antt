@@ -61,6 +61,11 @@ pub shows_at : (a b : State) (shown : List ShownAnswer) (input given left after 
 shows_at a b shown input given left after answer old h p shows is same none = subst (λ (t : List ℕ). ShowsText 16777216 a shown b input left (Some t) after answer) (ap (λ (l : List ℕ). output_text h ++ l) none ∙ (append-nil _ ∙ ap output_text same))
     (subst (λ (i : Option (List ℕ)). ShowsText 16777216 a shown b i left (Some (output_text h ++ p.lines.items)) after answer) is shows)
 
+-- the reader's fault has its cause
+pub cause_at : (answer : Result (Unit {0}) SessionFault) (has_failed : Type 0) (input given left : Option (List ℕ)) → IfErr answer (λ e. e ≡ Reader → MayReadNoMore 16777216 has_failed given left) → given ≡ input
+    → IfErr answer (λ e. e ≡ Reader → MayReadNoMore 16777216 has_failed input left)
+cause_at answer has_failed input given left cause is = subst (λ (i : Option (List ℕ)). IfErr answer (λ e. e ≡ Reader → MayReadNoMore 16777216 has_failed i left)) is cause
+
 none_more : (old new : ℕ) → 0 ≡ new → old ≤ new → new ≡ old
 none_more old new zero within = omega (arith, zero, within)
 
