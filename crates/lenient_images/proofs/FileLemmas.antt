@@ -5,7 +5,8 @@ use Rattle.image_volumes.specs.Volumes.{volumes_in}
 use Rattle.image_volumes.specs.Margins.{margins_in}
 use Rattle.lenient_images.specs.Sizes.{block_words}
 use Rattle.lenient_images.specs.declared.mending.MendedFile.{MendedFile}
-use Rattle.lenient_images.specs.Mending.{AreOff, IsMended, first_of, size_of, wide_words, word_from, words_of}
+use Rattle.lenient_images.specs.Mending.{IsMended, first_of, size_of, wide_words, word_from, words_of}
+use Rattle.lenient_images.specs.Steps.{AreOff}
 use Rattle.lenient_images.proofs.WideLemmas.{same_wide, same_words}
 
 -- the words lie within the file

@@ -27,22 +27,22 @@ same_bytes x y s n bx by e words others within =
     elim (cases_lt i s) [
       | inl before ↦ others i h (inl before)
       | inr from ↦ elim (cases_lt i (s + 2 * n)) [
-          | inr past ↦ others i h (inr past)
-          | inl inside ↦ (
-              let k = (i - s) / 2 in
-              let w : word_from x s k ≡ word_from y s k = words k (omega arith) in
-              let lx : slice_index x (s + 2 * k) < 256 = All-get_or (λ b. b < 256) x (s + 2 * k) 0 (omega arith) bx in
-              let ly : slice_index y (s + 2 * k) < 256 = All-get_or (λ b. b < 256) y (s + 2 * k) 0 (omega arith) by in
-              let P : ℕ → Type 0 = λ j. slice_index x j ≡ slice_index y j in
-              elim (cases_eq ((i - s) % 2) 0) [
-                | inl z ↦ (
-                    let at : s + 2 * k ≡ i = omega arith in
-                    subst P at (same_low _ (slice_index x (s + 2 * k + 1)) _ (slice_index y (s + 2 * k + 1)) lx ly w))
-                | inr z ↦ (
-                    let at : s + 2 * k + 1 ≡ i = omega arith in
-                    subst P at (same_high (slice_index x (s + 2 * k)) _ (slice_index y (s + 2 * k)) _ lx ly w))
-              ])
-        ]
+        | inr past ↦ others i h (inr past)
+        | inl inside ↦ (
+            let k = (i - s) / 2 in
+            let w : word_from x s k ≡ word_from y s k = words k (omega arith) in
+            let lx : slice_index x (s + 2 * k) < 256 = All-get_or (λ b. b < 256) x (s + 2 * k) 0 (omega arith) bx in
+            let ly : slice_index y (s + 2 * k) < 256 = All-get_or (λ b. b < 256) y (s + 2 * k) 0 (omega arith) by in
+            let P : ℕ → Type 0 = λ j. slice_index x j ≡ slice_index y j in
+            elim (cases_eq ((i - s) % 2) 0) [
+              | inl z ↦ (
+                  let at : s + 2 * k ≡ i = omega arith in
+                  subst P at (same_low _ (slice_index x (s + 2 * k + 1)) _ (slice_index y (s + 2 * k + 1)) lx ly w))
+              | inr z ↦ (
+                  let at : s + 2 * k + 1 ≡ i = omega arith in
+                  subst P at (same_high (slice_index x (s + 2 * k)) _ (slice_index y (s + 2 * k)) _ lx ly w))
+            ])
+      ]
     ])
 
 small_rest : (w : ℕ) → w < 4096 → w % 4096 ≡ w
@@ -70,7 +70,7 @@ pub listed_are_wide : ListedAreWide
 listed_are_wide given file it mended =
     let all : All (IsWide given file) (wide_words (block_words (volumes_in given file)) file (first_of given file) (words_of given file)) =
     all_wide (IsWide given file) (block_words (volumes_in given file)) file (first_of given file) (words_of given file)
-        (λ k h large. record { number = k; within = h; is = refl; wide = large }) in
+    (λ k h large. record { number = k; within = h; is = refl; wide = large }) in
     subst (All (IsWide given file)) (sym mended.wide) all
 
 pub wide_are_listed : WideAreListed

@@ -26,12 +26,6 @@ abbrev pub wide_words : ℕ → List ℕ → ℕ → ℕ → List WideWord
 wide_words block file start zero = []
 wide_words block file start (suc k) = wide_words block file start k ++ wide_word block file start k
 
--- So many words from a byte on have their top bits off, and no other byte changes.
-pub record AreOff (start count : ℕ) (old new : List ℕ) : Type 0 where
-  pub size : length new ≡ length old
-  pub words : (k : ℕ) → k < count → word_from new start k ≡ word_from old start k % 0o10000
-  pub others : (j : ℕ) → j < start ⊎ start + 2 * count ≤ j → slice_index new j ≡ slice_index old j
-
 -- ## The file
 
 -- how long it is when it is mended

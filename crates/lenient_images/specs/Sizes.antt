@@ -14,8 +14,7 @@ use Rattle.image_volumes.specs.declared.volumes.Volumes.TheVariants.{One, Both}
 abbrev pub mended_blocks : ℕ → ℕ
 mended_blocks size = min (max ((size + 511) / 512) 8) MOST_BLOCKS
 
--- The length nearest to this one that a file has which is read so: a volume is whole blocks, a disk ends at its second volume's end at the
--- latest, and a DECtape is whole.
+-- The length nearest to this one that a file has which is read so. A volume is whole blocks. A disk may end early, and a DECtape is whole.
 abbrev pub fitted_size : Option Layout → ℕ → ℕ
 fitted_size None size = 512 * mended_blocks size
 fitted_size (Some First) size = min size DISK

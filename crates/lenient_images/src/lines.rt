@@ -39,12 +39,7 @@ fn put_words(
 }
 
 /// Appends the line of a word.
-fn put_word(
-    alloc: Global,
-    text: &mut String,
-    name: &str,
-    it: WideWord,
-) -> Result<(), AllocError>
+fn put_word(alloc: Global, text: &mut String, name: &str, it: WideWord) -> Result<(), AllocError>
     ensures { OnOk result (text.new.bytes.items ≡ text.old.bytes.items ++ spec.word_line name.now it) }
 {
     let line = word_line(alloc, name, it)?;
@@ -57,7 +52,15 @@ fn word_line(alloc: Global, name: &str, it: WideWord) -> Result<String, AllocErr
 {
     let top = it.bits / 0o100000;
     let next = it.bits / 0o10000 % 8;
-    let line = line_of(alloc, name, it.block, it.word, top, next, Word::low(it.bits))?;
+    let line = line_of(
+        alloc,
+        name,
+        it.block,
+        it.word,
+        top,
+        next,
+        Word::low(it.bits),
+    )?;
     Ok(line)
 }
 

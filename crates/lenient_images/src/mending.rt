@@ -1,6 +1,7 @@
 //! An image file with its faults mended.
 ghost use Rattle.std.specs.Prelude.{◌≡◌, ◌++◌, ℕ, ◌+◌, ◌-◌, ◌*◌, ◌/◌, ◌%◌, ◌≤◌, ◌<◌, length, slice_index, IfOk, OnOk};
-ghost use Rattle.lenient_images.specs.Mending.{AreOff, IsMended, wide_word, wide_words};
+ghost use Rattle.lenient_images.specs.Mending.{IsMended, wide_word, wide_words};
+ghost use Rattle.lenient_images.specs.Steps.{AreOff};
 
 use crate::sizes::{block_words, mended_size, words_within};
 use disk_layouts::Layout;

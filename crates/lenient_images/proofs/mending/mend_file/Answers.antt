@@ -4,7 +4,8 @@ use Rattle.image_volumes.specs.Margins.{margins_by, margins_in}
 use Rattle.image_volumes.specs.Volumes.{volumes_in, volumes_with}
 use Rattle.image_volumes.specs.declared.margins.Margins.{Margins}
 use Rattle.lenient_images.specs.Sizes.{block_words, mended_size, words_within}
-use Rattle.lenient_images.specs.Mending.{AreOff, first_of, size_of, wide_words, words_of}
+use Rattle.lenient_images.specs.Mending.{first_of, size_of, wide_words, words_of}
+use Rattle.lenient_images.specs.Steps.{AreOff}
 use Rattle.lenient_images.proofs.FileLemmas.{is_mended}
 use Rattle.lenient_images.proofs.mending.mend_file.Goals as goal
 
