@@ -22,6 +22,7 @@ APART = {
     "tests/gate.py": "it is the gate",
     "tests/page/run_sessions.py": "tests/page/check_page.sh runs it",
     "tests/page/try_faults.py": "tests/page/check_page.sh runs it",
+    "tests/calls/try_faults.py": "it builds the program for each fault; ./check edits calls runs it",
 }
 # What `./check quick` leaves out, and why.
 NOT_QUICK = {

@@ -31,10 +31,11 @@ class Room:
         run = subprocess.run(["sh", "-c", command], cwd=self.folder, capture_output=True, text=True, timeout=60)
         return run.stdout + run.stderr
 
-    def pdp8(self, *words: str, call: str = "", number: int = 1, before: str = "", error: int = 0, after: str = "", given: str = "") -> tuple[int, str]:
+    def pdp8(self, *words: str, call: str = "", number: int = 1, before: str = "", error: int = 0, after: str = "", given: str = "", links: int = 0) -> tuple[int, str]:
         """The status of a run, and what it said on standard error and then on standard output. At the call of this number the command before it is
-        run. Then the call fails with the error, or else the command after it is run. What that says is in the file `said`."""
-        met = {"CALL": call, "NUMBER": str(number), "BEFORE": before, "ERROR": str(error), "AFTER": after}
+        run. Then the call fails with the error, or else the command after it is run. What that says is in the file `said`. Where an error is given
+        for links, each fails with it."""
+        met = {"CALL": call, "NUMBER": str(number), "BEFORE": before, "ERROR": str(error), "AFTER": after, "LINKS": str(links or "")}
         open(f"{self.folder}.log", "w", encoding="utf-8").close()
         met |= {"LD_PRELOAD": self.library, "LOG": f"{self.folder}.log"}
         run = subprocess.run(["./pdp8", *words], cwd=self.folder, env={**os.environ, **met}, input=given, capture_output=True, text=True, timeout=20)
@@ -149,6 +150,57 @@ def a_file_system_without_further_names_gets_new_files(room: Room) -> None:
     holds((said, room.sh("stat -c %s V")), ((1, BUSY), "15360\n"))
     holds(room.pdp8("create", "W", "20", call="link", error=errno.EPERM), (0, "CREATED 20\n"))
     holds((room.names(), room.sh("stat -c %s W")), (["V", "W"], "10240\n"))
+
+
+@case
+def a_new_file_is_held_before_it_has_its_bytes_where_there_are_no_further_names(room: Room) -> None:
+    said = room.pdp8("create", "V", "20", call="rename", before="./pdp8 squeeze V", links=errno.EPERM)
+    holds((said, room.sh("cat said")), ((0, "CREATED 20\n"), BUSY))
+    holds(room.names(), ["V"])
+    said = room.pdp8("create", "W", "20", call="rename", error=errno.EIO, links=errno.EPERM)
+    holds((said, room.names()), ((1, AS_IT_WAS), ["V"]))
+
+
+@case
+def an_image_that_is_replaced_once_it_is_open_is_opened_anew(room: Room) -> None:
+    room.sh("./pdp8 create V 20")
+    other = "echo B | ./pdp8 put V - --as B"
+    holds(room.pdp8("put", "V", "-", "--as", "A", call="open V", after=other, given="A"), (0, "STORED A 1\n"))
+    holds(room.sh("cat said; ./pdp8 list V"), "STORED B 1\nA 1\nB 1\nFREE 11\n")
+
+
+@case
+def a_read_that_fails_is_no_end(room: Room) -> None:
+    room.sh("./pdp8 create V 20; echo A | ./pdp8 put V - --as A; echo B > B; printf '1;2\n$\n' > s.pa")
+    for words in (("get", "V", "A"), ("put", "V", "B"), ("put", "V", "-", "--as", "B"), ("assemble", "s.pa")):
+        for number in (1, 2):
+            status, said = room.pdp8(*words, call="read", number=number, error=errno.EIO, given="B\n")
+            holds((words, number, status, said.split("\n")[-2]), (words, number, 1, "? HOST READ"))
+    holds(room.sh("./pdp8 list V"), "A 1\nFREE 12\n")
+
+
+@case
+def a_read_that_is_interrupted_is_made_again(room: Room) -> None:
+    room.sh("./pdp8 create V 20; echo A | ./pdp8 put V - --as A --text")
+    holds(room.pdp8("get", "V", "A", "--text", call="read", number=2, error=errno.EINTR), (0, "A\n"))
+    room.sh("printf '*200\nCLA;KSF;JMP .-1;KRB;TLS;JMP .-4\n$\n' | ./pdp8 assemble - --output T")
+    said = room.pdp8("teletype", "T", call="read", number=3, error=errno.EINTR, given="AB")
+    holds(said, room.pdp8("teletype", "T", given="AB"))
+
+
+@case
+def a_file_of_the_same_number_on_another_disk_is_another(room: Room) -> None:
+    room.sh("./pdp8 create V 20")
+    for number, times in {99: 1, 2: 2, 3: 2}.items():
+        holds(room.pdp8("put", "V", "-", "--as", "A", call="statx", number=number, given="A"), (0, "STORED A 1\n"))
+        with open(f"{room.folder}.log", encoding="utf-8") as log:
+            holds((number, log.read().split("\n").count("open V")), (number, times))
+
+
+@case
+def an_image_on_a_disk_that_can_only_be_read_is_read(room: Room) -> None:
+    room.sh("./pdp8 create V 20")
+    holds(room.pdp8("run", "V", call="open V", error=errno.EROFS, given="DIRECT\n"), (0, "FREE 13\n"))
 
 
 @case

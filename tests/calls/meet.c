@@ -1,6 +1,7 @@
 // Meets one call of the program that it is laid before: the call CALL of the number NUMBER, counted from 1. The command BEFORE is run
 // before it, the call fails with the error ERROR, or else the command AFTER is run after it. The file LOG gets a line for each call that
-// is looked at.
+// is looked at, but for reads and looks. Where LINKS is an error, each call of link fails with it. A look that is
+// met tells of another disk.
 #define _GNU_SOURCE
 #include <dlfcn.h>
 #include <errno.h>
@@ -42,7 +43,8 @@ static void note(const char *call)
 // Whether this is the call that is met; the command before it is run.
 static int meets(const char *call)
 {
-    note(call);
+    if (strcmp(call, "read") != 0 && strcmp(call, "statx") != 0)
+        note(call);
     if (strcmp(call, word("CALL")) != 0 || ++count != atoi(word("NUMBER")))
         return 0;
     run(word("BEFORE"));
@@ -74,6 +76,10 @@ static void after(int is_met)
 
 int link(const char *old, const char *new)
 {
+    if (*word("LINKS")) {
+        errno = atoi(word("LINKS"));
+        return -1;
+    }
     MET(int, "link", -1, (const char *, const char *), (old, new));
 }
 
@@ -118,6 +124,19 @@ int open(const char *name, int how, ...)
     va_end(rest);
     snprintf(call, sizeof call, "open %s", last ? last + 1 : name);
     MET(int, call, -1, (const char *, int, ...), (name, how, mode));
+}
+
+int statx(int folder, const char *name, int how, unsigned mask, struct statx *found)
+{
+    int is_met = meets("statx");
+    int got = ((int (*)(int, const char *, int, unsigned, struct statx *))dlsym(RTLD_NEXT, __func__))(folder, name, how, mask, found);
+    found->stx_dev_minor += is_met;
+    return got;
+}
+
+ssize_t read(int file, void *bytes, size_t size)
+{
+    MET(ssize_t, "read", -1, (int, void *, size_t), (file, bytes, size));
 }
 
 ssize_t write(int file, const void *bytes, size_t size)
