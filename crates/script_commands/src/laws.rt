@@ -1,6 +1,6 @@
 //! What a run of a script leaves as it was, and what a crash may leave, as laws.
 ghost use Rattle.std.specs.Prelude.{◌≡◌, ◌⊎◌, ◌∷◌, ◌++◌, ℕ, Bool, List, None, Option, Result, true};
-ghost use Rattle.byte_reader.specs.Readings.{Reading};
+ghost use Rattle.byte_reader.specs.Readings.{reading};
 ghost use Rattle.hosts.specs.Event.{Event};
 ghost use Rattle.hosts.specs.Place.{Place, Leaves, about, ever};
 ghost use Rattle.program_tasks.specs.declared.forms.ImageForm.{ImageForm};
@@ -15,12 +15,13 @@ ghost use Rattle.script_commands.specs.Laws.{IsInPlace, IsKeptBefore, IsOneOf};
 ghost use Rattle.script_commands.specs.Scripts.{RunsScript};
 ghost use Rattle.script_commands.specs.Steps.{Step, Replies, AreDone, AreKept, changes, save_ending};
 
+use byte_reader::ByteReader;
 use volume_commands::laws::kept_files;
 
 /// Where the image is never to be saved, a run changes no file of the host, in whichever way it ends.
-pub fn unchanged_files()
-    ensures { (named : ImageForm) (form : RunForm) (is_typed : Bool) (input : Reading) → form.saving ≡ Never
-        → KeepsFiles (RunsScript named form is_typed input) }
+pub fn unchanged_files<I: ByteReader>()
+    ensures { (named : ImageForm) (form : RunForm) (is_typed : Bool) (before after : I) → form.saving ≡ Never
+        → KeepsFiles (RunsScript named form is_typed (reading I.remaining I.has_failed before after)) }
 {
     kept_files();
 }

@@ -2,6 +2,7 @@
 use Rattle.std.proofs.Common.{◌≡◌, ◌∙◌, ℕ, Bool, true, false, nat_eq, unwrap_or, Option, None, Some, Result, Ok, Err, List, ap, inl, inr}
 use Rattle.bin_tape.specs.Items.{Item, words_of}
 use Rattle.bin_tape.specs.Tape.{IsTape}
+use Rattle.byte_reader.specs.Readings.{Reading}
 use Rattle.cpu8.specs.State.{State, next_cell}
 use Rattle.hosts.specs.Event.{Event}
 use Rattle.hosts.specs.Place.{about}
@@ -136,10 +137,10 @@ module _
     run-ends after why (Err Reader) old result new p path = same path p.1
     run-ends after why (Err Writer) old result new p path = same path p.1
 
-    runs-keeps : (form : TeletypeForm) (machine : State) (keys keys' : Option (List ℕ)) → KeepsFiles (RunsMachine form machine keys keys')
-    runs-keeps form machine keys keys' old result new p path = run-ends p.after p.fault p.done p.between result new p.ends path ∙ output-keeps old p.between p.fault path p.prints
+    runs-keeps : (form : TeletypeForm) (machine : State) (keys : Reading) → KeepsFiles (RunsMachine form machine keys)
+    runs-keeps form machine keys old result new p path = run-ends p.after p.fault p.done p.between result new p.ends path ∙ output-keeps old p.between p.fault path p.prints
 
-    pub teletype-keeps : (form : TeletypeForm) (keys keys' : Option (List ℕ)) → KeepsFiles (RunsTeletype form keys keys')
-    teletype-keeps form keys keys' old (Ok it) new (inl p) path = absurd p.0
-    teletype-keeps form keys keys' old (Err ending) new (inl p) path = machine-keeps form old (Err ending) new p.0 path
-    teletype-keeps form keys keys' old result new (inr it) path = runs-keeps form it.given keys keys' it.between result new it.after path ∙ machine-keeps form old (Ok it.given) it.between it.done path
+    pub teletype-keeps : (form : TeletypeForm) (keys : Reading) → KeepsFiles (RunsTeletype form keys)
+    teletype-keeps form keys old (Ok it) new (inl p) path = absurd p.0
+    teletype-keeps form keys old (Err ending) new (inl p) path = machine-keeps form old (Err ending) new p.0 path
+    teletype-keeps form keys old result new (inr it) path = runs-keeps form it.given keys it.between result new it.after path ∙ machine-keeps form old (Ok it.given) it.between it.done path

@@ -1,5 +1,5 @@
 //! What the commands on machines leave as it was.
-ghost use Rattle.std.specs.Prelude.{ℕ, Option, List};
+ghost use Rattle.byte_reader.specs.Readings.{reading};
 ghost use Rattle.program_tasks.specs.declared.tasks.TeletypeForm.{TeletypeForm};
 ghost use Rattle.program_tasks.specs.declared.tasks.TraceForm.{TraceForm};
 ghost use Rattle.volume_commands.specs.Laws.{KeepsFiles};
@@ -7,15 +7,16 @@ ghost use Rattle.tape_commands.specs.Profiles.{ProfilesTape};
 ghost use Rattle.tape_commands.specs.Teletypes.{RunsTeletype};
 ghost use Rattle.tape_commands.specs.Traces.{TracesTape};
 
+use byte_reader::ByteReader;
 use host_output::laws::prints_alone;
 use program_commands::laws::unchanged_files as unchanged_programs;
 use volume_commands::laws::kept_files;
 
 /// A law: none of these commands changes a file of the host, in whichever way it ends.
-pub fn unchanged_files()
+pub fn unchanged_files<I: ByteReader>()
     ensures profile { (form : TraceForm) → KeepsFiles (ProfilesTape form) }
     ensures trace { (form : TraceForm) → KeepsFiles (TracesTape form) }
-    ensures teletype { (form : TeletypeForm) (keys left : Option (List ℕ)) → KeepsFiles (RunsTeletype form keys left) }
+    ensures teletype { (form : TeletypeForm) (before after : I) → KeepsFiles (RunsTeletype form (reading I.remaining I.has_failed before after)) }
 {
     kept_files();
     unchanged_programs();
