@@ -1,6 +1,7 @@
 -- How far a long command is, which is printed at a terminal. No line of its work depends on it.
-use Rattle.std.specs.Prelude.{◌≡◌, ◌≤◌, ◌⊎◌, ℕ, Bool, true, false, Result, List, [], ◌∷◌, ◌++◌, codes, decimal}
+use Rattle.std.specs.Prelude.{◌≡◌, ◌≤◌, ◌⊎◌, ℕ, zero, suc, Bool, true, false, Result, List, [], ◌∷◌, ◌++◌, codes, decimal}
 use Rattle.hosts.specs.Event.{Event, terminal_call, seconds_call, tell_call}
+use Rattle.hosts.specs.Streams.{errors}
 use Rattle.outcome.specs.declared.endings.Ending.{Ending}
 use Rattle.volume_commands.specs.Saving.{IsDone}
 
@@ -19,6 +20,11 @@ TellsDone false done all old new = new ≡ old
 TellsDone true done all old new = (passed : ℕ)
     × ((new ≡ seconds_call passed ∷ old) ⊎ ((ok : Bool) × (2 ≤ passed) × (new ≡ tell_call ok (progress_text done all) ∷ seconds_call passed ∷ old)))
 
+-- It is printed at most once in each second. `last` is the second in which it was printed last, and `now` the same after this.
+abbrev pub TellsOnce : ℕ → ℕ → List Event → List Event → Type 0
+TellsOnce last now old new = ((now ≡ last) × (errors new ≡ errors old))
+    ⊎ ((now ≡ last → ⊥) × ((ok : Bool) × ((text : List ℕ) × (new ≡ tell_call ok text ∷ seconds_call now ∷ old))))
+
 -- the same as a step of a command
 abbrev pub TellsProgress : Bool → ℕ → ℕ → List Event → Result (Unit {0}) Ending → List Event → Type 0
 TellsProgress is_told done all old result new = IsDone result × TellsDone is_told done all old new
@@ -27,6 +33,12 @@ TellsProgress is_told done all old result new = IsDone result × TellsDone is_to
 abbrev pub EndsProgress : Bool → List Event → List Event → Type 0
 EndsProgress false old new = new ≡ old
 EndsProgress true old new = (new ≡ old) ⊎ ((ok : Bool) × (new ≡ tell_call ok (0o33 ∷ codes "[K") ∷ old))
+
+-- it is, where it was printed in a second after the first
+abbrev pub EndsPrinted : Bool → ℕ → List Event → List Event → Type 0
+EndsPrinted false last old new = new ≡ old
+EndsPrinted true zero old new = new ≡ old
+EndsPrinted true (suc last) old new = (ok : Bool) × (new ≡ tell_call ok (0o33 ∷ codes "[K") ∷ old)
 
 -- a work of so many things whose progress may be printed
 pub record WithProgress {A : Type 0} (work : Bool → List Event → Result A Ending → List Event → Type 0) (old : List Event) (result : Result A Ending) (new : List Event) : Type 0 where

@@ -1,6 +1,6 @@
 //! How far a long command is: printed on a terminal whose owner sees no line of it, since standard output goes elsewhere.
 ghost use Rattle.std.specs.Prelude.{◌≡◌};
-ghost use Rattle.host_progress.specs.Progressing.{BeginsProgress, EndsProgress, TellsDone};
+ghost use Rattle.host_progress.specs.Progressing.{BeginsProgress, EndsPrinted, EndsProgress, TellsDone, TellsOnce};
 
 use hosts::{Host, Stream};
 use script8::text_lines::{TextLine, put, put_number};
@@ -18,8 +18,8 @@ pub struct Progress {
     /// How many things the command has to do.
     pub all: usize,
 
-    /// The second at which it was printed last.
-    last: u64,
+    /// The second in which it was printed last, or 0.
+    pub last: u64,
 }
 
 impl Progress {
@@ -27,6 +27,7 @@ impl Progress {
     pub fn begin<H: Host>(host: &mut H, all: usize) -> Progress
         ensures begins { BeginsProgress result.is_told (H.history host.old) (H.history host.new) }
         ensures all { result.all ≡ all }
+        ensures last { result.last ≡ 0 }
     {
         let is_told = begin_clock(host);
         Progress {
@@ -36,9 +37,10 @@ impl Progress {
         }
     }
 
-    /// Prints that so many are done.
+    /// Prints that so many are done, unless something was printed in this second.
     pub fn tell<H: Host>(&mut self, host: &mut H, done: usize)
         ensures tells { TellsDone self.old.is_told done self.old.all (H.history host.old) (H.history host.new) }
+        ensures once { TellsOnce self.old.last self.new.last (H.history host.old) (H.history host.new) }
         ensures told { self.new.is_told ≡ self.old.is_told }
         ensures all { self.new.all ≡ self.old.all }
     {
@@ -49,7 +51,6 @@ impl Progress {
         if seconds < PATIENCE || seconds == self.last {
             return;
         }
-        self.last = seconds;
         let all = self.all;
         let mut line = TextLine::new();
         put_number(&mut line, done as u64);
@@ -57,13 +58,15 @@ impl Progress {
         put_number(&mut line, all as u64);
         put(&mut line, b"\r");
         if let Ok(text) = str::from_utf8(line.as_slice()) {
+            self.last = seconds;
             let _ = host.tell(text);
         }
     }
 
     /// Takes away what was printed.
     pub fn end<H: Host>(&self, host: &mut H)
-        ensures { EndsProgress self.now.is_told (H.history host.old) (H.history host.new) }
+        ensures ends { EndsProgress self.now.is_told (H.history host.old) (H.history host.new) }
+        ensures printed { EndsPrinted self.now.is_told self.now.last (H.history host.old) (H.history host.new) }
     {
         if self.is_told && self.last > 0 {
             let _ = host.tell("\x1b[K");

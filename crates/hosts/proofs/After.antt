@@ -1,7 +1,7 @@
 -- A change after others that have left the path as it was.
-use Rattle.std.proofs.Common.{ℕ, false, List, Result, Ok, Err, inl, inr, ◌∙◌}
+use Rattle.std.proofs.Common.{ℕ, false, List, [], ◌∷◌, Result, Ok, Err, ◌∙◌}
 use Rattle.hosts.specs.Place.{Place, Step, replay}
-use Rattle.hosts.specs.Saving.{IsAsItWas, StaysAsItWas, IsUnmade, IsOver, IsWrittenOver, SavesFile}
+use Rattle.hosts.specs.Saving.{IsAsItWas, StaysAsItWas, IsNotedBefore, IsOver, IsWrittenOver, SavesFile}
 use Rattle.hosts.specs.declared.faults.Durability.{Durability}
 use Rattle.hosts.specs.declared.faults.Durability.TheVariants.{Certain, Unknown}
 use Rattle.hosts.specs.declared.faults.Unwritten.{Unwritten}
@@ -21,9 +21,6 @@ file_after (Ok Unknown) bytes a b c same saves = saves
 file_after (Err AsItWas) bytes a b c same saves = absurd saves
 file_after (Err InPart) bytes a b c same saves = tt
 
-unmade : (a b c : Place) → IsAsItWas a b → IsUnmade b c → IsUnmade a c
-unmade a b c same (inl was) = inl (as_it_was a b c same was)
-unmade a b c same (inr gone) = inr gone
-
-pub unmade_after : (a b c : List Step) → StaysAsItWas a b → ((start : Place) → IsUnmade (replay start b) (replay start c)) → (start : Place) → IsUnmade (replay start a) (replay start c)
-unmade_after a b c same is start = unmade (replay start a) (replay start b) (replay start c) (same start) (is start)
+pub noted_after : (note : List ℕ) (a b c : List Step) → StaysAsItWas a b → IsNotedBefore false note b c → IsNotedBefore false note a c
+noted_after [] a b c same noted = tt
+noted_after (byte ∷ others) a b c same noted = λ start. as_it_was (replay start a) (replay start b) (replay start c) (same start) (noted start)

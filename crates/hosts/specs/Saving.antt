@@ -3,6 +3,7 @@ use Rattle.std.specs.Prelude.{◌≡◌, ℕ, ◌+◌, Bool, true, false, List, 
 use Rattle.hosts.specs.Event.{Change, Claim, Rename, WriteOver}
 use Rattle.hosts.specs.Place.{Place, Step, Remainder, Just, replay, ever}
 use Rattle.hosts.specs.declared.faults.HostFault.{HostFault}
+use Rattle.hosts.specs.declared.faults.HostFault.TheVariants.{Unwritable}
 use Rattle.hosts.specs.declared.faults.Durability.{Durability}
 use Rattle.hosts.specs.declared.faults.Durability.TheVariants.{Certain, Unknown}
 use Rattle.hosts.specs.declared.faults.RenameFault.{RenameFault}
@@ -72,6 +73,12 @@ IsPlaceNoted true note old new = new ≡ old
 IsPlaceNoted false [] old new = new ≡ old
 IsPlaceNoted false (byte ∷ others) old new = (ok : Bool) × (new ≡ (ok, byte ∷ others) ∷ old)
 
+-- where that note is printed the path is as it was
+abbrev pub IsNotedBefore : Bool → List ℕ → List Step → List Step → Type 0
+IsNotedBefore true note old noted = Unit {0}
+IsNotedBefore false [] old noted = Unit {0}
+IsNotedBefore false (byte ∷ others) old noted = StaysAsItWas old noted
+
 -- after a save a new file may take the path as before, unless that was seen to be a mount's
 abbrev pub still_may : Result Durability RenameFault → Bool → Bool
 still_may (Ok durability) before = before
@@ -89,21 +96,25 @@ AnyMoment bytes old new = (start : Place) → IsOldOrNew bytes (ever start old) 
 abbrev pub AnyMomentOf : Bool → List ℕ → List Step → List Step → Type 0
 AnyMomentOf is bytes old new = (start : Place) → IsOldOrNew bytes (ever start old) (ever start new) ⊎ (is ≡ false)
 
--- What becomes of a path where no file is made. It is as it was, or has no file, or an empty one that could not be taken away, where the
--- file system has no further names.
-abbrev pub IsUnmade : Place → Place → Type 0
-IsUnmade before p = IsAsItWas before p ⊎ ((p.seen ≡ Just None) ⊎ (p.seen ≡ Just (Some [])))
+abbrev pub MayStayEmpty : HostFault → Place → Type 0
+MayStayEmpty Unwritable p = p.seen ≡ Just (Some [])
+MayStayEmpty fault p = ⊥
+
+-- What becomes of a path where no file is made for this reason. It is as it was, or has no file. It has an empty one where that could not be
+-- taken away, and so may not be written, where the file system has no further names.
+abbrev pub IsUnmade : HostFault → Place → Place → Type 0
+IsUnmade fault before p = IsAsItWas before p ⊎ ((p.seen ≡ Just None) ⊎ MayStayEmpty fault p)
 
 -- a new file has the path whole, or there is none
 abbrev pub Makes : Result Durability HostFault → List ℕ → List Step → List Step → Type 0
 Makes (Ok Certain) bytes old new = (start : Place) → IsSaved bytes (replay start new)
 Makes (Ok Unknown) bytes old new = (start : Place) → (replay start new).seen ≡ Just (Some bytes)
-Makes (Err fault) bytes old new = (start : Place) → IsUnmade (replay start old) (replay start new)
+Makes (Err fault) bytes old new = (start : Place) → IsUnmade fault (replay start old) (replay start new)
 
 -- a file that is laid has the path whole; when the disk has it is left to the system
 abbrev pub Lays : Result Unit HostFault → List ℕ → List Step → List Step → Type 0
 Lays (Ok _) bytes old new = (start : Place) → (replay start new).seen ≡ Just (Some bytes)
-Lays (Err fault) bytes old new = (start : Place) → IsUnmade (replay start old) (replay start new)
+Lays (Err fault) bytes old new = (start : Place) → IsUnmade fault (replay start old) (replay start new)
 
 abbrev pub is_claim : Change → Bool → Bool
 is_claim Claim true = true

@@ -14,7 +14,7 @@ pub record IsTaken (before p : Place) : Type 0 where
 
 abbrev pub Takes : Result Unit HostFault → List Step → List Step → Type 0
 Takes (Ok _) old new = (start : Place) → IsTaken (replay start old) (replay start new)
-Takes (Err fault) old new = (start : Place) → IsUnmade (replay start old) (replay start new)
+Takes (Err fault) old new = (start : Place) → IsUnmade fault (replay start old) (replay start new)
 
 -- nothing has come of calls that did not succeed for the file of the path, the others, or the streams
 pub record IsQuiet (path : List ℕ) (old new : List Event) : Type 0 where

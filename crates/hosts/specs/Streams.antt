@@ -22,6 +22,15 @@ abbrev pub errors : List Event → List (Bool × List ℕ)
 errors [] = []
 errors (e ∷ earlier) = with_told e.call e (errors earlier)
 
+abbrev pub with_before_told : Call → List Event → List Event → List Event
+with_before_told Tell earlier before = earlier
+with_before_told _ earlier before = before
+
+-- the calls before the newest text on standard error
+abbrev pub before_told : List Event → List Event
+before_told [] = []
+before_told (e ∷ earlier) = with_before_told e.call earlier (before_told earlier)
+
 abbrev pub with_text : Call → Bool → List ℕ → List ℕ → List ℕ
 with_text Print true bytes before = before ++ bytes
 with_text Print false bytes before = before

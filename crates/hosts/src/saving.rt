@@ -2,9 +2,9 @@ ghost use Rattle.std.specs.Prelude.{◌≡◌, ◌<◌, ◌≤◌, ℕ, List, []
 ghost use Rattle.std.specs.Str.{bytes_eq};
 ghost use Rattle.hosts.specs.Event.{Event, drop_call, leads_call};
 ghost use Rattle.hosts.specs.Place.{about};
-ghost use Rattle.hosts.specs.Saving.{Saves, SavesFile, AnyMoment, AnyMomentOf, IsPlaceNoted, IsWrittenOver, still_may, last_bytes, last_over};
+ghost use Rattle.hosts.specs.Saving.{Saves, SavesFile, AnyMoment, AnyMomentOf, IsPlaceNoted, IsNotedBefore, IsWrittenOver, still_may, last_bytes, last_over};
 ghost use Rattle.hosts.specs.SavingSteps.{IsQuiet, ready_calls};
-ghost use Rattle.hosts.specs.Streams.{output, errors, read, failures, may_replace, path_of_name};
+ghost use Rattle.hosts.specs.Streams.{before_told, output, errors, read, failures, may_replace, path_of_name};
 
 use crate::{Durability, Host, HostFault, RenameFault, Unwritten};
 use std::alloc::Global;
@@ -93,6 +93,7 @@ pub fn write_over<H: Host>(
     bytes: &[u8],
 ) -> Result<(), HostFault>
     ensures head_last { OnOk result (last_over (about path.now (H.history host.new)) ≡ 0) }
+    ensures told { before_told (H.history host.new) ≡ before_told (H.history host.old) }
     ensures head { OnOk result (last_bytes (about path.now (H.history host.new)) ≡ take first bytes.now) }
     ensures over { OnOk result (IsWrittenOver bytes.now (about path.now (H.history host.old)) (about path.now (H.history host.new))) }
     ensures cause { OnErr result (failures (H.history host.old) < failures (H.history host.new)) }
@@ -133,6 +134,7 @@ pub fn save_file<H: Host>(
         → about other (H.history host.new) ≡ about other (H.history host.old) }
     ensures output { output (H.history host.new) ≡ output (H.history host.old) }
     ensures noted { IsPlaceNoted (may_replace (H.history host.new)) note.now (errors (H.history host.old)) (errors (H.history host.new)) }
+    ensures noted_first { IsNotedBefore (may_replace (H.history host.new)) note.now (about path.now (H.history host.old)) (about path.now (before_told (H.history host.new))) }
     ensures read { read (H.history host.new) ≡ read (H.history host.old) }
 {
     let Ok(is_alone) = host.is_alone(path) else {
@@ -165,6 +167,7 @@ fn save_over<H: Host>(
         → about other (H.history host.new) ≡ about other (H.history host.old) }
     ensures output { output (H.history host.new) ≡ output (H.history host.old) }
     ensures noted { IsPlaceNoted false note.now (errors (H.history host.old)) (errors (H.history host.new)) }
+    ensures noted_first { IsNotedBefore false note.now (about path.now (H.history host.old)) (about path.now (before_told (H.history host.new))) }
     ensures read { read (H.history host.new) ≡ read (H.history host.old) }
     ensures alone { may_replace (H.history host.new) ≡ may_replace (H.history host.old) }
 {
@@ -180,6 +183,7 @@ fn note_place<H: Host>(host: &mut H, note: &str)
     ensures failures { failures (H.history host.old) ≤ failures (H.history host.new) }
     ensures files { (path : List ℕ) → about path (H.history host.new) ≡ about path (H.history host.old) }
     ensures noted { IsPlaceNoted false note.now (errors (H.history host.old)) (errors (H.history host.new)) }
+    ensures noted_first { (path : List ℕ) → IsNotedBefore false note.now (about path (H.history host.old)) (about path (before_told (H.history host.new))) }
     ensures output { output (H.history host.new) ≡ output (H.history host.old) }
     ensures read { read (H.history host.new) ≡ read (H.history host.old) }
     ensures alone { may_replace (H.history host.new) ≡ may_replace (H.history host.old) }
