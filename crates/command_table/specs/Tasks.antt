@@ -56,8 +56,8 @@ put_form values = if is_set (codes "text") values then put_as.Text else put_as.F
 abbrev pub saving_of : List Row → Saving
 saving_of values = if is_set (codes "look") values then Never else if is_set (codes "keep") values then Always else AtEnd
 
--- The volume that an argument names: in which file it is, and where in it, which options say or else the name; how many seconds are waited for
--- it, and whether its faults are mended.
+-- The volume that an argument names: its file, and where in that it lies, as options say or else the name. It is waited for so many seconds, and
+-- its faults are mended or not.
 abbrev pub IsVolume : Option Layout → Text → ℕ → Bool → List Row → ImageForm → Type 0
 IsVolume given id wait is_lenient values image = (option_map (volume_named given) (first_of id values) ≡ Some (image.file.bytes.items, image.layout))
     × (image.wait ≡ wait) × (image.is_lenient ≡ is_lenient)

@@ -1,6 +1,5 @@
 //! What is asked of the files of volumes.
 ghost use Rattle.std.specs.Prelude.{◌≡◌, ◌≤◌, ◌∷◌, ◌++◌, [], codes, false, true, if◌then◌else◌, is_some, map, option_map, IfOk, OnOk, Some};
-ghost use Rattle.clap.specs.Words.{first_of};
 ghost use Rattle.command_table.specs.Found.{capitals, has, is_set, number_in};
 ghost use Rattle.command_table.specs.Steps.{Has, IsFirst, has_text, kind_at, takes_block, takes_texts, IsAskedBy, Needs, values_in};
 ghost use Rattle.command_table.specs.Refusals.{copies_pattern};

@@ -228,7 +228,7 @@ pub const PAIRS: &[Pair] = &[
 pub const TAPE: &[Argument] = rows! {
     "TAPE" may Kind::Word, "", "The file of the tape, or of the image that holds NAME; else standard input";
     "NAME" may Kind::Word, "", "The name of the file on the volume";
-    "volume" 'v' option Kind::One(Form::Volume), "N", "The volume of an RK05 disk, 1 or 2, where TAPE is the file of one";
+    "volume" 'v' option Kind::One(Form::Volume), "N", "The volume of an RK05 disk, 1 or 2, where TAPE is the file of one; TAPE:1 and TAPE:2 mean it too";
     "dectape" flag Kind::Flag, "", "TAPE is the file of a DECtape, of 129 words a block";
 };
 
@@ -236,7 +236,7 @@ pub const RIM: &[Argument] = rows! {
     "TAPE" may Kind::Word, "", "The file of the tape, or of the image that holds NAME; else standard input";
     "NAME" may Kind::Word, "", "The name of the file on the volume";
     "bin" flag Kind::Flag, "", "Write the BIN tape of its words";
-    "volume" 'v' option Kind::One(Form::Volume), "N", "The volume of an RK05 disk, 1 or 2, where TAPE is the file of one";
+    "volume" 'v' option Kind::One(Form::Volume), "N", "The volume of an RK05 disk, 1 or 2, where TAPE is the file of one; TAPE:1 and TAPE:2 mean it too";
     "dectape" flag Kind::Flag, "", "TAPE is the file of a DECtape, of 129 words a block";
 };
 
@@ -246,7 +246,7 @@ pub const SOURCE: &[Argument] = rows! {
     "start" option Kind::Many(Form::Cell), "FAAAA", "A cell at which the program starts, in octal, as 10200 or 1:0200; it may be given several times";
     "names" option Kind::One(Form::Text), "FILE", "A file of names, a line FAAAA NAME for each cell that gets one";
     "pal8" flag Kind::Flag, "", "Write PAL8, the language of OS/8's assembler";
-    "volume" 'v' option Kind::One(Form::Volume), "N", "The volume of an RK05 disk, 1 or 2, where TAPE is the file of one";
+    "volume" 'v' option Kind::One(Form::Volume), "N", "The volume of an RK05 disk, 1 or 2, where TAPE is the file of one; TAPE:1 and TAPE:2 mean it too";
     "dectape" flag Kind::Flag, "", "TAPE is the file of a DECtape, of 129 words a block";
 };
 
@@ -263,7 +263,7 @@ pub const ASSEMBLE: &[Argument] = rows! {
     "notes" flag Kind::Flag, "", "With --pal8 note on standard error the lines that palbart reads in another way";
     "from" option Kind::One(Form::Text), "IMAGE", "Take the sources from the volume that the file IMAGE holds";
     "onto" option Kind::One(Form::Text), "NAME", "Put the tape on that volume as the file NAME, in place of standard output";
-    "volume" 'v' option Kind::One(Form::Volume), "N", "The volume of an RK05 disk, 1 or 2, where IMAGE is the file of one";
+    "volume" 'v' option Kind::One(Form::Volume), "N", "The volume of an RK05 disk, 1 or 2, where IMAGE is the file of one; IMAGE:1 and IMAGE:2 mean it too";
     "dectape" flag Kind::Flag, "", "IMAGE is the file of a DECtape, of 129 words a block";
     "wait" option Kind::One(Form::Seconds), "SECONDS", "With --onto wait so long while another program holds the image, 0 to 3600 seconds; else not at all";
 };
@@ -276,7 +276,7 @@ pub const TELETYPE: &[Argument] = rows! {
     "steps" option Kind::Count, "N", "The most instructions that are done, 1 up; without it there is no limit";
     "raw" flag Kind::Flag, "", "Strike each byte as it is, with no change of line ends and no top bit set";
     "live" hidden Kind::Flag, "", "Take the keys as they are struck";
-    "volume" 'v' option Kind::One(Form::Volume), "N", "The volume of an RK05 disk, 1 or 2, where TAPE is the file of one";
+    "volume" 'v' option Kind::One(Form::Volume), "N", "The volume of an RK05 disk, 1 or 2, where TAPE is the file of one; TAPE:1 and TAPE:2 mean it too";
     "dectape" flag Kind::Flag, "", "TAPE is the file of a DECtape, of 129 words a block";
 };
 
@@ -288,7 +288,7 @@ pub const TRACE: &[Argument] = rows! {
     "switches" option Kind::One(Form::Octal), "WWWW", "The word that the switches are set to, in octal; else 0000";
     "steps" option Kind::Count, "N", "The most steps that are made, 1 up";
     "keys" option Kind::One(Form::Text), "TEXT", "The keys to strike, each where the program asks for one; a line's end is CR";
-    "volume" 'v' option Kind::One(Form::Volume), "N", "The volume of an RK05 disk, 1 or 2, where TAPE is the file of one";
+    "volume" 'v' option Kind::One(Form::Volume), "N", "The volume of an RK05 disk, 1 or 2, where TAPE is the file of one; TAPE:1 and TAPE:2 mean it too";
     "dectape" flag Kind::Flag, "", "TAPE is the file of a DECtape, of 129 words a block";
 };
 
@@ -297,7 +297,7 @@ pub const RUN: &[Argument] = rows! {
     "look" flag Kind::Flag, "", "Never write the image, whatever the script does";
     "keep" flag Kind::Flag, "", "Write the image after each entry that changed it, before its reply";
     "strict" flag Kind::Flag, "", "End with status 1 where a reply was a refusal";
-    "volume" 'v' option Kind::One(Form::Volume), "N", "The volume of an RK05 disk, 1 or 2, where IMAGE is the file of one";
+    "volume" 'v' option Kind::One(Form::Volume), "N", "The volume of an RK05 disk, 1 or 2, where IMAGE is the file of one; IMAGE:1 and IMAGE:2 mean it too";
     "dectape" flag Kind::Flag, "", "IMAGE is the file of a DECtape, of 129 words a block";
     "wait" option Kind::One(Form::Seconds), "SECONDS", "Wait so long while another program holds the image, 0 to 3600 seconds; else not at all";
 };
@@ -315,7 +315,7 @@ pub const LIST: &[Argument] = rows! {
     "NAME" may Kind::Words(MOST_BLOCKS), "", "The names of the files that are listed, else all";
     "long" 'l' flag Kind::Flag, "", "Show where each file lies, its information words, in octal, and its date";
     "year" option Kind::One(Form::Year), "N", "The last of the eight years that dates mean, 1977 to 9999; else the one that block 0 gives";
-    "volume" 'v' option Kind::One(Form::Volume), "N", "The volume of an RK05 disk, 1 or 2, where IMAGE is the file of one";
+    "volume" 'v' option Kind::One(Form::Volume), "N", "The volume of an RK05 disk, 1 or 2, where IMAGE is the file of one; IMAGE:1 and IMAGE:2 mean it too";
     "dectape" flag Kind::Flag, "", "IMAGE is the file of a DECtape, of 129 words a block";
     "lenient" flag Kind::Flag, "", "Read an image with faults: top bits are taken off, a length is made whole; each is printed on standard error";
 };
@@ -332,7 +332,7 @@ pub const GET: &[Argument] = rows! {
     "force" 'f' flag Kind::Flag, "", "Write over older files of the folder";
     "text-of" option Kind::Many(Form::Text), "LIST", "Extensions of files that are texts, as PA,TX; it may be given several times";
     "blocks" flag Kind::Flag, "", "Write blocks of the volume: COUNT from block FIRST on";
-    "volume" 'v' option Kind::One(Form::Volume), "N", "The volume of an RK05 disk, 1 or 2, where IMAGE is the file of one";
+    "volume" 'v' option Kind::One(Form::Volume), "N", "The volume of an RK05 disk, 1 or 2, where IMAGE is the file of one; IMAGE:1 and IMAGE:2 mean it too";
     "dectape" flag Kind::Flag, "", "IMAGE is the file of a DECtape, of 129 words a block";
     "lenient" flag Kind::Flag, "", "Read an image with faults: top bits are taken off, a length is made whole; each is printed on standard error";
 };
@@ -347,7 +347,7 @@ pub const PUT: &[Argument] = rows! {
     "date" option Kind::One(Form::Date), "DATE", "The date of the file, as 1974-03-12, which is its first information word";
     "as" option Kind::One(Form::Text), "NAME", "The name on the volume of the one file that is put";
     "empty" flag Kind::Flag, "", "Let a file of no byte replace one that has words";
-    "volume" 'v' option Kind::One(Form::Volume), "N", "The volume of an RK05 disk, 1 or 2, where IMAGE is the file of one";
+    "volume" 'v' option Kind::One(Form::Volume), "N", "The volume of an RK05 disk, 1 or 2, where IMAGE is the file of one; IMAGE:1 and IMAGE:2 mean it too";
     "dectape" flag Kind::Flag, "", "IMAGE is the file of a DECtape, of 129 words a block";
     "wait" option Kind::One(Form::Seconds), "SECONDS", "Wait so long while another program holds the image, 0 to 3600 seconds; else not at all";
 };
@@ -356,7 +356,7 @@ pub const DELETE: &[Argument] = rows! {
     "IMAGE" must Kind::Word, "", "The file that holds the volume";
     "NAME" may Kind::Words(MOST_BLOCKS), "", "The names of the files on the volume";
     "at" option Kind::Many(Form::Block), "BLOCK", "The first block of a file, 0 to 4095; it may be given several times";
-    "volume" 'v' option Kind::One(Form::Volume), "N", "The volume of an RK05 disk, 1 or 2, where IMAGE is the file of one";
+    "volume" 'v' option Kind::One(Form::Volume), "N", "The volume of an RK05 disk, 1 or 2, where IMAGE is the file of one; IMAGE:1 and IMAGE:2 mean it too";
     "dectape" flag Kind::Flag, "", "IMAGE is the file of a DECtape, of 129 words a block";
     "wait" option Kind::One(Form::Seconds), "SECONDS", "Wait so long while another program holds the image, 0 to 3600 seconds; else not at all";
 };
@@ -366,7 +366,7 @@ pub const RENAME: &[Argument] = rows! {
     "NAME" may Kind::Word, "", "The name of the file on the volume, where --at does not give its block";
     "NEW" may Kind::Word, "", "The new name of the file";
     "at" option Kind::One(Form::Block), "BLOCK", "The first block of the file, 0 to 4095, in place of NAME";
-    "volume" 'v' option Kind::One(Form::Volume), "N", "The volume of an RK05 disk, 1 or 2, where IMAGE is the file of one";
+    "volume" 'v' option Kind::One(Form::Volume), "N", "The volume of an RK05 disk, 1 or 2, where IMAGE is the file of one; IMAGE:1 and IMAGE:2 mean it too";
     "dectape" flag Kind::Flag, "", "IMAGE is the file of a DECtape, of 129 words a block";
     "wait" option Kind::One(Form::Seconds), "SECONDS", "Wait so long while another program holds the image, 0 to 3600 seconds; else not at all";
 };
@@ -380,16 +380,16 @@ pub const COPY: &[Argument] = rows! {
     "at" option Kind::One(Form::Block), "BLOCK", "The first block of the file, 0 to 4095, in place of NAME";
     "to" option Kind::One(Form::Text), "IMAGE", "The file that holds the volume that gets several files";
     "force" 'f' flag Kind::Flag, "", "Write over older files of that volume; one that is copied alone does so anyway";
-    "to-volume" option Kind::One(Form::Volume), "N", "The volume of an RK05 disk, 1 or 2, where TO is the file of one";
+    "to-volume" option Kind::One(Form::Volume), "N", "The volume of an RK05 disk, 1 or 2, where TO is the file of one; TO:1 and TO:2 mean it too";
     "to-dectape" flag Kind::Flag, "", "TO is the file of a DECtape, of 129 words a block";
-    "volume" 'v' option Kind::One(Form::Volume), "N", "The volume of an RK05 disk, 1 or 2, where IMAGE is the file of one";
+    "volume" 'v' option Kind::One(Form::Volume), "N", "The volume of an RK05 disk, 1 or 2, where IMAGE is the file of one; IMAGE:1 and IMAGE:2 mean it too";
     "dectape" flag Kind::Flag, "", "IMAGE is the file of a DECtape, of 129 words a block";
     "wait" option Kind::One(Form::Seconds), "SECONDS", "Wait so long while another program holds TO, 0 to 3600 seconds; else not at all";
 };
 
 pub const SQUEEZE: &[Argument] = rows! {
     "IMAGE" must Kind::Word, "", "The file that holds the volume";
-    "volume" 'v' option Kind::One(Form::Volume), "N", "The volume of an RK05 disk, 1 or 2, where IMAGE is the file of one";
+    "volume" 'v' option Kind::One(Form::Volume), "N", "The volume of an RK05 disk, 1 or 2, where IMAGE is the file of one; IMAGE:1 and IMAGE:2 mean it too";
     "dectape" flag Kind::Flag, "", "IMAGE is the file of a DECtape, of 129 words a block";
     "wait" option Kind::One(Form::Seconds), "SECONDS", "Wait so long while another program holds the image, 0 to 3600 seconds; else not at all";
 };
@@ -406,7 +406,7 @@ pub const DUMP: &[Argument] = rows! {
     "IMAGE" must Kind::Word, "", "The file that holds the volume";
     "BLOCK" may Kind::Value(Form::Span), "", "A block, 0 to 4095, or the first and the last of several, as 7-9; else all";
     "sixbit" flag Kind::Flag, "", "Show the two characters of each word in sixbit; else three of each two words, as a text has them";
-    "volume" 'v' option Kind::One(Form::Volume), "N", "The volume of an RK05 disk, 1 or 2, where IMAGE is the file of one";
+    "volume" 'v' option Kind::One(Form::Volume), "N", "The volume of an RK05 disk, 1 or 2, where IMAGE is the file of one; IMAGE:1 and IMAGE:2 mean it too";
     "dectape" flag Kind::Flag, "", "IMAGE is the file of a DECtape, of 129 words a block";
 };
 
@@ -416,7 +416,7 @@ pub const PATCH: &[Argument] = rows! {
     "WORD" must Kind::Value(Form::Index), "", "The number of the word in its block, 0 to 255";
     "OLD" must Kind::Value(Form::Bits), "", "The word that stands there, in octal, with more than four digits where it has more than twelve bits";
     "NEW" must Kind::Value(Form::Octal), "", "The word that is put there, in octal";
-    "volume" 'v' option Kind::One(Form::Volume), "N", "The volume of an RK05 disk, 1 or 2, where IMAGE is the file of one";
+    "volume" 'v' option Kind::One(Form::Volume), "N", "The volume of an RK05 disk, 1 or 2, where IMAGE is the file of one; IMAGE:1 and IMAGE:2 mean it too";
     "dectape" flag Kind::Flag, "", "IMAGE is the file of a DECtape, of 129 words a block";
     "wait" option Kind::One(Form::Seconds), "SECONDS", "Wait so long while another program holds the image, 0 to 3600 seconds; else not at all";
 };
@@ -436,14 +436,14 @@ pub const INDEX: &[Argument] = rows! {
 pub const RESCUE: &[Argument] = rows! {
     "IMAGE" must Kind::Word, "", "The file that holds the damaged volume";
     "NEW" must Kind::Word, "", "The file that gets the new volume";
-    "volume" 'v' option Kind::One(Form::Volume), "N", "The volume of an RK05 disk, 1 or 2, where IMAGE is the file of one";
+    "volume" 'v' option Kind::One(Form::Volume), "N", "The volume of an RK05 disk, 1 or 2, where IMAGE is the file of one; IMAGE:1 and IMAGE:2 mean it too";
     "dectape" flag Kind::Flag, "", "IMAGE is the file of a DECtape, of 129 words a block";
 };
 
 pub const SCAN: &[Argument] = rows! {
     "IMAGE" must Kind::Word, "", "The file that holds the volume";
     "into" option Kind::One(Form::Text), "FOLDER", "Write each piece to a file of FOLDER too, named by its block and what it is";
-    "volume" 'v' option Kind::One(Form::Volume), "N", "The volume of an RK05 disk, 1 or 2, where IMAGE is the file of one";
+    "volume" 'v' option Kind::One(Form::Volume), "N", "The volume of an RK05 disk, 1 or 2, where IMAGE is the file of one; IMAGE:1 and IMAGE:2 mean it too";
     "dectape" flag Kind::Flag, "", "IMAGE is the file of a DECtape, of 129 words a block";
 };
 
