@@ -35,7 +35,7 @@ use Rattle.many_commands.specs.Reporting.{EndsSound, PrintsNamed, PrintsReport, 
 use Rattle.many_commands.specs.Volumes.{IsVolumeName, ReportsAlone, ReportsAt, ReportsBoth, ReportsFile, ReportsNext, ReportsNumbered, ReportsOne, ReportsRead, ReportsVolume, ReportsVolumes}
 use Rattle.many_commands.specs.Laws.{ChangesNothing, NeverChanges}
 use Rattle.host_progress.specs.Progressing.{BeginsProgress, EndsProgress, TellsDone, TellsProgress, WithProgress}
-use Rattle.many_commands.proofs.Keeping.{answers-never, looks-at-never, looks-never, prints-never, purely-never, refuses-never, same, then-never}
+use Rattle.many_commands.proofs.Keeping.{answers-never, looks-at-never, looks-image-never, prints-never, purely-never, refuses-never, same, then-never}
 
 -- ## What the commands on volumes show
 

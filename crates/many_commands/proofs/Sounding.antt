@@ -130,7 +130,20 @@ answered is_all image old new (inr it) =
     let end = printed it.given it.between new it.after in
     (it.given, it.done.0, end.0, end.1 ∙ reads old it.between it.done.1)
 
-allines-read : (lines : List ℕ) (old new : List Event) → TellsLines lines old new → read new ≡ read old
+alone-sound : (is_all : Bool) (layout : Option Layout) (body : List ℕ) (old new : List Event) → ReportsAlone (kind_of_check is_all) layout body old (Ok tt) new → IsSoundVolume is_all layout body × (read new ≡ read old)
+alone-sound is_all layout body old new (inl ends) = absurd ends
+alone-sound is_all layout body old new (inr it) =
+    let end = answered is_all it.given.items it.between new it.after in
+    (record { image = it.given; found = it.done.0; report = end.0; reports = end.1; sound = end.2 }, end.3 ∙ reads old it.between it.done.1)
+
+file-sound : (is_all : Bool) (file : List ℕ) (volumes : Volumes) (body : List ℕ) (old new : List Event) → ReportsFile (kind_of_check is_all) file volumes body old (Ok tt) new → AreSoundIn is_all volumes body × (read new ≡ read old)
+file-sound is_all file (One layout) body old new reports = alone-sound is_all layout body old new reports
+file-sound is_all file Both body old new (inl ends) = absurd ends
+file-sound is_all file Both body old new (inr it) =
+    let both = both-sound is_all file body old it.between it.given it.done (ends-sound it.given it.after.0) in
+    (both.0, reads it.between new it.after.1 ∙ both.1)
+
+lines-read : (lines : List ℕ) (old new : List Event) → TellsLines lines old new → read new ≡ read old
 lines-read [] old new p = reads old new p
 lines-read (c ∷ lines) old new p = reads (tell_call p.0 (c ∷ lines) ∷ old) new p.1
 
