@@ -21,7 +21,7 @@ use Rattle.index_commands.specs.declared.columns.Columns.{Columns}
 use Rattle.index_commands.specs.declared.columns.LineShape.{LineShape}
 use Rattle.index_commands.specs.Found.{FindsSame, IsFound, KeepsLines, ShowsSame, TakesLines}
 use Rattle.index_commands.specs.declared.found.Found.{Found}
-use Rattle.index_commands.specs.Indexing.{ChecksWord, EndsIndex, Indexes, IndexesAll, IndexesImage, IndexesImages, IndexesInColumns, IndexesNext, IndexesRead, IndexesVolume, IndexesVolumes, IndexesWith, ShowsIndex, ending_of_refusal}
+use Rattle.index_commands.specs.Indexing.{ChecksWord, EndsIndex, Indexes, IndexesAll, IndexesImage, IndexesImages, IndexesInColumns, IndexesNext, IndexesRead, IndexesVolume, IndexesVolumes, IndexesWith, ShowsIndex, ending_of_refusal, file_named, reading_named}
 use Rattle.index_commands.specs.Refusing.{PassesOver, RefusesVolume, prefix_of}
 use Rattle.index_commands.specs.Volumes.{body_of, layouts_in, number_of}
 
@@ -128,7 +128,8 @@ images-keeps : LooksKeep → PrintsKeep → (columns : Columns) (style : IndexSt
 images-keeps looks prints columns style reading is_told done all [] is_refused kept = purely-keeps (IsFound is_refused kept)
 images-keeps looks prints columns style reading is_told done all (name ∷ names) is_refused kept =
     then-keeps (IndexesNext columns style reading is_told done all name is_refused kept) (λ (found : Found). IndexesImages columns style reading is_told (done + 1) all names found.is_refused found.lines.items)
-    (then-keeps (TellsProgress is_told done all) (λ it. IndexesImage columns style reading name is_refused kept) (progress-keeps is_told done all) (λ it. image-keeps looks prints columns style reading name is_refused kept))
+    (then-keeps (TellsProgress is_told done all) (λ it. IndexesImage columns style (reading_named reading name) (file_named reading name) is_refused kept) (progress-keeps is_told done all)
+    (λ it. image-keeps looks prints columns style (reading_named reading name) (file_named reading name) is_refused kept))
     (λ (found : Found). images-keeps looks prints columns style reading is_told (done + 1) all names found.is_refused found.lines.items)
 
 all-keeps : LooksKeep → PrintsKeep → (columns : Columns) (style : IndexStyle) (reading : ImageReading) (names : List (List ℕ)) → KeepsFiles (IndexesAll columns style reading names)

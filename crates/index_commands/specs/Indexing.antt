@@ -10,6 +10,7 @@ use Rattle.volume_index.specs.declared.styles.IndexStyle.{IndexStyle}
 use Rattle.outcome.specs.Endings.{ending_of_archive}
 use Rattle.outcome.specs.declared.endings.Ending.{Ending}
 use Rattle.outcome.specs.declared.endings.Ending.TheVariants.{Failure, Misuse}
+use Rattle.program_tasks.specs.Names.{volume_named}
 use Rattle.volume_commands.specs.Work.{Then, Purely}
 use Rattle.volume_commands.specs.declared.mending.ImageReading.{ImageReading}
 use Rattle.volume_commands.specs.Reading.{LooksImage}
@@ -66,9 +67,17 @@ abbrev pub ending_of_refusal : Bool → Result (Unit {0}) Ending
 ending_of_refusal true = Err Failure
 ending_of_refusal false = Ok tt
 
+-- the image file that a name means, and how it is read
+abbrev pub file_named : ImageReading → List ℕ → List ℕ
+file_named reading name = (volume_named reading.layout name).0
+
+abbrev pub reading_named : ImageReading → List ℕ → ImageReading
+reading_named reading name = record { layout = (volume_named reading.layout name).1; is_lenient = reading.is_lenient }
+
 -- how many of all images are done may be printed, and then the next one is indexed
 abbrev pub IndexesNext : Columns → IndexStyle → ImageReading → Bool → ℕ → ℕ → List ℕ → Bool → List ℕ → List Event → Result Found Ending → List Event → Type 0
-IndexesNext columns style reading is_told done all name is_refused kept = Then (TellsProgress is_told done all) (λ it. IndexesImage columns style reading name is_refused kept)
+IndexesNext columns style reading is_told done all name is_refused kept =
+    Then (TellsProgress is_told done all) (λ it. IndexesImage columns style (reading_named reading name) (file_named reading name) is_refused kept)
 
 -- Images are read in order, one at a time; of each the index is taken, or it is printed why it is passed over.
 abbrev pub IndexesImages : Columns → IndexStyle → ImageReading → Bool → ℕ → ℕ → List (List ℕ) → Bool → List ℕ → List Event → Result Found Ending → List Event → Type 0

@@ -1,6 +1,7 @@
 ghost use Rattle.std.specs.Prelude.{◌≡◌, Some, false, ◌∷◌, [], length, map};
 ghost use Rattle.image_kind.specs.declared.kinds.Form.TheVariants.{Disk};
 ghost use Rattle.index_commands.specs.Indexing.{ChecksWord, EndsIndex, GivesIndex, Indexes, IndexesAll, IndexesImage, IndexesImages, IndexesInColumns, IndexesNext, IndexesVolume, IndexesVolumes, IndexesWith, ending_of_refusal};
+ghost use Rattle.index_commands.specs.Indexing as spec;
 ghost use Rattle.index_commands.specs.Volumes.{body_of, layouts_in, layouts_of};
 
 use crate::columns::{Columns, LineShape};
@@ -13,6 +14,7 @@ use host_progress::Progress;
 use hosts::Host;
 use image_kind::{Form, kind_of};
 use outcome::Ending;
+use program_tasks::volume_named;
 use std::alloc::Global;
 use volume_commands::{ImageReading, look_image};
 use volume_index::{IndexStyle, index_volume};
@@ -173,7 +175,21 @@ fn index_next<H: Host>(
     ensures all { progress.new.all ≡ progress.old.all }
 {
     progress.tell(host, done);
-    index_image(host, alloc, columns, style, name, reading, found)
+    let (file, reading) = file_named(reading, name);
+    index_image(host, alloc, columns, style, file, reading, found)
+}
+
+/// The image file that a name means, and how it is read.
+fn file_named(reading: ImageReading, name: &str) -> (&str, ImageReading)
+    ensures file { result.0.now ≡ spec.file_named reading name.now }
+    ensures reading { result.1 ≡ spec.reading_named reading name.now }
+{
+    let (file, layout) = volume_named(reading.layout, name);
+    let reading = ImageReading {
+        layout,
+        is_lenient: reading.is_lenient,
+    };
+    (file, reading)
 }
 
 /// Reads an image file, and takes the index of its volumes.

@@ -30,7 +30,7 @@ use Rattle.volume_commands.specs.ShowingParts.{EndsTelling, GivesBlocks, GivesTa
 use Rattle.volume_commands.specs.Work.{Then, Purely}
 use Rattle.many_commands.specs.declared.reports.Report.{Report}
 use Rattle.many_commands.specs.declared.reports.ReportKind.{ReportKind}
-use Rattle.many_commands.specs.Checking.{ChecksEach, ChecksFiles, ChecksImages, ChecksNext, ChecksSeveral, PrintsCount, kind_of_check, reading_of_check, with_refusal}
+use Rattle.many_commands.specs.Checking.{ChecksEach, ChecksFiles, ChecksImages, ChecksNext, ChecksSeveral, PrintsCount, file_named, kind_of_check, reading_named, with_refusal}
 use Rattle.many_commands.specs.Reporting.{EndsSound, PrintsNamed, PrintsReport, Reports, TellsRefusal, named_lines}
 use Rattle.many_commands.specs.Volumes.{IsVolumeName, ReportsAlone, ReportsAt, ReportsBoth, ReportsFile, ReportsNext, ReportsNumbered, ReportsOne, ReportsRead, ReportsVolume, ReportsVolumes}
 use Rattle.many_commands.specs.Laws.{ChangesNothing, NeverChanges}
@@ -122,8 +122,8 @@ read-never : (kind : ReportKind) (given : Option Layout) (file : List ℕ) (byte
 read-never kind given file (Ok bytes) = volumes-never kind file (volumes_in given bytes.items) (body_of given bytes.items)
 read-never kind given file (Err ending) = then-never (Purely (TellsRefusal ending)) (PrintsNamed file) (purely-never (TellsRefusal ending)) (prints-named-never file)
 
-reports-next-never : (kind : ReportKind) (reading : ImageReading) (file : List ℕ) → NeverChanges (ReportsNext kind reading file)
-reports-next-never kind reading file old result new (bytes, between, looks, p) = λ path. read-never kind reading.layout file bytes between result new p path ∙ looks-image-never reading file old bytes between looks path
+reports-next-never : (kind : ReportKind) (reading : ImageReading) (file name : List ℕ) → NeverChanges (ReportsNext kind reading file name)
+reports-next-never kind reading file name old result new (bytes, between, looks, p) = λ path. read-never kind reading.layout name bytes between result new p path ∙ looks-image-never reading file old bytes between looks path
 
 tells-done-never : (is_told : Bool) (done all : ℕ) (old new : List Event) → TellsDone is_told done all old new → ChangesNothing old new
 tells-done-never false done all old new p = same old new p
@@ -135,7 +135,8 @@ progress-never is_told done all old result new p = tells-done-never is_told done
 
 next-never : (form : CheckForm) (is_told : Bool) (done all : ℕ) (file : List ℕ) → NeverChanges (ChecksNext form is_told done all file)
 next-never form is_told done all file =
-    then-never (TellsProgress is_told done all) (λ it. ReportsNext (kind_of_check form.is_all) (reading_of_check form) file) (progress-never is_told done all) (λ it. reports-next-never (kind_of_check form.is_all) (reading_of_check form) file)
+    then-never (TellsProgress is_told done all) (λ it. ReportsNext (kind_of_check form.is_all) (reading_named form file) (file_named form file) file) (progress-never is_told done all)
+    (λ it. reports-next-never (kind_of_check form.is_all) (reading_named form file) (file_named form file) file)
 
 each-never : (form : CheckForm) (is_told : Bool) (done all refused : ℕ) (files : List (List ℕ)) → NeverChanges (ChecksEach form is_told done all refused files)
 each-never form is_told done all refused [] = purely-never (λ (result : Result ℕ Ending). result ≡ Ok refused)
@@ -168,7 +169,7 @@ several-never form files =
 
 files-never : (form : CheckForm) (files : List (List ℕ)) → NeverChanges (ChecksFiles form files)
 files-never form [] = several-never form []
-files-never form (file ∷ []) = one-never (kind_of_check form.is_all) (reading_of_check form) file
+files-never form (file ∷ []) = one-never (kind_of_check form.is_all) (reading_named form file) (file_named form file)
 files-never form (file ∷ other ∷ files) = several-never form (file ∷ other ∷ files)
 
 pub checks-never : (form : CheckForm) → NeverChanges (ChecksImages form)

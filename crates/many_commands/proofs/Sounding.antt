@@ -22,7 +22,7 @@ use Rattle.volume_commands.specs.Saving.{Prints}
 use Rattle.volume_commands.specs.declared.mending.ImageReading.{ImageReading}
 use Rattle.volume_commands.specs.Work.{Then, Purely}
 use Rattle.many_commands.specs.declared.reports.Report.{Report}
-use Rattle.many_commands.specs.Checking.{ChecksEach, ChecksFiles, ChecksNext, ChecksSeveral, PrintsCount, kind_of_check, reading_of_check, with_refusal}
+use Rattle.many_commands.specs.Checking.{ChecksEach, ChecksFiles, ChecksNext, ChecksSeveral, PrintsCount, file_named, kind_of_check, reading_named, with_refusal}
 use Rattle.many_commands.specs.Laws.{AreSound, AreSoundIn, IsReadAs, IsSoundFile, IsSoundVolume}
 use Rattle.host_progress.specs.Progressing.{BeginsProgress, EndsProgress, TellsDone, progress_text}
 use Rattle.many_commands.specs.Reporting.{EndsSound, PrintsNamed, PrintsReport, Reports, TellsLine, TellsRefusal, line_in}
@@ -176,16 +176,16 @@ unread : (file : List ℕ) (ending : Ending) (old new : List Event) (is_sound : 
 unread file ending old new is_sound (inl ends) sound = ends
 unread file ending old new is_sound (inr it) sound = unsound-line (line_in ending) ending it.given it.done.0 (sym (named file it.given it.between new is_sound it.after).0 ∙ sound)
 
-next-read : (is_all : Bool) (reading : ImageReading) (name : List ℕ) (old new : List Event) (is_sound : Bool) → ReportsNext (kind_of_check is_all) reading name old (Ok is_sound) new → is_sound ≡ true → HasReadSound is_all reading name old new
-next-read is_all reading name old new is_sound (Ok bytes, between, looks, reports) sound =
+next-read : (is_all : Bool) (reading : ImageReading) (file name : List ℕ) (old new : List Event) (is_sound : Bool) → ReportsNext (kind_of_check is_all) reading file name old (Ok is_sound) new → is_sound ≡ true → HasReadSound is_all reading file old new
+next-read is_all reading file name old new is_sound (Ok bytes, between, looks, reports) sound =
     let are = volumes-sound is_all name (volumes_in reading.layout bytes.items) (body_of reading.layout bytes.items) between new is_sound reports sound in
-    let file = looked reading.is_lenient reading.layout name old bytes between looks in
-    (file.0, (bytes.items, file.1, are.0), are.1 ∙ file.2)
-next-read is_all reading name old new is_sound (Err ending, between, looks, reports) sound = absurd (unread name ending between new is_sound reports sound)
+    let read_as = looked reading.is_lenient reading.layout file old bytes between looks in
+    (read_as.0, (bytes.items, read_as.1, are.0), are.1 ∙ read_as.2)
+next-read is_all reading file name old new is_sound (Err ending, between, looks, reports) sound = absurd (unread name ending between new is_sound reports sound)
 
-with-others : (is_all : Bool) (reading : ImageReading) (name : List ℕ) (old new : List Event) → HasReadSound is_all reading name old new
-    → (names : List (List ℕ)) (last : List Event) → AreSound is_all reading names (read new) last → AreSound is_all reading (name ∷ names) (read old) last
-with-others is_all reading name old new (bytes, sound, is) names last others = (bytes, sound, subst (λ r. AreSound is_all reading names r last) is others)
+with-others : (form : CheckForm) (name : List ℕ) (old new : List Event) → HasReadSound form.is_all (reading_named form name) (file_named form name) old new
+    → (names : List (List ℕ)) (last : List Event) → AreSound form names (read new) last → AreSound form (name ∷ names) (read old) last
+with-others form name old new (bytes, sound, is) names last others = (bytes, sound, subst (λ r. AreSound form names r last) is others)
 
 done-reads : (is_told : Bool) (done all : ℕ) (old new : List Event) → TellsDone is_told done all old new → read new ≡ read old
 done-reads false done all old new p = reads old new p
@@ -193,18 +193,18 @@ done-reads true done all old new (passed, inl p) = reads (seconds_call passed �
 done-reads true done all old new (passed, inr p) = reads (tell_call p.0 (progress_text done all) ∷ seconds_call passed ∷ old) new p.2
 
 next-sound : (form : CheckForm) (is_told : Bool) (done all : ℕ) (name : List ℕ) (old new : List Event) (is_sound : Bool) → ChecksNext form is_told done all name old (Ok is_sound) new → is_sound ≡ true
-    → (names : List (List ℕ)) (last : List Event) → AreSound form.is_all (reading_of_check form) names (read new) last → AreSound form.is_all (reading_of_check form) (name ∷ names) (read old) last
+    → (names : List (List ℕ)) (last : List Event) → AreSound form names (read new) last → AreSound form (name ∷ names) (read old) last
 next-sound form is_told done all name old new is_sound (inl ends) sound names last others = absurd ends
 next-sound form is_told done all name old new is_sound (inr it) sound names last others =
-    subst (λ r. AreSound form.is_all (reading_of_check form) (name ∷ names) r last) (done-reads is_told done all old it.between it.done.1)
-    (with-others form.is_all (reading_of_check form) name it.between new (next-read form.is_all (reading_of_check form) name it.between new is_sound it.after sound) names last others)
+    subst (λ r. AreSound form (name ∷ names) r last) (done-reads is_told done all old it.between it.done.1)
+    (with-others form name it.between new (next-read form.is_all (reading_named form name) (file_named form name) name it.between new is_sound it.after sound) names last others)
 
 none-refused : (is_sound : Bool) (refused : ℕ) → with_refusal is_sound refused ≡ 0 → (is_sound ≡ true) × (refused ≡ 0)
 none-refused true refused is = (refl, is)
 none-refused false refused is = absurd (omega (arith, is))
 
 each-sound : (form : CheckForm) (is_told : Bool) (done all refused : ℕ) (names : List (List ℕ)) (count : ℕ) (old new : List Event) → ChecksEach form is_told done all refused names old (Ok count) new → count ≡ 0
-    → (refused ≡ 0) × AreSound form.is_all (reading_of_check form) names (read old) (read new)
+    → (refused ≡ 0) × AreSound form names (read old) (read new)
 each-sound form is_told done all refused [] count old new it none = (sym (ap count_or it.0) ∙ none, reads old new it.1)
 each-sound form is_told done all refused (name ∷ names) count old new (inl ends) none = absurd ends
 each-sound form is_told done all refused (name ∷ names) count old new (inr it) none =
@@ -233,16 +233,16 @@ counted count refused old new (inr it) = lines it.after
     lines (inl ends) = absurd ends
     lines (inr e) = (is-zero refused (ends-sound (nat_eq refused 0) e.after.0), reads e.between new e.after.1 ∙ reads (print_call true 0 it.given.items ∷ it.between) e.between e.done ∙ reads old it.between it.done.1)
 
-several-sound : (form : CheckForm) (names : List (List ℕ)) (old new : List Event) → ChecksSeveral form names old (Ok tt) new → AreSound form.is_all (reading_of_check form) names (read old) (read new)
+several-sound : (form : CheckForm) (names : List (List ℕ)) (old new : List Event) → ChecksSeveral form names old (Ok tt) new → AreSound form names (read old) (read new)
 several-sound form names old new (inl ends) = absurd ends
 several-sound form names old new (inr it) =
     let work = it.done in
     let end = counted (length names) it.given it.between new it.after in
     let each = each-sound form work.is_told 0 (length names) 0 names it.given work.begun work.done work.works end.0 in
-    subst (λ r. AreSound form.is_all (reading_of_check form) names (read old) r) (sym (end.1 ∙ end-reads work.is_told work.done it.between work.ends))
-    (subst (λ r. AreSound form.is_all (reading_of_check form) names r (read work.done)) (begun-reads work.is_told old work.begun work.begins) each.1)
+    subst (λ r. AreSound form names (read old) r) (sym (end.1 ∙ end-reads work.is_told work.done it.between work.ends))
+    (subst (λ r. AreSound form names r (read work.done)) (begun-reads work.is_told old work.begun work.begins) each.1)
 
-pub files-sound : (form : CheckForm) (names : List (List ℕ)) (old new : List Event) → ChecksFiles form names old (Ok tt) new → AreSound form.is_all (reading_of_check form) names (read old) (read new)
+pub files-sound : (form : CheckForm) (names : List (List ℕ)) (old new : List Event) → ChecksFiles form names old (Ok tt) new → AreSound form names (read old) (read new)
 files-sound form [] old new checks = several-sound form [] old new checks
-files-sound form (name ∷ []) old new checks = with-others form.is_all (reading_of_check form) name old new (one-sound form.is_all (reading_of_check form) name old new checks) [] (read new) refl
+files-sound form (name ∷ []) old new checks = with-others form name old new (one-sound form.is_all (reading_named form name) (file_named form name) old new checks) [] (read new) refl
 files-sound form (name ∷ other ∷ names) old new checks = several-sound form (name ∷ other ∷ names) old new checks

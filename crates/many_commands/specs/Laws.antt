@@ -6,6 +6,7 @@ use Rattle.hosts.specs.Place.{about}
 use Rattle.hosts.specs.Saving.{replacements}
 use Rattle.outcome.specs.declared.endings.Ending.{Ending}
 use Rattle.outcome.specs.declared.endings.Ending.TheVariants.{Line, Fault, Failure, Busy, NotWritten, FullOutput, NoReader, Misuse}
+use Rattle.program_tasks.specs.declared.forms.CheckForm.{CheckForm}
 use Rattle.disk_layouts.specs.declared.layouts.Layout.{Layout}
 use Rattle.disk_layouts.specs.declared.layouts.Layout.TheVariants.{First, Second}
 use Rattle.image_volumes.specs.Margins.{body_of}
@@ -16,7 +17,7 @@ use Rattle.volume_commands.specs.Reading.{FindsVolume}
 use Rattle.volume_commands.specs.declared.mending.ImageReading.{ImageReading}
 use Rattle.lenient_images.specs.Mending.{IsMended}
 use Rattle.lenient_images.specs.declared.mending.MendedFile.{MendedFile}
-use Rattle.many_commands.specs.Checking.{kind_of_check}
+use Rattle.many_commands.specs.Checking.{file_named, kind_of_check, reading_named}
 use Rattle.many_commands.specs.Reporting.{Reports}
 use Rattle.many_commands.specs.GettingMany.{path_in}
 use Rattle.many_commands.specs.declared.reports.Report.{Report}
@@ -85,7 +86,8 @@ abbrev pub IsSoundFile : Bool → ImageReading → List ℕ → Type 0
 IsSoundFile is_all reading file =
     (bytes : List ℕ) × IsReadAs reading.is_lenient reading.layout file bytes × AreSoundIn is_all (volumes_in reading.layout bytes) (body_of reading.layout bytes)
 
--- each of these files was read, in their order and nothing else, and each volume in it is sound; by what was read before and after
-abbrev pub AreSound : Bool → ImageReading → List (List ℕ) → List Event → List Event → Type 0
-AreSound is_all reading [] old new = new ≡ old
-AreSound is_all reading (name ∷ names) old new = (file : List ℕ) × IsSoundFile is_all reading file × AreSound is_all reading names (look_call name file ∷ old) new
+-- each of the files that these names mean was read, in their order and nothing else, and each volume in it is sound; by what was read before and after
+abbrev pub AreSound : CheckForm → List (List ℕ) → List Event → List Event → Type 0
+AreSound form [] old new = new ≡ old
+AreSound form (name ∷ names) old new =
+    (file : List ℕ) × IsSoundFile form.is_all (reading_named form name) file × AreSound form names (look_call (file_named form name) file ∷ old) new

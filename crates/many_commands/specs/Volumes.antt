@@ -75,6 +75,7 @@ abbrev pub ReportsRead : ReportKind → Option Layout → List ℕ → Result (V
 ReportsRead kind given file (Ok bytes) = ReportsVolumes kind file (volumes_in given bytes.items) (body_of given bytes.items)
 ReportsRead kind given file (Err ending) = Then (Purely (TellsRefusal ending)) (PrintsNamed file)
 
-abbrev pub ReportsNext : ReportKind → ImageReading → List ℕ → List Event → Result Bool Ending → List Event → Type 0
-ReportsNext kind reading file old result new =
-    (bytes : Result (Vec ℕ) Ending) × (between : List Event) × LooksImage reading file old bytes between × ReportsRead kind reading.layout file bytes between result new
+-- each line has the name before it by which the file is asked for
+abbrev pub ReportsNext : ReportKind → ImageReading → List ℕ → List ℕ → List Event → Result Bool Ending → List Event → Type 0
+ReportsNext kind reading file name old result new =
+    (bytes : Result (Vec ℕ) Ending) × (between : List Event) × LooksImage reading file old bytes between × ReportsRead kind reading.layout name bytes between result new

@@ -6,6 +6,7 @@ ghost use Rattle.volume_commands.specs.Answers.{AreLines};
 ghost use Rattle.many_commands.specs.Checking as spec;
 ghost use Rattle.many_commands.specs.Checking.{ChecksEach, ChecksFiles, ChecksImages, ChecksNext, ChecksSeveral, PrintsCount};
 ghost use Rattle.host_progress.specs.Progressing.{WithProgress};
+ghost use Rattle.many_commands.specs.Volumes.{ReportsOne};
 
 use crate::reports::{ReportKind, end_sound};
 use crate::volumes::{report_next, report_one};
@@ -13,7 +14,7 @@ use host_progress::Progress;
 use hosts::Host;
 use outcome::Ending;
 use program_reports::{ProgramLine, put_program};
-use program_tasks::CheckForm;
+use program_tasks::{CheckForm, volume_named};
 use std::alloc::Global;
 use volume_commands::{ImageReading, print};
 
@@ -35,15 +36,22 @@ fn check_files<H: Host>(
     ensures { ChecksFiles form.now (map (λ file. file.bytes.items) files.now) (H.history host.old) result (H.history host.new) }
 {
     match files {
-        [file] => report_one(
-            host,
-            alloc,
-            kind_of_check(form.is_all),
-            reading_of_check(form),
-            file.as_str(),
-        ),
+        [file] => check_one(host, alloc, form, file.as_str()),
         _ => check_several(host, alloc, form, files),
     }
+}
+
+/// Reports on the one image of this name.
+fn check_one<H: Host>(
+    host: &mut H,
+    alloc: Global,
+    form: &CheckForm,
+    name: &str,
+) -> Result<(), Ending>
+    ensures { ReportsOne (spec.kind_of_check form.now.is_all) (spec.reading_named form.now name.now) (spec.file_named form.now name.now) (H.history host.old) result (H.history host.new) }
+{
+    let (file, reading) = file_named(form, name);
+    report_one(host, alloc, kind_of_check(form.is_all), reading, file)
 }
 
 /// Reports on several images, and counts them.
@@ -113,17 +121,18 @@ fn check_next<H: Host>(
     host: &mut H,
     alloc: Global,
     form: &CheckForm,
-    file: &str,
+    name: &str,
     progress: &mut Progress,
     done: usize,
 ) -> Result<bool, Ending>
-    ensures checks { ChecksNext form.now progress.old.is_told done progress.old.all file.now (H.history host.old) result (H.history host.new) }
+    ensures checks { ChecksNext form.now progress.old.is_told done progress.old.all name.now (H.history host.old) result (H.history host.new) }
     ensures told { progress.new.is_told ≡ progress.old.is_told }
     ensures all { progress.new.all ≡ progress.old.all }
 {
     progress.tell(host, done);
+    let (file, reading) = file_named(form, name);
     let kind = kind_of_check(form.is_all);
-    report_next(host, alloc, kind, reading_of_check(form), file)
+    report_next(host, alloc, kind, reading, file, name)
 }
 
 /// What is reported of each volume: its directory with the first fault, or with each.
@@ -136,14 +145,17 @@ fn kind_of_check(is_all: bool) -> ReportKind
     ReportKind::Directory
 }
 
-/// How each image file is read.
-fn reading_of_check(form: &CheckForm) -> ImageReading
-    ensures { result ≡ spec.reading_of_check form.now }
+/// The image file that a name means, and how it is read.
+fn file_named<'a>(form: &CheckForm, name: &'a str) -> (&'a str, ImageReading)
+    ensures file { result.0.now ≡ spec.file_named form.now name.now }
+    ensures reading { result.1 ≡ spec.reading_named form.now name.now }
 {
-    ImageReading {
-        layout: form.layout,
+    let (file, layout) = volume_named(form.layout, name);
+    let reading = ImageReading {
+        layout,
         is_lenient: form.is_lenient,
-    }
+    };
+    (file, reading)
 }
 
 /// Prints the line that counts images, and ends the command.

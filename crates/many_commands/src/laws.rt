@@ -22,7 +22,7 @@ ghost use Rattle.volume_commands.specs.Putting.{Puts};
 ghost use Rattle.volume_commands.specs.Showing.{Shows, wanted_file};
 ghost use Rattle.volume_commands.specs.ShowingParts.{ShowsBlocks, ShowsTape};
 ghost use Rattle.volume_commands.specs.declared.mending.ImageReading.{ImageReading as Reading};
-ghost use Rattle.many_commands.specs.Checking.{ChecksImages, reading_of_check};
+ghost use Rattle.many_commands.specs.Checking.{ChecksImages};
 ghost use Rattle.many_commands.specs.GettingMany.{GetsMany};
 ghost use Rattle.many_commands.specs.Laws.{AreSound, ChangesIn, LeavesFiles, NeverChanges, NeverReplaces};
 ghost use Rattle.many_commands.specs.PuttingMany.{PutsMany};
@@ -59,5 +59,5 @@ pub fn gotten_files()
 /// mended each in the mended file.
 pub fn sound_images()
     ensures { (form : Check) (old new : List Event) → ChecksImages form old (Ok tt) new
-        → AreSound form.is_all (reading_of_check form) (map (λ file. file.bytes.items) form.images.items) (read old) (read new) }
+        → AreSound form (map (λ file. file.bytes.items) form.images.items) (read old) (read new) }
 {}

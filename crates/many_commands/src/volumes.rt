@@ -189,19 +189,21 @@ fn report_at(
     }
 }
 
-/// Reports on the volumes in one of several image files, and answers whether all are sound.
+/// Reports on the volumes in one of several image files, and answers whether all are sound. Each line has the name before it by which the
+/// file is asked for.
 pub(crate) fn report_next<H: Host>(
     host: &mut H,
     alloc: Global,
     kind: ReportKind,
     reading: ImageReading,
     file: &str,
+    name: &str,
 ) -> Result<bool, Ending>
-    ensures { ReportsNext kind reading file.now (H.history host.old) result (H.history host.new) }
+    ensures { ReportsNext kind reading file.now name.now (H.history host.old) result (H.history host.new) }
 {
     match look_image(host, alloc, file, reading) {
-        Ok(bytes) => report_volumes(host, alloc, kind, reading.layout, file, bytes),
-        Err(ending) => report_refusal(host, alloc, file, ending),
+        Ok(bytes) => report_volumes(host, alloc, kind, reading.layout, name, bytes),
+        Err(ending) => report_refusal(host, alloc, name, ending),
     }
 }
 

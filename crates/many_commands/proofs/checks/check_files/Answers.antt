@@ -5,6 +5,6 @@ use Rattle.many_commands.proofs.checks.check_files.Goals as goal
 
 pub returns-in-len1 : goal.returns-in-len1
 returns-in-len1 g c =
-    subst (λ files. ChecksFiles c.args.form.now (map (λ file. file.bytes.items) files) (g.H.Host.history c.args.host.now) c.report_one.result (g.H.Host.history c.report_one.new.host))
+    subst (λ files. ChecksFiles c.args.form.now (map (λ file. file.bytes.items) files) (g.H.Host.history c.args.host.now) c.check_one.result (g.H.Host.history c.check_one.new.host))
     (sym (one_item c.args.files.now c.file-item.result c.in-len1.len_at_least c.in-len1.len_below c.file-item.is))
-    (rw (c.as_str.ensures.value, c.kind_of_check.ensures, c.reading_of_check.ensures) at c.report_one.ensures)
+    (rw c.as_str.ensures.value at c.check_one.ensures)
