@@ -116,14 +116,14 @@ room-for q n (suc k) place room some is = elim (eqb_tells n 0) [
       let rooms : List (ℕ × ℕ) = (q, suc k) ∷ [] in
       let least : smallest n rooms ≡ Some (place, room) = subst (λ b. (if b then largest rooms else smallest n rooms) ≡ Some (place, room)) p.0 is in
       elim (leb_tells (suc (suc k)) n) [
-      | inl short ↦ absurd (some-none (place, room) (subst (λ b. (if b then smallest n [] else Some (smaller (q, suc k) (smallest n []))) ≡ Some (place, room)) short.0 least))
-      | inr long ↦ record {
-        at = ap (λ (r : ℕ × ℕ). r.0) (sym (some-is (q, suc k) (place, room) (subst (λ b. (if b then smallest n [] else Some (smaller (q, suc k) (smallest n []))) ≡ Some (place, room)) long.0 least)));
-        k = k;
-        is = refl;
-        fits = omega (arith, long.1);
-      }
-    ]
+        | inl short ↦ absurd (some-none (place, room) (subst (λ b. (if b then smallest n [] else Some (smaller (q, suc k) (smallest n []))) ≡ Some (place, room)) short.0 least))
+        | inr long ↦ record {
+          at = ap (λ (r : ℕ × ℕ). r.0) (sym (some-is (q, suc k) (place, room) (subst (λ b. (if b then smallest n [] else Some (smaller (q, suc k) (smallest n []))) ≡ Some (place, room)) long.0 least)));
+          k = k;
+          is = refl;
+          fits = omega (arith, long.1);
+        }
+      ]
 ]
 
 pub row-more : (old new : MountState) (f : KeptFile) (kept : List KeptFile) → IsRow old.blocks kept → HasNone f.name kept → 0 < size f → HasPutWith old f.name f.info f.words.items new
@@ -195,16 +195,15 @@ no-data blocks info None none = refl
 no-data blocks info (Some f) none = cc
 
 module _ (covered : (blocks : List (List ℕ)) (d : DirectoryState) → directory_of blocks ≡ Ok d → capacity_of blocks ≡ capacity d)
-  (inside : (blocks : List (List ℕ)) (d : DirectoryState) → directory_of blocks ≡ Ok d → IsDirectory (length blocks) d)
-  (found : (blocks : List (List ℕ)) (d : DirectoryState) (name : ℕ) → directory_of blocks ≡ Ok d → get (files_of blocks) name ≡ data_if_there blocks d.info (find name (files_at d.first d.entries))) where
-
+    (inside : (blocks : List (List ℕ)) (d : DirectoryState) → directory_of blocks ≡ Ok d → IsDirectory (length blocks) d)
+    (found : (blocks : List (List ℕ)) (d : DirectoryState) (name : ℕ) → directory_of blocks ≡ Ok d → get (files_of blocks) name ≡ data_if_there blocks d.info (find name (files_at d.first d.entries))) where
   row-in : (count : ℕ) (blocks : List (List ℕ)) (r : Result DirectoryState DirFault) → directory_of blocks ≡ r → is_ok r ≡ true → length blocks ≡ count
       → files_of blocks ≡ from_entries [] → capacity_of blocks ≡ count - FIRST_FILE_BLOCK → IsRow blocks []
   row-in count blocks (Err fault) read sound size_is none free = cc
   row-in count blocks (Ok d) read sound size_is none free =
       let is = inside blocks d read in
       let nothing : (name : ℕ) → find name (files_at d.first d.entries) ≡ None
-          = λ name. no-data blocks d.info (find name (files_at d.first d.entries)) (sym (found blocks d name read) ∙ ap (λ (files : Files). get files name) none ∙ get-from_entries nat_cmp_total [] name) in
+      = λ name. no-data blocks d.info (find name (files_at d.first d.entries)) (sym (found blocks d name read) ∙ ap (λ (files : Files). get files name) none ∙ get-from_entries nat_cmp_total [] name) in
       let one = one-empty d.first d.entries is.neat nothing in
       record {
         directory = d;
