@@ -47,7 +47,8 @@ def option(head: str, text: str) -> list[str]:
 
 # The options that several commands have, and what each says there.
 SHARED = {
-    "--volume": "The volume of an RK05 disk, 1 or 2, where the file of the image is one of two volumes.",
+    "--volume": "The volume of an RK05 disk, 1 or 2, where the file of the image is one of two volumes; IMAGE:1 and IMAGE:2 mean it too.",
+    "--lenient": "Read an image with faults: top bits are taken off, a length is made whole; each is printed on standard error.",
     "--dectape": "The file of the image is a DECtape, of 129 words a block. In \\fBcreate\\fR: write one.",
     "--wait": "Wait so long while another program holds the image, 0 to 3600 seconds; else not at all.",
     "--start": "The cell to start at, in octal, as 200, 10200 or 1:0200; else that of the tape's first word.",
