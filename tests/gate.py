@@ -7,6 +7,7 @@ shows how far it is. Then it prints the processor seconds of each crate, and the
 
 A part fails that can't be started, that ends with no such line, that counts nothing, or whose status is another than its line's.
 """
+import collections
 import concurrent.futures
 import glob
 import json
@@ -89,15 +90,19 @@ def announce(count: int, is_quick: bool) -> None:
 
 
 class Part:
-    """A part of the gate. What rt ci prints is shown as it comes, with how many crates it has proved, and what others print at their end."""
+    """A part of the gate. What rt ci prints is shown as it comes, with how many crates it has proved, and what others print at their end. The
+    last lines of those that fail are shown once more at the gate's end, since a log may be cut."""
 
     printing = threading.Lock()
+    failures = list[str]()
 
     def __init__(self, words: Words, begun: float) -> None:
         self.words, self.begun, self.proved = words, begun, set[str]()
+        self.last = collections.deque[str](maxlen=12)
         self.held: list[str] | None = None if words == RT_CI else []
 
     def show(self, line: str) -> None:
+        self.last.append(line if len(line) < 400 else f"{line[:400]} ..\n")
         if self.held is not None:
             self.held.append(line)
             return
@@ -146,6 +151,8 @@ class Part:
         if self.held is not None:
             with self.printing:
                 print(f"gate: {' '.join(self.words)}, {clock(time.monotonic() - self.begun)}\n{''.join(self.held)}", end="", flush=True)
+        if not counts or counts[1]:
+            self.failures.append(f"gate: {' '.join(self.words)} failed:\n{''.join(self.last)}")
         return counts or (0, 1)
 
 
@@ -176,6 +183,7 @@ def main(words: list[str]) -> int:
     seconds = time.monotonic() - begun
     if not is_quick:
         print(spent.table())
+    print("".join(Part.failures), end="")
     print(f"{seconds:.0f} seconds on {len(os.sched_getaffinity(0))} processors")
     if not failed and not is_quick:
         keep(seconds)
