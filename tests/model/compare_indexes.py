@@ -139,6 +139,14 @@ def program_and_seeds(about: str | None, what: str, count: int) -> tuple[str, ra
     return program, range(given.seed, given.seed + given.count)
 
 
+def print_faults(faults: list[str], tests: int) -> int:
+    """Prints the first faults of so many tests, and how many passed and failed. The exit status."""
+    for fault in faults[:SHOWN]:
+        print(fault)
+    print(f"{tests - len(faults)} passed, {len(faults)} failed")
+    return 1 if faults else 0
+
+
 def main() -> int:
     program, seeds = program_and_seeds(__doc__, "images", 2000)
     faults = list[str]()
@@ -154,10 +162,7 @@ def main() -> int:
                 tests += 1
                 fault = fault_of(program, folder, some, year, is_same)
                 faults += [f"{some[0]}: {fault}"] if fault else []
-    for fault in faults[:SHOWN]:
-        print(fault)
-    print(f"{tests - len(faults)} passed, {len(faults)} failed")
-    return 1 if faults else 0
+    return print_faults(faults, tests)
 
 
 if __name__ == "__main__":

@@ -13,10 +13,9 @@ from random import Random
 sys.dont_write_bytecode = True
 TOP = os.path.dirname(os.path.dirname(os.path.dirname(os.path.abspath(__file__))))
 sys.path.insert(0, TOP)
-from tests.model.compare_indexes import program_and_seeds, random_file
+from tests.model.compare_indexes import print_faults, program_and_seeds, random_file
 from tests.model.mended import mended
 
-SHOWN = 3
 NAME = "I"
 COMMANDS = [["list", NAME], ["list", NAME, "--long"], ["list", NAME, "*"], ["check", NAME], ["check", NAME, "--all"], ["check", NAME, NAME], ["index", NAME], ["get", NAME, "--blocks", "1", "6"]]
 LAYOUTS = {"": list[str](), "1": ["--volume", "1"], "2": ["--volume", "2"], "tape": ["--dectape"]}
@@ -70,10 +69,7 @@ def main() -> int:
     for seed in seeds:
         fault = fault_of(program, Random(seed))
         faults += [f"{seed}: {fault}"] if fault else []
-    for fault in faults[:SHOWN]:
-        print(fault)
-    print(f"{len(seeds) - len(faults)} passed, {len(faults)} failed")
-    return 1 if faults else 0
+    return print_faults(faults, len(seeds))
 
 
 if __name__ == "__main__":

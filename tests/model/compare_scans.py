@@ -13,12 +13,11 @@ from random import Random
 sys.dont_write_bytecode = True
 TOP = os.path.dirname(os.path.dirname(os.path.dirname(os.path.abspath(__file__))))
 sys.path.insert(0, TOP)
-from tests.model.compare_indexes import core_words, program_and_seeds, rim_frames
+from tests.model.compare_indexes import core_words, print_faults, program_and_seeds, rim_frames
 from tests.model.scan import scanned
 from tests.model.tape import tape_of
 from tests.model.words import BLOCK_FRAMES, BLOCK_WORDS, packed, stored_text
 
-SHOWN = 3
 ENDS: dict[str, tuple[str, list[str]]] = {"TEXT": ("txt", ["--text"]), "CORE": ("core", []), "BIN": ("bin", []), "RIM": ("rim", []), "DIR": ("dir", [])}
 
 
@@ -127,10 +126,7 @@ def main() -> int:
         with tempfile.TemporaryDirectory() as folder:
             fault = fault_of(program, folder, random_words(Random(seed)))
             faults += [f"{seed}: {fault}"] if fault else []
-    for fault in faults[:SHOWN]:
-        print(fault)
-    print(f"{len(seeds) - len(faults)} passed, {len(faults)} failed")
-    return 1 if faults else 0
+    return print_faults(faults, len(seeds))
 
 
 if __name__ == "__main__":

@@ -34,7 +34,7 @@ abbrev pub EndsProgress : Bool → List Event → List Event → Type 0
 EndsProgress false old new = new ≡ old
 EndsProgress true old new = (new ≡ old) ⊎ ((ok : Bool) × (new ≡ tell_call ok (0o33 ∷ codes "[K") ∷ old))
 
--- it is, where it was printed in a second after the first
+-- just that, by the second in which progress was printed last, or 0
 abbrev pub EndsPrinted : Bool → ℕ → List Event → List Event → Type 0
 EndsPrinted false last old new = new ≡ old
 EndsPrinted true zero old new = new ≡ old

@@ -12,7 +12,7 @@ use Rattle.volume_index.specs.declared.styles.IndexStyle.{IndexStyle}
 use Rattle.volume_commands.specs.Ending.{TellsLine}
 use Rattle.volume_commands.specs.Laws.{KeepsFiles}
 use Rattle.volume_commands.specs.declared.mending.ImageReading.{ImageReading}
-use Rattle.volume_commands.specs.Reading.{LooksImage}
+use Rattle.volume_commands.specs.Reading.{LooksImage, file_named, reading_named}
 use Rattle.volume_commands.specs.Saving.{Prints}
 use Rattle.volume_commands.specs.Work.{Then, Purely}
 use Rattle.host_progress.specs.Progressing.{BeginsProgress, EndsProgress, TellsDone, TellsProgress}
@@ -21,7 +21,7 @@ use Rattle.index_commands.specs.declared.columns.Columns.{Columns}
 use Rattle.index_commands.specs.declared.columns.LineShape.{LineShape}
 use Rattle.index_commands.specs.Found.{FindsSame, IsFound, KeepsLines, ShowsSame, TakesLines}
 use Rattle.index_commands.specs.declared.found.Found.{Found}
-use Rattle.index_commands.specs.Indexing.{ChecksWord, EndsIndex, Indexes, IndexesAll, IndexesImage, IndexesImages, IndexesInColumns, IndexesNext, IndexesRead, IndexesVolume, IndexesVolumes, IndexesWith, ShowsIndex, ending_of_refusal, file_named, reading_named}
+use Rattle.index_commands.specs.Indexing.{ChecksWord, EndsIndex, Indexes, IndexesAll, IndexesImage, IndexesImages, IndexesInColumns, IndexesNext, IndexesRead, IndexesVolume, IndexesVolumes, IndexesWith, ShowsIndex, ending_of_refusal}
 use Rattle.index_commands.specs.Refusing.{PassesOver, RefusesVolume, prefix_of}
 use Rattle.index_commands.specs.Volumes.{body_of, layouts_in, number_of}
 

@@ -10,10 +10,9 @@ use Rattle.volume_index.specs.declared.styles.IndexStyle.{IndexStyle}
 use Rattle.outcome.specs.Endings.{ending_of_archive}
 use Rattle.outcome.specs.declared.endings.Ending.{Ending}
 use Rattle.outcome.specs.declared.endings.Ending.TheVariants.{Failure, Misuse}
-use Rattle.program_tasks.specs.Names.{volume_named}
 use Rattle.volume_commands.specs.Work.{Then, Purely}
 use Rattle.volume_commands.specs.declared.mending.ImageReading.{ImageReading}
-use Rattle.volume_commands.specs.Reading.{LooksImage}
+use Rattle.volume_commands.specs.Reading.{LooksImage, file_named, reading_named}
 use Rattle.host_progress.specs.Progressing.{TellsProgress, WithProgress}
 use Rattle.index_commands.specs.Columns.{ChoosesColumns}
 use Rattle.index_commands.specs.declared.columns.Columns.{Columns}
@@ -66,13 +65,6 @@ IndexesImage columns style reading name is_refused kept old result new =
 abbrev pub ending_of_refusal : Bool → Result (Unit {0}) Ending
 ending_of_refusal true = Err Failure
 ending_of_refusal false = Ok tt
-
--- the image file that a name means, and how it is read
-abbrev pub file_named : ImageReading → List ℕ → List ℕ
-file_named reading name = (volume_named reading.layout name).0
-
-abbrev pub reading_named : ImageReading → List ℕ → ImageReading
-reading_named reading name = record { layout = (volume_named reading.layout name).1; is_lenient = reading.is_lenient }
 
 -- how many of all images are done may be printed, and then the next one is indexed
 abbrev pub IndexesNext : Columns → IndexStyle → ImageReading → Bool → ℕ → ℕ → List ℕ → Bool → List ℕ → List Event → Result Found Ending → List Event → Type 0

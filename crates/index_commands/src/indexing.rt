@@ -14,9 +14,8 @@ use host_progress::Progress;
 use hosts::Host;
 use image_kind::{Form, kind_of};
 use outcome::Ending;
-use program_tasks::volume_named;
 use std::alloc::Global;
-use volume_commands::{ImageReading, look_image};
+use volume_commands::{ImageReading, image_named, look_image};
 use volume_index::{IndexStyle, index_volume};
 
 /// Prints the index of the volumes in image files: a line for each file of each that is wanted, images as they are given and files as they
@@ -175,21 +174,8 @@ fn index_next<H: Host>(
     ensures all { progress.new.all ≡ progress.old.all }
 {
     progress.tell(host, done);
-    let (file, reading) = file_named(reading, name);
+    let (file, reading) = image_named(reading, name);
     index_image(host, alloc, columns, style, file, reading, found)
-}
-
-/// The image file that a name means, and how it is read.
-fn file_named(reading: ImageReading, name: &str) -> (&str, ImageReading)
-    ensures file { result.0.now ≡ spec.file_named reading name.now }
-    ensures reading { result.1 ≡ spec.reading_named reading name.now }
-{
-    let (file, layout) = volume_named(reading.layout, name);
-    let reading = ImageReading {
-        layout,
-        is_lenient: reading.is_lenient,
-    };
-    (file, reading)
 }
 
 /// Reads an image file, and takes the index of its volumes.

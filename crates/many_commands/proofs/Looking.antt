@@ -23,14 +23,14 @@ use Rattle.program_tasks.specs.declared.forms.ImageForm.{ImageForm}
 use Rattle.volume_commands.specs.Answers.{Answers, AreLines}
 use Rattle.volume_commands.specs.Ending.{TellsLine}
 use Rattle.volume_commands.specs.declared.mending.ImageReading.{ImageReading}
-use Rattle.volume_commands.specs.Reading.{FindsVolume, LooksAt, LooksImage}
+use Rattle.volume_commands.specs.Reading.{FindsVolume, LooksAt, LooksImage, file_named, reading_named}
 use Rattle.volume_commands.specs.Saving.{Prints}
 use Rattle.volume_commands.specs.Showing.{Shows, wanted_file}
 use Rattle.volume_commands.specs.ShowingParts.{EndsTelling, GivesBlocks, GivesTape, PrintsTape, RefusesBlocks, ShowsBlocks, ShowsTape}
 use Rattle.volume_commands.specs.Work.{Then, Purely}
 use Rattle.many_commands.specs.declared.reports.Report.{Report}
 use Rattle.many_commands.specs.declared.reports.ReportKind.{ReportKind}
-use Rattle.many_commands.specs.Checking.{ChecksEach, ChecksFiles, ChecksImages, ChecksNext, ChecksSeveral, PrintsCount, file_named, kind_of_check, reading_named, with_refusal}
+use Rattle.many_commands.specs.Checking.{ChecksEach, ChecksFiles, ChecksImages, ChecksNext, ChecksSeveral, PrintsCount, kind_of_check, reading_of_check, with_refusal}
 use Rattle.many_commands.specs.Reporting.{EndsSound, PrintsNamed, PrintsReport, Reports, TellsRefusal, named_lines}
 use Rattle.many_commands.specs.Volumes.{IsVolumeName, ReportsAlone, ReportsAt, ReportsBoth, ReportsFile, ReportsNext, ReportsNumbered, ReportsOne, ReportsRead, ReportsVolume, ReportsVolumes}
 use Rattle.many_commands.specs.Laws.{ChangesNothing, NeverChanges}
@@ -135,8 +135,8 @@ progress-never is_told done all old result new p = tells-done-never is_told done
 
 next-never : (form : CheckForm) (is_told : Bool) (done all : ℕ) (file : List ℕ) → NeverChanges (ChecksNext form is_told done all file)
 next-never form is_told done all file =
-    then-never (TellsProgress is_told done all) (λ it. ReportsNext (kind_of_check form.is_all) (reading_named form file) (file_named form file) file) (progress-never is_told done all)
-    (λ it. reports-next-never (kind_of_check form.is_all) (reading_named form file) (file_named form file) file)
+    then-never (TellsProgress is_told done all) (λ it. ReportsNext (kind_of_check form.is_all) (reading_named (reading_of_check form) file) (file_named (reading_of_check form) file) file) (progress-never is_told done all)
+    (λ it. reports-next-never (kind_of_check form.is_all) (reading_named (reading_of_check form) file) (file_named (reading_of_check form) file) file)
 
 each-never : (form : CheckForm) (is_told : Bool) (done all refused : ℕ) (files : List (List ℕ)) → NeverChanges (ChecksEach form is_told done all refused files)
 each-never form is_told done all refused [] = purely-never (λ (result : Result ℕ Ending). result ≡ Ok refused)
@@ -169,7 +169,7 @@ several-never form files =
 
 files-never : (form : CheckForm) (files : List (List ℕ)) → NeverChanges (ChecksFiles form files)
 files-never form [] = several-never form []
-files-never form (file ∷ []) = one-never (kind_of_check form.is_all) (reading_named form file) (file_named form file)
+files-never form (file ∷ []) = one-never (kind_of_check form.is_all) (reading_named (reading_of_check form) file) (file_named (reading_of_check form) file)
 files-never form (file ∷ other ∷ files) = several-never form (file ∷ other ∷ files)
 
 pub checks-never : (form : CheckForm) → NeverChanges (ChecksImages form)

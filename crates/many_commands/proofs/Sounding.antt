@@ -17,12 +17,12 @@ use Rattle.volume_commands.specs.Answers.{Answers, AreLines}
 use Rattle.std.specs.Global.{Vec}
 use Rattle.lenient_images.specs.Lines.{mended_lines}
 use Rattle.volume_commands.specs.Mending.{TellsLines}
-use Rattle.volume_commands.specs.Reading.{LooksIf}
+use Rattle.volume_commands.specs.Reading.{LooksIf, file_named, reading_named}
 use Rattle.volume_commands.specs.Saving.{Prints}
 use Rattle.volume_commands.specs.declared.mending.ImageReading.{ImageReading}
 use Rattle.volume_commands.specs.Work.{Then, Purely}
 use Rattle.many_commands.specs.declared.reports.Report.{Report}
-use Rattle.many_commands.specs.Checking.{ChecksEach, ChecksFiles, ChecksNext, ChecksSeveral, PrintsCount, file_named, kind_of_check, reading_named, with_refusal}
+use Rattle.many_commands.specs.Checking.{ChecksEach, ChecksFiles, ChecksNext, ChecksSeveral, PrintsCount, kind_of_check, reading_of_check, with_refusal}
 use Rattle.many_commands.specs.Laws.{AreSound, AreSoundIn, IsReadAs, IsSoundFile, IsSoundVolume}
 use Rattle.host_progress.specs.Progressing.{BeginsProgress, EndsProgress, TellsDone, progress_text}
 use Rattle.many_commands.specs.Reporting.{EndsSound, PrintsNamed, PrintsReport, Reports, TellsLine, TellsRefusal, line_in}
@@ -183,7 +183,7 @@ next-read is_all reading file name old new is_sound (Ok bytes, between, looks, r
     (read_as.0, (bytes.items, read_as.1, are.0), are.1 ∙ read_as.2)
 next-read is_all reading file name old new is_sound (Err ending, between, looks, reports) sound = absurd (unread name ending between new is_sound reports sound)
 
-with-others : (form : CheckForm) (name : List ℕ) (old new : List Event) → HasReadSound form.is_all (reading_named form name) (file_named form name) old new
+with-others : (form : CheckForm) (name : List ℕ) (old new : List Event) → HasReadSound form.is_all (reading_named (reading_of_check form) name) (file_named (reading_of_check form) name) old new
     → (names : List (List ℕ)) (last : List Event) → AreSound form names (read new) last → AreSound form (name ∷ names) (read old) last
 with-others form name old new (bytes, sound, is) names last others = (bytes, sound, subst (λ r. AreSound form names r last) is others)
 
@@ -197,7 +197,7 @@ next-sound : (form : CheckForm) (is_told : Bool) (done all : ℕ) (name : List �
 next-sound form is_told done all name old new is_sound (inl ends) sound names last others = absurd ends
 next-sound form is_told done all name old new is_sound (inr it) sound names last others =
     subst (λ r. AreSound form (name ∷ names) r last) (done-reads is_told done all old it.between it.done.1)
-    (with-others form name it.between new (next-read form.is_all (reading_named form name) (file_named form name) name it.between new is_sound it.after sound) names last others)
+    (with-others form name it.between new (next-read form.is_all (reading_named (reading_of_check form) name) (file_named (reading_of_check form) name) name it.between new is_sound it.after sound) names last others)
 
 none-refused : (is_sound : Bool) (refused : ℕ) → with_refusal is_sound refused ≡ 0 → (is_sound ≡ true) × (refused ≡ 0)
 none-refused true refused is = (refl, is)
@@ -244,5 +244,5 @@ several-sound form names old new (inr it) =
 
 pub files-sound : (form : CheckForm) (names : List (List ℕ)) (old new : List Event) → ChecksFiles form names old (Ok tt) new → AreSound form names (read old) (read new)
 files-sound form [] old new checks = several-sound form [] old new checks
-files-sound form (name ∷ []) old new checks = with-others form name old new (one-sound form.is_all (reading_named form name) (file_named form name) old new checks) [] (read new) refl
+files-sound form (name ∷ []) old new checks = with-others form name old new (one-sound form.is_all (reading_named (reading_of_check form) name) (file_named (reading_of_check form) name) old new checks) [] (read new) refl
 files-sound form (name ∷ other ∷ names) old new checks = several-sound form (name ∷ other ∷ names) old new checks

@@ -4,11 +4,11 @@ use Rattle.hosts.specs.Event.{Event}
 use Rattle.program_reports.specs.Program.{program_line}
 use Rattle.program_reports.specs.declared.programs.ProgramLine.TheVariants as line
 use Rattle.outcome.specs.declared.endings.Ending.{Ending}
-use Rattle.program_tasks.specs.Names.{volume_named}
 use Rattle.program_tasks.specs.declared.forms.CheckForm.{CheckForm}
 use Rattle.volume_commands.specs.Work.{Then, Purely}
 use Rattle.volume_commands.specs.Answers.{AreLines}
 use Rattle.volume_commands.specs.Saving.{Prints}
+use Rattle.volume_commands.specs.Reading.{file_named, reading_named}
 use Rattle.volume_commands.specs.declared.mending.ImageReading.{ImageReading}
 use Rattle.host_progress.specs.Progressing.{TellsProgress, WithProgress}
 use Rattle.many_commands.specs.Reporting.{EndsSound}
@@ -21,17 +21,14 @@ abbrev pub kind_of_check : Bool → ReportKind
 kind_of_check true = kinds.Survey
 kind_of_check false = kinds.Directory
 
--- the image file that a name means, and how it is read
-abbrev pub file_named : CheckForm → List ℕ → List ℕ
-file_named form name = (volume_named form.layout name).0
-
-abbrev pub reading_named : CheckForm → List ℕ → ImageReading
-reading_named form name = record { layout = (volume_named form.layout name).1; is_lenient = form.is_lenient }
+-- how the image files of a check are read
+abbrev pub reading_of_check : CheckForm → ImageReading
+reading_of_check form = record { layout = form.layout; is_lenient = form.is_lenient }
 
 -- one of several image files is reported
 abbrev pub ChecksNext : CheckForm → Bool → ℕ → ℕ → List ℕ → List Event → Result Bool Ending → List Event → Type 0
 ChecksNext form is_told done all name =
-    Then (TellsProgress is_told done all) (λ it. ReportsNext (kind_of_check form.is_all) (reading_named form name) (file_named form name) name)
+    Then (TellsProgress is_told done all) (λ it. ReportsNext (kind_of_check form.is_all) (reading_named (reading_of_check form) name) (file_named (reading_of_check form) name) name)
 
 -- how many images are refused with this one
 abbrev pub with_refusal : Bool → ℕ → ℕ
@@ -53,7 +50,7 @@ ChecksSeveral form files = Then (WithProgress (λ is_told. ChecksEach form is_to
 -- one file is reported as it is, and others with a line that counts them
 abbrev pub ChecksFiles : CheckForm → List (List ℕ) → List Event → Result (Unit {0}) Ending → List Event → Type 0
 ChecksFiles form [] = ChecksSeveral form []
-ChecksFiles form (name ∷ []) = ReportsOne (kind_of_check form.is_all) (reading_named form name) (file_named form name)
+ChecksFiles form (name ∷ []) = ReportsOne (kind_of_check form.is_all) (reading_named (reading_of_check form) name) (file_named (reading_of_check form) name)
 ChecksFiles form (file ∷ other ∷ files) = ChecksSeveral form (file ∷ other ∷ files)
 
 -- Each image file is looked at in its order, and its lines are printed before the next one is looked at. Of several each line has the name

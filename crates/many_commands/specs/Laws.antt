@@ -13,11 +13,11 @@ use Rattle.image_volumes.specs.Margins.{body_of}
 use Rattle.image_volumes.specs.Volumes.{volumes_in}
 use Rattle.image_volumes.specs.declared.volumes.Volumes.{Volumes}
 use Rattle.image_volumes.specs.declared.volumes.Volumes.TheVariants.{One, Both}
-use Rattle.volume_commands.specs.Reading.{FindsVolume}
+use Rattle.volume_commands.specs.Reading.{FindsVolume, file_named, reading_named}
 use Rattle.volume_commands.specs.declared.mending.ImageReading.{ImageReading}
 use Rattle.lenient_images.specs.Mending.{IsMended}
 use Rattle.lenient_images.specs.declared.mending.MendedFile.{MendedFile}
-use Rattle.many_commands.specs.Checking.{file_named, kind_of_check, reading_named}
+use Rattle.many_commands.specs.Checking.{kind_of_check, reading_of_check}
 use Rattle.many_commands.specs.Reporting.{Reports}
 use Rattle.many_commands.specs.GettingMany.{path_in}
 use Rattle.many_commands.specs.declared.reports.Report.{Report}
@@ -90,4 +90,4 @@ IsSoundFile is_all reading file =
 abbrev pub AreSound : CheckForm → List (List ℕ) → List Event → List Event → Type 0
 AreSound form [] old new = new ≡ old
 AreSound form (name ∷ names) old new =
-    (file : List ℕ) × IsSoundFile form.is_all (reading_named form name) file × AreSound form names (look_call (file_named form name) file ∷ old) new
+    (file : List ℕ) × IsSoundFile form.is_all (reading_named (reading_of_check form) name) file × AreSound form names (look_call (file_named (reading_of_check form) name) file ∷ old) new

@@ -3,6 +3,7 @@ ghost use Rattle.std.specs.Prelude.{◌≡◌, ◌<◌, length, map};
 ghost use Rattle.program_reports.specs.Program.{program_line};
 ghost use Rattle.program_reports.specs.declared.programs.ProgramLine.TheVariants as line;
 ghost use Rattle.volume_commands.specs.Answers.{AreLines};
+ghost use Rattle.volume_commands.specs.Reading.{file_named, reading_named};
 ghost use Rattle.many_commands.specs.Checking as spec;
 ghost use Rattle.many_commands.specs.Checking.{ChecksEach, ChecksFiles, ChecksImages, ChecksNext, ChecksSeveral, PrintsCount};
 ghost use Rattle.host_progress.specs.Progressing.{WithProgress};
@@ -14,9 +15,9 @@ use host_progress::Progress;
 use hosts::Host;
 use outcome::Ending;
 use program_reports::{ProgramLine, put_program};
-use program_tasks::{CheckForm, volume_named};
+use program_tasks::CheckForm;
 use std::alloc::Global;
-use volume_commands::{ImageReading, print};
+use volume_commands::{ImageReading, image_named, print};
 
 /// Reports on the volumes in image files. Of several volumes each line has the name of its file or volume before it, and of several files the
 /// last line counts them (this project's profile).
@@ -48,9 +49,9 @@ fn check_one<H: Host>(
     form: &CheckForm,
     name: &str,
 ) -> Result<(), Ending>
-    ensures { ReportsOne (spec.kind_of_check form.now.is_all) (spec.reading_named form.now name.now) (spec.file_named form.now name.now) (H.history host.old) result (H.history host.new) }
+    ensures { ReportsOne (spec.kind_of_check form.now.is_all) (reading_named (spec.reading_of_check form.now) name.now) (file_named (spec.reading_of_check form.now) name.now) (H.history host.old) result (H.history host.new) }
 {
-    let (file, reading) = file_named(form, name);
+    let (file, reading) = image_named(reading_of(form), name);
     report_one(host, alloc, kind_of_check(form.is_all), reading, file)
 }
 
@@ -130,7 +131,7 @@ fn check_next<H: Host>(
     ensures all { progress.new.all ≡ progress.old.all }
 {
     progress.tell(host, done);
-    let (file, reading) = file_named(form, name);
+    let (file, reading) = image_named(reading_of(form), name);
     let kind = kind_of_check(form.is_all);
     report_next(host, alloc, kind, reading, file, name)
 }
@@ -145,17 +146,14 @@ fn kind_of_check(is_all: bool) -> ReportKind
     ReportKind::Directory
 }
 
-/// The image file that a name means, and how it is read.
-fn file_named<'a>(form: &CheckForm, name: &'a str) -> (&'a str, ImageReading)
-    ensures file { result.0.now ≡ spec.file_named form.now name.now }
-    ensures reading { result.1 ≡ spec.reading_named form.now name.now }
+/// How the image files of a check are read.
+fn reading_of(form: &CheckForm) -> ImageReading
+    ensures { result ≡ spec.reading_of_check form.now }
 {
-    let (file, layout) = volume_named(form.layout, name);
-    let reading = ImageReading {
-        layout,
+    ImageReading {
+        layout: form.layout,
         is_lenient: form.is_lenient,
-    };
-    (file, reading)
+    }
 }
 
 /// Prints the line that counts images, and ends the command.

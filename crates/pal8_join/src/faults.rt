@@ -18,3 +18,11 @@ impl From<AllocError> for JoinFault {
         JoinFault::Memory
     }
 }
+
+impl From<JoinFault> for AllocError {
+    fn from(fault: JoinFault) -> AllocError {
+        match fault {
+            JoinFault::Memory => AllocError,
+        }
+    }
+}

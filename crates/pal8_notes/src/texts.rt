@@ -8,7 +8,7 @@ use crate::notes::notes_of;
 use crate::{Difference, Note};
 use host_sources::put_number;
 use pal8_asm::Options;
-use pal8_join::{JoinFault, join_all};
+use pal8_join::join_all;
 use pal8_listing::{later_starts, spot_of};
 use std::alloc::{AllocError, Global};
 
@@ -17,14 +17,14 @@ use std::alloc::{AllocError, Global};
 ///
 /// A blank before an operator, after a name, a number, a character or `.`, ends a term there. Operators but `!` bind closer than a blank. A tab in a
 /// string or after `"` is a blank there. The notes stand in the order of the sources, those on one statement in this one. A statement that
-/// isn't selected has none, nor has one after a fault of a statement or after the `$` (this project's profile of PAL8). The only fault of the call is
-/// `Memory`.
+/// isn't selected has none, nor has one after a fault of a statement or after the `$` (this project's profile of PAL8). `AllocError` comes where
+/// memory is refused.
 pub fn notes_text(
     alloc: Global,
     options: Options,
     sources: &[&[u8]],
     names: &[&str],
-) -> Result<Vec<u8>, JoinFault>
+) -> Result<Vec<u8>, AllocError>
     ensures { IfOk result (λ text. text.items ≡ notes_text options sources.now names.now) }
 {
     let join = join_all(alloc, options, sources)?;

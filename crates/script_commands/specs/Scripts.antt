@@ -114,8 +114,9 @@ EndsRun is_strict is_refused why fault answer = IsEndedBy (ending_of (is_strict 
 -- ## The run
 
 -- What a run of a script over a session does. The reader's bytes are its script, and the lines of its answers are printed, but for some
--- where standard output takes no more. The reader's fault is an answer only where it has failed, or gave a byte too many. The file has the image of the volume at the end, where it is to be saved and could be. Where each change
--- is to be kept, it had that of the volume right after each reply before the reply's lines. `shows` says which states these are of.
+-- where standard output takes no more. The reader's fault is an answer only where it has failed, or gave a byte too many. The file has the
+-- image of the volume at the end, where it is to be saved and could be. Where each change is to be kept, it had that of the volume right
+-- after each reply before the reply's lines. `shows` says which states these are of.
 pub record RunsSession (form : RunForm) (is_typed : Bool) (image : Image) (session : SessionView) (input : Reading) (old : List Event) (result : Result (Unit {0}) Ending) (new : List Event) : Type 0 where
   pub steps : List Step
   pub done : AreDone is_typed image steps old new

@@ -11,7 +11,6 @@ use host_sources::{SourceFault, assemble_sources};
 use hosts::Host;
 use outcome::Ending;
 use pal8_asm::Options;
-use pal8_join::JoinFault;
 use pal8_notes::notes_text;
 use pal8_tape::{SourceFault as Pal8Fault, tape_of};
 use program_tasks::{AssembleForm, ImageForm};
@@ -279,13 +278,9 @@ fn tell_notes<H: Host>(
 ) -> Result<(), Ending>
     ensures { TellsNotes options sources.now names.now (H.history host.old) result (H.history host.new) }
 {
-    match notes_text(alloc, options, sources, names) {
-        Ok(text) => {
-            tell_any(host, &text);
-            Ok(())
-        }
-        Err(JoinFault::Memory) => Err(Ending::Fault(SessionFault::Memory)),
-    }
+    let text = notes_text(alloc, options, sources, names)?;
+    tell_any(host, &text);
+    Ok(())
 }
 
 /// Prints lines on standard error, if there are any.

@@ -31,6 +31,7 @@ use Rattle.outcome.specs.declared.notes.NameNote.TheVariants.{TooLong}
 use Rattle.outcome.specs.declared.notes.PlainNote.TheVariants as plain
 use Rattle.outcome.specs.declared.endings.Ending.{Ending}
 use Rattle.outcome.specs.declared.endings.Ending.TheVariants.{Line, Fault, Busy}
+use Rattle.program_tasks.specs.Names.{volume_named}
 use Rattle.program_tasks.specs.declared.forms.ImageForm.{ImageForm}
 use Rattle.volume_image.specs.declared.faults.ImageFault.{ImageFault}
 use Rattle.volume_image.specs.declared.faults.ImageFault.TheVariants as image
@@ -176,6 +177,13 @@ LooksImage reading name = LooksIf reading.is_lenient reading.layout name
 -- how the image file that is asked for is read
 abbrev pub reading_of : ImageForm → ImageReading
 reading_of form = record { layout = form.layout; is_lenient = form.is_lenient }
+
+-- the image file that a name means where images are read so, and how it is read
+abbrev pub file_named : ImageReading → List ℕ → List ℕ
+file_named reading name = (volume_named reading.layout name).0
+
+abbrev pub reading_named : ImageReading → List ℕ → ImageReading
+reading_named reading name = record { layout = (volume_named reading.layout name).1; is_lenient = reading.is_lenient }
 
 -- it is read so, and its volume is found
 abbrev pub LooksAt : ImageForm → List Event → Result (Vec ℕ) Ending → List Event → Type 0

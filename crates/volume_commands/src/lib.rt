@@ -33,7 +33,7 @@ pub use ending::{Rooms, end, tell_line};
 pub use images::Image;
 pub use inputs::input_bytes;
 pub use making::{make_file, make_first};
-pub use mending::{ImageReading, look_image};
+pub use mending::{ImageReading, image_named, look_image};
 pub use notes::{refuse_image, tell_note};
 pub use printing::{print, store};
 pub use putting::{put_file, stored_line};

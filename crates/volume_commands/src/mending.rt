@@ -3,7 +3,7 @@ ghost use Rattle.std.specs.Prelude.{◌≡◌, ℕ, List};
 ghost use Rattle.hosts.specs.Place.{about};
 ghost use Rattle.hosts.specs.Streams.{output};
 ghost use Rattle.volume_commands.specs.Mending.{Mends, TellsLines};
-ghost use Rattle.volume_commands.specs.Reading.{LooksImage, LooksLeniently, reading_of};
+ghost use Rattle.volume_commands.specs.Reading.{LooksImage, LooksLeniently, file_named, reading_named, reading_of};
 
 use crate::notes::tell;
 use crate::reading::look_file;
@@ -11,7 +11,7 @@ use disk_layouts::Layout;
 use hosts::Host;
 use lenient_images::{MendedFile, mend_file, mended_text};
 use outcome::Ending;
-use program_tasks::ImageForm;
+use program_tasks::{ImageForm, volume_named};
 use std::alloc::Global;
 
 /// How image files are read.
@@ -34,6 +34,17 @@ impl ImageReading {
             is_lenient: form.is_lenient,
         }
     }
+}
+
+/// The image file that a name means where images are read so, and how it is read: the name may say which volume is meant (this project's
+/// profile).
+pub fn image_named(reading: ImageReading, name: &str) -> (&str, ImageReading)
+    ensures file { result.0.now ≡ file_named reading name.now }
+    ensures reading { result.1 ≡ reading_named reading name.now }
+{
+    let (file, layout) = volume_named(reading.layout, name);
+    let is_lenient = reading.is_lenient;
+    (file, ImageReading { layout, is_lenient })
 }
 
 /// The bytes of an image file that is only looked at. Where that is asked for its faults are mended in memory, and each is printed on
