@@ -11,7 +11,7 @@ use crate::asking::{add_place, files_named};
 use archive_files::Asked;
 use archive_many::{OpenVolume, Wish, first_unfound, has_pattern, wishes_of};
 use hosts::Host;
-use image_files::tell_note;
+use image_files::{open_volume, tell_note};
 use os8_files::FileFault;
 use outcome::{Ending, NameNote, Note};
 use program_tasks::DeleteForm;

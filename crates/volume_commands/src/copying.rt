@@ -9,7 +9,7 @@ ghost use Rattle.volume_commands.specs.CopySteps.{IsNotCopied};
 use crate::asking::copy_of_asked;
 use archive_files::{Asked, CopyFault, NewImage, copy};
 use hosts::Host;
-use image_files::{Image, look_at, store, stored_line};
+use image_files::{Image, is_one_image, look_at, refuse_one, store, stored_line};
 use outcome::Ending;
 use program_tasks::CopyForm;
 use std::alloc::Global;

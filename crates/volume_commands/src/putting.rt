@@ -8,7 +8,7 @@ ghost use Rattle.volume_commands.specs.PutSteps.{RefusesLoss, FindsFiles, IsNotP
 use archive_files::{ArchiveFault, NewImage, bad_text_at, put};
 use archive_many::{VolumeFile, empties, open};
 use hosts::Host;
-use image_files::{Image, given_bytes, refuse_image, store, tell_note};
+use image_files::{Image, given_bytes, refuse_image, store, stored_line, tell_note};
 use os8_dir::{FileFault, Name};
 use outcome::{Ending, NameNote, Note};
 use program_tasks::PutOneForm;

@@ -5,7 +5,7 @@ ghost use Rattle.volume_commands.specs.Showing.{Shows, wanted_file};
 use crate::asking::file_asked;
 use archive_files::GetForm;
 use hosts::Host;
-use image_files::{look_at, print};
+use image_files::{look_at, print, show_file};
 use outcome::Ending;
 use program_tasks::{FileForm, ImageForm};
 use std::alloc::Global;
