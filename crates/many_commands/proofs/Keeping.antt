@@ -13,20 +13,20 @@ use Rattle.outcome.specs.Hints.{image_note}
 use Rattle.outcome.specs.declared.contents.Content.TheVariants as content
 use Rattle.outcome.specs.declared.endings.Ending.{Ending}
 use Rattle.outcome.specs.declared.endings.Ending.TheVariants.{Line, Fault, Failure, Busy, NotWritten, FullOutput, NoReader, Misuse}
-use Rattle.outcome.specs.declared.notes.PlainNote.{PlainNote}
+use Rattle.outcome.specs.declared.hints.ImageNote.{ImageNote}
 use Rattle.archive_files.specs.declared.faults.ArchiveFault.{ArchiveFault}
 use Rattle.program_tasks.specs.declared.forms.ImageForm.{ImageForm}
-use Rattle.volume_commands.specs.Answers.{Answers, Refuses}
-use Rattle.volume_commands.specs.Notes.{Tells}
-use Rattle.volume_commands.specs.Mending.{Mends, TellsLines}
-use Rattle.volume_commands.specs.declared.mending.ImageReading.{ImageReading}
+use Rattle.image_files.specs.Answers.{Answers, Refuses}
+use Rattle.image_files.specs.Notes.{TellsOfImage}
+use Rattle.image_files.specs.Mending.{Mends, TellsLines}
+use Rattle.image_files.specs.declared.mending.ImageReading.{ImageReading}
 use Rattle.disk_layouts.specs.declared.layouts.Layout.{Layout}
 use Rattle.lenient_images.specs.Lines.{mended_lines}
-use Rattle.volume_commands.specs.Reading.{IsUnread, FindsIn, FindsOne, Holds, HoldsAt, Looks, LooksAt, LooksIf, LooksImage, MakesOne, Opens, hold_calls, looked_name, reading_of, with_lock_note}
-use Rattle.volume_commands.specs.Saving.{Prints, SavesIf, Stores, Writes}
-use Rattle.volume_commands.specs.Work.{Then, Purely}
-use Rattle.volume_commands.specs.declared.images.Image.{Image}
-use Rattle.volume_commands.specs.declared.reading.ImagePlace.{ImagePlace}
+use Rattle.image_files.specs.Reading.{IsUnread, FindsIn, FindsOne, Holds, HoldsAt, Looks, LooksAt, LooksIf, LooksImage, MakesOne, Opens, hold_calls, looked_name, reading_of, with_lock_note}
+use Rattle.image_files.specs.Saving.{Prints, SavesIf, Stores, Writes}
+use Rattle.image_files.specs.Work.{Then, Purely}
+use Rattle.image_files.specs.declared.images.Image.{Image}
+use Rattle.image_files.specs.declared.reading.ImagePlace.{ImagePlace}
 use Rattle.many_commands.specs.Laws.{ChangesNothing, LeavesFiles, NeverChanges, is_refusal}
 
 pub same : (old new : List Event) → new ≡ old → ChangesNothing old new
@@ -64,7 +64,7 @@ prints-never bytes old (Err FullOutput) new p = λ path. ap (λ (events : List E
 prints-never bytes old (Err NoReader) new p = λ path. ap (λ (events : List Event). about path events) p
 prints-never bytes old (Err Misuse) new p = absurd p
 
-pub tells-never : (note : Option PlainNote) (old new : List Event) → Tells note old new → ChangesNothing old new
+pub tells-never : (note : Option ImageNote) (old new : List Event) → TellsOfImage note old new → ChangesNothing old new
 tells-never None old new p = same old new p
 tells-never (Some note) old new p = told p.0 _ old new p.1
 

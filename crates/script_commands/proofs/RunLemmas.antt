@@ -2,7 +2,7 @@
 use Rattle.std.proofs.Common.{◌≡◌, ◌∙◌, ◌++◌, ℕ, Bool, true, false, List, [], ◌∷◌, Option, None, Some, Result, Ok, Err, ap, refl, sym, subst, inl, inr, append-nil, codes}
 use Rattle.std.proofs.lemmas.List.{append_assoc}
 use Rattle.std.specs.Global.{Vec}
-use Rattle.hosts.specs.Event.{Event, Call, Alter, Resolve, Hold, DropSeconds, Look, TakeInput, Alone, Leads, LockBeside, Free, There, MakeFolder, Print, Tell, Terminal, Seconds, Pause, Word, EndOfWords, print_call, tell_call}
+use Rattle.hosts.specs.Event.{Event, Call, Alter, Resolve, Hold, DropSeconds, Look, TakeInput, Alone, Leads, LockBeside, Free, There, MakeFolder, Print, Tell, Terminal, Seconds, Pause, Word, EndOfWords, TimeOf, print_call, tell_call}
 use Rattle.hosts.specs.Faults.{pipe_number}
 use Rattle.hosts.specs.Streams.{output, output_text, with_printed, with_text}
 use Rattle.hosts.specs.declared.faults.PrintFault.{PrintFault}
@@ -12,7 +12,7 @@ use Rattle.outcome.specs.declared.notes.NameNote.TheVariants.{Hint, TooLong}
 use Rattle.program_tasks.specs.declared.tasks.Saving.{Saving}
 use Rattle.program_tasks.specs.declared.tasks.Saving.TheVariants.{Never}
 use Rattle.system_session.specs.ShownAnswers.{ShownAnswer}
-use Rattle.volume_commands.specs.declared.images.Image.{Image}
+use Rattle.image_files.specs.declared.images.Image.{Image}
 use Rattle.script_commands.specs.Steps.{Step, AreReplies, StaysUnsaved, Saves, Fails, Replies, Prints, Refuses, Shows, Cuts, is_unknown, or_else, print_fault, printed_text, replies_of, reply_text, save_ending}
 use Rattle.script_commands.specs.RunSteps.{Adds, HasDone, HasEnded, IsAfterPrint, MayPrint, Gets, PrintsLines, TellsCut, TellsForm}
 use Rattle.script_commands.specs.declared.progress.Progress.{Progress}
@@ -47,6 +47,7 @@ with_one Seconds e before text is = is
 with_one Pause e before text is = is
 with_one Word e before text is = is
 with_one EndOfWords e before text is = is
+with_one TimeOf e before text is = is
 
 text_is : (events : List Event) → output_text events ≡ text_of (output events)
 text_is [] = refl
