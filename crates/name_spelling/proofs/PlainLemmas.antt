@@ -213,6 +213,7 @@ some_word a b some = omega (arith, some)
 
 shown_eight : (stem extension : List ℕ) → length stem ≡ 6 → length extension ≡ 2 → AreSmall stem → AreSmall extension → 0 < first_of stem
     → IsShown stem extension (name_of (words_of_codes (stem ++ extension)))
+unfolding text_of
 shown_eight (a ∷ b ∷ c ∷ d ∷ e ∷ f ∷ []) (g ∷ h ∷ []) six two small short some =
     let p = 64 * a + b in
     let q = 64 * c + d in
@@ -286,6 +287,7 @@ has_name : (name : ℕ) → IsNamed name → nat_eq (name / 68719476736) 0 ≡ f
 has_name name named = grind (arith, nat_tests)
 
 pub shown_is_typed : (name : ℕ) → name < 281474976710656 → IsNamed name → typed_name (text_of name) ≡ Some name
+unfolding typed_name
 shown_is_typed name small named = ap of_a_file (shown_is_read name small) ∙ ap (λ (b : Bool). if b then None else Some name) (has_name name named)
 
 pub plain_is_typed : (text : List ℕ) (name : ℕ) → parsed_name text ≡ Some name → typed_name text ≡ Some name

@@ -98,6 +98,7 @@ read_few text name is =
     omega (arith, few, front_size n text)
 
 pub typed_few : (text : List ℕ) (name : ℕ) → typed_name text ≡ Some name → length text ≤ 25
+unfolding typed_name
 typed_few text name is = by (read_name text) (read_few text) is
   where
     by : (o : Option ℕ) → ((n : ℕ) → o ≡ Some n → length text ≤ 25) → of_a_file o ≡ Some name → length text ≤ 25

@@ -73,5 +73,5 @@ of_a_file None = None
 of_a_file (Some name) = if nat_eq (name / 0o1000000000000) 0 then None else Some name
 
 -- the name of a file that a text spells
-abbrev pub typed_name : List ℕ → Option ℕ
+unfoldable pub typed_name : List ℕ → Option ℕ
 typed_name text = of_a_file (read_name text)

@@ -9,6 +9,7 @@ use word12::{Word, octal, sixbit};
 
 /// The name of a file that a text spells, as `read_name` has it; nothing where its first word is 0, since no file has such a name (OS/8
 /// Software Support Manual; the spelling is this project's profile).
+#[tactic(auto, unfolding(crate::specs::Reading::typed_name))]
 pub fn typed_name(text: &[u8]) -> Option<Name>
     ensures name { result ≡ typed_name text.now }
     ensures named { IfSome result IsNamed }

@@ -22,6 +22,7 @@ pub fn put_name(text: &mut Vec<u8>, name: Name) -> Result<(), AllocError>
 }
 
 /// Puts a name after a line as `put_name` appends it: at most 25 characters.
+#[tactic(auto, unfolding(crate::specs::Spelling::text_of))]
 pub fn put_spelled(line: &mut ArrayVec<u8, 80>, name: Name)
     requires { array_vec_len line.old ≤ 50 }
     ensures text { line.new.items ≡ line.old.items ++ text_of name }

@@ -5,13 +5,13 @@ use Rattle.std.specs.Str.{bytes_eq}
 use Rattle.hosts.specs.Event.{Event, TakeInput, failed_call, input_call, tell_call}
 use Rattle.hosts.specs.declared.faults.HostFault.{HostFault}
 use Rattle.hosts.specs.declared.faults.HostFault.TheVariants as host
-use Rattle.os8_dir.specs.Names.{parsed_name}
+use Rattle.name_spelling.specs.Reading.{typed_name}
 use Rattle.os8_dir.specs.declared.file_faults.FileFault.TheVariants.{NothingWritten}
-use Rattle.script8.specs.Replies.{line_of, line_reply_text}
+use Rattle.program_reports.specs.Program.{program_line}
 use Rattle.script8.specs.declared.readings.TheConstants.{MOST}
 use Rattle.script8.specs.declared.faults.SessionFault.{SessionFault}
 use Rattle.script8.specs.declared.faults.SessionFault.TheVariants.{BadLine, NoJob, TooManyJobs, File, Asm, Tape, BadText, Reader, Writer, Memory, TooManyBreaks}
-use Rattle.script8.specs.declared.replies.LineReply.TheVariants.{Stored}
+use Rattle.program_reports.specs.declared.programs.ProgramLine.TheVariants as line
 use Rattle.archive_files.specs.HostTexts.{FindsBad}
 use Rattle.archive_files.specs.Putting.{PutsFile}
 use Rattle.archive_files.specs.declared.faults.ArchiveFault.{ArchiveFault}
@@ -68,15 +68,15 @@ pub record IsLoss (form : PutOneForm) (image bytes : List ℕ) : Type 0 where
   pub unasked : form.may_empty ≡ false
   pub none : bytes ≡ []
   pub number : ℕ
-  pub named : parsed_name form.name.bytes.items ≡ Some number
+  pub named : typed_name form.name.bytes.items ≡ Some number
   pub blocks : List (List ℕ)
   pub opened : OpensVolume image (Ok blocks)
   pub there : is_among number (files_on blocks) ≡ true
 
 -- nothing is lost: that was asked for, or there is a byte, or no name, or no file of the name on the volume
 abbrev pub IsNoLoss : PutOneForm → List ℕ → List ℕ → Type 0
-IsNoLoss form image bytes = (form.may_empty ≡ true) ⊎ ((bytes ≢ []) ⊎ ((parsed_name form.name.bytes.items ≡ None)
-    ⊎ ((number : ℕ) × (parsed_name form.name.bytes.items ≡ Some number) × (blocks : List (List ℕ)) × OpensVolume image (Ok blocks) × (is_among number (files_on blocks) ≡ false))))
+IsNoLoss form image bytes = (form.may_empty ≡ true) ⊎ ((bytes ≢ []) ⊎ ((typed_name form.name.bytes.items ≡ None)
+    ⊎ ((number : ℕ) × (typed_name form.name.bytes.items ≡ Some number) × (blocks : List (List ℕ)) × OpensVolume image (Ok blocks) × (is_among number (files_on blocks) ≡ false))))
 
 -- The command ends since a text of no byte would replace a file, which is printed; since the volume is refused; or memory is wanted.
 abbrev pub IsKept : PutOneForm → List ℕ → List ℕ → List Event → Ending → List Event → Type 0
@@ -139,7 +139,7 @@ MakesNew form image bytes old (Err ending) new =
 
 -- the line of a file that was put
 abbrev pub stored_line : NewImage → List ℕ
-stored_line new = line_of (line_reply_text (Stored new.name new.blocks))
+stored_line new = program_line (line.Stored new.name new.blocks)
 
 abbrev pub PutsInto : PutOneForm → Image → List ℕ → List Event → Result (Unit {0}) Ending → List Event → Type 0
 PutsInto form image bytes = Then (KeepsWords form image.bytes.items bytes) (λ it. Then (MakesNew form image.bytes.items bytes) (λ made. Then (Purely (AreLines (stored_line made))) (λ line. Stores image made.bytes.items line.items)))

@@ -5,6 +5,7 @@ ghost use Rattle.volume_commands.specs.Putting as spec;
 ghost use Rattle.volume_commands.specs.Putting.{Puts, PutsInto, KeepsWords, MakesNew, TellsBad, stored_line, words_of};
 ghost use Rattle.volume_commands.specs.PutSteps.{RefusesLoss, FindsFiles, IsNotPut};
 
+use crate::answers::program_line;
 use crate::images::Image;
 use crate::inputs::given_bytes;
 use crate::notes::{refuse_image, tell_note};
@@ -12,10 +13,12 @@ use crate::printing::store;
 use archive_files::{ArchiveFault, NewImage, bad_text_at, put};
 use archive_many::{VolumeFile, empties, open};
 use hosts::Host;
+use name_spelling::typed_name;
 use os8_dir::{FileFault, Name};
 use outcome::{Ending, NameNote, Note};
+use program_reports::ProgramLine;
 use program_tasks::PutOneForm;
-use script8::{LineReply, Reply, SessionFault, put_reply};
+use script8::SessionFault;
 use std::alloc::{AllocError, Global};
 use word12::Word;
 
@@ -57,7 +60,7 @@ fn keep_words<H: Host>(
     if form.may_empty || !bytes.is_empty() {
         return Ok(());
     }
-    match Name::parse(form.name.as_bytes()) {
+    match typed_name(form.name.as_bytes()) {
         None => Ok(()),
         Some(name) => refuse_loss(host, alloc, image, form.file.as_str(), name),
     }
@@ -164,13 +167,7 @@ fn tell_bad_text<H: Host>(host: &mut H, alloc: Global, text: &[u8]) -> Result<()
 pub fn stored_line(alloc: Global, new: &NewImage) -> Result<Vec<u8>, Ending>
     ensures { AreLines (stored_line new.now) result }
 {
-    let stored = Reply::Line(LineReply::Stored {
-        name: new.name,
-        blocks: new.blocks,
-    });
-    let mut line = Vec::new(alloc);
-    put_reply(None, &Ok(stored), &mut line)?;
-    Ok(line)
+    program_line(alloc, &ProgramLine::Stored(new.name, new.blocks))
 }
 
 /// The information words that are given, if any are.
