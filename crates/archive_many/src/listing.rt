@@ -47,12 +47,7 @@ fn put_like(
 }
 
 /// Appends the line of a file of so many blocks, if it is listed.
-fn put_if(
-    is_listed: bool,
-    name: Name,
-    size: usize,
-    out: &mut Vec<u8>,
-) -> Result<(), AllocError>
+fn put_if(is_listed: bool, name: Name, size: usize, out: &mut Vec<u8>) -> Result<(), AllocError>
     ensures { OnOk result (out.new.items
         ≡ out.old.items ++ (if is_listed then listed_line (name, size) else [])) }
 {
