@@ -105,6 +105,11 @@ int fsync(int file)
     MET(int, is_folder ? "fsync folder" : "fsync", -1, (int), (file));
 }
 
+int futimens(int file, const struct timespec times[2])
+{
+    MET(int, "date", -1, (int, const struct timespec *), (file, times));
+}
+
 int fcntl(int file, int how, ...)
 {
     va_list rest;

@@ -29,12 +29,15 @@ ROWS = {
     "make unlinked": [UNMADE] * 8 + [UNKNOWN, CERTAIN],
     "lay": [UNLAID] * 4 + ["laid, file new"],
     "replace": [OLD] * 4 + ["laid, file new"],
+    "lay dated": [UNLAID] * 3 + ["laid, file new"] + [UNLAID] + ["laid, file new"],
 }
+# The time that a file is laid with, in seconds after the begin of 1970; no other trial sets one, nor does a call that failed.
+TIME, DATED = 200_000_000, "lay dated"
 # The calls of a save of each kind, but those that open, lock and look.
 SAVE = ["realpath", "dup", "dup", "write", "fsync", "rename", "fsync folder", "print"]
 OVER = ["realpath", "dup", "write", "write", "fsync", "print"]
 MAKE = ["dup", "write", "fsync", "link", "unlink", "fsync folder", "print"]
-LAY = ["dup", "write", "rename", "print"]
+LAY = ["dup", "write", "date", "rename", "print"]
 
 # A save, the calls that it makes in order, whether the file is there, and whether it is written over.
 Kind = tuple[str, list[str], bool, bool]
@@ -54,7 +57,9 @@ def wanted_rows() -> Iterator[str]:
         for number in range(CALLS):
             # of a mount the eighth call takes away the file beside it
             is_left = trial == "save mount" and number == 8
-            yield f"{trial} {number}: {rows[min(number, len(rows) - 1)]}, beside {'true' if is_left else 'false'}"
+            left = rows[min(number, len(rows) - 1)]
+            time = TIME if trial == DATED and number > 3 and left.startswith("laid") else 0
+            yield f"{trial} {number}: {left}, beside {'true' if is_left else 'false'}, time {time}"
 
 
 class Folder:
@@ -78,6 +83,10 @@ class Folder:
         except FileNotFoundError:
             return run.stdout, calls, None
 
+    def has_time(self) -> bool:
+        """Whether F has the time that a file is laid with."""
+        return os.stat(f"{self.path}/F").st_mtime == TIME
+
     def names(self) -> list[str]:
         return sorted(os.listdir(self.path))
 
@@ -94,9 +103,12 @@ def tried(room: str, kind: Kind, number: int | None, trial: str, library: str) -
         os.link(f"{folder.path}/F", f"{folder.path}/G")
     ended = "unknown\n" if what == "lay" else "certain\n"
     if number is None:
-        return folder.save(what, "F") == (ended, calls, "NEW TEXT") and folder.names() == (["F", "G"] if is_over else ["F"])
+        is_saved = folder.save(what, "F") == (ended, calls, "NEW TEXT") and folder.names() == (["F", "G"] if is_over else ["F"])
+        return is_saved and folder.has_time() == (what == "lay")
     call = calls[number]
     said, _, found = folder.save(what, "F", call, calls[: number + 1].count(call), errno.EIO)
+    if call == "date":
+        return (said, found, folder.has_time()) == (ended, "NEW TEXT", False)
     if call == "fsync folder":
         return (said, found) == ("unknown\n", "NEW TEXT")
     if call == "unlink":

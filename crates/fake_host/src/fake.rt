@@ -4,10 +4,10 @@ ghost use Rattle.hosts.specs.Raw.{events_of};
 
 use crate::memory::InMemory;
 use hosts::notes::{
-    ALONE, CLAIM, DROP_BESIDE, DROP_CLAIM, DROP_SECONDS, END_OF_WORDS, FINISH_OVER, FREE, HOLD,
-    LEADS, LINK_NEW, LOCK_BESIDE, LOOK, MAKE_BESIDE, MAKE_FOLDER, OWN_BESIDE, PAUSE, PRINT, RENAME,
-    RESOLVE, SECONDS, SYNC_BESIDE, SYNC_FOLDER, TAKE_INPUT, TELL, TERMINAL, THERE, WRITE_BESIDE,
-    WRITE_OVER, fault_number, number,
+    ALONE, CLAIM, DATE_BESIDE, DROP_BESIDE, DROP_CLAIM, DROP_SECONDS, END_OF_WORDS, FINISH_OVER,
+    FREE, HOLD, LEADS, LINK_NEW, LOCK_BESIDE, LOOK, MAKE_BESIDE, MAKE_FOLDER, OWN_BESIDE, PAUSE,
+    PRINT, RENAME, RESOLVE, SECONDS, SYNC_BESIDE, SYNC_FOLDER, TAKE_INPUT, TELL, TERMINAL, THERE,
+    TIME_OF, WRITE_BESIDE, WRITE_OVER, fault_number, number,
 };
 use hosts::{Host, HostFault, LinkFault, PrintFault, Record, RenameFault, Stream};
 use std::alloc::{AllocError, Global};
@@ -159,6 +159,12 @@ impl Host for Fake {
         done
     }
 
+    fn date_beside(&mut self, path: &str, seconds: u64) -> Result<(), HostFault> {
+        let done = self.memory.date_beside(seconds);
+        self.log.note(&[DATE_BESIDE, number(&done), seconds], path.as_bytes(), &[]);
+        done
+    }
+
     fn sync_beside(&mut self, path: &str) -> Result<(), HostFault> {
         let done = self.memory.pass();
         self.log
@@ -251,6 +257,17 @@ impl Host for Fake {
         self.log
             .note(&[THERE, u64::from(is), 0], name.as_bytes(), &[]);
         is
+    }
+
+    fn time_of(&mut self, name: &str) -> Result<u64, HostFault> {
+        let done = self.memory.time_of();
+        match &done {
+            Ok(seconds) => self.log.note(&[TIME_OF, 1, *seconds], name.as_bytes(), &[]),
+            Err(fault) => self
+                .log
+                .note(&[TIME_OF, 0, fault_number(fault)], name.as_bytes(), &[]),
+        }
+        done
     }
 
     fn make_folder(&mut self, name: &str) -> Result<(), HostFault> {

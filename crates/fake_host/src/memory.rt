@@ -14,6 +14,10 @@ pub struct InMemory {
     pub output: Vec<u8>,
     pub errors: Vec<u8>,
 
+    /// When the file was last changed, in seconds after the begin of 1970 in UTC, and the one beside it; 0 where no call has set that.
+    pub time: u64,
+    pub beside_time: u64,
+
     /// Whether a new file may take the path with nothing lost.
     pub is_alone: bool,
 
@@ -74,6 +78,8 @@ impl InMemory {
             input,
             output: Vec::new(alloc),
             errors: Vec::new(alloc),
+            time: 0,
+            beside_time: 0,
             is_alone: true,
             is_mount: false,
             has_links: true,
@@ -131,13 +137,31 @@ impl InMemory {
     pub(crate) fn make_beside(&mut self, alloc: Global) -> Result<(), HostFault> {
         self.pass()?;
         self.beside = Some(Vec::new(alloc));
+        self.beside_time = 0;
         Ok(())
     }
 
     pub(crate) fn write_beside(&mut self, bytes: &[u8]) -> Result<(), HostFault> {
         self.pass()?;
         match &mut self.beside {
-            Some(beside) => grow(beside, bytes),
+            Some(beside) => {
+                self.beside_time = 0;
+                grow(beside, bytes)
+            }
+            None => Err(HostFault::Absent),
+        }
+    }
+
+    pub(crate) fn date_beside(&mut self, seconds: u64) -> Result<(), HostFault> {
+        self.pass()?;
+        self.beside_time = seconds;
+        Ok(())
+    }
+
+    pub(crate) fn time_of(&mut self) -> Result<u64, HostFault> {
+        self.pass()?;
+        match &self.file {
+            Some(_) => Ok(self.time),
             None => Err(HostFault::Absent),
         }
     }
@@ -158,6 +182,7 @@ impl InMemory {
         match self.beside.take() {
             Some(beside) => {
                 self.file = Some(beside);
+                self.time = self.beside_time;
                 Ok(())
             }
             None => Err(RenameFault::Failed),
@@ -175,6 +200,7 @@ impl InMemory {
             return Err(LinkFault::NoLinks);
         }
         self.file = self.beside.take();
+        self.time = self.beside_time;
         Ok(())
     }
 

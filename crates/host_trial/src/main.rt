@@ -5,7 +5,7 @@
 mod rows;
 
 use hosts::{Durability, Host, HostFault, hold_file, lay, make, save_file};
-use rows::print_rows;
+use rows::{TIME, print_rows};
 use std::alloc::Global;
 use std::env::Env;
 use std::fs::{File, Files};
@@ -65,6 +65,6 @@ fn keep_input<H: Host>(
     if what == "make" {
         return make(host, alloc, path, &bytes);
     }
-    lay(host, alloc, path, &bytes, true)?;
+    lay(host, alloc, path, &bytes, Some(TIME), true)?;
     Ok(Durability::Unknown)
 }

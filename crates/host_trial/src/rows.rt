@@ -1,7 +1,7 @@
 //! Rows of what is left where a call of a host in memory fails.
 
 use fake_host::{Fake, InMemory};
-use hosts::{Durability, Unwritten, lay, make, save_file};
+use hosts::{Durability, HostFault, Unwritten, lay, make, save_file};
 use std::alloc::Global;
 
 const OLD: &[u8] = b"OLD OLD";
@@ -18,7 +18,11 @@ enum Trial {
     MakeUnlinked,
     Lay,
     Replace,
+    LayDated,
 }
+
+/// The time that a file is laid with, in seconds after the begin of 1970 in UTC.
+pub const TIME: u64 = 200_000_000;
 
 fn name_of(trial: Trial) -> &'static str {
     match trial {
@@ -29,6 +33,7 @@ fn name_of(trial: Trial) -> &'static str {
         Trial::MakeUnlinked => "make unlinked",
         Trial::Lay => "lay",
         Trial::Replace => "replace",
+        Trial::LayDated => "lay dated",
     }
 }
 
@@ -42,6 +47,7 @@ pub fn print_rows<R: Print + AllocGlobal>(rt: &R) -> Option<()> {
         Trial::MakeUnlinked,
         Trial::Lay,
         Trial::Replace,
+        Trial::LayDated,
     ];
     for trial in trials {
         for number in 0..12u64 {
@@ -57,8 +63,9 @@ fn print_row<R: Print + AllocGlobal>(rt: &R, trial: Trial, number: u64) -> Optio
     let ended = try_row(&mut host, alloc, trial);
     let file = state_of(&host.memory.file);
     let beside = host.memory.beside.is_some();
+    let time = host.memory.time;
     println!(rt;
-        "{} {number}: {ended}, file {file}, beside {beside}",
+        "{} {number}: {ended}, file {file}, beside {beside}, time {time}",
         name_of(trial)
     )
     .ok()
@@ -66,7 +73,10 @@ fn print_row<R: Print + AllocGlobal>(rt: &R, trial: Trial, number: u64) -> Optio
 
 /// The host of a trial, of which a call fails.
 fn memory_of(alloc: Global, trial: Trial, number: u64) -> Option<InMemory> {
-    let is_new = trial == Trial::Make || trial == Trial::MakeUnlinked || trial == Trial::Lay;
+    let is_new = matches!(
+        trial,
+        Trial::Make | Trial::MakeUnlinked | Trial::Lay | Trial::LayDated
+    );
     let file = if is_new {
         None
     } else {
@@ -94,11 +104,16 @@ fn try_row(host: &mut Fake, alloc: Global, trial: Trial) -> &'static str {
             Err(_) => "unmade",
         },
         Trial::Lay | Trial::Replace => {
-            match lay(host, alloc, "DISK", NEW, trial == Trial::Replace) {
-                Ok(()) => "laid",
-                Err(_) => "not laid",
-            }
+            words_on_laid(lay(host, alloc, "DISK", NEW, None, trial == Trial::Replace))
         }
+        Trial::LayDated => words_on_laid(lay(host, alloc, "DISK", NEW, Some(TIME), false)),
+    }
+}
+
+fn words_on_laid(done: Result<(), HostFault>) -> &'static str {
+    match done {
+        Ok(()) => "laid",
+        Err(_) => "not laid",
     }
 }
 

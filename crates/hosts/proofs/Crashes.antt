@@ -1,7 +1,7 @@
 -- What changes leave after a crash.
 use Rattle.std.proofs.Common.{◌≡◌, ℕ, Bool, true, false, List, [], ◌∷◌, ◌++◌, Option, Some, inl, inr, refl}
 use Rattle.std.specs.Str.{bytes_eq}
-use Rattle.hosts.specs.Event.{Event, Call, Change, Alter, MakeBeside, OwnBeside, WriteBeside, SyncBeside, DropBeside, Rename, LinkNew, Claim, DropClaim, SyncFolder, WriteOver, FinishOver, Resolve, Hold, DropSeconds, Look, TakeInput, Alone, Leads, LockBeside, Free, There, MakeFolder, Print, Tell, Terminal, Seconds, Pause, Word, EndOfWords}
+use Rattle.hosts.specs.Event.{Event, Call, Change, Alter, MakeBeside, OwnBeside, WriteBeside, SyncBeside, DropBeside, DateBeside, Rename, LinkNew, Claim, DropClaim, SyncFolder, WriteOver, FinishOver, Resolve, Hold, DropSeconds, Look, TakeInput, Alone, Leads, LockBeside, Free, There, MakeFolder, Print, Tell, Terminal, Seconds, Pause, Word, EndOfWords, TimeOf}
 use Rattle.hosts.specs.Place.{Place, Step, Remainder, Anything, Leaves, may_leave, after, replay, with_moment, ever, with_step, about}
 use Rattle.hosts.specs.Saving.{IsSaved}
 use Rattle.hosts.specs.Laws.{IsSound}
@@ -13,6 +13,7 @@ among OwnBeside ok number bytes p before h f l = h f l
 among WriteBeside ok number bytes p before h f l = h f l
 among SyncBeside ok number bytes p before h f l = h f l
 among DropBeside ok number bytes p before h f l = h f l
+among DateBeside ok number bytes p before h f l = h f l
 among Rename true number bytes p before h f (inl new) = inl new
 among Rename true number bytes p before h f (inr old) = inr (h f old)
 among Rename false number bytes p before h f l = inr (h f l)
@@ -39,6 +40,7 @@ stays OwnBeside p before f l = l
 stays WriteBeside p before f l = l
 stays SyncBeside p before f l = l
 stays DropBeside p before f l = l
+stays DateBeside p before f l = l
 stays Rename p before f l = inr l
 stays LinkNew p before f l = inr l
 stays Claim p before f l = inr l
@@ -68,6 +70,7 @@ sound SyncBeside true number bytes p s = record { file = s.file; beside = inr re
 sound SyncBeside false number bytes p s = record { file = s.file; beside = inl refl }
 sound DropBeside true number bytes p s = record { file = s.file; beside = inr refl }
 sound DropBeside false number bytes p s = s
+sound DateBeside ok number bytes p s = s
 sound Rename true number bytes p s = record { file = s.beside; beside = inr refl }
 sound Rename false number bytes p s = s
 sound LinkNew true number bytes p s = record { file = s.beside; beside = inr refl }
@@ -106,6 +109,7 @@ keeps Seconds e other old differs = refl
 keeps Pause e other old differs = refl
 keeps Word e other old differs = refl
 keeps EndOfWords e other old differs = refl
+keeps TimeOf e other old differs = refl
 
 pub others_stay : (e : Event) (other : List ℕ) (old : List Event) → bytes_eq e.name other ≡ false → about other (e ∷ old) ≡ about other old
 others_stay e other old differs = keeps e.call e other (about other old) differs

@@ -12,6 +12,8 @@ pub data Change : Type 0 where
   WriteBeside : Change
   SyncBeside : Change
   DropBeside : Change
+  -- it got a time at which it was last changed
+  DateBeside : Change
   -- the file beside it took the path, in place of any file there; or a path that no file had
   Rename : Change
   LinkNew : Change
@@ -52,6 +54,8 @@ pub data Call : Type 0 where
   -- a word of the command line, and that there are no more
   Word : Call
   EndOfWords : Call
+  -- when a file was last changed
+  TimeOf : Call
 
 -- which call, whether it succeeded, the name or path that it is about, bytes, and a number
 pub record Event : Type 0 where
@@ -116,6 +120,10 @@ write_call path ok bytes = event_at (Alter WriteBeside) path ok bytes
 abbrev pub sync_call : List ℕ → Bool → Event
 sync_call path ok = event_at (Alter SyncBeside) path ok []
 
+-- the file beside a path was given a time of change, in seconds after the begin of 1970 in UTC
+abbrev pub date_call : List ℕ → Bool → ℕ → Event
+date_call path ok seconds = event_of_number (Alter DateBeside) path ok seconds []
+
 abbrev pub drop_call : List ℕ → Bool → Event
 drop_call path ok = event_at (Alter DropBeside) path ok []
 
@@ -176,3 +184,7 @@ pause_call = event_at Pause [] true []
 abbrev pub word_call : ℕ → Option (Vec ℕ) → Event
 word_call place (Some word) = event_of_number Word [] true place word.items
 word_call place None = event_of_number EndOfWords [] true place []
+
+-- it was asked when a file was last changed, in seconds after the begin of 1970 in UTC, and this was the answer
+abbrev pub time_call : List ℕ → ℕ → Event
+time_call name seconds = event_of_number TimeOf name true seconds []

@@ -59,6 +59,7 @@ is_of_path event.OwnBeside = false
 is_of_path event.WriteBeside = false
 is_of_path event.SyncBeside = false
 is_of_path event.DropBeside = false
+is_of_path event.DateBeside = false
 is_of_path event.Rename = true
 is_of_path event.LinkNew = true
 is_of_path event.Claim = true

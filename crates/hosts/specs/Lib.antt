@@ -7,3 +7,4 @@ pub mod Raw
 pub mod Saving
 pub mod SavingSteps
 pub mod Streams
+pub mod Times

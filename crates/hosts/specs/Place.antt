@@ -1,7 +1,7 @@
 -- What the calls of a host do to the file of one path. This page is what a reader believes of a file system.
 use Rattle.std.specs.Prelude.{◌≡◌, ℕ, zero, suc, Bool, true, false, List, [], ◌∷◌, ◌++◌, length, take, drop, if◌then◌else◌, Option, None, Some, ◌⊎◌}
 use Rattle.std.specs.Str.{bytes_eq}
-use Rattle.hosts.specs.Event.{Event, Call, Change, Alter, MakeBeside, OwnBeside, WriteBeside, SyncBeside, DropBeside, Rename, LinkNew, Claim, DropClaim, SyncFolder, WriteOver, FinishOver}
+use Rattle.hosts.specs.Event.{Event, Call, Change, Alter, MakeBeside, OwnBeside, WriteBeside, SyncBeside, DropBeside, DateBeside, Rename, LinkNew, Claim, DropClaim, SyncFolder, WriteOver, FinishOver}
 
 -- a change with its answer
 pub record Step : Type 0 where
@@ -90,6 +90,7 @@ after OwnBeside ok number bytes p = p
 after WriteBeside ok number bytes p = with_beside (if ok then with_bytes_after p.beside bytes else Anything) Anything p
 after SyncBeside ok number bytes p = with_beside (if ok then p.beside else Anything) (if ok then p.beside else Anything) p
 after DropBeside ok number bytes p = with_beside (if ok then Just None else p.beside) (if ok then Just None else p.beside_on_disk) p
+after DateBeside ok number bytes p = p
 after Rename true number bytes p = with_path p
 after Rename false number bytes p = p
 after LinkNew true number bytes p = with_path p
@@ -117,6 +118,7 @@ with_moment OwnBeside p before = before
 with_moment WriteBeside p before = before
 with_moment SyncBeside p before = before
 with_moment DropBeside p before = before
+with_moment DateBeside p before = before
 with_moment Rename p before = p.beside_on_disk ∷ before
 with_moment LinkNew p before = p.beside_on_disk ∷ before
 with_moment Claim p before = Just (Some []) ∷ before

@@ -1,7 +1,7 @@
 -- What the steps of a save do. No contract of a public function cites these.
-use Rattle.std.specs.Prelude.{◌≡◌, ℕ, ◌<◌, true, false, List, ◌∷◌, Result, Ok, Err}
+use Rattle.std.specs.Prelude.{◌≡◌, ℕ, ◌<◌, Bool, true, false, List, ◌∷◌, Option, None, Some, Result, Ok, Err}
 use Rattle.std.specs.Str.{bytes_eq}
-use Rattle.hosts.specs.Event.{Event, make_call, own_call, lock_call, write_call, sync_call}
+use Rattle.hosts.specs.Event.{Event, make_call, own_call, lock_call, write_call, sync_call, date_call}
 use Rattle.hosts.specs.Place.{Place, Step, about, replay, ever}
 use Rattle.hosts.specs.Streams.{output, errors, read, failures, may_replace, path_of_name, asked_name, has_links}
 use Rattle.hosts.specs.Saving.{IsAsItWas, IsUnmade, replacements}
@@ -42,3 +42,8 @@ new_calls path bytes old = sync_call path true ∷ write_call path true bytes �
 -- a new file of these bytes stands beside the path
 abbrev pub laid_calls : List ℕ → List ℕ → List Event → List Event
 laid_calls path bytes old = write_call path true bytes ∷ lock_call path true ∷ make_call path ∷ old
+
+-- it was then given the time, if one is asked for, or could not be
+abbrev pub AreDatedCalls : Option ℕ → List ℕ → List Event → List Event → Type 0
+AreDatedCalls None path laid new = new ≡ laid
+AreDatedCalls (Some seconds) path laid new = (ok : Bool) × (new ≡ date_call path ok seconds ∷ laid)

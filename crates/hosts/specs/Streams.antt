@@ -1,6 +1,6 @@
 -- What the calls of a host mean for its streams, and for what was asked of it.
 use Rattle.std.specs.Prelude.{ℕ, zero, suc, ◌+◌, Bool, true, false, List, [], ◌∷◌, ◌++◌}
-use Rattle.hosts.specs.Event.{Event, Call, Alter, MakeBeside, DropBeside, Rename, LinkNew, Claim, DropClaim, SyncFolder, Look, TakeInput, Alone, Leads, LockBeside, There, Free, Print, Tell, Terminal}
+use Rattle.hosts.specs.Event.{Event, Call, Alter, MakeBeside, DropBeside, DateBeside, Rename, LinkNew, Claim, DropClaim, SyncFolder, Look, TakeInput, Alone, Leads, LockBeside, There, Free, Print, Tell, Terminal}
 use Rattle.hosts.specs.Faults.{fault_number}
 use Rattle.hosts.specs.declared.faults.HostFault.TheVariants as host
 
@@ -107,7 +107,7 @@ has_links (e ∷ earlier) = with_links e.call e.ok e.number (has_links earlier)
 
 -- A call that failed says why. Where a file has the path, by which another program made it meanwhile, that is busy. The empty file of a path
 -- that can't be taken away may not be written. Of other calls on a file that is made it is only known that they failed, and one that takes
--- the file beside it away says nothing.
+-- the file beside it away, or gives that a time, says nothing.
 abbrev pub with_fault : Call → Bool → ℕ → ℕ → ℕ
 with_fault There true number before = fault_number host.Busy
 with_fault There false number before = before
@@ -116,6 +116,7 @@ with_fault Print ok number before = before
 with_fault Tell ok number before = before
 with_fault Leads ok number before = before
 with_fault (Alter DropBeside) ok number before = before
+with_fault (Alter DateBeside) ok number before = before
 with_fault (Alter SyncFolder) ok number before = before
 with_fault (Alter LinkNew) false (suc zero) before = fault_number host.Busy
 with_fault (Alter LinkNew) false number before = fault_number host.Failed

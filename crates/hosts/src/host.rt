@@ -1,6 +1,6 @@
 ghost use Rattle.std.specs.Prelude.{◌≡◌, ◌≤◌, ◌+◌, List, [], ◌∷◌, length, true, false, is_ok, IfOk, MatchResult};
 ghost use Rattle.hosts.specs.declared.faults.HostFault.TheVariants.{Memory};
-ghost use Rattle.hosts.specs.Event.{Event, Alter, Resolve, Hold, DropSeconds, Look, TakeInput, MakeBeside, Free, MakeFolder, Word, number_of, failed_call, resolve_call, hold_call, drop_seconds_call, look_call, input_call, alone_call, leads_call, make_call, own_call, lock_call, write_call, sync_call, drop_call, rename_call, link_call, claim_call, drop_claim_call, sync_folder_call, write_over_call, finish_over_call, free_call, there_call, folder_call, print_call, tell_call, terminal_call, seconds_call, pause_call, word_call};
+ghost use Rattle.hosts.specs.Event.{Event, Alter, Resolve, Hold, DropSeconds, Look, TakeInput, MakeBeside, Free, MakeFolder, Word, TimeOf, number_of, failed_call, resolve_call, hold_call, drop_seconds_call, look_call, input_call, alone_call, leads_call, make_call, own_call, lock_call, write_call, sync_call, date_call, drop_call, rename_call, link_call, claim_call, drop_claim_call, sync_folder_call, write_over_call, finish_over_call, free_call, there_call, folder_call, print_call, tell_call, terminal_call, seconds_call, pause_call, word_call, time_call};
 ghost use Rattle.hosts.specs.Faults.{link_number, mount_number, pipe_number, stream_number};
 
 use crate::{HostFault, LinkFault, PrintFault, RenameFault, Stream};
@@ -86,6 +86,10 @@ pub trait Host {
     fn sync_beside(&mut self, path: &str) -> Result<(), HostFault>
         ensures { history self.new ≡ sync_call path.now (is_ok result) ∷ history self.old };
 
+    /// Has the file beside it be last changed so many seconds after the begin of 1970 in UTC, as `stat` then says. Its bytes stay.
+    fn date_beside(&mut self, path: &str, seconds: u64) -> Result<(), HostFault>
+        ensures { history self.new ≡ date_call path.now (is_ok result) seconds ∷ history self.old };
+
     /// Takes away the file beside it, or the name that it has there too.
     fn drop_beside(&mut self, path: &str) -> Result<(), HostFault>
         ensures { history self.new ≡ drop_call path.now (is_ok result) ∷ history self.old };
@@ -131,6 +135,12 @@ pub trait Host {
     /// Whether a name is there, as that of a link too.
     fn is_there(&mut self, name: &str) -> bool
         ensures { history self.new ≡ there_call name.now result ∷ history self.old };
+
+    /// When the file of a name was last changed, through links, in seconds after the begin of 1970 in UTC; 0 where that was before.
+    fn time_of(&mut self, name: &str) -> Result<u64, HostFault>
+        ensures { MatchResult result
+            (λ seconds. history self.new ≡ time_call name.now seconds ∷ history self.old)
+            (λ fault. history self.new ≡ failed_call TimeOf name.now fault ∷ history self.old) };
 
     /// Makes a folder, unless there is one of that name.
     fn make_folder(&mut self, name: &str) -> Result<(), HostFault>

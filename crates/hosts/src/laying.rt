@@ -4,8 +4,9 @@ ghost use Rattle.hosts.specs.Event.{there_call};
 ghost use Rattle.hosts.specs.Faults.{fault_number};
 ghost use Rattle.hosts.specs.Place.{about};
 ghost use Rattle.hosts.specs.Saving.{Lays, replacements};
-ghost use Rattle.hosts.specs.SavingSteps.{IsQuiet, laid_calls};
+ghost use Rattle.hosts.specs.SavingSteps.{AreDatedCalls, IsQuiet, laid_calls};
 ghost use Rattle.hosts.specs.Streams.{output, errors, read, failures, last_fault};
+ghost use Rattle.hosts.specs.Times.{file_time};
 
 use crate::making::take_path;
 use crate::saving::give_up;
@@ -13,16 +14,19 @@ use crate::{Host, HostFault, LinkFault};
 use std::alloc::Global;
 
 /// Lays a file of these bytes: it is made beside its name, and gets that once it is whole. Where one of the name is there the answer is
-/// `Busy`, unless that is to be replaced. When the bytes come to the disk is left to the system.
+/// `Busy`, unless that is to be replaced. When the bytes come to the disk is left to the system. Where seconds are given it was last changed
+/// so long after the begin of 1970 in UTC, or has the time of its writing where the system can't set that.
 pub fn lay<H: Host>(
     host: &mut H,
     alloc: Global,
     name: &str,
     bytes: &[u8],
+    seconds: Option<u64>,
     replaces: bool,
 ) -> Result<(), HostFault>
     ensures replaced { replaces ≡ false → replacements (about name.now (H.history host.new)) ≡ replacements (about name.now (H.history host.old)) }
     ensures lays { Lays result bytes.now (about name.now (H.history host.old)) (about name.now (H.history host.new)) }
+    ensures time { OnOk result (file_time (about name.now (H.history host.new)) ≡ seconds) }
     ensures cause { OnErr result ((failures (H.history host.old) < failures (H.history host.new))
         ⊎ (H.history host.new ≡ there_call name.now true ∷ H.history host.old)) }
     ensures why { IfErr result (λ fault. fault_number fault ≡ last_fault (H.history host.new)) }
@@ -35,7 +39,7 @@ pub fn lay<H: Host>(
     if !replaces && host.is_there(name) {
         return Err(HostFault::Busy);
     }
-    prepare_laid(host, alloc, name, bytes)?;
+    prepare_laid(host, alloc, name, bytes, seconds)?;
     if replaces {
         return match host.rename(name) {
             Ok(()) => Ok(()),
@@ -67,14 +71,15 @@ pub fn lay<H: Host>(
     }
 }
 
-/// Makes a file of these bytes beside a name. Where it can't, that file is taken away.
+/// Makes a file of these bytes beside a name, of a time if one is given. Where it can't be made, that file is taken away.
 fn prepare_laid<H: Host>(
     host: &mut H,
     alloc: Global,
     name: &str,
     bytes: &[u8],
+    seconds: Option<u64>,
 ) -> Result<(), HostFault>
-    ensures ready { OnOk result (H.history host.new ≡ laid_calls name.now bytes.now (H.history host.old)) }
+    ensures ready { OnOk result (AreDatedCalls seconds name.now (laid_calls name.now bytes.now (H.history host.old)) (H.history host.new)) }
     ensures quiet { OnErr result (IsQuiet name.now (H.history host.old) (H.history host.new)) }
     ensures why { IfErr result (λ fault. fault_number fault ≡ last_fault (H.history host.new)) }
 {
@@ -87,5 +92,15 @@ fn prepare_laid<H: Host>(
         give_up(host, name);
         return Err(HostFault::Failed);
     }
+    date_laid(host, name, seconds);
     Ok(())
+}
+
+/// Gives the file beside a name a time, if one is given and the system can set it.
+fn date_laid<H: Host>(host: &mut H, name: &str, seconds: Option<u64>)
+    ensures { AreDatedCalls seconds name.now (H.history host.old) (H.history host.new) }
+{
+    if let Some(seconds) = seconds {
+        let _ = host.date_beside(name, seconds);
+    }
 }

@@ -5,6 +5,7 @@ ghost use Rattle.hosts.specs.Place.{about};
 ghost use Rattle.hosts.specs.Saving.{Makes, AnyMomentOf, replacements};
 ghost use Rattle.hosts.specs.SavingSteps.{Takes, IsQuiet, new_calls};
 ghost use Rattle.hosts.specs.Streams.{output, errors, read, failures, last_fault, path_of_name, asked_name, has_links};
+ghost use Rattle.hosts.specs.Times.{beside_time, file_time};
 
 use crate::saving::give_up;
 use crate::{Durability, Host, HostFault, LinkFault};
@@ -93,6 +94,7 @@ pub fn make_at<H: Host>(
 pub(crate) fn take_path<H: Host>(host: &mut H, path: &str) -> Result<(), HostFault>
     ensures replaced { replacements (about path.now (H.history host.new)) ≡ replacements (about path.now (H.history host.old)) }
     ensures takes { Takes result (about path.now (H.history host.old)) (about path.now (H.history host.new)) }
+    ensures time { OnOk result (file_time (about path.now (H.history host.new)) ≡ beside_time (about path.now (H.history host.old))) }
     ensures cause { OnErr result (failures (H.history host.old) < failures (H.history host.new)) }
     ensures why { IfErr result (λ fault. fault_number fault ≡ last_fault (H.history host.new)) }
     ensures others { (other : List ℕ) → bytes_eq path.now other ≡ false

@@ -64,6 +64,10 @@ pub const WRITE_OVER: u64 = 28;
 
 pub const FINISH_OVER: u64 = 29;
 
+pub const TIME_OF: u64 = 30;
+
+pub const DATE_BESIDE: u64 = 31;
+
 /// 1 where a call succeeded, and else 0.
 pub fn number<T, E>(done: &Result<T, E>) -> u64
     ensures { result ≡ (if is_ok done.now then 1 else 0) }

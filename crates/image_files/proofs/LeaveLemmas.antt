@@ -8,11 +8,11 @@ use Rattle.outcome.specs.Hints.{image_note}
 use Rattle.outcome.specs.declared.contents.Content.TheVariants as content
 use Rattle.outcome.specs.declared.endings.Ending.{Ending}
 use Rattle.outcome.specs.declared.endings.Ending.TheVariants.{Line, Fault, Failure, Busy, NotWritten, FullOutput, NoReader, Misuse}
-use Rattle.outcome.specs.declared.notes.PlainNote.{PlainNote}
+use Rattle.outcome.specs.declared.hints.ImageNote.{ImageNote}
 use Rattle.archive_files.specs.declared.faults.ArchiveFault.{ArchiveFault}
 use Rattle.program_tasks.specs.declared.forms.ImageForm.{ImageForm}
 use Rattle.image_files.specs.Answers.{Answers, Refuses}
-use Rattle.image_files.specs.Notes.{Tells}
+use Rattle.image_files.specs.Notes.{TellsOfImage}
 use Rattle.image_files.specs.Reading.{Opens}
 use Rattle.image_files.specs.Saving.{Prints, SavesIf, Stores, Writes}
 use Rattle.image_files.specs.Work.{Then}
@@ -32,7 +32,7 @@ pub then-leaves : {A B : Type 0} (first : List Event → Result A Ending → Lis
 then-leaves first next f n old ending new (inl ends) is = f old (Err ending) new ends
 then-leaves first next f n old ending new (inr it) is = λ path. n it.given it.between ending new it.after is path ∙ f old (Ok it.given) it.between it.done path
 
-pub tells-never : (note : Option PlainNote) (old new : List Event) → Tells note old new → ChangesNothing old new
+pub tells-never : (note : Option ImageNote) (old new : List Event) → TellsOfImage note old new → ChangesNothing old new
 tells-never None old new p = same old new p
 tells-never (Some note) old new p = told p.0 _ old new p.1
 

@@ -125,7 +125,7 @@ fn lay_file<H: Host>(
 ) -> Result<(), HostFault>
     ensures { LaysFile path.now bytes.now is_forced (H.history host.old) result (H.history host.new) }
 {
-    match lay(host, alloc, path, bytes, is_forced) {
+    match lay(host, alloc, path, bytes, None, is_forced) {
         Ok(()) => Ok(()),
         Err(fault) => Err(fault),
     }

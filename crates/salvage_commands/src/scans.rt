@@ -134,7 +134,7 @@ fn line_of(alloc: Global, scan: &Scan, piece: Piece) -> Result<Vec<u8>, Ending>
 fn lay_first<H: Host>(host: &mut H, alloc: Global, path: &str, bytes: &[u8]) -> Result<(), Ending>
     ensures { LaysFirst path.now bytes.now (H.history host.old) result (H.history host.new) }
 {
-    match lay(host, alloc, path, bytes, false) {
+    match lay(host, alloc, path, bytes, None, false) {
         Ok(()) => Ok(()),
         Err(fault) => Err(ending_of(fault)),
     }

@@ -10,7 +10,7 @@ use std::io::{self, ErrorKind, Input, IsTerminal, Read, Seek, SeekFrom, Write};
 use std::os::unix::fs::{FileTypeExt, MetadataExt, chown};
 use std::path::{Path, PathBuf};
 use std::thread;
-use std::time::{Clock, Duration, Instant};
+use std::time::{Clock, Duration, Instant, SystemTime};
 
 /// How many names beside a file are tried, and how often a file is locked anew whose name leads elsewhere meanwhile.
 const TRIES: u16 = 1000;
@@ -304,6 +304,23 @@ fn is_free<R: Files>(rt: &R, path: &PathBuf) -> Result<bool, HostFault> {
             ErrorKind::NotFound => Ok(true),
             _ => Err(fault_of(&error)),
         },
+    }
+}
+
+/// Has an open file be last changed so many seconds after the begin of 1970 in UTC.
+pub(crate) fn set_time(file: &File, seconds: u64) -> Result<(), HostFault> {
+    match SystemTime::UNIX_EPOCH.checked_add(Duration::from_secs(seconds)) {
+        Some(time) => answer(file.set_modified(time)),
+        None => Err(HostFault::Failed),
+    }
+}
+
+/// When the file of a name was last changed, in seconds after the begin of 1970 in UTC, or 0 where that was before.
+pub(crate) fn time_of<R: Files<File = File>>(rt: &R, name: &str) -> Result<u64, HostFault> {
+    let named = answer(fs::metadata(rt, name))?;
+    match u64::try_from(named.mtime()) {
+        Ok(seconds) => Ok(seconds),
+        Err(_) => Ok(0),
     }
 }
 

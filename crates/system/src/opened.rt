@@ -5,7 +5,7 @@ ghost use Rattle.std.specs.Prelude.{◌≤◌, ◌+◌, length, IfOk};
 use crate::besides::Besides;
 use crate::files::{
     answer, claim_path, cut_at, has_taken_lock, held_bytes, hold_path, leads_to, link_fault,
-    made_beside, put_at, remove_besides, rename_fault, stands_alone, take_owner,
+    made_beside, put_at, remove_besides, rename_fault, set_time, stands_alone, take_owner,
 };
 use hosts::{HostFault, LinkFault, RenameFault};
 use std::alloc::{AllocError, Global};
@@ -150,6 +150,13 @@ impl Opened {
     pub(crate) fn write_beside(&mut self, bytes: &[u8]) -> Result<(), HostFault> {
         match &mut self.beside {
             Some(file) => answer(file.write_all(bytes)),
+            None => Err(HostFault::Absent),
+        }
+    }
+
+    pub(crate) fn date_beside(&self, seconds: u64) -> Result<(), HostFault> {
+        match &self.beside {
+            Some(file) => set_time(file, seconds),
             None => Err(HostFault::Absent),
         }
     }

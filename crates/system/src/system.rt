@@ -9,12 +9,13 @@
 //! - `drop_seconds`: `lstat` and `unlink` of the names beside the path that have the held file's number. No path's bytes change.
 //! - `look_held`, `look`, `take_input`: `read` until the end, or one byte past the most that is wanted. What it gives is what the file had
 //!   while it was read: a file that others replace is read whole, and one that is held is changed by nobody.
-//! - `is_alone`, `leads_to_held`, `is_there`, `is_terminal`: `fstat`, `stat`, `lstat`, `isatty`, and nothing changes.
+//! - `is_alone`, `leads_to_held`, `is_there`, `is_terminal`, `time_of`: `fstat`, `stat`, `lstat`, `isatty`, `stat`, and nothing changes.
 //! - `make_beside`: `open` with `O_CREAT` and `O_EXCL` of `.NAME.pdp8-000` and so on, and a second number for it. No path that a person
 //!   names changes.
 //! - `own_beside`: `fstat`, `chown` where the owner differs, `fchmod`. No byte changes.
 //! - `lock_beside`: `flock` without waiting.
 //! - `write_beside`: `write` until all bytes are written. A failed one may have written some.
+//! - `date_beside`: `futimens`, which sets the time that `stat` gives as that of the last change, or doesn't. No byte changes.
 //! - `sync_beside`: `fsync`. Where it succeeds the disk has the file's bytes; where it fails nothing is known of them.
 //! - `drop_beside`: `unlink` of the name beside.
 //! - `rename`: `rename`, which is done or not done, for every reader and for a crash. A crash after it may leave either file under the path
@@ -33,10 +34,10 @@ ghost use Rattle.hosts.specs.Raw.{events_of};
 use crate::files;
 use crate::opened::Opened;
 use hosts::notes::{
-    ALONE, CLAIM, DROP_BESIDE, DROP_CLAIM, DROP_SECONDS, END_OF_WORDS, FINISH_OVER, FREE, HOLD,
-    LEADS, LINK_NEW, LOCK_BESIDE, LOOK, MAKE_BESIDE, MAKE_FOLDER, OWN_BESIDE, PAUSE, PRINT, RENAME,
-    RESOLVE, SECONDS, SYNC_BESIDE, SYNC_FOLDER, TAKE_INPUT, TELL, TERMINAL, THERE, WORD,
-    WRITE_BESIDE, WRITE_OVER, fault_number, number,
+    ALONE, CLAIM, DATE_BESIDE, DROP_BESIDE, DROP_CLAIM, DROP_SECONDS, END_OF_WORDS, FINISH_OVER,
+    FREE, HOLD, LEADS, LINK_NEW, LOCK_BESIDE, LOOK, MAKE_BESIDE, MAKE_FOLDER, OWN_BESIDE, PAUSE,
+    PRINT, RENAME, RESOLVE, SECONDS, SYNC_BESIDE, SYNC_FOLDER, TAKE_INPUT, TELL, TERMINAL, THERE,
+    TIME_OF, WORD, WRITE_BESIDE, WRITE_OVER, fault_number, number,
 };
 use hosts::{Host, HostFault, LinkFault, PrintFault, Record, RenameFault, Stream};
 use std::alloc::{AllocError, Global};
@@ -198,6 +199,12 @@ where
         done
     }
 
+    fn date_beside(&mut self, path: &str, seconds: u64) -> Result<(), HostFault> {
+        let done = self.files.date_beside(seconds);
+        self.log.note(&[DATE_BESIDE, number(&done), seconds], path.as_bytes(), &[]);
+        done
+    }
+
     fn sync_beside(&mut self, path: &str) -> Result<(), HostFault> {
         let done = self.files.sync_beside();
         self.log
@@ -290,6 +297,17 @@ where
         self.log
             .note(&[THERE, u64::from(is), 0], name.as_bytes(), &[]);
         is
+    }
+
+    fn time_of(&mut self, name: &str) -> Result<u64, HostFault> {
+        let done = files::time_of(self.rt, name);
+        match &done {
+            Ok(seconds) => self.log.note(&[TIME_OF, 1, *seconds], name.as_bytes(), &[]),
+            Err(fault) => self
+                .log
+                .note(&[TIME_OF, 0, fault_number(fault)], name.as_bytes(), &[]),
+        }
+        done
     }
 
     fn make_folder(&mut self, name: &str) -> Result<(), HostFault> {
