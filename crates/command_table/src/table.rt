@@ -1,8 +1,7 @@
 //! The subcommands and their arguments: what each takes, which exclude each other, and what help says of them. All else that the command
 //! line does is read from here.
 ghost use Rattle.std.specs.Prelude.{◌≡◌, map};
-ghost use Rattle.command_table.specs.Tables.{rows_for};
-ghost use Rattle.command_table.specs.Steps.{entry_of, pair_of, row_of};
+ghost use Rattle.command_table.specs.Tables.{rows_for, entry_of, pair_of, row_of};
 ghost use Rattle.command_table.specs.Tables as spec;
 
 use word12::MOST_BLOCKS;

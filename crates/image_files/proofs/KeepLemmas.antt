@@ -33,13 +33,13 @@ use Rattle.image_files.specs.declared.reading.ImagePlace.{ImagePlace}
 same : {old new : List Event} (path : List ℕ) → new ≡ old → about path new ≡ about path old
 same path is = ap (λ (events : List Event). about path events) is
 
-then-keeps : {A B : Type 0} (first : List Event → Result A Ending → List Event → Type 0) (next : A → List Event → Result B Ending → List Event → Type 0)
+pub then-keeps : {A B : Type 0} (first : List Event → Result A Ending → List Event → Type 0) (next : A → List Event → Result B Ending → List Event → Type 0)
     → KeepsFiles first → ((given : A) → KeepsFiles (next given)) → KeepsFiles (Then first next)
 then-keeps first next f n old (Ok r) new (inl ends) path = absurd ends
 then-keeps first next f n old (Err e) new (inl ends) path = f old (Err e) new ends path
 then-keeps first next f n old result new (inr it) path = n it.given it.between result new it.after path ∙ f old (Ok it.given) it.between it.done path
 
-purely-keeps : {A : Type 0} (gives : Result A Ending → Type 0) → KeepsFiles (Purely gives)
+pub purely-keeps : {A : Type 0} (gives : Result A Ending → Type 0) → KeepsFiles (Purely gives)
 purely-keeps gives old result new p path = same path p.1
 
 -- ## What is printed

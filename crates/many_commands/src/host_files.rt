@@ -9,6 +9,7 @@ ghost use Rattle.many_commands.specs.NameSteps.{KnowsNames, has_key};
 use crate::texts::put_form;
 use archive_many::{NewFile, volume_name};
 use hosts::Host;
+use image_files::{look_file, tell_note};
 use os8_dir::{FileFault, Name};
 use outcome::{Ending, NameNote, Note, PlainNote};
 use program_reports::ProgramLine;
@@ -16,7 +17,6 @@ use program_tasks::TextsForm;
 use script8::SessionFault;
 use std::alloc::{AllocError, Global};
 use std::collections::BTreeSet;
-use image_files::{look_file, tell_note};
 
 /// The files of these paths, which are read in their order.
 pub(crate) fn read_files<H: Host>(

@@ -15,13 +15,13 @@ use crate::texts::take_lists;
 use archive_files::bad_text_at;
 use archive_many::{ManyFault, ManyImage, NewFile, VolumeFile, empties, open, put_all};
 use hosts::Host;
+use image_files::{Image, refuse_image, store, tell_note};
 use os8_dir::FileFault;
 use outcome::{Ending, NameNote, Note};
 use program_reports::{ProgramLine, put_program};
 use program_tasks::PutManyForm;
 use script8::SessionFault;
 use std::alloc::{AllocError, Global};
-use image_files::{Image, refuse_image, store, tell_note};
 use word12::Word;
 
 /// Makes files of the host files of the volume in an image file, all or none, and reports each.
