@@ -268,8 +268,8 @@ abbrev pub Refuses : Option (Text × List Row) → Text → Refusal → Type 0
 Refuses None line refusal = ⊥
 Refuses (Some met) line refusal = RefusesOf (entry_named met.0) met.1 line refusal
 
--- A new volume has 8 to 4095 blocks. Blocks are 0 to 4094, and their number is 1 to 4095. At least one file is put or taken out. 1 to 4095 volumes
--- are checked, and an index is made of 1 to 1000000 images. A word of a block has a number below 256. There are 1 to 8 sources, of those of the host
+-- A new volume has 8 to 4095 blocks. Blocks are 0 to 4094, and their number is 1 to 4095. At least one file is put or taken out. 1 to 1000000
+-- images are checked, and an index is made of as many. A word of a block has a number below 256. There are 1 to 8 sources, of those of the host
 -- one at most standard input. There is a listing where there are cross references, and a volume where one gets the tape. A limit of instructions is 1
 -- up.
 abbrev pub HasFitBlocks : Task → Type 0
@@ -278,7 +278,7 @@ HasFitBlocks (GetBlocks form) = (form.first ≤ 4094) × (1 ≤ form.count) × (
 HasFitBlocks (PutMany form) = 1 ≤ length form.files.items
 HasFitBlocks (Delete form) = 1 ≤ length form.names.items + length form.places.items
 HasFitBlocks (Patch form) = form.number < 0o400
-HasFitBlocks (Check form) = (1 ≤ length form.images.items) × (length form.images.items ≤ MOST_BLOCKS)
+HasFitBlocks (Check form) = (1 ≤ length form.images.items) × (length form.images.items ≤ MOST_IMAGES)
 HasFitBlocks (Index form) = (1 ≤ length form.images.items) × (length form.images.items ≤ MOST_IMAGES)
 HasFitBlocks (Assemble form) = (1 ≤ length form.sources.items) × (length form.sources.items ≤ 8)
     × (form.from ≡ None → input_count (map (λ file. file.bytes.items) form.sources.items) ≤ 1)

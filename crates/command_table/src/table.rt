@@ -97,7 +97,7 @@ pub enum Verb {
     Scan,
 }
 
-/// The most images that an index takes.
+/// The most images that are checked, or that an index is made of.
 pub const MOST_IMAGES: usize = 1_000_000;
 
 /// An argument of a subcommand, with texts of the type `T`.
@@ -394,7 +394,7 @@ pub const SQUEEZE: &[Argument] = rows! {
 };
 
 pub const CHECK: &[Argument] = rows! {
-    "IMAGE" must Kind::Words(MOST_BLOCKS), "", "The files that hold the volumes";
+    "IMAGE" must Kind::Words(MOST_IMAGES), "", "The files that hold the volumes";
     "all" 'a' flag Kind::Flag, "", "Show each fault of the directory, and the files that are sound";
     "volume" 'v' option Kind::One(Form::Volume), "N", "The volume of an RK05 disk, 1 or 2, where IMAGE is the file of one";
     "dectape" flag Kind::Flag, "", "IMAGE is the file of a DECtape, of 129 words a block";
