@@ -19,11 +19,11 @@ from tests.rattle_sources import APART, Function, Source, closing, crate_of, fil
 LENT = {"alloc", "rt", "caller"}
 FREE = {
     ("fake_host", "new", "memory"),
+    ("image_files", "end", "rooms"),
     ("outcome", "outcome_of", "room"),
     ("pal8_values", "word_value", "frames"),
     ("task_commands", "run_task", "rooms"),
     ("task_commands", "run_words", "rooms"),
-    ("volume_commands", "end", "rooms"),
 }
 ARGUMENT = re.compile(r"(?:&(?:'\w+ )?)?(?:mut )?(\w+)")
 

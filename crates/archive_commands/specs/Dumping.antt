@@ -16,9 +16,9 @@ use Rattle.program_reports.specs.declared.programs.ProgramLine.TheVariants as li
 use Rattle.program_tasks.specs.declared.forms.ImageForm.{ImageForm}
 use Rattle.outcome.specs.declared.endings.Ending.{Ending}
 use Rattle.outcome.specs.declared.endings.Ending.TheVariants.{Line, Fault}
-use Rattle.volume_commands.specs.Work.{Then, Purely}
-use Rattle.volume_commands.specs.Reading.{LooksAt}
-use Rattle.volume_commands.specs.Saving.{Prints}
+use Rattle.image_files.specs.Work.{Then, Purely}
+use Rattle.image_files.specs.Reading.{LooksAt}
+use Rattle.image_files.specs.Saving.{Prints}
 use Rattle.archive_commands.specs.Lines.{bits_text}
 
 -- ## The lines of a block

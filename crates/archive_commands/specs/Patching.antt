@@ -10,10 +10,10 @@ use Rattle.script8.specs.declared.faults.SessionFault.TheVariants.{Memory}
 use Rattle.program_tasks.specs.declared.forms.ImageForm.{ImageForm}
 use Rattle.outcome.specs.declared.endings.Ending.{Ending}
 use Rattle.outcome.specs.declared.endings.Ending.TheVariants.{Fault}
-use Rattle.volume_commands.specs.Work.{Then, Purely}
-use Rattle.volume_commands.specs.Reading.{Opens}
-use Rattle.volume_commands.specs.Saving.{Stores}
-use Rattle.volume_commands.specs.Answers.{AreLines}
+use Rattle.image_files.specs.Work.{Then, Purely}
+use Rattle.image_files.specs.Reading.{Opens}
+use Rattle.image_files.specs.Saving.{Stores}
+use Rattle.image_files.specs.Answers.{AreLines}
 use Rattle.archive_commands.specs.Lines.{bits_text}
 use Rattle.archive_commands.specs.Refusing.{EndsWith}
 use Rattle.archive_commands.specs.declared.patches.WordPatch.{WordPatch}

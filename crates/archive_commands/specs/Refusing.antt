@@ -3,7 +3,7 @@ use Rattle.std.specs.Prelude.{ℕ, Result, Ok, Err, List}
 use Rattle.hosts.specs.Event.{Event}
 use Rattle.outcome.specs.declared.endings.Ending.{Ending}
 use Rattle.outcome.specs.declared.endings.Ending.TheVariants.{Failure, FullOutput, NoReader}
-use Rattle.volume_commands.specs.Saving.{Prints}
+use Rattle.image_files.specs.Saving.{Prints}
 
 -- a line is printed, and the command ends with the status of a refusal; or standard output does not take the line
 abbrev pub EndsWith : List ℕ → List Event → Ending → List Event → Type 0

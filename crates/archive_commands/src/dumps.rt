@@ -13,7 +13,7 @@ use outcome::Ending;
 use program_reports::ProgramLine;
 use program_tasks::ImageForm;
 use std::alloc::{AllocError, Global};
-use volume_commands::{look_at, print};
+use image_files::{look_at, print};
 use word12::{BLOCK, Word};
 
 /// Shows blocks of the volume in an image file, which may be damaged. Of each it shows its number, the file that has it, its words of more

@@ -1,6 +1,6 @@
 //! The command that puts one word of an image in place of another.
 ghost use Rattle.std.specs.Prelude.{◌≡◌, ◌++◌, OnOk};
-ghost use Rattle.volume_commands.specs.Answers.{AreLines};
+ghost use Rattle.image_files.specs.Answers.{AreLines};
 ghost use Rattle.image_patch.specs.declared.faults.PatchFault.TheVariants.{NoBlock, OtherWord};
 ghost use Rattle.archive_commands.specs.Patching.{PatchesWord, GivesPatched, RefusesPatch, fault_text, patched_text};
 
@@ -11,7 +11,7 @@ use image_patch::{PatchFault, patch};
 use outcome::Ending;
 use program_tasks::ImageForm;
 use std::alloc::{AllocError, Global};
-use volume_commands::{Image, store};
+use image_files::{Image, store};
 use word12::Word;
 
 /// A word of an image in place of another.

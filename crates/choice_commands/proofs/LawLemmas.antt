@@ -19,13 +19,13 @@ use Rattle.outcome.specs.declared.endings.Ending.TheVariants.{Line, Fault, Failu
 use Rattle.program_tasks.specs.declared.forms.CopyManyForm.{CopyManyForm}
 use Rattle.program_tasks.specs.declared.forms.ImageForm.{ImageForm}
 use Rattle.program_tasks.specs.declared.forms.ListForm.{ListForm}
-use Rattle.volume_commands.specs.Answers.{Answers, AreLines, Refuses}
-use Rattle.volume_commands.specs.Copying.{IsOneRefused, RefusesIf, is_one_image, is_want_of}
-use Rattle.volume_commands.specs.Laws.{KeepsFiles}
-use Rattle.volume_commands.specs.Reading.{LooksAt, Opens}
-use Rattle.volume_commands.specs.Saving.{Prints, SavesIf, Stores, Writes}
-use Rattle.volume_commands.specs.Work.{Then, Purely}
-use Rattle.volume_commands.specs.declared.images.Image.{Image}
+use Rattle.image_files.specs.Answers.{Answers, AreLines, Refuses}
+use Rattle.image_files.specs.Pairs.{IsOneRefused, RefusesIf, is_one_image, is_want_of}
+use Rattle.image_files.specs.Laws.{KeepsFiles}
+use Rattle.image_files.specs.Reading.{LooksAt, Opens}
+use Rattle.image_files.specs.Saving.{Prints, SavesIf, Stores, Writes}
+use Rattle.image_files.specs.Work.{Then, Purely}
+use Rattle.image_files.specs.declared.images.Image.{Image}
 use Rattle.choice_commands.specs.Copying as copies
 use Rattle.choice_commands.specs.Copying.{CopiesFrom, CopiesInto, CopiesMany, FindsAll, FindsFiles, OpensFrom, PutsFiles, StoresCopies, stored_lines}
 use Rattle.choice_commands.specs.Listing as lists

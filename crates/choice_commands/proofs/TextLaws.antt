@@ -5,11 +5,11 @@ use Rattle.archive_many.specs.declared.opened.VolumeFile.{VolumeFile}
 use Rattle.archive_many.specs.declared.wishes.Wish.{Wish}
 use Rattle.archive_many.specs.declared.wishes.Wish.TheVariants as wish
 use Rattle.program_tasks.specs.declared.forms.ImageForm.{ImageForm}
-use Rattle.volume_commands.specs.Answers.{Answers, AreLines}
-use Rattle.volume_commands.specs.Laws.{KeepsFiles}
-use Rattle.volume_commands.specs.Reading.{LooksAt}
-use Rattle.volume_commands.specs.Saving.{Prints}
-use Rattle.volume_commands.specs.Work.{Then, Purely}
+use Rattle.image_files.specs.Answers.{Answers, AreLines}
+use Rattle.image_files.specs.Laws.{KeepsFiles}
+use Rattle.image_files.specs.Reading.{LooksAt}
+use Rattle.image_files.specs.Saving.{Prints}
+use Rattle.image_files.specs.Work.{Then, Purely}
 use Rattle.choice_commands.specs.Listing.{EndsWhere}
 use Rattle.choice_commands.specs.Texts.{AreAsked, AreSeveral, IsHostName, RefusesWish, ShowsEach, ShowsText, ShowsTexts, ShowsWish, TakesText, TellsNone, head_of, refusal_line}
 use Rattle.choice_commands.proofs.LawLemmas.{LooksKeep, PrintsKeep, RefusesKeep, answers-keep, purely-keeps, same, then-keeps, told}

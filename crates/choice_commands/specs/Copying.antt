@@ -15,12 +15,12 @@ use Rattle.archive_many.specs.declared.wishes.Wish.{Wish}
 use Rattle.outcome.specs.declared.endings.Ending.{Ending}
 use Rattle.outcome.specs.declared.endings.Ending.TheVariants.{Fault}
 use Rattle.program_tasks.specs.declared.forms.CopyManyForm.{CopyManyForm}
-use Rattle.volume_commands.specs.Work.{Then, Purely}
-use Rattle.volume_commands.specs.Reading.{Opens, LooksAt}
-use Rattle.volume_commands.specs.Answers.{AreLines}
-use Rattle.volume_commands.specs.Copying.{IsOneRefused, is_one_image}
-use Rattle.volume_commands.specs.Saving.{Stores}
-use Rattle.volume_commands.specs.declared.images.Image.{Image}
+use Rattle.image_files.specs.Work.{Then, Purely}
+use Rattle.image_files.specs.Reading.{Opens, LooksAt}
+use Rattle.image_files.specs.Answers.{AreLines}
+use Rattle.image_files.specs.Pairs.{IsOneRefused, is_one_image}
+use Rattle.image_files.specs.Saving.{Stores}
+use Rattle.image_files.specs.declared.images.Image.{Image}
 use Rattle.choice_commands.specs.Refusing.{RefusesCopies, RefusesWish}
 use Rattle.choice_commands.specs.Wishing.{AreWished}
 

@@ -17,10 +17,10 @@ use Rattle.outcome.specs.declared.endings.Ending.{Ending}
 use Rattle.outcome.specs.declared.endings.Ending.TheVariants.{Failure}
 use Rattle.program_reports.specs.Prefixes.{with_prefixes}
 use Rattle.program_tasks.specs.declared.forms.ListForm.{ListForm}
-use Rattle.volume_commands.specs.Work.{Then, Purely}
-use Rattle.volume_commands.specs.Reading.{LooksAt}
-use Rattle.volume_commands.specs.Answers.{Answers, AreLines}
-use Rattle.volume_commands.specs.Saving.{Prints}
+use Rattle.image_files.specs.Work.{Then, Purely}
+use Rattle.image_files.specs.Reading.{LooksAt}
+use Rattle.image_files.specs.Answers.{Answers, AreLines}
+use Rattle.image_files.specs.Saving.{Prints}
 use Rattle.choice_commands.specs.Wishing.{AreWished}
 
 -- ## Words of no file

@@ -17,7 +17,7 @@ use Rattle.outcome.specs.declared.endings.Ending.{Ending}
 use Rattle.outcome.specs.declared.endings.Ending.TheVariants.{Fault, Line}
 use Rattle.program_reports.specs.declared.programs.ProgramLine.TheVariants.{CopyExists}
 use Rattle.program_tasks.specs.declared.forms.CopyManyForm.{CopyManyForm}
-use Rattle.volume_commands.specs.Copying.{IsOneRefused}
+use Rattle.image_files.specs.Pairs.{IsOneRefused}
 
 -- ## A word of no file
 

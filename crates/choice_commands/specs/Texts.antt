@@ -15,11 +15,11 @@ use Rattle.archive_many.specs.declared.wishes.Wish.TheVariants as wish
 use Rattle.outcome.specs.declared.endings.Ending.{Ending}
 use Rattle.outcome.specs.declared.endings.Ending.TheVariants.{Fault}
 use Rattle.program_tasks.specs.declared.forms.ImageForm.{ImageForm}
-use Rattle.volume_commands.specs.Work.{Then, Purely}
-use Rattle.volume_commands.specs.Reading.{LooksAt}
-use Rattle.volume_commands.specs.Answers.{Answers, AreLines}
-use Rattle.volume_commands.specs.Ending.{TellsLine}
-use Rattle.volume_commands.specs.Saving.{Prints}
+use Rattle.image_files.specs.Work.{Then, Purely}
+use Rattle.image_files.specs.Reading.{LooksAt}
+use Rattle.image_files.specs.Answers.{Answers, AreLines}
+use Rattle.image_files.specs.Ending.{TellsLine}
+use Rattle.image_files.specs.Saving.{Prints}
 use Rattle.choice_commands.specs.Listing.{EndsWhere, refusal_for, refusal_of}
 
 -- ## A text

@@ -3,8 +3,8 @@ ghost use Rattle.std.specs.Prelude.{◌≡◌, ◌++◌, false, IfErr, IfOk, OnO
 ghost use Rattle.script8.specs.declared.faults.SessionFault.TheVariants.{Memory};
 ghost use Rattle.archive_many.specs.Wishing.{file_of, found_files};
 ghost use Rattle.outcome.specs.declared.endings.Ending.TheVariants.{Fault};
-ghost use Rattle.volume_commands.specs.Answers.{AreLines};
-ghost use Rattle.volume_commands.specs.Copying as one;
+ghost use Rattle.image_files.specs.Answers.{AreLines};
+ghost use Rattle.image_files.specs.Pairs as one;
 ghost use Rattle.choice_commands.specs.Copying as spec;
 ghost use Rattle.choice_commands.specs.Copying.{CopiesFrom, CopiesInto, CopiesMany, FindsAll, FindsFiles, OpensFrom, PutsFiles, StoresCopies};
 
@@ -16,7 +16,7 @@ use outcome::Ending;
 use program_tasks::CopyManyForm;
 use script8::{LineReply, Reply, put_reply};
 use std::alloc::{AllocError, Global};
-use volume_commands::{Image, is_one_image, look_at, refuse_one, store};
+use image_files::{Image, is_one_image, look_at, refuse_one, store};
 
 /// Copies those files of the volume in an image file that the words choose to the volume in another, all or none, and reports each.
 pub fn copy_files<H: Host>(host: &mut H, alloc: Global, form: &CopyManyForm) -> Result<(), Ending>

@@ -8,12 +8,12 @@ ghost use Rattle.program_tasks.specs.declared.forms.CopyManyForm.{CopyManyForm a
 ghost use Rattle.program_tasks.specs.declared.forms.ListForm.{ListForm as Listed};
 ghost use Rattle.program_tasks.specs.declared.forms.ImageForm.{ImageForm as Seen};
 ghost use Rattle.script8.specs.declared.faults.SessionFault.{SessionFault as Refused};
-ghost use Rattle.volume_commands.specs.Laws.{KeepsFiles};
+ghost use Rattle.image_files.specs.Laws.{KeepsFiles};
 ghost use Rattle.choice_commands.specs.Copying.{CopiesMany};
 ghost use Rattle.choice_commands.specs.Listing.{ListsSome};
 ghost use Rattle.choice_commands.specs.Texts.{ShowsTexts};
 
-use volume_commands::laws::kept_files;
+use image_files::laws::kept_files;
 
 /// A list of some files, or the texts of some, change no file of the host, in whichever way they end. A copy of several that is refused, by a
 /// fault or by a line, has changed none.

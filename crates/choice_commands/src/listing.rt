@@ -2,7 +2,7 @@
 ghost use Rattle.std.specs.Prelude.{◌≡◌, ◌++◌, length, map, slice_get, IfOk, OnOk, Some};
 ghost use Rattle.script8.specs.Replies.{fault_line};
 ghost use Rattle.script8.specs.declared.faults.SessionFault.TheVariants.{File};
-ghost use Rattle.volume_commands.specs.Answers.{Answers, AreLines};
+ghost use Rattle.image_files.specs.Answers.{Answers, AreLines};
 ghost use Rattle.choice_commands.specs.Listing.{EndsWhere, ListsSome, ListsWished, ListsWords, refusal_for, refusal_lines, refusal_of};
 
 use crate::wishing::wishes_on;
@@ -16,7 +16,7 @@ use program_reports::with_prefix;
 use program_tasks::ListForm;
 use script8::{SessionFault, put_reply};
 use std::alloc::{AllocError, Global};
-use volume_commands::{look_at, open_volume, print, refuse_image};
+use image_files::{look_at, open_volume, print, refuse_image};
 
 /// Lists the files of the one volume that is meant whose names are like the words, as `list_files` or `list_places` has them. A word that is like
 /// none is printed before the list, and why.

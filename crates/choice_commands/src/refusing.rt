@@ -14,7 +14,7 @@ use program_reports::ProgramLine;
 use program_tasks::CopyManyForm;
 use script8::SessionFault;
 use std::alloc::{AllocError, Global};
-use volume_commands::{refuse_one, tell_note};
+use image_files::{refuse_one, tell_note};
 
 /// How the command ends where a word asks for no file. It is printed.
 pub fn refuse_wish<H: Host>(host: &mut H, alloc: Global, words: &[String], wish: Wish) -> Ending

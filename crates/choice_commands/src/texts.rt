@@ -1,6 +1,6 @@
 //! The command that prints the texts of several files of the volume in an image file, one after another. No file changes.
 ghost use Rattle.std.specs.Prelude.{◌≡◌, ◌++◌, ◌&&◌, not, map, true, IfOk, OnOk};
-ghost use Rattle.volume_commands.specs.Answers.{AreLines};
+ghost use Rattle.image_files.specs.Answers.{AreLines};
 ghost use Rattle.choice_commands.specs.Texts as spec;
 ghost use Rattle.choice_commands.specs.Texts.{AreAsked, AreSeveral, IsHostName, RefusesWish, ShowsEach, ShowsText, ShowsTexts, ShowsWish, TakesText};
 
@@ -13,7 +13,7 @@ use os8_files::FileFault;
 use outcome::Ending;
 use program_tasks::ImageForm;
 use std::alloc::{AllocError, Global};
-use volume_commands::{look_at, open_volume, print, tell_line};
+use image_files::{look_at, open_volume, print, tell_line};
 
 /// Prints the texts of the files of a volume that words, first blocks, or all ask for, each file once. Where they are several, a line
 /// with its name stands before each, as `head` prints files (the lines are this project's profile).

@@ -3,7 +3,7 @@ use Rattle.std.specs.Prelude.{◌≡◌, ◌≤◌, ◌⊎◌, ℕ, zero, suc, B
 use Rattle.hosts.specs.Event.{Event, terminal_call, seconds_call, tell_call}
 use Rattle.hosts.specs.Streams.{errors}
 use Rattle.outcome.specs.declared.endings.Ending.{Ending}
-use Rattle.volume_commands.specs.Saving.{IsDone}
+use Rattle.image_files.specs.Saving.{IsDone}
 
 -- Progress is printed where standard error is a terminal, and standard output is none. Then the time is asked for.
 abbrev pub BeginsProgress : Bool → List Event → List Event → Type 0

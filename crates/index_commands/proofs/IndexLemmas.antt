@@ -4,7 +4,7 @@ use Rattle.std.specs.Result.{IsErr}
 use Rattle.std.proofs.lemmas.List.{take_all}
 use Rattle.hosts.specs.Event.{Event}
 use Rattle.outcome.specs.declared.endings.Ending.{Ending}
-use Rattle.volume_commands.specs.Work.{Ends}
+use Rattle.image_files.specs.Work.{Ends}
 
 -- a step that ends the command
 pub ends_with : {A B : Type 0} (first : List Event → Result A Ending → List Event → Type 0) (old new : List Event) (result : Result B Ending) (ending : Ending)

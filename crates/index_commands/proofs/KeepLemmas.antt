@@ -9,12 +9,12 @@ use Rattle.program_reports.specs.Prefixes.{with_prefixes}
 use Rattle.outcome.specs.declared.endings.Ending.{Ending}
 use Rattle.outcome.specs.declared.endings.Ending.TheVariants.{Line, Fault, Failure, Busy, NotWritten, FullOutput, NoReader, Misuse}
 use Rattle.volume_index.specs.declared.styles.IndexStyle.{IndexStyle}
-use Rattle.volume_commands.specs.Ending.{TellsLine}
-use Rattle.volume_commands.specs.Laws.{KeepsFiles}
-use Rattle.volume_commands.specs.declared.mending.ImageReading.{ImageReading}
-use Rattle.volume_commands.specs.Reading.{LooksImage, file_named, reading_named}
-use Rattle.volume_commands.specs.Saving.{Prints}
-use Rattle.volume_commands.specs.Work.{Then, Purely}
+use Rattle.image_files.specs.Ending.{TellsLine}
+use Rattle.image_files.specs.Laws.{KeepsFiles}
+use Rattle.image_files.specs.declared.mending.ImageReading.{ImageReading}
+use Rattle.image_files.specs.Reading.{LooksImage, file_named, reading_named}
+use Rattle.image_files.specs.Saving.{Prints}
+use Rattle.image_files.specs.Work.{Then, Purely}
 use Rattle.host_progress.specs.Progressing.{BeginsProgress, EndsProgress, TellsDone, TellsProgress}
 use Rattle.index_commands.specs.Columns.{ChoosesColumns, Shows, lines_in}
 use Rattle.index_commands.specs.declared.columns.Columns.{Columns}

@@ -5,7 +5,7 @@ use Rattle.script8.specs.declared.faults.SessionFault.TheVariants.{Memory}
 use Rattle.outcome.specs.declared.endings.Ending.{Ending}
 use Rattle.outcome.specs.declared.endings.Ending.TheVariants.{Fault}
 use Rattle.volume_index.specs.Json.{json_lines}
-use Rattle.volume_commands.specs.Saving.{Prints}
+use Rattle.image_files.specs.Saving.{Prints}
 use Rattle.text_columns.specs.Columns.{with_columns}
 use Rattle.index_commands.specs.declared.columns.Columns.{Columns}
 use Rattle.index_commands.specs.declared.columns.LineShape.{LineShape}

@@ -6,7 +6,7 @@ use Rattle.script8.specs.declared.faults.SessionFault.TheVariants.{Memory}
 use Rattle.outcome.specs.declared.endings.Ending.{Ending}
 use Rattle.outcome.specs.declared.endings.Ending.TheVariants.{Fault}
 use Rattle.same_files.specs.Same.{IsSame}
-use Rattle.volume_commands.specs.Work.{Then, Purely}
+use Rattle.image_files.specs.Work.{Then, Purely}
 use Rattle.index_commands.specs.declared.columns.Columns.{Columns}
 use Rattle.index_commands.specs.declared.found.Found.{Found}
 use Rattle.index_commands.specs.Columns.{Shows}

@@ -10,9 +10,9 @@ use Rattle.volume_index.specs.declared.styles.IndexStyle.{IndexStyle}
 use Rattle.outcome.specs.Endings.{ending_of_archive}
 use Rattle.outcome.specs.declared.endings.Ending.{Ending}
 use Rattle.outcome.specs.declared.endings.Ending.TheVariants.{Failure, Misuse}
-use Rattle.volume_commands.specs.Work.{Then, Purely}
-use Rattle.volume_commands.specs.declared.mending.ImageReading.{ImageReading}
-use Rattle.volume_commands.specs.Reading.{LooksImage, file_named, reading_named}
+use Rattle.image_files.specs.Work.{Then, Purely}
+use Rattle.image_files.specs.declared.mending.ImageReading.{ImageReading}
+use Rattle.image_files.specs.Reading.{LooksImage, file_named, reading_named}
 use Rattle.host_progress.specs.Progressing.{TellsProgress, WithProgress}
 use Rattle.index_commands.specs.Columns.{ChoosesColumns}
 use Rattle.index_commands.specs.declared.columns.Columns.{Columns}

@@ -6,8 +6,8 @@ use Rattle.program_reports.specs.Program.{program_line}
 use Rattle.program_reports.specs.Prefixes.{with_prefixes}
 use Rattle.outcome.specs.declared.endings.Ending.{Ending}
 use Rattle.outcome.specs.declared.endings.Ending.TheVariants as ending
-use Rattle.volume_commands.specs.Ending.{TellsLine}
-use Rattle.volume_commands.specs.Work.{Then, Purely}
+use Rattle.image_files.specs.Ending.{TellsLine}
+use Rattle.image_files.specs.Work.{Then, Purely}
 use Rattle.index_commands.specs.declared.found.Found.{Found}
 use Rattle.index_commands.specs.Found.{IsFound}
 

@@ -7,7 +7,7 @@ use hosts::{Host, Stream};
 use outcome::Ending;
 use std::alloc::{AllocError, Global};
 use text_columns::align;
-use volume_commands::print;
+use image_files::print;
 use volume_index::json_lines;
 
 /// How wide the columns after the image's name are: a volume's number, a block, a length, a name, a date, and what a file holds.

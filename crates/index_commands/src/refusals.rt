@@ -2,8 +2,8 @@
 ghost use Rattle.std.specs.Prelude.{◌≡◌, ◌++◌, OnOk};
 ghost use Rattle.program_reports.specs.Prefixes.{with_prefixes};
 ghost use Rattle.program_reports.specs.Program.{program_line};
-ghost use Rattle.volume_commands.specs.Answers.{AreLines};
-ghost use Rattle.volume_commands.specs.Ending.{TellsLine};
+ghost use Rattle.image_files.specs.Answers.{AreLines};
+ghost use Rattle.image_files.specs.Ending.{TellsLine};
 ghost use Rattle.index_commands.specs.Refusing.{PassesOver, RefusesVolume, number_text, prefix_of};
 
 use crate::found::Found;

@@ -18,10 +18,10 @@ use Rattle.program_reports.specs.declared.programs.ProgramLine.TheVariants as li
 use Rattle.outcome.specs.declared.endings.Ending.{Ending}
 use Rattle.outcome.specs.declared.endings.Ending.TheVariants.{Fault}
 use Rattle.program_tasks.specs.declared.forms.GetManyForm.{GetManyForm}
-use Rattle.volume_commands.specs.Answers.{Answers, AreLines}
-use Rattle.volume_commands.specs.Reading.{LooksAt}
-use Rattle.volume_commands.specs.Saving.{Prints}
-use Rattle.volume_commands.specs.Work.{Then, Purely}
+use Rattle.image_files.specs.Answers.{Answers, AreLines}
+use Rattle.image_files.specs.Reading.{LooksAt}
+use Rattle.image_files.specs.Saving.{Prints}
+use Rattle.image_files.specs.Work.{Then, Purely}
 use Rattle.many_commands.specs.GettingMany.{AreFilesOn, GetsMany, GivesAsked, GivesEach, GivesFile, GivesWish, HasLaid, IsPath, LaysAndTells, LaysFile, MakesFolder, PrintsAnswer, RefusesWord, ReplacesIf, TakesFile, IsHostName, TellsLaid, count_after}
 use Rattle.many_commands.specs.Laws.{ChangesIn, ChangesNothing, IsIn, NeverChanges, NeverReplaces}
 use Rattle.host_progress.specs.Progressing.{TellsProgress, WithProgress}

@@ -16,17 +16,17 @@ use Rattle.outcome.specs.declared.endings.Ending.TheVariants.{Line, Fault, Failu
 use Rattle.outcome.specs.declared.notes.PlainNote.{PlainNote}
 use Rattle.archive_files.specs.declared.faults.ArchiveFault.{ArchiveFault}
 use Rattle.program_tasks.specs.declared.forms.ImageForm.{ImageForm}
-use Rattle.volume_commands.specs.Answers.{Answers, Refuses}
-use Rattle.volume_commands.specs.Notes.{Tells}
-use Rattle.volume_commands.specs.Mending.{Mends, TellsLines}
-use Rattle.volume_commands.specs.declared.mending.ImageReading.{ImageReading}
+use Rattle.image_files.specs.Answers.{Answers, Refuses}
+use Rattle.image_files.specs.Notes.{Tells}
+use Rattle.image_files.specs.Mending.{Mends, TellsLines}
+use Rattle.image_files.specs.declared.mending.ImageReading.{ImageReading}
 use Rattle.disk_layouts.specs.declared.layouts.Layout.{Layout}
 use Rattle.lenient_images.specs.Lines.{mended_lines}
-use Rattle.volume_commands.specs.Reading.{IsUnread, FindsIn, FindsOne, Holds, HoldsAt, Looks, LooksAt, LooksIf, LooksImage, MakesOne, Opens, hold_calls, looked_name, reading_of, with_lock_note}
-use Rattle.volume_commands.specs.Saving.{Prints, SavesIf, Stores, Writes}
-use Rattle.volume_commands.specs.Work.{Then, Purely}
-use Rattle.volume_commands.specs.declared.images.Image.{Image}
-use Rattle.volume_commands.specs.declared.reading.ImagePlace.{ImagePlace}
+use Rattle.image_files.specs.Reading.{IsUnread, FindsIn, FindsOne, Holds, HoldsAt, Looks, LooksAt, LooksIf, LooksImage, MakesOne, Opens, hold_calls, looked_name, reading_of, with_lock_note}
+use Rattle.image_files.specs.Saving.{Prints, SavesIf, Stores, Writes}
+use Rattle.image_files.specs.Work.{Then, Purely}
+use Rattle.image_files.specs.declared.images.Image.{Image}
+use Rattle.image_files.specs.declared.reading.ImagePlace.{ImagePlace}
 use Rattle.many_commands.specs.Laws.{ChangesNothing, LeavesFiles, NeverChanges, is_refusal}
 
 pub same : (old new : List Event) → new ≡ old → ChangesNothing old new

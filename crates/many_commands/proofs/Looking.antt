@@ -20,14 +20,15 @@ use Rattle.program_tasks.specs.declared.forms.BlocksForm.{BlocksForm}
 use Rattle.program_tasks.specs.declared.forms.CheckForm.{CheckForm}
 use Rattle.program_tasks.specs.declared.forms.FileForm.{FileForm}
 use Rattle.program_tasks.specs.declared.forms.ImageForm.{ImageForm}
-use Rattle.volume_commands.specs.Answers.{Answers, AreLines}
-use Rattle.volume_commands.specs.Ending.{TellsLine}
-use Rattle.volume_commands.specs.declared.mending.ImageReading.{ImageReading}
-use Rattle.volume_commands.specs.Reading.{FindsVolume, LooksAt, LooksImage, file_named, reading_named}
-use Rattle.volume_commands.specs.Saving.{Prints}
+use Rattle.image_files.specs.Answers.{Answers, AreLines}
+use Rattle.image_files.specs.Ending.{TellsLine}
+use Rattle.image_files.specs.declared.mending.ImageReading.{ImageReading}
+use Rattle.image_files.specs.Reading.{FindsVolume, LooksAt, LooksImage, file_named, reading_named}
+use Rattle.image_files.specs.Saving.{Prints}
 use Rattle.volume_commands.specs.Showing.{Shows, wanted_file}
-use Rattle.volume_commands.specs.ShowingParts.{EndsTelling, GivesBlocks, GivesTape, PrintsTape, RefusesBlocks, ShowsBlocks, ShowsTape}
-use Rattle.volume_commands.specs.Work.{Then, Purely}
+use Rattle.volume_commands.specs.ShowingParts.{EndsTelling, GivesBlocks, GivesTape, PrintsTape, ShowsBlocks, ShowsTape}
+use Rattle.image_files.specs.Answers.{RefusesBlocks}
+use Rattle.image_files.specs.Work.{Then, Purely}
 use Rattle.many_commands.specs.declared.reports.Report.{Report}
 use Rattle.many_commands.specs.declared.reports.ReportKind.{ReportKind}
 use Rattle.many_commands.specs.Checking.{ChecksEach, ChecksFiles, ChecksImages, ChecksNext, ChecksSeveral, PrintsCount, kind_of_check, reading_of_check, with_refusal}

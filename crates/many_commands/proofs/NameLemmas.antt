@@ -8,7 +8,7 @@ use Rattle.outcome.specs.declared.endings.Ending.TheVariants.{Fault}
 use Rattle.archive_many.specs.HostNames.{NamesVolume}
 use Rattle.archive_many.specs.declared.putting.NewFile.{NewFile}
 use Rattle.program_tasks.specs.declared.forms.TextsForm.{TextsForm}
-use Rattle.volume_commands.specs.Work.{Then, Purely}
+use Rattle.image_files.specs.Work.{Then, Purely}
 use Rattle.many_commands.specs.NameSteps.{KnowsNames, has_key}
 use Rattle.many_commands.specs.PuttingMany.{IsNewFile, IsNoName, LooksWhole, ReadsNext, RefusesName, RefusesPath, has_name}
 

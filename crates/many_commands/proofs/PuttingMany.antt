@@ -8,12 +8,12 @@ use Rattle.archive_many.specs.declared.putting.NewFile.{NewFile}
 use Rattle.outcome.specs.declared.endings.Ending.{Ending}
 use Rattle.program_tasks.specs.declared.forms.PutManyForm.{PutManyForm}
 use Rattle.program_tasks.specs.declared.forms.TextsForm.{TextsForm}
-use Rattle.volume_commands.specs.Answers.{AreLines}
-use Rattle.volume_commands.specs.Putting.{TellsPlace, is_bad}
-use Rattle.volume_commands.specs.Reading.{Opens}
-use Rattle.volume_commands.specs.Saving.{Stores}
-use Rattle.volume_commands.specs.Work.{Then, Purely}
-use Rattle.volume_commands.specs.declared.images.Image.{Image}
+use Rattle.image_files.specs.Answers.{AreLines}
+use Rattle.image_files.specs.Stored.{TellsPlace, is_bad}
+use Rattle.image_files.specs.Reading.{Opens}
+use Rattle.image_files.specs.Saving.{Stores}
+use Rattle.image_files.specs.Work.{Then, Purely}
+use Rattle.image_files.specs.declared.images.Image.{Image}
 use Rattle.many_commands.specs.Laws.{ChangesNothing, LeavesFiles, NeverChanges}
 use Rattle.many_commands.specs.PuttingMany.{AreFiles, FindsFiles, IsNewFile, IsNoName, KeepsIf, KeepsWords, LooksWhole, MakesMany, PutsFiles, PutsMany, ReadsEach, ReadsNext, RefusesLoss, RefusesMany, TakesName, TellsEmpty, TellsPath, TellsText, TellsUnread, WantsMemory, has_empty, loss_from, paths_of, stored_lines}
 use Rattle.many_commands.specs.Texts.{TakesLists, TellsBadList, lists_of}

@@ -20,17 +20,21 @@ use Rattle.program_tasks.specs.declared.forms.CopyForm.{CopyForm}
 use Rattle.program_tasks.specs.declared.forms.DeleteForm.{DeleteForm}
 use Rattle.program_tasks.specs.declared.forms.ImageForm.{ImageForm}
 use Rattle.program_tasks.specs.declared.forms.PutOneForm.{PutOneForm}
-use Rattle.volume_commands.specs.Answers.{Answers, AreLines}
+use Rattle.image_files.specs.Answers.{Answers, AreLines}
 use Rattle.volume_commands.specs.Asking.{AreNamed, MeansFile}
 use Rattle.volume_commands.specs.Changing.{Changes, GivesName, RefusesName, Renames, Squeezes}
 use Rattle.volume_commands.specs.Choosing.{AreWished, Chooses, FindsAll, MeansFiles, MeansIf, RefusesWish, TellsRefused, one_of_several, word_at, words_in}
-use Rattle.volume_commands.specs.Copying.{Copies, CopiesFrom, CopiesInto, MakesCopy, RefusesCopy, RefusesIf, is_one_image, is_want_of}
+use Rattle.volume_commands.specs.Copying.{Copies, CopiesFrom, CopiesInto, MakesCopy, RefusesCopy}
+use Rattle.image_files.specs.Pairs.{RefusesIf, is_one_image, is_want_of}
 use Rattle.volume_commands.specs.Deleting.{Deletes, TakesMeant, TakesOut, RefusesFile}
-use Rattle.volume_commands.specs.Putting.{KeepsWords, MakesNew, Puts, PutsInto, Reads, ReadsIf, TakesInput, TellsIf, TellsPlace, is_bad_text, stored_line}
-use Rattle.volume_commands.specs.Reading.{LooksAt, Opens}
-use Rattle.volume_commands.specs.Saving.{Stores}
-use Rattle.volume_commands.specs.Work.{Then, Purely}
-use Rattle.volume_commands.specs.declared.images.Image.{Image}
+use Rattle.volume_commands.specs.Putting.{KeepsWords, MakesNew, Puts, PutsInto, TellsIf}
+use Rattle.image_files.specs.Stored.{is_bad_text}
+use Rattle.image_files.specs.Inputs.{Reads, ReadsIf, TakesInput}
+use Rattle.image_files.specs.Stored.{TellsPlace, stored_line}
+use Rattle.image_files.specs.Reading.{LooksAt, Opens}
+use Rattle.image_files.specs.Saving.{Stores}
+use Rattle.image_files.specs.Work.{Then, Purely}
+use Rattle.image_files.specs.declared.images.Image.{Image}
 use Rattle.many_commands.specs.Laws.{ChangesNothing, LeavesFiles, NeverChanges}
 use Rattle.many_commands.proofs.Keeping.{answers-never, looks-at-never, looks-never, opens-never, purely-never, refuses-never, same, stores-leaves, then-leaves, then-never, told}
 

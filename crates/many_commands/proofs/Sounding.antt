@@ -13,14 +13,14 @@ use Rattle.outcome.specs.Endings.{ending_of_archive}
 use Rattle.outcome.specs.declared.endings.Ending.{Ending}
 use Rattle.program_reports.specs.declared.programs.ProgramLine.{ProgramLine}
 use Rattle.program_tasks.specs.declared.forms.CheckForm.{CheckForm}
-use Rattle.volume_commands.specs.Answers.{Answers, AreLines}
+use Rattle.image_files.specs.Answers.{Answers, AreLines}
 use Rattle.std.specs.Global.{Vec}
 use Rattle.lenient_images.specs.Lines.{mended_lines}
-use Rattle.volume_commands.specs.Mending.{TellsLines}
-use Rattle.volume_commands.specs.Reading.{LooksIf, file_named, reading_named}
-use Rattle.volume_commands.specs.Saving.{Prints}
-use Rattle.volume_commands.specs.declared.mending.ImageReading.{ImageReading}
-use Rattle.volume_commands.specs.Work.{Then, Purely}
+use Rattle.image_files.specs.Mending.{TellsLines}
+use Rattle.image_files.specs.Reading.{LooksIf, file_named, reading_named}
+use Rattle.image_files.specs.Saving.{Prints}
+use Rattle.image_files.specs.declared.mending.ImageReading.{ImageReading}
+use Rattle.image_files.specs.Work.{Then, Purely}
 use Rattle.many_commands.specs.declared.reports.Report.{Report}
 use Rattle.many_commands.specs.Checking.{ChecksEach, ChecksFiles, ChecksNext, ChecksSeveral, PrintsCount, kind_of_check, reading_of_check, with_refusal}
 use Rattle.many_commands.specs.Laws.{AreSound, AreSoundIn, IsReadAs, IsSoundFile, IsSoundVolume}

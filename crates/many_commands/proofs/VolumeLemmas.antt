@@ -5,7 +5,7 @@ use Rattle.disk_layouts.specs.declared.layouts.Layout.{Layout}
 use Rattle.image_volumes.specs.declared.volumes.Volumes.{Volumes}
 use Rattle.image_volumes.specs.declared.volumes.Volumes.TheVariants.{One, Both}
 use Rattle.outcome.specs.declared.endings.Ending.{Ending}
-use Rattle.volume_commands.specs.Work.{Then, Purely}
+use Rattle.image_files.specs.Work.{Then, Purely}
 use Rattle.many_commands.specs.declared.reports.ReportKind.{ReportKind}
 use Rattle.many_commands.specs.Reporting.{EndsSound}
 use Rattle.many_commands.specs.Volumes.{ReportsAlone, ReportsBoth, ReportsFile, ReportsVolume, ReportsVolumes}

@@ -5,11 +5,11 @@ use Rattle.program_reports.specs.Program.{program_line}
 use Rattle.program_reports.specs.declared.programs.ProgramLine.TheVariants as line
 use Rattle.outcome.specs.declared.endings.Ending.{Ending}
 use Rattle.program_tasks.specs.declared.forms.CheckForm.{CheckForm}
-use Rattle.volume_commands.specs.Work.{Then, Purely}
-use Rattle.volume_commands.specs.Answers.{AreLines}
-use Rattle.volume_commands.specs.Saving.{Prints}
-use Rattle.volume_commands.specs.Reading.{file_named, reading_named}
-use Rattle.volume_commands.specs.declared.mending.ImageReading.{ImageReading}
+use Rattle.image_files.specs.Work.{Then, Purely}
+use Rattle.image_files.specs.Answers.{AreLines}
+use Rattle.image_files.specs.Saving.{Prints}
+use Rattle.image_files.specs.Reading.{file_named, reading_named}
+use Rattle.image_files.specs.declared.mending.ImageReading.{ImageReading}
 use Rattle.host_progress.specs.Progressing.{TellsProgress, WithProgress}
 use Rattle.many_commands.specs.Reporting.{EndsSound}
 use Rattle.many_commands.specs.Volumes.{ReportsNext, ReportsOne}

@@ -22,10 +22,10 @@ use Rattle.program_reports.specs.declared.programs.ProgramLine.TheVariants as li
 use Rattle.outcome.specs.declared.endings.Ending.{Ending}
 use Rattle.outcome.specs.declared.endings.Ending.TheVariants.{Line, Fault}
 use Rattle.program_tasks.specs.declared.forms.GetManyForm.{GetManyForm}
-use Rattle.volume_commands.specs.Work.{Then, Purely}
-use Rattle.volume_commands.specs.Reading.{LooksAt}
-use Rattle.volume_commands.specs.Answers.{Answers, AreLines}
-use Rattle.volume_commands.specs.Saving.{Prints, TouchesOnly}
+use Rattle.image_files.specs.Work.{Then, Purely}
+use Rattle.image_files.specs.Reading.{LooksAt}
+use Rattle.image_files.specs.Answers.{Answers, AreLines}
+use Rattle.image_files.specs.Saving.{Prints, TouchesOnly}
 use Rattle.many_commands.specs.Reporting.{EndsSound, named_lines}
 use Rattle.host_progress.specs.Progressing.{TellsProgress, WithProgress}
 use Rattle.many_commands.specs.Texts.{TakesLists, get_form}

@@ -13,8 +13,8 @@ use Rattle.image_volumes.specs.Margins.{body_of}
 use Rattle.image_volumes.specs.Volumes.{volumes_in}
 use Rattle.image_volumes.specs.declared.volumes.Volumes.{Volumes}
 use Rattle.image_volumes.specs.declared.volumes.Volumes.TheVariants.{One, Both}
-use Rattle.volume_commands.specs.Reading.{FindsVolume, file_named, reading_named}
-use Rattle.volume_commands.specs.declared.mending.ImageReading.{ImageReading}
+use Rattle.image_files.specs.Reading.{FindsVolume, file_named, reading_named}
+use Rattle.image_files.specs.declared.mending.ImageReading.{ImageReading}
 use Rattle.lenient_images.specs.Mending.{IsMended}
 use Rattle.lenient_images.specs.declared.mending.MendedFile.{MendedFile}
 use Rattle.many_commands.specs.Checking.{kind_of_check, reading_of_check}

@@ -7,7 +7,7 @@ use Rattle.archive_many.specs.declared.faults.ManyFault.{ManyFault}
 use Rattle.archive_many.specs.declared.putting.NewFile.{NewFile}
 use Rattle.outcome.specs.declared.endings.Ending.{Ending}
 use Rattle.outcome.specs.declared.endings.Ending.TheVariants.{Fault}
-use Rattle.volume_commands.specs.Putting.{is_bad}
+use Rattle.image_files.specs.Stored.{is_bad}
 use Rattle.many_commands.specs.PuttingMany.{RefusesMany, TellsPath, TellsText, WantsMemory}
 
 -- why no file is put; where memory is wanted for what is printed, that

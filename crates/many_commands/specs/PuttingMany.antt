@@ -24,12 +24,12 @@ use Rattle.outcome.specs.declared.endings.Ending.{Ending}
 use Rattle.outcome.specs.declared.endings.Ending.TheVariants.{Line, Fault}
 use Rattle.program_tasks.specs.declared.forms.PutManyForm.{PutManyForm}
 use Rattle.program_tasks.specs.declared.forms.TextsForm.{TextsForm}
-use Rattle.volume_commands.specs.Work.{Then, Purely}
-use Rattle.volume_commands.specs.Reading.{Looks, Opens}
-use Rattle.volume_commands.specs.Answers.{AreLines, Refuses}
-use Rattle.volume_commands.specs.Putting.{TellsBad, is_bad, words_of}
-use Rattle.volume_commands.specs.Saving.{IsDone, Stores}
-use Rattle.volume_commands.specs.declared.images.Image.{Image}
+use Rattle.image_files.specs.Work.{Then, Purely}
+use Rattle.image_files.specs.Reading.{Looks, Opens}
+use Rattle.image_files.specs.Answers.{AreLines, Refuses}
+use Rattle.image_files.specs.Stored.{TellsBad, is_bad, words_of}
+use Rattle.image_files.specs.Saving.{IsDone, Stores}
+use Rattle.image_files.specs.declared.images.Image.{Image}
 use Rattle.many_commands.specs.Texts.{TakesLists, put_form}
 
 -- ## The files of the host

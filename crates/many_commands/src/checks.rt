@@ -2,8 +2,8 @@
 ghost use Rattle.std.specs.Prelude.{◌≡◌, ◌<◌, length, map};
 ghost use Rattle.program_reports.specs.Program.{program_line};
 ghost use Rattle.program_reports.specs.declared.programs.ProgramLine.TheVariants as line;
-ghost use Rattle.volume_commands.specs.Answers.{AreLines};
-ghost use Rattle.volume_commands.specs.Reading.{file_named, reading_named};
+ghost use Rattle.image_files.specs.Answers.{AreLines};
+ghost use Rattle.image_files.specs.Reading.{file_named, reading_named};
 ghost use Rattle.many_commands.specs.Checking as spec;
 ghost use Rattle.many_commands.specs.Checking.{ChecksEach, ChecksFiles, ChecksImages, ChecksNext, ChecksSeveral, PrintsCount};
 ghost use Rattle.host_progress.specs.Progressing.{WithProgress};
@@ -17,7 +17,7 @@ use outcome::Ending;
 use program_reports::{ProgramLine, put_program};
 use program_tasks::CheckForm;
 use std::alloc::Global;
-use volume_commands::{ImageReading, image_named, print};
+use image_files::{ImageReading, image_named, print};
 
 /// Reports on the volumes in image files. Of several volumes each line has the name of its file or volume before it, and of several files the
 /// last line counts them (this project's profile).

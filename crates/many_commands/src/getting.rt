@@ -4,7 +4,7 @@ ghost use Rattle.script8.specs.Replies.{fault_line};
 ghost use Rattle.os8_dir.specs.declared.file_faults.FileFault.TheVariants.{NotFound};
 ghost use Rattle.script8.specs.declared.faults.SessionFault.TheVariants as session;
 ghost use Rattle.many_commands.specs.Reporting.{named_lines};
-ghost use Rattle.volume_commands.specs.Work.{Then};
+ghost use Rattle.image_files.specs.Work.{Then};
 ghost use Rattle.host_progress.specs.Progressing.{TellsProgress, WithProgress};
 ghost use Rattle.many_commands.specs.GettingMany as spec;
 ghost use Rattle.many_commands.specs.Wishing.{AreWishes};
@@ -22,7 +22,7 @@ use program_reports::ProgramLine;
 use program_tasks::GetManyForm;
 use script8::SessionFault;
 use std::alloc::{AllocError, Global};
-use volume_commands::{look_at, open_volume};
+use image_files::{look_at, open_volume};
 
 /// Writes files of the volume in an image file to a folder, and reports each. The image file doesn't change.
 pub fn get_files<H: Host>(host: &mut H, alloc: Global, form: &GetManyForm) -> Result<(), Ending>

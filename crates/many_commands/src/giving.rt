@@ -4,7 +4,7 @@ ghost use Rattle.program_reports.specs.Program.{program_line};
 ghost use Rattle.program_reports.specs.declared.programs.ProgramLine.TheVariants.{Got};
 ghost use Rattle.script8.specs.Replies.{fault_line};
 ghost use Rattle.script8.specs.declared.faults.SessionFault.TheVariants.{File};
-ghost use Rattle.volume_commands.specs.Answers.{AreLines};
+ghost use Rattle.image_files.specs.Answers.{AreLines};
 ghost use Rattle.many_commands.specs.Reporting.{named_lines};
 ghost use Rattle.many_commands.specs.GettingMany as spec;
 ghost use Rattle.many_commands.specs.GettingMany.{GivesFile, IsPath, LaysAndTells, LaysFile, PrintsAnswer, TakesFile, IsHostName, TellsLaid};
@@ -20,7 +20,7 @@ use program_reports::{ProgramLine, put_program};
 use program_tasks::GetManyForm;
 use script8::{SessionFault, put_reply};
 use std::alloc::Global;
-use volume_commands::print;
+use image_files::print;
 
 /// Writes a file of a volume to the folder and reports it, and answers whether it is there.
 pub(crate) fn give_file<H: Host>(

@@ -16,7 +16,7 @@ use program_tasks::TextsForm;
 use script8::SessionFault;
 use std::alloc::{AllocError, Global};
 use std::collections::BTreeSet;
-use volume_commands::{look_file, tell_note};
+use image_files::{look_file, tell_note};
 
 /// The files of these paths, which are read in their order.
 pub(crate) fn read_files<H: Host>(

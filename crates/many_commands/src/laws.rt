@@ -21,7 +21,7 @@ ghost use Rattle.volume_commands.specs.Deleting.{Deletes};
 ghost use Rattle.volume_commands.specs.Putting.{Puts};
 ghost use Rattle.volume_commands.specs.Showing.{Shows, wanted_file};
 ghost use Rattle.volume_commands.specs.ShowingParts.{ShowsBlocks, ShowsTape};
-ghost use Rattle.volume_commands.specs.declared.mending.ImageReading.{ImageReading as Reading};
+ghost use Rattle.image_files.specs.declared.mending.ImageReading.{ImageReading as Reading};
 ghost use Rattle.many_commands.specs.Checking.{ChecksImages};
 ghost use Rattle.many_commands.specs.GettingMany.{GetsMany};
 ghost use Rattle.many_commands.specs.Laws.{AreSound, ChangesIn, LeavesFiles, NeverChanges, NeverReplaces};

@@ -3,9 +3,9 @@
 ghost use Rattle.std.specs.Prelude.{◌≡◌, ◌++◌, false, true, map, option_copied, slice_get, OnOk, OnErr, IfErr};
 ghost use Rattle.script8.specs.declared.faults.SessionFault.TheVariants.{Memory};
 ghost use Rattle.outcome.specs.declared.endings.Ending.TheVariants.{Fault};
-ghost use Rattle.volume_commands.specs.Answers.{AreLines};
-ghost use Rattle.volume_commands.specs.Putting as put_spec;
-ghost use Rattle.volume_commands.specs.Putting.{TellsBad};
+ghost use Rattle.image_files.specs.Answers.{AreLines};
+ghost use Rattle.image_files.specs.Stored as put_spec;
+ghost use Rattle.image_files.specs.Stored.{TellsBad};
 ghost use Rattle.many_commands.specs.PuttingMany as spec;
 ghost use Rattle.many_commands.specs.PuttingMany.{FindsFiles, KeepsIf, KeepsWords, MakesMany, PutsFiles, PutsMany, RefusesLoss, TellsEmpty, TellsPath, TellsText, loss_from, paths_of};
 ghost use Rattle.many_commands.specs.PutManySteps.{IsFileRefused, IsNotPut, IsTextRefused};
@@ -20,7 +20,7 @@ use outcome::{Ending, NameNote, Note};
 use program_tasks::PutManyForm;
 use script8::{LineReply, Reply, SessionFault, put_reply};
 use std::alloc::{AllocError, Global};
-use volume_commands::{Image, refuse_image, store, tell_note};
+use image_files::{Image, refuse_image, store, tell_note};
 use word12::Word;
 
 /// Makes files of the host files of the volume in an image file, all or none, and reports each.

@@ -3,7 +3,7 @@ ghost use Rattle.std.specs.Prelude.{◌≡◌, length};
 ghost use Rattle.archive_files.specs.Checking.{Checks};
 ghost use Rattle.archive_files.specs.Listing.{ListsFiles};
 ghost use Rattle.archive_commands.specs.Dates.{ListsDates};
-ghost use Rattle.volume_commands.specs.Answers.{Answers, AreLines};
+ghost use Rattle.image_files.specs.Answers.{Answers, AreLines};
 ghost use Rattle.outcome.specs.declared.endings.Ending.TheVariants.{Line};
 ghost use Rattle.many_commands.specs.Reporting as spec;
 ghost use Rattle.many_commands.specs.Reporting.{EndsSound, IsSoundText, PrintsNamed, PrintsReport, Reports, ReportsAmong, SurveysAll, TellsRefusal};
@@ -16,7 +16,7 @@ use outcome::Ending;
 use program_reports::{ProgramLine, put_program, with_prefix};
 use script8::SessionFault;
 use std::alloc::Global;
-use volume_commands::{print, refuse_image};
+use image_files::{print, refuse_image};
 use volume_image::ImageFault;
 
 /// What is reported of an image.

@@ -10,7 +10,7 @@ use os8_dir::Name;
 use outcome::{Ending, NameNote, Note};
 use program_tasks::TextsForm;
 use std::alloc::{AllocError, Global};
-use volume_commands::tell_note;
+use image_files::tell_note;
 
 /// Refuses words that are no lists of extensions, and prints the first of them.
 pub(crate) fn take_lists<H: Host>(

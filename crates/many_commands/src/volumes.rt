@@ -1,10 +1,10 @@
 //! The reports of the volumes in an image file: of the one that is asked for, or else of each that the file has by its kind.
 ghost use Rattle.std.specs.Prelude.{◌≡◌, ◌&&◌};
-ghost use Rattle.volume_commands.specs.Answers.{AreLines};
+ghost use Rattle.image_files.specs.Answers.{AreLines};
 ghost use Rattle.image_volumes.specs.Margins as margins;
 ghost use Rattle.image_volumes.specs.Volumes as meant;
-ghost use Rattle.volume_commands.specs.Reading.{reading_of};
-ghost use Rattle.volume_commands.specs.Work.{Then, Purely};
+ghost use Rattle.image_files.specs.Reading.{reading_of};
+ghost use Rattle.image_files.specs.Work.{Then, Purely};
 ghost use Rattle.many_commands.specs.Reporting.{EndsSound, PrintsNamed, TellsRefusal};
 ghost use Rattle.many_commands.specs.Volumes.{IsVolumeName, ReportsAlone, ReportsAt, ReportsBoth, ReportsFile, ReportsNext, ReportsNumbered, ReportsOne, ReportsVolume, ReportsVolumes};
 ghost use Rattle.many_commands.specs.declared.reports.ReportKind.TheVariants as kinds;
@@ -19,7 +19,7 @@ use image_volumes::{Volumes, body_of, volumes_in};
 use outcome::Ending;
 use program_tasks::ImageForm;
 use std::alloc::Global;
-use volume_commands::{ImageReading, look_image, volume_in};
+use image_files::{ImageReading, look_image, volume_in};
 
 /// Lists the files of the volumes in an image file by name. Of a disk of two volumes each line has the volume's name before it. No file
 /// changes (this project's profile).

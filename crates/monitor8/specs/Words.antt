@@ -13,7 +13,7 @@ use Rattle.outcome.specs.declared.endings.Ending.{Ending}
 use Rattle.outcome.specs.declared.endings.Ending.TheVariants.{Fault, Misuse}
 use Rattle.outcome.specs.declared.notes.PlainNote.TheVariants.{NoText}
 use Rattle.task_commands.specs.Words.{RunsWords, WantsMemory}
-use Rattle.volume_commands.specs.Ending.{EndsSo, TellsLine}
+use Rattle.image_files.specs.Ending.{EndsSo, TellsLine}
 
 -- ## The words
 

@@ -15,7 +15,7 @@ use std::process::ExitCode;
 use std::time::Clock;
 use system::System;
 use task_commands::run_words;
-use volume_commands::{Rooms, end};
+use image_files::{Rooms, end};
 
 /// Does what the words of the command line ask for, over the system, as `run_program` does it. The answer is the exit status.
 pub fn program<R: Env + Files<File = File> + Input + Print + Eprint + Clock + AllocGlobal>(

@@ -17,15 +17,15 @@ use Rattle.program_tasks.specs.declared.forms.TapeForm.{TapeForm}
 use Rattle.program_tasks.specs.declared.forms.TapeForm.TheVariants as tape
 use Rattle.program_tasks.specs.declared.tasks.RimForm.{RimForm}
 use Rattle.program_tasks.specs.declared.tasks.SourceForm.{SourceForm}
-use Rattle.volume_commands.specs.Answers.{Answers, Refuses}
-use Rattle.volume_commands.specs.Notes.{Tells}
-use Rattle.volume_commands.specs.Putting.{TakesInput}
-use Rattle.volume_commands.specs.Reading.{Looks, LooksAt}
-use Rattle.volume_commands.specs.Saving.{Prints}
-use Rattle.volume_commands.specs.Work.{Then, Purely}
+use Rattle.image_files.specs.Answers.{Answers, Refuses}
+use Rattle.image_files.specs.Notes.{Tells}
+use Rattle.image_files.specs.Inputs.{TakesInput}
+use Rattle.image_files.specs.Reading.{Looks, LooksAt}
+use Rattle.image_files.specs.Saving.{Prints}
+use Rattle.image_files.specs.Work.{Then, Purely}
 use Rattle.program_commands.specs.Kinds.{RefusesFrames, RefusesTape, is_no_tape}
 use Rattle.program_commands.specs.Kinds as kinds
-use Rattle.volume_commands.specs.Laws.{KeepsFiles}
+use Rattle.image_files.specs.Laws.{KeepsFiles}
 use Rattle.program_commands.specs.Programs.{IsAsked, IsCoreProgram, IsTapeProgram, ReadsCore, ReadsGiven, ReadsMember, ReadsProgram, RefusesIf, TakesIf, TakesTape, has_no_tape, is_core_name}
 use Rattle.program_commands.specs.Rims.{GetsMember, GivesRim, ReadsFrames, WritesRim}
 use Rattle.program_commands.specs.Sources.{GivesSource, ReadsNames, WritesSource, starts_or}
@@ -60,7 +60,7 @@ refused-if false path frames why old ending new p = same path p.1
 pub frames-refused : (path frames : List ℕ) (why : Ending) (old : List Event) (ending : Ending) (new : List Event) → RefusesFrames frames why old ending new → about path new ≡ about path old
 frames-refused path frames why old ending new p = refused-if (is_no_tape why) path frames why old ending new p
 
--- what volume_commands knows of its steps is handed in
+-- what image_files knows of its steps is handed in
 module _
     (looks-keeps : (name shown : List ℕ) → KeepsFiles (Looks name shown))
     (looks-at-keeps : (form : ImageForm) → KeepsFiles (LooksAt form))

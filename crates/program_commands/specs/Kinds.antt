@@ -8,7 +8,7 @@ use Rattle.script8.specs.declared.faults.SessionFault.TheVariants.{BadLine, NoJo
 use Rattle.outcome.specs.Hints.{kind_note}
 use Rattle.outcome.specs.declared.endings.Ending.{Ending}
 use Rattle.outcome.specs.declared.endings.Ending.TheVariants as ending
-use Rattle.volume_commands.specs.Notes.{Tells}
+use Rattle.image_files.specs.Notes.{Tells}
 
 -- a fault of frames that are no BIN tape
 abbrev pub is_tape_fault : SessionFault → Bool

@@ -21,10 +21,10 @@ use Rattle.program_tasks.specs.declared.forms.TapeForm.TheVariants as tape
 use Rattle.outcome.specs.Endings.{ending_of_archive}
 use Rattle.outcome.specs.declared.endings.Ending.{Ending}
 use Rattle.outcome.specs.declared.endings.Ending.TheVariants.{Line, Fault}
-use Rattle.volume_commands.specs.Work.{Then, Purely}
-use Rattle.volume_commands.specs.Reading.{Looks, LooksAt}
-use Rattle.volume_commands.specs.Answers.{Answers, Refuses}
-use Rattle.volume_commands.specs.Putting.{TakesInput}
+use Rattle.image_files.specs.Work.{Then, Purely}
+use Rattle.image_files.specs.Reading.{Looks, LooksAt}
+use Rattle.image_files.specs.Answers.{Answers, Refuses}
+use Rattle.image_files.specs.Inputs.{TakesInput}
 use Rattle.program_commands.specs.Kinds.{RefusesTape, is_tape_fault}
 use Rattle.program_commands.specs.declared.programs.Program.{Program}
 

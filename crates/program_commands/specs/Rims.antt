@@ -15,11 +15,11 @@ use Rattle.program_tasks.specs.declared.forms.TapeForm.TheVariants.{File, Member
 use Rattle.program_tasks.specs.declared.tasks.RimForm.{RimForm}
 use Rattle.outcome.specs.declared.endings.Ending.{Ending}
 use Rattle.outcome.specs.declared.endings.Ending.TheVariants.{Line}
-use Rattle.volume_commands.specs.Work.{Then, Purely}
-use Rattle.volume_commands.specs.Answers.{Answers}
-use Rattle.volume_commands.specs.Putting.{TakesInput}
-use Rattle.volume_commands.specs.Reading.{Looks, LooksAt}
-use Rattle.volume_commands.specs.Saving.{Prints}
+use Rattle.image_files.specs.Work.{Then, Purely}
+use Rattle.image_files.specs.Answers.{Answers}
+use Rattle.image_files.specs.Inputs.{TakesInput}
+use Rattle.image_files.specs.Reading.{Looks, LooksAt}
+use Rattle.image_files.specs.Saving.{Prints}
 use Rattle.program_commands.specs.Programs.{IsAsked}
 
 -- an image file is read, and then all that the file of a name has on its volume

@@ -10,9 +10,9 @@ use Rattle.program_reports.specs.declared.faults.SourceFault.{SourceFault}
 use Rattle.program_tasks.specs.declared.tasks.SourceForm.{SourceForm}
 use Rattle.outcome.specs.Endings.{ending_of_source}
 use Rattle.outcome.specs.declared.endings.Ending.{Ending}
-use Rattle.volume_commands.specs.Work.{Then}
-use Rattle.volume_commands.specs.Reading.{Looks}
-use Rattle.volume_commands.specs.Saving.{Prints}
+use Rattle.image_files.specs.Work.{Then}
+use Rattle.image_files.specs.Reading.{Looks}
+use Rattle.image_files.specs.Saving.{Prints}
 use Rattle.program_commands.specs.Kinds.{RefusesFrames}
 use Rattle.program_commands.specs.Programs.{ReadsGiven}
 

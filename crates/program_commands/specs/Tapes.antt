@@ -7,8 +7,8 @@ use Rattle.tape_reports.specs.Lists.{IsListed, IsListingFault}
 use Rattle.program_tasks.specs.declared.forms.TapeForm.{TapeForm}
 use Rattle.outcome.specs.declared.endings.Ending.{Ending}
 use Rattle.outcome.specs.declared.endings.Ending.TheVariants.{Fault}
-use Rattle.volume_commands.specs.Work.{Then}
-use Rattle.volume_commands.specs.Saving.{Prints}
+use Rattle.image_files.specs.Work.{Then}
+use Rattle.image_files.specs.Saving.{Prints}
 use Rattle.program_commands.specs.Kinds.{RefusesFrames}
 use Rattle.program_commands.specs.Programs.{ReadsGiven}
 

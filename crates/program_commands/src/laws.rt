@@ -6,14 +6,14 @@ ghost use Rattle.outcome.specs.declared.endings.Ending.{Ending};
 ghost use Rattle.program_tasks.specs.declared.forms.TapeForm.{TapeForm};
 ghost use Rattle.program_tasks.specs.declared.tasks.RimForm.{RimForm};
 ghost use Rattle.program_tasks.specs.declared.tasks.SourceForm.{SourceForm};
-ghost use Rattle.volume_commands.specs.Laws.{KeepsFiles};
+ghost use Rattle.image_files.specs.Laws.{KeepsFiles};
 ghost use Rattle.program_commands.specs.Kinds.{RefusesFrames};
 ghost use Rattle.program_commands.specs.Programs.{ReadsProgram};
 ghost use Rattle.program_commands.specs.Rims.{WritesRim};
 ghost use Rattle.program_commands.specs.Sources.{WritesSource};
 ghost use Rattle.program_commands.specs.Tapes.{ListsTape};
 
-use volume_commands::laws::kept_files;
+use image_files::laws::kept_files;
 
 /// A law: none of these commands changes a file of the host, in whichever way it ends. Nor does the reading of a program for another, or the
 /// refusal of frames.

@@ -2,9 +2,9 @@
 //! whole.
 ghost use Rattle.std.specs.Prelude.{◌≡◌, codes};
 ghost use Rattle.archive_files.specs.Asking.{target_of};
-ghost use Rattle.volume_commands.specs.Putting.{TakesInput};
-ghost use Rattle.volume_commands.specs.Reading.{Looks};
-ghost use Rattle.volume_commands.specs.Work.{Then, Purely};
+ghost use Rattle.image_files.specs.Inputs.{TakesInput};
+ghost use Rattle.image_files.specs.Reading.{Looks};
+ghost use Rattle.image_files.specs.Work.{Then, Purely};
 ghost use Rattle.program_commands.specs.Programs as spec;
 ghost use Rattle.program_commands.specs.Programs.{IsAsked, IsCoreProgram, IsTapeProgram, ReadsCore, ReadsGiven, ReadsMember, ReadsProgram, RefusesMember, TakesTape};
 
@@ -15,7 +15,7 @@ use outcome::Ending;
 use program_reports::core_tape;
 use program_tasks::{ImageForm, TapeForm};
 use std::alloc::Global;
-use volume_commands::{input_bytes, look_at, look_file, refuse_image, show_file};
+use image_files::{input_bytes, look_at, look_file, refuse_image, show_file};
 use word12::Cell;
 
 /// A program.

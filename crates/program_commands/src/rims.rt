@@ -9,7 +9,7 @@ use program_reports::RimTextFault;
 use program_tasks::{ImageForm, RimForm, TapeForm};
 use std::alloc::Global;
 use tape_reports::rim_output;
-use volume_commands::{input_bytes, look_at, look_file, print, show_file};
+use image_files::{input_bytes, look_at, look_file, print, show_file};
 
 /// Writes the words of a RIM tape, or a BIN tape of them; where no tape is named those of standard input. No file changes.
 pub fn write_rim<H: Host>(

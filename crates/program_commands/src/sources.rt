@@ -11,7 +11,7 @@ use program_reports::SourceFault;
 use program_tasks::SourceForm;
 use std::alloc::Global;
 use tape_reports::{list_fault, pal8_fault, source_lines};
-use volume_commands::{look_file, print};
+use image_files::{look_file, print};
 use word12::Cell;
 
 /// Writes the source of a tape. The program of a core image starts where that says, unless other cells are given. No file changes.

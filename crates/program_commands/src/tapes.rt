@@ -8,7 +8,7 @@ use outcome::Ending;
 use program_tasks::TapeForm;
 use std::alloc::Global;
 use tape_reports::tape_lines;
-use volume_commands::print;
+use image_files::print;
 
 /// Lists a tape; where none is named that of standard input. No file changes.
 pub fn list_tape<H: Host>(

@@ -16,15 +16,15 @@ use Rattle.archive_files.specs.declared.faults.ArchiveFault.{ArchiveFault}
 use Rattle.archive_many.specs.declared.faults.BlocksFault.{BlocksFault}
 use Rattle.archive_many.specs.declared.faults.BlocksFault.TheVariants.{Archive, NoBlocks}
 use Rattle.program_tasks.specs.declared.forms.ImageForm.{ImageForm}
-use Rattle.volume_commands.specs.Answers.{Answers, AreLines, Refuses}
-use Rattle.volume_commands.specs.Notes.{Tells}
+use Rattle.image_files.specs.Answers.{Answers, AreLines, Refuses}
+use Rattle.image_files.specs.Notes.{Tells}
 use Rattle.disk_layouts.specs.declared.layouts.Layout.{Layout}
 use Rattle.lenient_images.specs.Lines.{mended_lines}
-use Rattle.volume_commands.specs.Mending.{Mends, TellsLines}
-use Rattle.volume_commands.specs.Reading.{IsUnread, FindsIn, FindsOne, Looks, LooksAt, LooksIf, LooksImage, reading_of}
-use Rattle.volume_commands.specs.Saving.{Prints}
-use Rattle.volume_commands.specs.ShowingParts.{RefusesBlocks}
-use Rattle.volume_commands.specs.Work.{Then, Purely}
+use Rattle.image_files.specs.Mending.{Mends, TellsLines}
+use Rattle.image_files.specs.Reading.{IsUnread, FindsIn, FindsOne, Looks, LooksAt, LooksIf, LooksImage, reading_of}
+use Rattle.image_files.specs.Saving.{Prints}
+use Rattle.image_files.specs.Answers.{RefusesBlocks}
+use Rattle.image_files.specs.Work.{Then, Purely}
 use Rattle.volume_salvage.specs.Scanning.{Scans, piece_line, piece_name}
 use Rattle.volume_salvage.specs.declared.pieces.Piece.{Piece}
 use Rattle.volume_salvage.specs.declared.scans.Scan.{Scan}

@@ -5,7 +5,7 @@ use Rattle.hosts.specs.Event.{Event}
 use Rattle.hosts.specs.Place.{about}
 use Rattle.outcome.specs.declared.endings.Ending.{Ending}
 use Rattle.program_tasks.specs.declared.forms.ImageForm.{ImageForm}
-use Rattle.volume_commands.specs.Reading.{LooksAt}
+use Rattle.image_files.specs.Reading.{LooksAt}
 use Rattle.volume_salvage.specs.Scanning.{Scans, piece_name}
 use Rattle.volume_salvage.specs.declared.pieces.Piece.{Piece}
 use Rattle.volume_salvage.specs.declared.scans.Scan.{Scan}

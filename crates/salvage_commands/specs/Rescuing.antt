@@ -7,11 +7,11 @@ use Rattle.image_volumes.specs.declared.margins.Margins.{Margins}
 use Rattle.program_tasks.specs.declared.forms.ImageForm.{ImageForm}
 use Rattle.outcome.specs.declared.endings.Ending.{Ending}
 use Rattle.outcome.specs.declared.endings.Ending.TheVariants.{Failure, FullOutput, NoReader}
-use Rattle.volume_commands.specs.Answers.{Answers, AreLines}
-use Rattle.volume_commands.specs.Making.{MakesFirst}
-use Rattle.volume_commands.specs.Reading.{FindsOne, Looks}
-use Rattle.volume_commands.specs.Saving.{IsDone, Prints}
-use Rattle.volume_commands.specs.Work.{Then, Purely}
+use Rattle.image_files.specs.Answers.{Answers, AreLines}
+use Rattle.image_files.specs.Making.{MakesFirst}
+use Rattle.image_files.specs.Reading.{FindsOne, Looks}
+use Rattle.image_files.specs.Saving.{IsDone, Prints}
+use Rattle.image_files.specs.Work.{Then, Purely}
 use Rattle.volume_salvage.specs.Salvaging.{Salvages, is_complete, rescued_text}
 
 -- lines are printed, and the command ends with the status of a refusal where something is lost

@@ -15,11 +15,11 @@ use Rattle.outcome.specs.declared.endings.Ending.TheVariants.{Line, Fault}
 use Rattle.program_tasks.specs.declared.forms.ImageForm.{ImageForm}
 use Rattle.archive_many.specs.Raw.{GetsBlocks}
 use Rattle.archive_many.specs.declared.faults.BlocksFault.{BlocksFault}
-use Rattle.volume_commands.specs.Answers.{Answers, AreLines}
-use Rattle.volume_commands.specs.Reading.{LooksAt}
-use Rattle.volume_commands.specs.Saving.{Prints, TouchesOnly}
-use Rattle.volume_commands.specs.ShowingParts.{RefusesBlocks}
-use Rattle.volume_commands.specs.Work.{Then, Purely}
+use Rattle.image_files.specs.Answers.{Answers, AreLines}
+use Rattle.image_files.specs.Reading.{LooksAt}
+use Rattle.image_files.specs.Saving.{Prints, TouchesOnly}
+use Rattle.image_files.specs.Answers.{RefusesBlocks}
+use Rattle.image_files.specs.Work.{Then, Purely}
 use Rattle.volume_salvage.specs.Scanning.{Scans, piece_form, piece_line, piece_name, scan_text}
 use Rattle.volume_salvage.specs.declared.pieces.Piece.{Piece}
 use Rattle.volume_salvage.specs.declared.scans.Scan.{Scan}

@@ -1,7 +1,7 @@
 //! The command that makes a new volume of what a damaged one still shows.
 ghost use Rattle.std.specs.Prelude.{◌≡◌, length};
 ghost use Rattle.volume_salvage.specs.Salvaging.{Salvages, rescued_text};
-ghost use Rattle.volume_commands.specs.Answers.{Answers, AreLines};
+ghost use Rattle.image_files.specs.Answers.{Answers, AreLines};
 ghost use Rattle.salvage_commands.specs.Rescuing as spec;
 ghost use Rattle.salvage_commands.specs.Rescuing.{Finishes, RescuesFile, RescuesImage, RescuesVolume};
 
@@ -11,7 +11,7 @@ use image_volumes::{Margins, margins_in};
 use outcome::Ending;
 use program_tasks::ImageForm;
 use std::alloc::Global;
-use volume_commands::{look_file, make_first, one_volume_in, print, refuse_image};
+use image_files::{look_file, make_first, one_volume_in, print, refuse_image};
 use volume_salvage::{Salvage, salvage_image};
 
 /// Makes the file of a new volume with the files that the volume in an image file still shows, if there is none of its name. The image

@@ -1,7 +1,7 @@
 //! The command that finds what the blocks of a volume hold by their content alone.
 ghost use Rattle.std.specs.Prelude.{◌≡◌, length};
 ghost use Rattle.volume_salvage.specs.Scanning.{Scans, piece_line, scan_text};
-ghost use Rattle.volume_commands.specs.Answers.{Answers, AreLines};
+ghost use Rattle.image_files.specs.Answers.{Answers, AreLines};
 ghost use Rattle.salvage_commands.specs.ScanningBlocks.{GivesPiece, IsPath, LaysFirst, ShowsPieces, WritesEach, WritesPiece, WritesPieces, ending_of_laid};
 
 use archive_many::{BlocksFault, blocks_of};
@@ -11,7 +11,7 @@ use program_reports::ProgramLine;
 use program_tasks::ImageForm;
 use script8::SessionFault;
 use std::alloc::Global;
-use volume_commands::{look_at, print, refuse_image};
+use image_files::{look_at, print, refuse_image};
 use volume_salvage::{Piece, Scan, form_of, piece_name, scan_image};
 
 /// Lists the pieces that the blocks of the volume in an image file hold, whatever its directory says: whole texts, core images, BIN tapes,

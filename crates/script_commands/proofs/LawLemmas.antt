@@ -7,7 +7,7 @@ use Rattle.hosts.specs.Place.{Place, Leaves, Allows, Just, Remainder, Step as Ho
 use Rattle.hosts.specs.Saving.{IsOldOrNew}
 use Rattle.hosts.specs.Streams.{may_replace}
 use Rattle.hosts.specs.declared.faults.Durability.{Durability}
-use Rattle.volume_commands.specs.declared.reading.ImagePlace.{ImagePlace}
+use Rattle.image_files.specs.declared.reading.ImagePlace.{ImagePlace}
 use Rattle.archive_files.specs.declared.faults.ArchiveFault.{ArchiveFault}
 use Rattle.outcome.specs.declared.endings.Ending.{Ending}
 use Rattle.program_tasks.specs.declared.forms.ImageForm.{ImageForm}
@@ -18,16 +18,16 @@ use Rattle.script8.specs.declared.entries.Entry.{Entry}
 use Rattle.script8.specs.declared.faults.SessionFault.{SessionFault}
 use Rattle.script8.specs.declared.replies.Reply.{Reply}
 use Rattle.system_session.specs.Session.{SessionView}
-use Rattle.volume_commands.specs.Answers.{Answers, Refuses}
-use Rattle.volume_commands.specs.Laws.{KeepsFiles}
+use Rattle.image_files.specs.Answers.{Answers, Refuses}
+use Rattle.image_files.specs.Laws.{KeepsFiles}
 use Rattle.image_volumes.specs.Margins.{body_by, margins_by}
 use Rattle.image_volumes.specs.Parts.{Parts}
 use Rattle.image_volumes.specs.Volumes.{script_kind, volumes_with}
 use Rattle.image_volumes.specs.declared.volumes.Volumes.{Volumes}
 use Rattle.image_volumes.specs.declared.volumes.Volumes.TheVariants.{One, Both}
-use Rattle.volume_commands.specs.Reading.{FindsIn, Looks}
-use Rattle.volume_commands.specs.Work.{Then, Purely}
-use Rattle.volume_commands.specs.declared.images.Image.{Image}
+use Rattle.image_files.specs.Reading.{FindsIn, Looks}
+use Rattle.image_files.specs.Work.{Then, Purely}
+use Rattle.image_files.specs.declared.images.Image.{Image}
 use Rattle.script_commands.specs.Laws.{IsInPlace, IsKeptBefore, IsOneOf, body_of, file_around, image_file}
 use Rattle.script_commands.specs.Scripts.{IsOnlyRead, MountsSession, is_parted, OnlyReads, OpensFor, RunsScript, RunsSession}
 use Rattle.script_commands.specs.Steps.{Step, Saves, Fails, Replies, Prints, Refuses as RefusesPrint, Shows, Cuts, AreDone, AreKept, AreUnsaved, GetsImage, IsBodyOf, IsFileAround, IsFileOf, changes, has_saved, has_unsynced, last_image, save_ending}

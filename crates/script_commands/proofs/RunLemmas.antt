@@ -12,7 +12,7 @@ use Rattle.outcome.specs.declared.notes.NameNote.TheVariants.{Hint, TooLong}
 use Rattle.program_tasks.specs.declared.tasks.Saving.{Saving}
 use Rattle.program_tasks.specs.declared.tasks.Saving.TheVariants.{Never}
 use Rattle.system_session.specs.ShownAnswers.{ShownAnswer}
-use Rattle.volume_commands.specs.declared.images.Image.{Image}
+use Rattle.image_files.specs.declared.images.Image.{Image}
 use Rattle.script_commands.specs.Steps.{Step, AreReplies, StaysUnsaved, Saves, Fails, Replies, Prints, Refuses, Shows, Cuts, is_unknown, or_else, print_fault, printed_text, replies_of, reply_text, save_ending}
 use Rattle.script_commands.specs.RunSteps.{Adds, HasDone, HasEnded, IsAfterPrint, MayPrint, Gets, PrintsLines, TellsCut, TellsForm}
 use Rattle.script_commands.specs.declared.progress.Progress.{Progress}

@@ -10,8 +10,8 @@ use Rattle.hosts.specs.declared.faults.Unwritten.{Unwritten}
 use Rattle.hosts.specs.declared.faults.Unwritten.TheVariants.{AsItWas, InPart}
 use Rattle.outcome.specs.declared.contents.Content.TheVariants as content
 use Rattle.outcome.specs.declared.endings.Ending.TheVariants.{NotWritten}
-use Rattle.volume_commands.specs.Saving.{IsPlaceTold, TouchesOnly, Writes}
-use Rattle.volume_commands.specs.declared.images.Image.{Image}
+use Rattle.image_files.specs.Saving.{IsPlaceTold, TouchesOnly, Writes}
+use Rattle.image_files.specs.declared.images.Image.{Image}
 use Rattle.script_commands.specs.Steps.{GetsImage, IsSyncToldOnce, once_note}
 use Rattle.script_commands.specs.RunSteps.{IsWritten, NotesSync}
 

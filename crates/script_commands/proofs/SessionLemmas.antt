@@ -18,7 +18,7 @@ use Rattle.system_session.specs.ShownAnswers.{ShownAnswer, ShowsText}
 use Rattle.system_session.specs.State.{State}
 use Rattle.system_session.specs.Session.{IsLater, NoCallFailed, SessionView, state_of}
 use Rattle.volume_image.specs.Image.{IsImageOf}
-use Rattle.volume_commands.specs.declared.images.Image.{Image}
+use Rattle.image_files.specs.declared.images.Image.{Image}
 use Rattle.script_commands.specs.Scripts.{EndsRun, RunsSession}
 use Rattle.script_commands.specs.Steps.{AreDone, has_refusal, last_image, printed_text, reply_text, print_fault, save_ending}
 use Rattle.script_commands.specs.RunSteps.{HasDone}

@@ -5,7 +5,7 @@ use Rattle.hosts.specs.Event.{Event}
 use Rattle.hosts.specs.Streams.{may_replace}
 use Rattle.image_volumes.specs.Parts.{Parts, file_of}
 use Rattle.volume_image.specs.Image.{IsImageOf}
-use Rattle.volume_commands.specs.declared.images.Image.{Image}
+use Rattle.image_files.specs.declared.images.Image.{Image}
 use Rattle.script_commands.specs.Steps.{Step, Saves, Fails, Replies, Prints, Refuses, Shows, Cuts, AreDone, last_image}
 
 -- the bytes of the volumes of which one has an image

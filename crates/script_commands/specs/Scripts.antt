@@ -31,11 +31,11 @@ use Rattle.script8.specs.declared.faults.SessionFault.TheVariants.{Memory, Reade
 use Rattle.system_session.specs.Script.{RunsText}
 use Rattle.system_session.specs.Session.{SessionView, state_of}
 use Rattle.system_session.specs.ShownAnswers.{ShownAnswer, ShowsText}
-use Rattle.volume_commands.specs.Answers.{Answers}
-use Rattle.volume_commands.specs.Reading.{FindsForScript, Looks, OpensAs}
-use Rattle.volume_commands.specs.Saving.{IsDone}
-use Rattle.volume_commands.specs.Work.{Then, Purely}
-use Rattle.volume_commands.specs.declared.images.Image.{Image}
+use Rattle.image_files.specs.Answers.{Answers}
+use Rattle.image_files.specs.Reading.{FindsForScript, Looks, OpensAs}
+use Rattle.image_files.specs.Saving.{IsDone}
+use Rattle.image_files.specs.Work.{Then, Purely}
+use Rattle.image_files.specs.declared.images.Image.{Image}
 use Rattle.script_commands.specs.Steps.{Step, AreDone, AreKept, AreReplies, AreUnsaved, has_cut, has_refusal, last_image, printed_text, reply_text, print_fault, save_ending}
 
 -- ## The image

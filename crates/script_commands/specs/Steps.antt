@@ -28,8 +28,8 @@ use Rattle.outcome.specs.declared.notes.FileNote.TheVariants.{InPlace}
 use Rattle.outcome.specs.declared.notes.NameNote.TheVariants.{Hint, TooLong}
 use Rattle.system_session.specs.ShownAnswers.{ShownAnswer}
 use Rattle.volume_image.specs.Image.{IsImageOf}
-use Rattle.volume_commands.specs.Saving.{IsSyncTold, TouchesOnly, Writes}
-use Rattle.volume_commands.specs.declared.images.Image.{Image}
+use Rattle.image_files.specs.Saving.{IsSyncTold, TouchesOnly, Writes}
+use Rattle.image_files.specs.declared.images.Image.{Image}
 
 -- ## The steps
 

@@ -9,14 +9,14 @@ ghost use Rattle.program_tasks.specs.declared.tasks.Saving.TheVariants.{Never};
 ghost use Rattle.script8.specs.declared.entries.Entry.{Entry};
 ghost use Rattle.script8.specs.declared.faults.SessionFault.{SessionFault};
 ghost use Rattle.script8.specs.declared.replies.Reply.{Reply};
-ghost use Rattle.volume_commands.specs.Laws.{KeepsFiles};
-ghost use Rattle.volume_commands.specs.declared.images.Image.{Image};
+ghost use Rattle.image_files.specs.Laws.{KeepsFiles};
+ghost use Rattle.image_files.specs.declared.images.Image.{Image};
 ghost use Rattle.script_commands.specs.Laws.{IsInPlace, IsKeptBefore, IsOneOf};
 ghost use Rattle.script_commands.specs.Scripts.{RunsScript};
 ghost use Rattle.script_commands.specs.Steps.{Step, Replies, AreDone, AreKept, changes, save_ending};
 
 use byte_reader::ByteReader;
-use volume_commands::laws::kept_files;
+use image_files::laws::kept_files;
 
 /// Where the image is never to be saved, a run changes no file of the host, in whichever way it ends.
 pub fn unchanged_files<I: ByteReader>()

@@ -2,7 +2,7 @@
 ghost use Rattle.std.specs.Prelude.{◌≡◌, ◌∷◌, ◌++◌, ◌+◌, ◌≤◌, List, [], None, OnErr, OnOk, length, true, vec_capacity, vec_len};
 ghost use Rattle.hosts.specs.Event.{Event};
 ghost use Rattle.hosts.specs.Streams.{output_text};
-ghost use Rattle.volume_commands.specs.declared.images.Image.{Image as ImageState};
+ghost use Rattle.image_files.specs.declared.images.Image.{Image as ImageState};
 ghost use Rattle.system_session.specs.ShownAnswers.{ShownAnswer};
 ghost use Rattle.script_commands.specs.RunSteps.{Adds, HasDone, IsAfterPrint, MayPrint, PrintsLines};
 

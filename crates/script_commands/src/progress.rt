@@ -5,7 +5,7 @@ use hosts::PrintFault;
 use outcome::Ending;
 use program_tasks::Saving;
 use std::alloc::Global;
-use volume_commands::Image;
+use image_files::Image;
 
 /// What a run has come to at its host.
 #[derive(Drop)]

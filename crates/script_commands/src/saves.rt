@@ -3,7 +3,7 @@ ghost use Rattle.std.specs.Prelude.{◌≡◌, ◌∷◌, ◌<◌, ◌≤◌, �
 ghost use Rattle.hosts.specs.Event.{Event};
 ghost use Rattle.hosts.specs.Streams.{output};
 ghost use Rattle.program_tasks.specs.declared.tasks.Saving.TheVariants as saving;
-ghost use Rattle.volume_commands.specs.declared.images.Image.{Image as ImageState};
+ghost use Rattle.image_files.specs.declared.images.Image.{Image as ImageState};
 ghost use Rattle.volume_image.specs.Image.{IsImageOf};
 ghost use Rattle.hosts.specs.declared.faults.Durability.TheVariants.{Unknown};
 ghost use Rattle.system_session.specs.ShownAnswers.{ShownAnswer};
@@ -18,7 +18,7 @@ use program_tasks::Saving;
 use script8::SessionFault;
 use std::alloc::Global;
 use std::mem;
-use volume_commands::Image;
+use image_files::Image;
 use volume_image::MemoryVolume;
 use word12::{BLOCK, FIRST_FILE_BLOCK};
 

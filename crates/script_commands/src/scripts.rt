@@ -4,8 +4,8 @@ ghost use Rattle.byte_reader.specs.Readings.{reading};
 ghost use Rattle.hosts.specs.Event.{Event};
 ghost use Rattle.hosts.specs.Streams.{output_text};
 ghost use Rattle.system_session.specs.ShownAnswers.{ShownAnswer};
-ghost use Rattle.volume_commands.specs.Answers.{Answers};
-ghost use Rattle.volume_commands.specs.declared.images.Image.{Image as ImageState};
+ghost use Rattle.image_files.specs.Answers.{Answers};
+ghost use Rattle.image_files.specs.declared.images.Image.{Image as ImageState};
 ghost use Rattle.script_commands.specs.RunSteps.{HasDone, TellsCut};
 ghost use Rattle.script_commands.specs.Scripts as spec;
 ghost use Rattle.script_commands.specs.Scripts.{IsRoom, MountsSession, OpensFor, OnlyReads, RunsOver, RunsScript, RunsSession, EndsRun};
@@ -25,7 +25,7 @@ use program_tasks::{ImageForm, RunForm, Saving};
 use script8::SessionFault;
 use std::alloc::Global;
 use system_session::Session;
-use volume_commands::{Image, ImagePlace, look_file, refuse_image, script_volume_in, tell_note};
+use image_files::{Image, ImagePlace, look_file, refuse_image, script_volume_in, tell_note};
 use volume_image::{ImageFault, MemoryVolume};
 
 /// Runs the script of a reader over the volume of an image file, and prints its replies. The image is written when it is to be, if it

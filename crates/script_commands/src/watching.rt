@@ -6,7 +6,7 @@ ghost use Rattle.program_tasks.specs.declared.tasks.Saving.TheVariants.{Always};
 ghost use Rattle.script8.specs.Replies.{answer_lines};
 ghost use Rattle.script8.specs.declared.entries.Entry.{Entry};
 ghost use Rattle.system_session.specs.ShownAnswers.{ShownAnswer};
-ghost use Rattle.volume_commands.specs.declared.images.Image.{Image as ImageState};
+ghost use Rattle.image_files.specs.declared.images.Image.{Image as ImageState};
 ghost use Rattle.volume_image.specs.Image.{IsImageOf};
 ghost use Rattle.script_commands.specs.RunSteps.{HasDone, HasEnded, TellsForm};
 ghost use Rattle.script_commands.specs.Steps.{changes, is_refusal};
@@ -23,7 +23,7 @@ use script8::{Reply, SessionFault};
 use std::alloc::Global;
 use std::io::{self, ErrorKind};
 use system_session::Watcher;
-use volume_commands::tell_note;
+use image_files::tell_note;
 use volume_image::MemoryVolume;
 
 /// A run of a script at a host. Its lines are printed, its image is written where each change is to be kept, and a person at a terminal is

@@ -1,4 +1,4 @@
--- What the command leaves as it was. What is known of the steps of volume_commands is handed in.
+-- What the command leaves as it was. What is known of the steps of image_files is handed in.
 use Rattle.std.proofs.Common.{◌≡◌, ◌∙◌, ℕ, Bool, true, false, ◌++◌, Option, None, Some, Result, Ok, Err, List, [], ◌∷◌, ap, refl, sym, inl, inr, length, map}
 use Rattle.std.specs.Borrow.{Bor}
 use Rattle.std.specs.Global.{Vec, Global}
@@ -29,15 +29,16 @@ use Rattle.pal8_tape.specs.declared.faults.SourceFault.TheVariants as pal8_is
 use Rattle.pal8_notes.specs.Texts.{notes_text}
 use Rattle.program_tasks.specs.declared.forms.ImageForm.{ImageForm}
 use Rattle.program_tasks.specs.declared.tasks.AssembleForm.{AssembleForm}
-use Rattle.volume_commands.specs.Answers.{AreLines, Refuses}
-use Rattle.volume_commands.specs.Ending.{TellsLine}
-use Rattle.volume_commands.specs.Laws.{KeepsFiles}
-use Rattle.volume_commands.specs.Making.{IsUnheldFile, MakesBy, MakesFile, ending_of_file}
-use Rattle.volume_commands.specs.Putting.{TakesInput, stored_line}
-use Rattle.volume_commands.specs.Reading.{Looks, LooksAt, Opens, hold_calls, with_lock_note}
-use Rattle.volume_commands.specs.Saving.{Prints, SavesIf, Stores, Writes}
-use Rattle.volume_commands.specs.Work.{Then, Purely}
-use Rattle.volume_commands.specs.declared.images.Image.{Image}
+use Rattle.image_files.specs.Answers.{AreLines, Refuses}
+use Rattle.image_files.specs.Ending.{TellsLine}
+use Rattle.image_files.specs.Laws.{KeepsFiles}
+use Rattle.image_files.specs.Making.{IsUnheldFile, MakesBy, MakesFile, ending_of_file}
+use Rattle.image_files.specs.Inputs.{TakesInput}
+use Rattle.image_files.specs.Stored.{stored_line}
+use Rattle.image_files.specs.Reading.{Looks, LooksAt, Opens, hold_calls, with_lock_note}
+use Rattle.image_files.specs.Saving.{Prints, SavesIf, Stores, Writes}
+use Rattle.image_files.specs.Work.{Then, Purely}
+use Rattle.image_files.specs.declared.images.Image.{Image}
 use Rattle.source_commands.specs.Assembling.{Assembles, AssemblesAll, AssemblesFrom, AssemblesTo, IsMade, IsTapeOf, ListsTape, Makes, MakesIf, MakesNoted, MakesPal3, MakesPal8, NotesIf, PrintsFaults, RefusesPal8, RefusesSources, TellsAny, options_of}
 use Rattle.source_commands.specs.Clashes.{IsRefused, RefusesClash, clash_of}
 use Rattle.source_commands.specs.Faults.{faults_text, pal8_faults_text}

@@ -20,10 +20,10 @@ use Rattle.outcome.specs.declared.endings.Ending.{Ending}
 use Rattle.outcome.specs.declared.endings.Ending.TheVariants.{Fault, Failure}
 use Rattle.program_tasks.specs.declared.forms.ImageForm.{ImageForm}
 use Rattle.program_tasks.specs.declared.tasks.AssembleForm.{AssembleForm}
-use Rattle.volume_commands.specs.Work.{Then, Purely}
-use Rattle.volume_commands.specs.Ending.{TellsLine}
-use Rattle.volume_commands.specs.Reading.{LooksAt, Opens}
-use Rattle.volume_commands.specs.Saving.{IsDone}
+use Rattle.image_files.specs.Work.{Then, Purely}
+use Rattle.image_files.specs.Ending.{TellsLine}
+use Rattle.image_files.specs.Reading.{LooksAt, Opens}
+use Rattle.image_files.specs.Saving.{IsDone}
 use Rattle.source_commands.specs.Clashes.{RefusesClash}
 use Rattle.source_commands.specs.Faults.{faults_text, pal8_faults_text}
 use Rattle.source_commands.specs.Outputs.{PutsTape, WritesListing, WritesTape}

@@ -7,12 +7,12 @@ use Rattle.archive_files.specs.Putting.{PutsFile}
 use Rattle.outcome.specs.declared.contents.Content.{Content}
 use Rattle.outcome.specs.declared.contents.Content.TheVariants.{Tape, Listing}
 use Rattle.outcome.specs.declared.endings.Ending.{Ending}
-use Rattle.volume_commands.specs.Work.{Then, Purely}
-use Rattle.volume_commands.specs.Answers.{Answers, AreLines}
-use Rattle.volume_commands.specs.Making.{MakesFile}
-use Rattle.volume_commands.specs.Putting.{stored_line}
-use Rattle.volume_commands.specs.Saving.{IsDone, Prints, Stores}
-use Rattle.volume_commands.specs.declared.images.Image.{Image}
+use Rattle.image_files.specs.Work.{Then, Purely}
+use Rattle.image_files.specs.Answers.{Answers, AreLines}
+use Rattle.image_files.specs.Making.{MakesFile}
+use Rattle.image_files.specs.Stored.{stored_line}
+use Rattle.image_files.specs.Saving.{IsDone, Prints, Stores}
+use Rattle.image_files.specs.declared.images.Image.{Image}
 use Rattle.source_commands.specs.Sources.{is_standard}
 
 abbrev pub WritesIf : Bool → Content → List ℕ → List ℕ → List Event → Result (Unit {0}) Ending → List Event → Type 0

@@ -17,7 +17,7 @@ use program_tasks::{AssembleForm, ImageForm};
 use script8::SessionFault;
 use source_listing::{ListingForm, list_sources};
 use std::alloc::Global;
-use volume_commands::{Image, look_at, tell_line};
+use image_files::{Image, look_at, tell_line};
 
 /// What sources are assembled to.
 #[derive(Drop)]

@@ -7,7 +7,7 @@ use hosts::Host;
 use outcome::{Ending, NameNote, Note};
 use program_tasks::{AssembleForm, ImageForm};
 use std::alloc::Global;
-use volume_commands::tell_note;
+use image_files::tell_note;
 
 /// The name of a standard stream where a file's may stand.
 pub(crate) const STANDARD: &str = "-";

@@ -6,7 +6,7 @@ ghost use Rattle.outcome.specs.Notes.{note_text};
 ghost use Rattle.pal8_tape.specs.FaultLines as pal8;
 ghost use Rattle.pal8_tape.specs.Further as pal8_further;
 ghost use Rattle.pal8_tape.specs.Signs as signs;
-ghost use Rattle.volume_commands.specs.Answers.{AreLines};
+ghost use Rattle.image_files.specs.Answers.{AreLines};
 ghost use Rattle.source_commands.specs.Faults as spec;
 ghost use Rattle.source_commands.specs.FaultSteps.{AreFurther};
 

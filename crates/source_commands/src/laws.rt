@@ -4,11 +4,11 @@ ghost use Rattle.hosts.specs.Event.{Event};
 ghost use Rattle.hosts.specs.Place.{about};
 ghost use Rattle.outcome.specs.declared.endings.Ending.{Ending};
 ghost use Rattle.program_tasks.specs.declared.tasks.AssembleForm.{AssembleForm};
-ghost use Rattle.volume_commands.specs.Laws.{KeepsFiles};
+ghost use Rattle.image_files.specs.Laws.{KeepsFiles};
 ghost use Rattle.source_commands.specs.Assembling.{Assembles};
 ghost use Rattle.source_commands.specs.Laws.{is_refusal};
 
-use volume_commands::laws::kept_files;
+use image_files::laws::kept_files;
 
 /// A law: where the words clash, a file can't be read or the sources have a fault, no file of the host is changed.
 pub fn refused_sources()

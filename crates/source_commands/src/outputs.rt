@@ -2,7 +2,7 @@
 ghost use Rattle.std.specs.Prelude.{length, None};
 ghost use Rattle.char_pack.specs.declared.forms.PutForm.TheVariants.{Frames};
 ghost use Rattle.archive_files.specs.Putting.{PutsFile};
-ghost use Rattle.volume_commands.specs.Answers.{Answers};
+ghost use Rattle.image_files.specs.Answers.{Answers};
 ghost use Rattle.source_commands.specs.Outputs.{PutsTape, WritesListing, WritesTape, WritesTo};
 
 use crate::clashes::STANDARD;
@@ -10,7 +10,7 @@ use archive_files::{NewImage, PutForm, put};
 use hosts::Host;
 use outcome::{Content, Ending};
 use std::alloc::Global;
-use volume_commands::{Image, make_file, print, refuse_image, store, stored_line};
+use image_files::{Image, make_file, print, refuse_image, store, stored_line};
 
 /// Writes a listing, if there is one and a name is given for it.
 pub(crate) fn write_listing<H: Host>(

@@ -25,12 +25,12 @@ use Rattle.outcome.specs.Endings.{ending_of_tape}
 use Rattle.outcome.specs.Hints.{start_note}
 use Rattle.outcome.specs.declared.endings.Ending.{Ending}
 use Rattle.outcome.specs.declared.notes.PlainNote.{PlainNote}
-use Rattle.volume_commands.specs.Answers.{AreLines}
-use Rattle.volume_commands.specs.Ending.{TellsLine}
-use Rattle.volume_commands.specs.Laws.{KeepsFiles}
-use Rattle.volume_commands.specs.Notes.{Tells}
-use Rattle.volume_commands.specs.Saving.{Prints}
-use Rattle.volume_commands.specs.Work.{Then, Purely}
+use Rattle.image_files.specs.Answers.{AreLines}
+use Rattle.image_files.specs.Ending.{TellsLine}
+use Rattle.image_files.specs.Laws.{KeepsFiles}
+use Rattle.image_files.specs.Notes.{Tells}
+use Rattle.image_files.specs.Saving.{Prints}
+use Rattle.image_files.specs.Work.{Then, Purely}
 use Rattle.program_commands.specs.Kinds.{RefusesFrames}
 use Rattle.program_commands.specs.Programs.{ReadsProgram}
 use Rattle.tape_commands.specs.Lines.{IsJust, TellsProgram}

@@ -8,7 +8,7 @@ use Rattle.program_reports.specs.Program.{program_line}
 use Rattle.program_reports.specs.declared.programs.ProgramLine.{ProgramLine}
 use Rattle.outcome.specs.declared.endings.Ending.{Ending}
 use Rattle.outcome.specs.declared.endings.Ending.TheVariants.{Fault, FullOutput, NoReader}
-use Rattle.volume_commands.specs.Ending.{TellsLine}
+use Rattle.image_files.specs.Ending.{TellsLine}
 
 -- a line is printed on standard error, unless memory is wanted for it
 abbrev pub TellsProgram : ProgramLine → List Event → Result (Unit {0}) Ending → List Event → Type 0

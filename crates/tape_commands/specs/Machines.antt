@@ -15,9 +15,9 @@ use Rattle.outcome.specs.Endings.{ending_of_tape}
 use Rattle.outcome.specs.Hints.{start_note}
 use Rattle.outcome.specs.declared.endings.Ending.{Ending}
 use Rattle.outcome.specs.declared.endings.Ending.TheVariants.{Line, Fault}
-use Rattle.volume_commands.specs.Notes.{Tells}
-use Rattle.volume_commands.specs.Saving.{IsDone}
-use Rattle.volume_commands.specs.Work.{Then, Purely}
+use Rattle.image_files.specs.Notes.{Tells}
+use Rattle.image_files.specs.Saving.{IsDone}
+use Rattle.image_files.specs.Work.{Then, Purely}
 use Rattle.program_commands.specs.Kinds.{RefusesFrames}
 use Rattle.tape_commands.specs.Lines.{TellsProgram, IsEnding, IsJust}
 

@@ -12,7 +12,7 @@ use Rattle.tape_reports.specs.Given.{AreGiven}
 use Rattle.program_tasks.specs.declared.tasks.TraceForm.{TraceForm}
 use Rattle.outcome.specs.declared.endings.Ending.{Ending}
 use Rattle.outcome.specs.declared.endings.Ending.TheVariants.{Fault}
-use Rattle.volume_commands.specs.Work.{Then, Purely}
+use Rattle.image_files.specs.Work.{Then, Purely}
 use Rattle.program_commands.specs.Programs.{ReadsProgram}
 use Rattle.tape_commands.specs.Machines.{Stands}
 use Rattle.tape_commands.specs.declared.runs.Run.{Run}

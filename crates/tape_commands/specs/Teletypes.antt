@@ -22,8 +22,8 @@ use Rattle.program_reports.specs.declared.programs.ProgramLine.TheVariants as li
 use Rattle.program_tasks.specs.declared.tasks.TeletypeForm.{TeletypeForm}
 use Rattle.outcome.specs.declared.endings.Ending.{Ending}
 use Rattle.outcome.specs.declared.endings.Ending.TheVariants.{Fault, Failure}
-use Rattle.volume_commands.specs.Saving.{IsDone}
-use Rattle.volume_commands.specs.Work.{Then, Purely, Ends, Follows}
+use Rattle.image_files.specs.Saving.{IsDone}
+use Rattle.image_files.specs.Work.{Then, Purely, Ends, Follows}
 use Rattle.program_commands.specs.Programs.{ReadsProgram}
 use Rattle.tape_commands.specs.Lines.{TellsProgram, IsEnding, ending_of_output}
 use Rattle.tape_commands.specs.Machines.{Stands}

@@ -17,9 +17,9 @@ use Rattle.program_reports.specs.declared.programs.ProgramLine.TheVariants.{Step
 use Rattle.program_tasks.specs.declared.tasks.TraceForm.{TraceForm}
 use Rattle.outcome.specs.declared.endings.Ending.{Ending}
 use Rattle.outcome.specs.declared.endings.Ending.TheVariants.{Fault}
-use Rattle.volume_commands.specs.Answers.{AreLines}
-use Rattle.volume_commands.specs.Saving.{Prints}
-use Rattle.volume_commands.specs.Work.{Then, Purely}
+use Rattle.image_files.specs.Answers.{AreLines}
+use Rattle.image_files.specs.Saving.{Prints}
+use Rattle.image_files.specs.Work.{Then, Purely}
 use Rattle.tape_commands.specs.Lines.{IsEnding, ending_of_output}
 use Rattle.tape_commands.specs.Runs.{ReadsRun, terminal_of}
 

@@ -2,7 +2,7 @@
 ghost use Rattle.byte_reader.specs.Readings.{reading};
 ghost use Rattle.program_tasks.specs.declared.tasks.TeletypeForm.{TeletypeForm};
 ghost use Rattle.program_tasks.specs.declared.tasks.TraceForm.{TraceForm};
-ghost use Rattle.volume_commands.specs.Laws.{KeepsFiles};
+ghost use Rattle.image_files.specs.Laws.{KeepsFiles};
 ghost use Rattle.tape_commands.specs.Profiles.{ProfilesTape};
 ghost use Rattle.tape_commands.specs.Teletypes.{RunsTeletype};
 ghost use Rattle.tape_commands.specs.Traces.{TracesTape};
@@ -10,7 +10,7 @@ ghost use Rattle.tape_commands.specs.Traces.{TracesTape};
 use byte_reader::ByteReader;
 use host_output::laws::prints_alone;
 use program_commands::laws::unchanged_files as unchanged_programs;
-use volume_commands::laws::kept_files;
+use image_files::laws::kept_files;
 
 /// A law: none of these commands changes a file of the host, in whichever way it ends.
 pub fn unchanged_files<I: ByteReader>()

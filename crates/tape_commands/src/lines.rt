@@ -1,7 +1,7 @@
 //! The lines of the commands on machines, and how these end where standard output takes no more.
 ghost use Rattle.std.specs.Prelude.{◌≡◌};
 ghost use Rattle.program_reports.specs.Program.{program_line};
-ghost use Rattle.volume_commands.specs.Answers.{AreLines};
+ghost use Rattle.image_files.specs.Answers.{AreLines};
 ghost use Rattle.tape_commands.specs.Lines as spec;
 ghost use Rattle.tape_commands.specs.Lines.{TellsProgram};
 
@@ -9,7 +9,7 @@ use hosts::{Host, PrintFault};
 use outcome::Ending;
 use program_reports::{ProgramLine, put_program};
 use std::alloc::Global;
-use volume_commands::tell_line;
+use image_files::tell_line;
 
 /// Prints a line on standard error that is no fault.
 pub(crate) fn tell_program<H: Host>(

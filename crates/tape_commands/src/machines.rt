@@ -1,6 +1,6 @@
 //! A machine that stands where the program of a tape starts.
 ghost use Rattle.std.specs.Prelude.{◌≡◌, nat_eq};
-ghost use Rattle.volume_commands.specs.Notes.{Tells};
+ghost use Rattle.image_files.specs.Notes.{Tells};
 ghost use Rattle.tape_commands.specs.Machines as spec;
 ghost use Rattle.tape_commands.specs.Machines.{FindsStart, LoadsCore, Stands, StartsAt, TellsCell, TellsStart};
 

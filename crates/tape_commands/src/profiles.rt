@@ -12,7 +12,7 @@ use program_reports::{ProgramLine, put_program};
 use program_tasks::TraceForm;
 use std::alloc::Global;
 use terminal8::Terminal;
-use volume_commands::print;
+use image_files::print;
 
 /// How many steps are counted where nothing else is said: some three seconds of the machine.
 const PROFILE_STEPS: u64 = 1_000_000;

@@ -21,7 +21,7 @@ use std::alloc::Global;
 use std::marker::Brand;
 use terminal8::{Ended, Terminal};
 use trace8::{TraceFault, trace};
-use volume_commands::print;
+use image_files::print;
 
 /// How many steps are printed where nothing else is said.
 const TRACE_STEPS: u64 = 1_000;

@@ -6,7 +6,7 @@ use Rattle.outcome.specs.declared.contents.Content.TheVariants.{Image}
 use Rattle.outcome.specs.declared.endings.Ending.{Ending}
 use Rattle.outcome.specs.declared.endings.Ending.TheVariants.{Busy}
 use Rattle.archive_files.specs.Asking.{target_of}
-use Rattle.volume_commands.specs.Making.{CreatesFile, IsBlankImage, IsBlankTapeFile}
+use Rattle.volume_commands.specs.Creating.{CreatesFile, IsBlankImage, IsBlankTapeFile}
 use Rattle.volume_commands.specs.declared.creating.TheConstants.{TAPE_BLOCKS}
 use Rattle.volume_commands.specs.Changing.{Renames, Squeezes}
 use Rattle.volume_commands.specs.Copying.{Copies}

@@ -18,18 +18,18 @@ use Rattle.outcome.specs.Streams.{gives_data}
 use Rattle.outcome.specs.declared.endings.Ending.{Ending}
 use Rattle.outcome.specs.declared.endings.Ending.TheVariants.{Fault}
 use Rattle.script8.specs.declared.faults.SessionFault.TheVariants.{Memory}
-use Rattle.volume_commands.specs.Work.{Then, Purely}
-use Rattle.volume_commands.specs.Ending.{EndsSo}
-use Rattle.volume_commands.specs.Making.{CreatesFile, IsBlankImage, IsBlankTapeFile}
+use Rattle.image_files.specs.Work.{Then, Purely}
+use Rattle.image_files.specs.Ending.{EndsSo}
+use Rattle.volume_commands.specs.Creating.{CreatesFile, IsBlankImage, IsBlankTapeFile}
 use Rattle.volume_commands.specs.declared.creating.TheConstants.{TAPE_BLOCKS}
 use Rattle.volume_commands.specs.Changing.{Renames, Squeezes}
 use Rattle.volume_commands.specs.Copying.{Copies}
 use Rattle.volume_commands.specs.Deleting.{Deletes}
 use Rattle.volume_commands.specs.Putting.{Puts}
-use Rattle.volume_commands.specs.Reading.{reading_of}
+use Rattle.image_files.specs.Reading.{reading_of}
 use Rattle.volume_commands.specs.Showing.{Shows, wanted_file}
 use Rattle.volume_commands.specs.ShowingParts.{ShowsBlocks, ShowsTape}
-use Rattle.volume_commands.specs.declared.mending.ImageReading.{ImageReading}
+use Rattle.image_files.specs.declared.mending.ImageReading.{ImageReading}
 use Rattle.many_commands.specs.Checking.{ChecksImages}
 use Rattle.many_commands.specs.GettingMany.{GetsMany}
 use Rattle.many_commands.specs.PuttingMany.{PutsMany}

@@ -12,8 +12,8 @@ use Rattle.command_table.specs.declared.faults.TaskFault.TheVariants.{Words, Mem
 use Rattle.command_table.specs.Tasks.{Answers}
 use Rattle.outcome.specs.declared.endings.Ending.{Ending}
 use Rattle.outcome.specs.declared.endings.Ending.TheVariants.{Fault}
-use Rattle.volume_commands.specs.Ending.{EndsSo}
-use Rattle.volume_commands.specs.Saving.{Prints}
+use Rattle.image_files.specs.Ending.{EndsSo}
+use Rattle.image_files.specs.Saving.{Prints}
 use Rattle.task_commands.specs.Tasks.{RunsTask}
 
 -- help or the version is asked for

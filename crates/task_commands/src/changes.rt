@@ -16,9 +16,8 @@ use program_tasks::{
 use script_commands::open_image;
 use source_commands::assemble_files;
 use std::alloc::Global;
-use volume_commands::{
-    Image, copy_file, create_image, create_tape, delete_files, put_file, rename_file, squeeze_files,
-};
+use image_files::Image;
+use volume_commands::{copy_file, create_image, create_tape, delete_files, put_file, rename_file, squeeze_files};
 
 /// How many times a second a command is tried again.
 pub const TRIES: u128 = 20;

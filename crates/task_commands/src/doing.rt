@@ -22,7 +22,8 @@ use salvage_commands::{rescue_image, scan_blocks, scan_into};
 use script_commands::run_over;
 use std::alloc::{AllocError, Global};
 use tape_commands::{profile_tape, run_teletype, trace_tape};
-use volume_commands::{ImageReading, Rooms, end, file_asked, get_bin, get_blocks, get_file};
+use image_files::{ImageReading, Rooms, end};
+use volume_commands::{file_asked, get_bin, get_blocks, get_file};
 use volume_index::IndexStyle;
 
 /// Does a task, and prints what its end asks for. The answer is the exit status: 0, 1 after a fault, 141 where nobody reads standard output,

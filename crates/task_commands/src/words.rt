@@ -12,7 +12,7 @@ use command_table::{Refusal, TaskFault, task};
 use hosts::Host;
 use outcome::Ending;
 use std::alloc::{AllocError, Global};
-use volume_commands::{Rooms, end, print};
+use image_files::{Rooms, end, print};
 
 /// The exit status where words are refused.
 const MISUSE: u8 = 2;

@@ -1,3 +1,1 @@
-mod KeepLemmas
-mod ReadLemmas
 mod WorkLemmas

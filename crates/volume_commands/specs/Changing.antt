@@ -12,10 +12,10 @@ use Rattle.program_reports.specs.declared.programs.ProgramLine.TheVariants as li
 use Rattle.outcome.specs.declared.endings.Ending.{Ending}
 use Rattle.outcome.specs.declared.endings.Ending.TheVariants.{Line}
 use Rattle.program_tasks.specs.declared.forms.ImageForm.{ImageForm}
-use Rattle.volume_commands.specs.Work.{Then, Purely}
-use Rattle.volume_commands.specs.Reading.{Opens}
-use Rattle.volume_commands.specs.Answers.{Answers, AreLines, Refuses}
-use Rattle.volume_commands.specs.Saving.{Stores}
+use Rattle.image_files.specs.Work.{Then, Purely}
+use Rattle.image_files.specs.Reading.{Opens}
+use Rattle.image_files.specs.Answers.{Answers, AreLines, Refuses}
+use Rattle.image_files.specs.Saving.{Stores}
 
 -- An image file is held and read. The new image that its bytes give is saved, and only then the lines are printed that report it.
 abbrev pub Changes : {A : Type 0} → (List ℕ → List Event → Result A Ending → List Event → Type 0) → (A → List ℕ) → (A → List ℕ) → ImageForm → List Event → Result (Unit {0}) Ending → List Event → Type 0

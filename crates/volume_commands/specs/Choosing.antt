@@ -16,8 +16,8 @@ use Rattle.outcome.specs.declared.notes.NameNote.TheVariants.{NotDeleted}
 use Rattle.outcome.specs.declared.endings.Ending.{Ending}
 use Rattle.outcome.specs.declared.endings.Ending.TheVariants.{Fault}
 use Rattle.program_tasks.specs.declared.forms.DeleteForm.{DeleteForm}
-use Rattle.volume_commands.specs.Work.{Then, Purely}
-use Rattle.volume_commands.specs.Answers.{Answers}
+use Rattle.image_files.specs.Work.{Then, Purely}
+use Rattle.image_files.specs.Answers.{Answers}
 use Rattle.volume_commands.specs.Asking.{AreNamed}
 
 -- ## What is refused

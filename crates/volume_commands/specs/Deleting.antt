@@ -12,8 +12,8 @@ use Rattle.archive_files.specs.declared.faults.DeleteFault.TheVariants.{Archive,
 use Rattle.outcome.specs.declared.endings.Ending.{Ending}
 use Rattle.outcome.specs.declared.endings.Ending.TheVariants.{Fault}
 use Rattle.program_tasks.specs.declared.forms.DeleteForm.{DeleteForm}
-use Rattle.volume_commands.specs.Work.{Then}
-use Rattle.volume_commands.specs.Answers.{Refuses}
+use Rattle.image_files.specs.Work.{Then}
+use Rattle.image_files.specs.Answers.{Refuses}
 use Rattle.volume_commands.specs.Choosing.{MeansFiles, TellsRefused, one_of_several}
 use Rattle.volume_commands.specs.Changing.{Changes}
 

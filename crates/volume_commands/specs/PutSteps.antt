@@ -12,7 +12,7 @@ use Rattle.outcome.specs.Notes.{name_text}
 use Rattle.outcome.specs.declared.notes.NameNote.TheVariants.{Empty}
 use Rattle.outcome.specs.declared.endings.Ending.{Ending}
 use Rattle.outcome.specs.declared.endings.Ending.TheVariants.{Fault}
-use Rattle.volume_commands.specs.Answers.{Refuses}
+use Rattle.image_files.specs.Answers.{Refuses}
 use Rattle.volume_commands.specs.Putting.{TellsRefusal}
 
 -- the volume is refused, or memory is wanted for its files

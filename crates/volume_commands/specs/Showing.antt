@@ -8,10 +8,10 @@ use Rattle.outcome.specs.declared.endings.Ending.{Ending}
 use Rattle.program_tasks.specs.declared.forms.ImageForm.{ImageForm}
 use Rattle.program_tasks.specs.declared.forms.FileForm.{FileForm}
 use Rattle.program_tasks.specs.declared.forms.FileForm.TheVariants.{Name, At}
-use Rattle.volume_commands.specs.Work.{Then}
-use Rattle.volume_commands.specs.Reading.{LooksAt}
-use Rattle.volume_commands.specs.Answers.{Answers}
-use Rattle.volume_commands.specs.Saving.{Prints}
+use Rattle.image_files.specs.Work.{Then}
+use Rattle.image_files.specs.Reading.{LooksAt}
+use Rattle.image_files.specs.Answers.{Answers}
+use Rattle.image_files.specs.Saving.{Prints}
 
 -- the file that is meant by an argument
 abbrev pub wanted_file : FileForm → Target

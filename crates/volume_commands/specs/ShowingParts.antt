@@ -9,7 +9,6 @@ use Rattle.archive_files.specs.Getting.{Gets}
 use Rattle.char_pack.specs.declared.forms.GetForm.TheVariants.{Frames}
 use Rattle.archive_many.specs.Raw.{GetsBlocks}
 use Rattle.archive_many.specs.declared.faults.BlocksFault.{BlocksFault}
-use Rattle.archive_many.specs.declared.faults.BlocksFault.TheVariants.{Archive, NoBlocks}
 use Rattle.program_reports.specs.Cores.{IsCoreFault}
 use Rattle.program_reports.specs.Program.{program_line}
 use Rattle.program_reports.specs.declared.programs.ProgramLine.TheVariants as line
@@ -18,17 +17,13 @@ use Rattle.outcome.specs.declared.endings.Ending.TheVariants.{Line}
 use Rattle.program_tasks.specs.declared.forms.BlocksForm.{BlocksForm}
 use Rattle.program_tasks.specs.declared.forms.FileForm.{FileForm}
 use Rattle.program_tasks.specs.declared.forms.ImageForm.{ImageForm}
-use Rattle.volume_commands.specs.Work.{Then, Purely}
-use Rattle.volume_commands.specs.Reading.{LooksAt}
-use Rattle.volume_commands.specs.Answers.{Answers, AreLines, Refuses}
-use Rattle.volume_commands.specs.Ending.{TellsLine}
-use Rattle.volume_commands.specs.Saving.{Prints, IsDone}
+use Rattle.image_files.specs.Work.{Then, Purely}
+use Rattle.image_files.specs.Reading.{LooksAt}
+use Rattle.image_files.specs.Answers.{Answers, AreLines}
+use Rattle.image_files.specs.Ending.{TellsLine}
+use Rattle.image_files.specs.Saving.{Prints, IsDone}
 use Rattle.volume_commands.specs.Showing.{wanted_file}
-
--- why blocks of an image of so many bytes are not given
-abbrev pub RefusesBlocks : BlocksFault → ℕ → List Event → Ending → List Event → Type 0
-RefusesBlocks (Archive fault) size old ending new = Refuses fault size old ending new
-RefusesBlocks (NoBlocks has) size old ending new = (ending ≡ Line (line.OnlyBlocks has)) × (new ≡ old)
+use Rattle.image_files.specs.Answers.{RefusesBlocks}
 
 -- what blocks of an image give, whatever its directory says, or why nothing
 abbrev pub GivesBlocks : BlocksForm → List ℕ → List Event → Result (Vec ℕ) Ending → List Event → Type 0

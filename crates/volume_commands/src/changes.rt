@@ -3,15 +3,12 @@
 ghost use Rattle.std.specs.Prelude.{length};
 ghost use Rattle.archive_files.specs.Asking.{target_of};
 ghost use Rattle.archive_files.specs.Squeezing.{SqueezesFiles};
-ghost use Rattle.volume_commands.specs.Answers.{Answers};
+ghost use Rattle.image_files.specs.Answers.{Answers};
 ghost use Rattle.volume_commands.specs.Changing.{Squeezes, Renames, GivesName};
 
-use crate::answers::{answer_of, program_line};
-use crate::images::Image;
-use crate::notes::refuse_image;
-use crate::printing::store;
 use archive_files::{Asked, RenameFault, RenamedImage, SqueezedImage, rename, squeeze};
 use hosts::Host;
+use image_files::{Image, answer_of, program_line, refuse_image, store};
 use outcome::Ending;
 use program_reports::ProgramLine;
 use program_tasks::ImageForm;

@@ -1,20 +1,17 @@
 //! Which files of the volume in an image are taken out: those of names and of first blocks, or where a pattern is among the words, those that
 //! they choose.
-ghost use Rattle.std.specs.Prelude.{◌≡◌, ◌++◌, false, IfOk, OnOk, OnErr, Some, length, map, slice_get};
+ghost use Rattle.std.specs.Prelude.{◌≡◌, ◌++◌, false, IfOk, OnOk, OnErr, Some, map, slice_get};
 ghost use Rattle.archive_files.specs.Asking.{AtBlock, OfName, target_of};
 ghost use Rattle.os8_dir.specs.declared.file_faults.FileFault.TheVariants.{NotFound};
-ghost use Rattle.archive_many.specs.Opened.{OpensVolume};
 ghost use Rattle.archive_many.specs.Wishing.{by_place, file_of, found_files, is_file};
-ghost use Rattle.volume_commands.specs.Answers.{Answers};
 ghost use Rattle.volume_commands.specs.Choosing.{AreWished, Chooses, FindsAll, MeansFiles, TellsRefused, word_at};
 ghost use Rattle.volume_commands.specs.ChoiceSteps.{IsRefused, IsToldOf};
 
-use crate::answers::answer_of;
 use crate::asking::{add_place, files_named};
-use crate::notes::tell_note;
 use archive_files::Asked;
-use archive_many::{OpenVolume, Wish, first_unfound, has_pattern, open, wishes_of};
+use archive_many::{OpenVolume, Wish, first_unfound, has_pattern, wishes_of};
 use hosts::Host;
+use image_files::{open_volume, tell_note};
 use os8_files::FileFault;
 use outcome::{Ending, NameNote, Note};
 use program_tasks::DeleteForm;
@@ -48,14 +45,6 @@ fn files_chosen<H: Host>(
     let volume = open_volume(host, alloc, image)?;
     let wishes = wishes_on(alloc, form, &volume)?;
     files_found(host, alloc, form, &wishes)
-}
-
-/// The volume in an image. Where it is refused, what may help is printed.
-pub fn open_volume<H: Host>(host: &mut H, alloc: Global, image: &[u8]) -> Result<OpenVolume, Ending>
-    ensures { Answers (OpensVolume image.now) (length image.now) (H.history host.old) result (H.history host.new) }
-{
-    let answer = open(alloc, image);
-    answer_of(host, image.len(), answer)
 }
 
 /// What the words and the blocks ask for of a volume.

@@ -1,22 +1,17 @@
 //! The command that copies a file of the volume in an image file to the volume in another, or under a new name in the same one.
 ghost use Rattle.std.specs.Prelude.{◌≡◌, false, option_copied};
 ghost use Rattle.archive_files.specs.Asking.{target_of};
+ghost use Rattle.image_files.specs.Pairs as one;
 ghost use Rattle.volume_commands.specs.Copying as spec;
-ghost use Rattle.volume_commands.specs.Copying.{Copies, CopiesFrom, CopiesInto, IsOneRefused, MakesCopy};
+ghost use Rattle.volume_commands.specs.Copying.{Copies, CopiesFrom, CopiesInto, MakesCopy};
 ghost use Rattle.volume_commands.specs.CopySteps.{IsNotCopied};
 
 use crate::asking::copy_of_asked;
-use crate::images::Image;
-use crate::notes::{refuse_image, tell_note};
-use crate::printing::store;
-use crate::putting::stored_line;
-use crate::reading::look_at;
-use archive_files::{ArchiveFault, Asked, CopyFault, NewImage, copy};
-use disk_layouts::Layout;
+use archive_files::{Asked, CopyFault, NewImage, copy};
 use hosts::Host;
-use outcome::{Ending, NameNote, Note};
-use program_tasks::{CopyForm, ImageForm};
-use script8::SessionFault;
+use image_files::{Image, is_one_image, look_at, refuse_one, store, stored_line};
+use outcome::Ending;
+use program_tasks::CopyForm;
 use std::alloc::Global;
 
 /// Copies a file of the volume in an image file to the volume in another, or under a new name in the same one, and reports it.
@@ -36,7 +31,7 @@ fn copy_to<H: Host>(
     file: &Asked,
     image: Image,
 ) -> Result<(), Ending>
-    ensures { CopiesFrom (spec.is_one_image form.now.image form.now.to) form.now (target_of file.now) image (H.history host.old) result (H.history host.new) }
+    ensures { CopiesFrom (one.is_one_image form.now.image form.now.to) form.now (target_of file.now) image (H.history host.old) result (H.history host.new) }
 {
     if is_one_image(&form.image, &form.to) {
         return copy_within(host, alloc, form, file, image);
@@ -107,63 +102,6 @@ fn refuse_copy<H: Host>(
     match fault {
         CopyFault::From(fault) => refuse_one(host, alloc, form.image.file.as_str(), from, fault),
         CopyFault::To(fault) => refuse_one(host, alloc, form.to.file.as_str(), to, fault),
-    }
-}
-
-/// How the command ends if the image in this file, or a file of it, is refused. Which it is, is printed.
-pub fn refuse_one<H: Host>(
-    host: &mut H,
-    alloc: Global,
-    name: &str,
-    size: usize,
-    fault: ArchiveFault,
-) -> Ending
-    ensures { IsOneRefused name.now fault size (H.history host.old) result (H.history host.new) }
-{
-    if is_want_of(&fault) {
-        return refuse_image(host, size, fault);
-    }
-    match tell_note(host, alloc, Note::OnName(NameNote::Refuses, name)) {
-        Ok(()) => refuse_image(host, size, fault),
-        Err(error) => Ending::from(error),
-    }
-}
-
-/// Whether memory is wanted.
-fn is_want_of(fault: &ArchiveFault) -> bool
-    ensures { result ≡ spec.is_want_of fault.now }
-{
-    match fault {
-        ArchiveFault::Image(_) | ArchiveFault::Directory(_) => false,
-        ArchiveFault::Refused(why) => is_want(*why),
-    }
-}
-
-fn is_want(why: SessionFault) -> bool
-    ensures { result ≡ spec.is_want why }
-{
-    match why {
-        SessionFault::Memory => true,
-        _ => false,
-    }
-}
-
-/// Whether two images are one: their files have one name, and they lie in the same place.
-pub fn is_one_image(one: &ImageForm, other: &ImageForm) -> bool
-    ensures { result ≡ spec.is_one_image one.now other.now }
-{
-    one.file == other.file && is_one_layout(one.layout, other.layout)
-}
-
-fn is_one_layout(one: Option<Layout>, other: Option<Layout>) -> bool
-    ensures { result ≡ spec.is_one_layout one other }
-{
-    match one {
-        None => other.is_none(),
-        Some(one) => match other {
-            None => false,
-            Some(other) => one == other,
-        },
     }
 }
 

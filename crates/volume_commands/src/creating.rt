@@ -1,11 +1,9 @@
 //! The commands that make a new volume in a file.
-ghost use Rattle.volume_commands.specs.Making.{CreatesFile, IsBlankImage, IsBlankTapeFile, MakesIf, MakesVolume};
+ghost use Rattle.volume_commands.specs.Creating.{CreatesFile, IsBlankImage, IsBlankTapeFile, MakesIf, MakesVolume};
 
-use crate::answers::program_line;
-use crate::making::{make_file, make_first};
-use crate::printing::print;
 use disk_layouts::blank_tape;
 use hosts::Host;
+use image_files::{make_file, make_first, print, program_line};
 use outcome::{Content, Ending};
 use program_reports::ProgramLine;
 use program_tasks::CreateForm;

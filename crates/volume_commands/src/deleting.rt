@@ -3,18 +3,16 @@ ghost use Rattle.std.specs.Prelude.{◌≡◌, ◌++◌, map, OnOk, OnErr, IfErr
 ghost use Rattle.archive_files.specs.Asking.{target_of};
 ghost use Rattle.script8.specs.declared.faults.SessionFault.TheVariants.{Memory};
 ghost use Rattle.outcome.specs.declared.endings.Ending.TheVariants.{Fault};
-ghost use Rattle.volume_commands.specs.Answers.{AreLines};
+ghost use Rattle.image_files.specs.Answers.{AreLines};
 ghost use Rattle.volume_commands.specs.Deleting as spec;
 ghost use Rattle.volume_commands.specs.Choosing.{TellsRefused, one_of_several};
 ghost use Rattle.volume_commands.specs.Deleting.{Deletes, TakesMeant, TakesOut};
 ghost use Rattle.volume_commands.specs.DeleteSteps.{IsNotTaken};
 
 use crate::choosing::{files_meant, tell_file};
-use crate::images::Image;
-use crate::notes::refuse_image;
-use crate::printing::store;
 use archive_files::{Asked, DeleteFault, DeletedImage, delete};
 use hosts::Host;
+use image_files::{Image, refuse_image, store};
 use os8_dir::Name;
 use outcome::Ending;
 use program_tasks::DeleteForm;

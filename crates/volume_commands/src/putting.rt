@@ -1,21 +1,18 @@
 //! The command that puts a file of the host, or standard input, on the volume in an image file.
 ghost use Rattle.std.specs.Prelude.{◌≡◌, option_copied, OnOk, OnErr};
-ghost use Rattle.volume_commands.specs.Answers.{AreLines};
-ghost use Rattle.volume_commands.specs.Putting as spec;
-ghost use Rattle.volume_commands.specs.Putting.{Puts, PutsInto, KeepsWords, MakesNew, TellsBad, stored_line, words_of};
+ghost use Rattle.image_files.specs.Stored as spec;
+ghost use Rattle.volume_commands.specs.Putting.{Puts, PutsInto, KeepsWords, MakesNew};
+ghost use Rattle.image_files.specs.Stored.{TellsBad, stored_line, words_of};
 ghost use Rattle.volume_commands.specs.PutSteps.{RefusesLoss, FindsFiles, IsNotPut};
 
-use crate::images::Image;
-use crate::inputs::given_bytes;
-use crate::notes::{refuse_image, tell_note};
-use crate::printing::store;
 use archive_files::{ArchiveFault, NewImage, bad_text_at, put};
 use archive_many::{VolumeFile, empties, open};
 use hosts::Host;
+use image_files::{Image, given_bytes, refuse_image, store, stored_line, tell_note};
 use os8_dir::{FileFault, Name};
 use outcome::{Ending, NameNote, Note};
 use program_tasks::PutOneForm;
-use script8::{LineReply, Reply, SessionFault, put_reply};
+use script8::SessionFault;
 use std::alloc::{AllocError, Global};
 use word12::Word;
 
@@ -158,19 +155,6 @@ fn tell_bad_text<H: Host>(host: &mut H, alloc: Global, text: &[u8]) -> Result<()
         Some(place) => tell_note(host, alloc, Note::OnText(place)),
         None => Ok(()),
     }
-}
-
-/// The line of a file that was put.
-pub fn stored_line(alloc: Global, new: &NewImage) -> Result<Vec<u8>, Ending>
-    ensures { AreLines (stored_line new.now) result }
-{
-    let stored = Reply::Line(LineReply::Stored {
-        name: new.name,
-        blocks: new.blocks,
-    });
-    let mut line = Vec::new(alloc);
-    put_reply(None, &Ok(stored), &mut line)?;
-    Ok(line)
 }
 
 /// The information words that are given, if any are.

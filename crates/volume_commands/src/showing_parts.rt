@@ -1,16 +1,11 @@
 //! The commands that print blocks of an image, or the BIN tape of a core image on its volume. No file changes.
 ghost use Rattle.volume_commands.specs.ShowingParts.{GivesBlocks, GivesTape, PrintsTape, ShowsBlocks, ShowsTape};
 
-use crate::answers::program_line;
 use crate::asking::file_asked;
-use crate::ending::tell_line;
-use crate::notes::refuse_image;
-use crate::printing::print;
-use crate::reading::look_at;
-use crate::showing::show_file;
 use archive_files::GetForm;
 use archive_many::{BlocksFault, blocks_of};
 use hosts::Host;
+use image_files::{look_at, print, program_line, refuse_image, show_file, tell_line};
 use outcome::Ending;
 use program_reports::{ProgramLine, core_tape};
 use program_tasks::{BlocksForm, FileForm, ImageForm};

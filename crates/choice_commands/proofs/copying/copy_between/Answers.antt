@@ -1,7 +1,7 @@
 use Rattle.std.proofs.Common.{ℕ, Err, List, inl, inr, subst}
 use Rattle.archive_many.specs.declared.opened.VolumeFile.{VolumeFile}
 use Rattle.choice_commands.specs.Copying.{FindsFiles, PutsFiles}
-use Rattle.volume_commands.specs.Reading.{LooksAt}
+use Rattle.image_files.specs.Reading.{LooksAt}
 use Rattle.choice_commands.proofs.WorkLemmas.{ends_with}
 use Rattle.choice_commands.proofs.copying.copy_between.Goals as goal
 

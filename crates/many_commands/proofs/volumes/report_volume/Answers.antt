@@ -1,5 +1,5 @@
 use Rattle.std.proofs.Common.{inl, inr, refl}
-use Rattle.volume_commands.specs.Work.{Purely}
+use Rattle.image_files.specs.Work.{Purely}
 use Rattle.many_commands.specs.Volumes.{ReportsAt}
 use Rattle.many_commands.proofs.WorkLemmas.{ends_with}
 use Rattle.many_commands.proofs.volumes.report_volume.Goals as goal

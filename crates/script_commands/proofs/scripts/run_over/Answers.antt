@@ -1,6 +1,6 @@
 use Rattle.std.proofs.Common.{inl, inr, length, refl}
-use Rattle.volume_commands.specs.Answers.{Answers}
-use Rattle.volume_commands.specs.Work.{Purely}
+use Rattle.image_files.specs.Answers.{Answers}
+use Rattle.image_files.specs.Work.{Purely}
 use Rattle.script_commands.specs.Scripts.{IsRoom, MountsSession, is_parted}
 use Rattle.script_commands.proofs.WorkLemmas.{ends_with}
 use Rattle.script_commands.proofs.scripts.run_over.Goals as goal

@@ -1,5 +1,5 @@
 use Rattle.std.proofs.Common.{inl, inr, refl, unwrap_or}
-use Rattle.volume_commands.specs.Work.{Purely}
+use Rattle.image_files.specs.Work.{Purely}
 use Rattle.tape_commands.specs.Profiles.{GivesProfile}
 use Rattle.tape_commands.specs.Runs.{terminal_of}
 use Rattle.tape_commands.proofs.WorkLemmas.{ends_with}

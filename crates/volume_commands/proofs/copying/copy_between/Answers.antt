@@ -1,7 +1,7 @@
 use Rattle.std.proofs.Common.{rules, inl, inr, refl, subst, Err}
 use Rattle.volume_commands.specs.Copying.{MakesCopy}
 use Rattle.archive_files.specs.Asking.{target_of}
-use Rattle.volume_commands.specs.Reading.{LooksAt}
+use Rattle.image_files.specs.Reading.{LooksAt}
 use Rattle.volume_commands.proofs.WorkLemmas.{ends_with}
 use Rattle.volume_commands.proofs.copying.copy_between.Goals as goal
 

@@ -1,6 +1,6 @@
 use Rattle.std.proofs.Common.{rules, inl, inr, refl, subst, Err}
 use Rattle.volume_commands.specs.ShowingParts.{GivesTape}
-use Rattle.volume_commands.specs.Work.{Purely}
+use Rattle.image_files.specs.Work.{Purely}
 use Rattle.volume_commands.proofs.WorkLemmas.{ends_with}
 use Rattle.volume_commands.proofs.showing_parts.get_bin.Goals as goal
 

@@ -1,0 +1,16 @@
+pub mod Answers
+pub mod Ending
+pub mod Faults
+pub mod Inputs
+pub mod Laws
+pub mod Making
+pub mod Mending
+pub mod MakingSteps
+pub mod Notes
+pub mod Pairs
+pub mod Reading
+pub mod ReadingSteps
+pub mod SaveSteps
+pub mod Saving
+pub mod Stored
+pub mod Work

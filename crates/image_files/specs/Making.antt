@@ -1,0 +1,78 @@
+-- The commands that make a new volume in a file.
+use Rattle.std.specs.Prelude.{◌≡◌, ◌⊎◌, ◌<◌, ℕ, Bool, Result, Ok, Err, List}
+use Rattle.hosts.specs.Event.{Event}
+use Rattle.hosts.specs.Faults.{fault_number}
+use Rattle.hosts.specs.Place.{about}
+use Rattle.hosts.specs.Saving.{Makes, AnyMomentOf}
+use Rattle.hosts.specs.Streams.{errors, failures, last_fault, asked_name, path_of_name, has_links}
+use Rattle.hosts.specs.declared.faults.Durability.{Durability}
+use Rattle.hosts.specs.declared.faults.HostFault.{HostFault}
+use Rattle.hosts.specs.declared.faults.HostFault.TheVariants as host
+use Rattle.hosts.specs.declared.faults.Unwritten.TheVariants.{AsItWas}
+use Rattle.script8.specs.declared.faults.SessionFault.TheVariants.{Memory}
+use Rattle.outcome.specs.declared.contents.Content.{Content}
+use Rattle.outcome.specs.declared.contents.Content.TheVariants.{Image}
+use Rattle.outcome.specs.declared.endings.Ending.{Ending}
+use Rattle.outcome.specs.declared.endings.Ending.TheVariants.{Line, Fault, Busy, NotWritten}
+use Rattle.program_reports.specs.declared.programs.ProgramLine.TheVariants as line
+use Rattle.image_files.specs.Reading.{IsIdle, with_lock_note, hold_calls}
+use Rattle.image_files.specs.Saving.{Writes, IsSyncTold, TouchesOnly}
+
+-- a file for this that is to be written can't be held, or can't be made, and is as it was
+abbrev pub ending_of_file : Content → HostFault → Ending
+ending_of_file content host.Busy = Busy content
+ending_of_file content host.Memory = Fault Memory
+ending_of_file content host.Absent = NotWritten content AsItWas
+ending_of_file content host.Unwritable = NotWritten content AsItWas
+ending_of_file content host.Failed = NotWritten content AsItWas
+
+-- a file that is to be the first of its name can't be made: there is one, or a call failed
+abbrev pub ending_of_first : HostFault → Ending
+ending_of_first host.Busy = Line line.HostExists
+ending_of_first host.Memory = Fault Memory
+ending_of_first host.Absent = NotWritten Image AsItWas
+ending_of_first host.Unwritable = NotWritten Image AsItWas
+ending_of_first host.Failed = NotWritten Image AsItWas
+
+-- A file of these bytes is made where the host says that this name has none. It is there whole, on the disk, unless a note says that it is not
+-- known whether a crash keeps it. At each moment meanwhile a crash left what it might have left before, or the file, whole, where the file
+-- system has further names.
+pub record HasMade (content : Content) (name file : List ℕ) (old new : List Event) : Type 0 where
+  pub asked : asked_name new ≡ name
+  pub durability : Durability
+  pub made : Makes (Ok durability) file (about (path_of_name new) old) (about (path_of_name new) new)
+  pub moments : AnyMomentOf (has_links new) file (about (path_of_name new) old) (about (path_of_name new) new)
+  pub sync : IsSyncTold content durability (errors old) (errors new)
+  pub only : TouchesOnly (path_of_name new) old new
+
+-- no file is made, since a call failed by this fault
+pub record HasNotMade (name file : List ℕ) (fault : HostFault) (old new : List Event) : Type 0 where
+  pub asked : asked_name new ≡ name
+  pub unmade : Makes (Err fault) file (about (path_of_name new) old) (about (path_of_name new) new)
+  pub moments : AnyMomentOf (has_links new) file (about (path_of_name new) old) (about (path_of_name new) new)
+  pub cause : failures old < failures new
+  pub why : fault_number fault ≡ last_fault new
+  pub tells : errors new ≡ errors old
+  pub only : TouchesOnly (path_of_name new) old new
+
+-- a file is made where there is none of its name, or else the command ends so by a fault
+abbrev pub MakesBy : Content → (HostFault → Ending) → List ℕ → List ℕ → List Event → Result (Unit {0}) Ending → List Event → Type 0
+MakesBy content ends name file old (Ok it) new = HasMade content name file old new
+MakesBy content ends name file old (Err ending) new = (fault : HostFault) × (ending ≡ ends fault) × HasNotMade name file fault old new
+
+-- a file of these bytes is the first of this name, or none is made
+abbrev pub MakesFirst : List ℕ → List ℕ → List Event → Result (Unit {0}) Ending → List Event → Type 0
+MakesFirst = MakesBy Image ending_of_first
+
+-- by which fault a command ends so, whose file of a name is there and can't be held to be written
+abbrev pub IsUnheldFile : Content → HostFault → Result (Unit {0}) Ending → Type 0
+IsUnheldFile content host.Absent result = ⊥
+IsUnheldFile content fault result = result ≡ Err (ending_of_file content fault)
+
+-- A file of a name, which is for this, is to have these bytes: one that is there is held, and gets them as any image file does. Where there
+-- is none, one is made. Else a call failed by another fault, and nothing is changed.
+abbrev pub MakesFile : Content → List ℕ → List ℕ → List Event → Result (Unit {0}) Ending → List Event → Type 0
+MakesFile content name file old result new =
+    ((path : List ℕ) × (has_lock : Bool) × (ok : Bool) × Writes content path file (with_lock_note content has_lock ok (hold_calls name path has_lock old)) result new)
+    ⊎ (((between : List Event) × IsIdle old between × (failures old < failures between) × (last_fault between ≡ fault_number host.Absent) × MakesBy content (ending_of_file content) name file between result new)
+    ⊎ ((fault : HostFault) × IsUnheldFile content fault result × IsIdle old new × (failures old < failures new) × (last_fault new ≡ fault_number fault)))

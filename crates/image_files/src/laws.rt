@@ -1,0 +1,47 @@
+//! What the steps of the commands mean for who keeps images, as laws.
+ghost use Rattle.std.specs.Prelude.{◌≡◌, ℕ, List, Option, Some, true};
+ghost use Rattle.hosts.specs.Event.{Event};
+ghost use Rattle.hosts.specs.Place.{Place, Leaves, may_leave, about, replay};
+ghost use Rattle.hosts.specs.Streams.{may_replace};
+ghost use Rattle.hosts.specs.declared.faults.Durability.TheVariants.{Certain};
+ghost use Rattle.archive_files.specs.declared.faults.ArchiveFault.{ArchiveFault};
+ghost use Rattle.outcome.specs.declared.contents.Content.{Content};
+ghost use Rattle.outcome.specs.declared.endings.Ending.{Ending};
+ghost use Rattle.program_tasks.specs.declared.forms.ImageForm.{ImageForm};
+ghost use Rattle.image_files.specs.Answers.{Refuses};
+ghost use Rattle.image_files.specs.Laws.{KeepsFiles};
+ghost use Rattle.image_files.specs.Inputs.{TakesInput};
+ghost use Rattle.image_files.specs.Reading.{Looks, LooksAt, LooksImage, Opens};
+ghost use Rattle.image_files.specs.Saving.{HasSaved, IsUnsaved, Prints};
+ghost use Rattle.image_files.specs.declared.mending.ImageReading.{ImageReading as How};
+
+use hosts::laws;
+
+/// Once an image file is saved whose place a new file may take, a crash leaves the new file and nothing else, unless a note says that this
+/// isn't known. So it is for a tape and a listing. The line of a change is printed after that.
+pub fn saved_images()
+    ensures { (content : Content) (path file : List ℕ) (old new : List Event) (saved : HasSaved content path file old new)
+        → saved.durability ≡ Certain → may_replace new ≡ true
+        → (start : Place) (found : Option (List ℕ)) → Leaves (may_leave (replay start (about path new))) found → found ≡ Some file }
+{
+    laws::saved_files();
+}
+
+/// Such a file that could not be written, and is reported to be as it was, is after a crash what it might have been before.
+pub fn unsaved_images()
+    ensures { (content : Content) (path file : List ℕ) (old new : List Event) → IsUnsaved content path file old new
+        → (start : Place) (found : Option (List ℕ)) → Leaves (may_leave (replay start (about path new))) found
+        → Leaves (may_leave (replay start (about path old))) found }
+{}
+
+/// What only reads or prints changes no file of the host, in whichever way it ends.
+pub fn kept_files()
+    ensures looks { (name shown : List ℕ) → KeepsFiles (Looks name shown) }
+    ensures looks_image { (reading : How) (name : List ℕ) → KeepsFiles (LooksImage reading name) }
+    ensures looks_at { (form : ImageForm) → KeepsFiles (LooksAt form) }
+    ensures opens { (form : ImageForm) → KeepsFiles (Opens form) }
+    ensures input { KeepsFiles TakesInput }
+    ensures prints { (bytes : List ℕ) → KeepsFiles (Prints bytes) }
+    ensures refuses { (fault : ArchiveFault) (size : ℕ) (old : List Event) (ending : Ending) (new : List Event) → Refuses fault size old ending new
+        → (path : List ℕ) → about path new ≡ about path old }
+{}

@@ -1,0 +1,27 @@
+//! Images in files of the host, over any host: how one is held, read and saved, how other files are made, what is printed, and how a command ends.
+#![tactic(auto)]
+
+mod answers;
+mod ending;
+mod faults;
+mod images;
+mod inputs;
+pub mod laws;
+mod making;
+mod mending;
+mod notes;
+mod pairs;
+mod printing;
+mod reading;
+mod saving;
+
+pub use answers::{answer_of, open_volume, program_line, show_file, stored_line};
+pub use ending::{Rooms, end, tell_line};
+pub use images::Image;
+pub use inputs::{given_bytes, input_bytes};
+pub use making::{make_file, make_first};
+pub use mending::{ImageReading, image_named, look_image};
+pub use notes::{refuse_image, tell_note};
+pub use pairs::{is_one_image, refuse_one};
+pub use printing::{print, store};
+pub use reading::{ImagePlace, look_at, look_file, one_volume_in, script_volume_in, volume_in};
