@@ -1,5 +1,5 @@
 -- Dates, words and texts come back.
-use Rattle.std.proofs.Common.{◌≡◌, ℕ, ◌+◌, ◌-◌, ◌*◌, ◌/◌, ◌%◌, ◌<◌, ◌≤◌, nat_eq, Bool, true, false, ◌&&◌, if◌then◌else◌, Option, Some, None, refl, ap, sym, ◌∙◌, arith}
+use Rattle.std.proofs.Common.{◌≡◌, ℕ, ◌+◌, ◌-◌, ◌*◌, ◌/◌, ◌%◌, ◌<◌, ◌≤◌, nat_eq, Bool, true, false, ◌&&◌, if◌then◌else◌, Some, None, refl, ap, sym, ◌∙◌, arith}
 use Rattle.std.specs.Prelude.{nat_le, unwrap_or}
 use Rattle.std.proofs.lemmas.Bool.{leb-true, le-leb}
 use Rattle.std.proofs.lemmas.Bool.Decides.{nat_tests}
@@ -8,16 +8,16 @@ use Rattle.os8_dates.specs.declared.dates.Date.{Date}
 use Rattle.os8_dates.specs.Dates.{date_in, days_in, fields_of, has_30_days, has_31_days, is_day, is_leap, word_of, year_in}
 use Rattle.os8_dates.specs.Spelling.{digit, if_day, date_if_numbers, number_of, parsed_date, spelled_date}
 
-both : (a b : Bool) → (a && b) ≡ true → (a ≡ true) × (b ≡ true)
+pub both : (a b : Bool) → (a && b) ≡ true → (a ≡ true) × (b ≡ true)
 both true b e = (refl, e)
 both false b e = absurd (cc e)
 
-not_none : {A : Type 0} (a : A) → None ≡ Some a → ⊥
+pub not_none : {A : Type 0} (a : A) → None ≡ Some a → ⊥
 not_none a e = cc
 
 -- ## Days
 
-few_days : (year month : ℕ) → days_in year month ≤ 31
+pub few_days : (year month : ℕ) → days_in year month ≤ 31
 few_days year month = go (has_31_days month) (has_30_days month) (nat_eq month 2) (is_leap year)
   where
     go : (a b c d : Bool) → (if a then 31 else if b then 30 else if c then (if d then 29 else 28) else 0) ≤ 31
@@ -47,12 +47,12 @@ small_month year month day some within = go (has_31_days month) refl (has_30_day
     go false e false f true g h = small_2 month g
     go false e false f false g h = absurd (omega (arith, some, h))
 
-record Day (date : Date) : Type 0 where
-  some : 1 ≤ date.day
-  few : date.day ≤ 31
-  month : date.month < 100
+pub record Day (date : Date) : Type 0 where
+  pub some : 1 ≤ date.day
+  pub few : date.day ≤ 31
+  pub month : date.month < 100
 
-day_is : (date : Date) → is_day date ≡ true → Day date
+pub day_is : (date : Date) → is_day date ≡ true → Day date
 day_is date e =
     let parts = both (nat_le 1 date.day) (nat_le date.day (days_in date.year date.month)) e in
     let some = leb-true 1 date.day parts.0 in
@@ -62,7 +62,7 @@ day_is date e =
 
 -- ## Words
 
-from_1970 : (last word : ℕ) → 1977 ≤ last → 1970 ≤ year_in last word
+pub from_1970 : (last word : ℕ) → 1977 ≤ last → 1970 ≤ year_in last word
 from_1970 last word least = omega (arith, least)
 
 same_word : (last word : ℕ) → 1977 ≤ last → 256 * (word / 256) + 8 * (word / 8 % 32) + (year_in last word - 1970) % 8 ≡ word

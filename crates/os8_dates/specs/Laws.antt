@@ -3,6 +3,7 @@ use Rattle.std.specs.Prelude.{◌≡◌, ℕ, ◌+◌, ◌-◌, ◌%◌, ◌<◌
 use Rattle.os8_dates.specs.declared.dates.Date.{Date}
 use Rattle.os8_dates.specs.declared.years.TheConstants.{FIRST_YEAR, LAST_YEAR, LEAST_LAST}
 use Rattle.os8_dates.specs.Dates.{date_in, is_day, word_of, year_in}
+use Rattle.os8_dates.specs.Days.{date_at, day_after, day_number, seconds_of, time_of_word, word_of_time}
 use Rattle.os8_dates.specs.Spelling.{parsed_date, spelled_date}
 
 -- a word that means a date is the word of that date
@@ -23,3 +24,16 @@ OneYearOfEight =
 -- what is spelled is parsed as the date
 abbrev pub ParsesWhatItSpells : Type 0
 ParsesWhatItSpells = (date : Date) → is_day date ≡ true → date.year ≤ LAST_YEAR → parsed_date (spelled_date date) ≡ Some date
+
+-- a day of the calendar from 1970 on is the one that its number counts to
+abbrev pub NumbersComeBack : Type 0
+NumbersComeBack = (date : Date) → is_day date ≡ true → FIRST_YEAR ≤ date.year → day_after (day_number date) ≡ date
+
+-- such a day is that of its time
+abbrev pub TimesComeBack : Type 0
+TimesComeBack = (date : Date) → is_day date ≡ true → FIRST_YEAR ≤ date.year → date.year ≤ LAST_YEAR → date_at (seconds_of date) ≡ Some date
+
+-- the time of the date that a word means gives that word
+abbrev pub TimesKeepWords : Type 0
+TimesKeepWords =
+    (last word seconds : ℕ) → LEAST_LAST ≤ last → last ≤ LAST_YEAR → word < 0o10000 → time_of_word last word ≡ Some seconds → word_of_time seconds ≡ Some word

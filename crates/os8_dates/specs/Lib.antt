@@ -1,3 +1,4 @@
 pub mod Dates
+pub mod Days
 pub mod Spelling
 pub mod Laws

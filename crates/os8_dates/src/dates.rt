@@ -21,7 +21,7 @@ pub fn is_calendar_day(date: Date) -> bool
 }
 
 /// How many days a month has in a year; 0 where the number is no month's.
-fn days_in(year: u16, month: u8) -> u8
+pub(crate) fn days_in(year: u16, month: u8) -> u8
     ensures { result ≡ days_in year month }
 {
     match month {
@@ -34,7 +34,7 @@ fn days_in(year: u16, month: u8) -> u8
 }
 
 /// Whether a year has a 29th of February.
-fn is_leap(year: u16) -> bool
+pub(crate) fn is_leap(year: u16) -> bool
     ensures { result ≡ is_leap year }
 {
     year % 4 == 0 && (year % 100 != 0 || year % 400 == 0)
