@@ -8,7 +8,6 @@ use Rattle.outcome.specs.declared.endings.Ending.{Ending}
 use Rattle.outcome.specs.declared.endings.Ending.TheVariants.{Line, Fault, Failure, Busy, NotWritten, FullOutput, NoReader, Misuse}
 use Rattle.outcome.specs.declared.notes.PlainNote.{PlainNote}
 use Rattle.archive_files.specs.declared.faults.ArchiveFault.{ArchiveFault}
-use Rattle.image_kind.specs.Kinds.{kind_of}
 use Rattle.image_kind.specs.declared.kinds.ImageKind.{ImageKind}
 use Rattle.image_volumes.specs.Margins.{body_of, margins_by}
 use Rattle.image_volumes.specs.Volumes.{volumes_in, volumes_with}

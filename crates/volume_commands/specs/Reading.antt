@@ -36,7 +36,7 @@ use Rattle.program_tasks.specs.declared.forms.ImageForm.{ImageForm}
 use Rattle.volume_image.specs.declared.faults.ImageFault.{ImageFault}
 use Rattle.volume_image.specs.declared.faults.ImageFault.TheVariants as image
 use Rattle.volume_commands.specs.Mending.{Mends}
-use Rattle.volume_commands.specs.Work.{Then, Purely}
+use Rattle.volume_commands.specs.Work.{Then}
 use Rattle.volume_commands.specs.declared.reading.ImagePlace.{ImagePlace}
 use Rattle.volume_commands.specs.declared.images.Image.{Image as Opened}
 use Rattle.volume_commands.specs.declared.mending.ImageReading.{ImageReading}

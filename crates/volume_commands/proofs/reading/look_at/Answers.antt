@@ -1,4 +1,4 @@
-use Rattle.std.proofs.Common.{inr, rules, ◌∙◌}
+use Rattle.std.proofs.Common.{inr, rules}
 use Rattle.volume_commands.proofs.reading.look_at.Goals as goal
 
 pub returns-clause-looks : goal.returns-clause-looks
