@@ -1,7 +1,8 @@
 //! The command that copies those files of the volume in an image file that words choose to the volume in another, all or none.
-ghost use Rattle.std.specs.Prelude.{◌≡◌, ◌++◌, false, IfErr, IfOk, OnOk, map};
-ghost use Rattle.script8.specs.declared.faults.SessionFault.TheVariants.{Memory};
+ghost use Rattle.std.specs.Prelude.{◌≡◌, ◌++◌, false, IfOk, OnOk, map};
 ghost use Rattle.archive_many.specs.Wishing.{file_of, found_files};
+ghost use Rattle.program_reports.specs.Program.{program_line};
+ghost use Rattle.program_reports.specs.declared.programs.ProgramLine.TheVariants.{Stored};
 ghost use Rattle.outcome.specs.declared.endings.Ending.TheVariants.{Fault};
 ghost use Rattle.image_files.specs.Answers.{AreLines};
 ghost use Rattle.image_files.specs.Pairs as one;
@@ -13,6 +14,7 @@ use crate::wishing::wishes_on;
 use archive_many::{OpenVolume, VolumeFile, Wish, copy_all, first_unfound, open};
 use hosts::Host;
 use image_files::{Image, is_one_image, look_at, refuse_one, store};
+use os8_dir::Name;
 use outcome::Ending;
 use program_reports::{ProgramLine, put_program};
 use program_tasks::CopyManyForm;
@@ -184,14 +186,23 @@ fn stored_lines(alloc: Global, files: &[VolumeFile]) -> Result<Vec<u8>, Ending>
 }
 
 /// Appends the lines of files that were copied.
-fn put_lines(files: &[VolumeFile], lines: &mut Vec<u8>) -> Result<(), Ending>
-    ensures lines { OnOk result (lines.new.items ≡ lines.old.items ++ spec.stored_lines files.now) }
-    ensures memory { IfErr result (λ ending. ending ≡ Fault Memory) }
+fn put_lines(files: &[VolumeFile], lines: &mut Vec<u8>) -> Result<(), AllocError>
+    ensures { OnOk result (lines.new.items ≡ lines.old.items ++ spec.stored_lines files.now) }
 {
     let mut rest = files;
     while let [file, others @ ..] = rest {
-        put_program(&ProgramLine::Stored(file.name, file.blocks), lines)?;
+        put_stored(file.name, file.blocks, lines)?;
         rest = others;
     }
     Ok(())
+}
+
+/// Appends the line of a file of so many blocks that was put.
+fn put_stored(name: Name, blocks: usize, lines: &mut Vec<u8>) -> Result<(), AllocError>
+    ensures { OnOk result (lines.new.items ≡ lines.old.items ++ program_line (Stored name blocks)) }
+{
+    match put_program(&ProgramLine::Stored(name, blocks), lines) {
+        Ok(()) => Ok(()),
+        Err(_) => Err(AllocError),
+    }
 }

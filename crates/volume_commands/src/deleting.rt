@@ -1,7 +1,8 @@
 //! The command that takes files out of the volume in an image file.
-ghost use Rattle.std.specs.Prelude.{◌≡◌, ◌++◌, map, OnOk, OnErr, IfErr};
+ghost use Rattle.std.specs.Prelude.{◌≡◌, ◌++◌, map, OnOk, OnErr};
 ghost use Rattle.archive_files.specs.Asking.{target_of};
-ghost use Rattle.script8.specs.declared.faults.SessionFault.TheVariants.{Memory};
+ghost use Rattle.program_reports.specs.Program.{program_line};
+ghost use Rattle.program_reports.specs.declared.programs.ProgramLine.TheVariants.{Deleted};
 ghost use Rattle.outcome.specs.declared.endings.Ending.TheVariants.{Fault};
 ghost use Rattle.image_files.specs.Answers.{AreLines};
 ghost use Rattle.volume_commands.specs.Deleting as spec;
@@ -106,14 +107,23 @@ fn deleted_lines(alloc: Global, names: &[Name]) -> Result<Vec<u8>, Ending>
 }
 
 /// Appends the lines of files that were taken out.
-fn put_lines(names: &[Name], lines: &mut Vec<u8>) -> Result<(), Ending>
-    ensures lines { OnOk result (lines.new.items ≡ lines.old.items ++ spec.deleted_lines names.now) }
-    ensures memory { IfErr result (λ ending. ending ≡ Fault Memory) }
+fn put_lines(names: &[Name], lines: &mut Vec<u8>) -> Result<(), AllocError>
+    ensures { OnOk result (lines.new.items ≡ lines.old.items ++ spec.deleted_lines names.now) }
 {
     let mut rest = names;
     while let [name, others @ ..] = rest {
-        put_program(&ProgramLine::Deleted(*name), lines)?;
+        put_deleted(*name, lines)?;
         rest = others;
     }
     Ok(())
+}
+
+/// Appends the line of a file that was taken out.
+fn put_deleted(name: Name, lines: &mut Vec<u8>) -> Result<(), AllocError>
+    ensures { OnOk result (lines.new.items ≡ lines.old.items ++ program_line (Deleted name)) }
+{
+    match put_program(&ProgramLine::Deleted(name), lines) {
+        Ok(()) => Ok(()),
+        Err(_) => Err(AllocError),
+    }
 }
