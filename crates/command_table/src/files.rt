@@ -13,7 +13,7 @@ ghost use Rattle.command_table.specs.declared.table.Verb.TheVariants as verb;
 
 use crate::found::{
     Read, block_of, flag, has, name_if_given, name_of, names_of, text_of, texts_in, value_of,
-    values_of,
+    values_of, year_of,
 };
 use crate::judging::blocks_word;
 use crate::lists::{blocks_of, info_of};
@@ -94,6 +94,7 @@ fn get_many(alloc: Global, found: &ArgMatches<'_>) -> Read<Task>
         folder,
         texts,
         is_forced: flag(found, Verb::Get, "force"),
+        year: year_of(found, Verb::Get),
     }))
 }
 
@@ -166,6 +167,7 @@ pub fn put(alloc: Global, found: &ArgMatches<'_>) -> Read<Task>
 {
     let image = changed_image(alloc, found, Verb::Put, "IMAGE")?;
     let info = info_of(alloc, found, Verb::Put)?;
+    let is_dated = flag(found, Verb::Put, "dates");
     let may_empty = flag(found, Verb::Put, "empty");
     if puts_many(found) {
         let files = values_of(alloc, found, Verb::Put, "FILE")?;
@@ -175,6 +177,7 @@ pub fn put(alloc: Global, found: &ArgMatches<'_>) -> Read<Task>
             files,
             texts,
             info,
+            is_dated,
             may_empty,
         }));
     }
@@ -186,6 +189,7 @@ pub fn put(alloc: Global, found: &ArgMatches<'_>) -> Read<Task>
         name,
         form: put_form(found),
         info,
+        is_dated,
         may_empty,
     }))
 }

@@ -13,11 +13,11 @@ use crate::reports::{ReportKind, end_sound};
 use crate::volumes::{report_next, report_one};
 use host_progress::Progress;
 use hosts::Host;
+use image_files::{ImageReading, image_named, print};
 use outcome::Ending;
 use program_reports::{ProgramLine, put_program};
 use program_tasks::CheckForm;
 use std::alloc::Global;
-use image_files::{ImageReading, image_named, print};
 
 /// Reports on the volumes in image files. Of several volumes each line has the name of its file or volume before it, and of several files the
 /// last line counts them (this project's profile).

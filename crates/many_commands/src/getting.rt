@@ -16,13 +16,13 @@ use crate::texts::take_lists;
 use archive_many::{OpenVolume, VolumeFile, Wish, wishes_of};
 use host_progress::Progress;
 use hosts::{Host, HostFault};
+use image_files::{look_at, open_volume};
 use os8_dir::FileFault;
 use outcome::Ending;
 use program_reports::ProgramLine;
 use program_tasks::GetManyForm;
 use script8::SessionFault;
 use std::alloc::{AllocError, Global};
-use image_files::{look_at, open_volume};
 
 /// Writes files of the volume in an image file to a folder, and reports each. The image file doesn't change.
 pub fn get_files<H: Host>(host: &mut H, alloc: Global, form: &GetManyForm) -> Result<(), Ending>

@@ -15,12 +15,12 @@ use crate::texts::take_lists;
 use archive_files::bad_text_at;
 use archive_many::{ManyFault, ManyImage, NewFile, VolumeFile, empties, open, put_all};
 use hosts::Host;
+use image_files::{Image, refuse_image, store, tell_note};
 use os8_dir::FileFault;
 use outcome::{Ending, NameNote, Note};
 use program_tasks::PutManyForm;
 use script8::{LineReply, Reply, SessionFault, put_reply};
 use std::alloc::{AllocError, Global};
-use image_files::{Image, refuse_image, store, tell_note};
 use word12::Word;
 
 /// Makes files of the host files of the volume in an image file, all or none, and reports each.
@@ -29,7 +29,7 @@ pub fn put_files<H: Host>(host: &mut H, alloc: Global, form: &PutManyForm) -> Re
 {
     take_lists(host, alloc, &form.texts)?;
     let image = Image::open(host, alloc, &form.image)?;
-    let files = read_files(host, alloc, &form.texts, &form.files)?;
+    let files = read_files(host, alloc, &form.texts, form.is_dated, &form.files)?;
     put_into(host, alloc, form, image, &files)
 }
 

@@ -12,11 +12,11 @@ use archive_commands::list_dated;
 use archive_files::{ArchiveFault, check, list};
 use archive_survey::survey;
 use hosts::Host;
+use image_files::{print, refuse_image};
 use outcome::Ending;
 use program_reports::{ProgramLine, put_program, with_prefix};
 use script8::SessionFault;
 use std::alloc::Global;
-use image_files::{print, refuse_image};
 use volume_image::ImageFault;
 
 /// What is reported of an image.

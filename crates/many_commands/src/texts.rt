@@ -6,11 +6,11 @@ ghost use Rattle.many_commands.specs.Texts.{TakesLists, TellsBadList};
 use archive_files::{GetForm, PutForm};
 use archive_many::{bad_extensions, is_text};
 use hosts::Host;
+use image_files::tell_note;
 use os8_dir::Name;
 use outcome::{Ending, NameNote, Note};
 use program_tasks::TextsForm;
 use std::alloc::{AllocError, Global};
-use image_files::tell_note;
 
 /// Refuses words that are no lists of extensions, and prints the first of them.
 pub(crate) fn take_lists<H: Host>(

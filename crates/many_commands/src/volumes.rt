@@ -15,11 +15,11 @@ use crate::reports::{
 };
 use disk_layouts::Layout;
 use hosts::Host;
+use image_files::{ImageReading, look_image, volume_in};
 use image_volumes::{Volumes, body_of, volumes_in};
 use outcome::Ending;
 use program_tasks::ImageForm;
 use std::alloc::Global;
-use image_files::{ImageReading, look_image, volume_in};
 
 /// Lists the files of the volumes in an image file by name. Of a disk of two volumes each line has the volume's name before it. No file
 /// changes (this project's profile).
