@@ -402,7 +402,7 @@ export class Files {
         return row;
     }
 
-    // Deletes a file: by a line of a script, or by its place where its name can't be typed.
+    // Deletes a file: by a line of a script, or by its place where no line can have its name.
     /** @param {Entry} it */
     async #delete(it) {
         const [word, at] = placeOf(it), words = `the deletion of ${it.name}`;

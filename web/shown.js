@@ -128,13 +128,12 @@ export class Shown {
         return kept?.sum && kept.sum === await sumOf(bytes) ? ['--date', kept.date] : [];
     }
 
-    // Takes a file home under its own name, under which it then comes back. One whose name can't be typed is named by its place.
+    // Takes a file home under its own name, under which it then comes back.
     /** @param {Entry} entry @param {'text' | 'tape' | 'frames'} form */
     async home(entry, form) {
         const { status, out, said } = await (form === 'tape' ? tapeIn(this.page, this.#volume, entry) : got(this.page, this.#volume, entry, ...(form === 'text' ? ['--text'] : [])));
         if (status !== 0) return tell('files-status', `${entry.name}: ${said}`, true);
-        const [word, at] = placeOf({ ...entry, isByBlocks: false });
-        const name = at ? `at-${at}` : word;
+        const { name } = entry;
         takeHome(name, out);
         if (/^\d/.test(entry.date ?? '') && entry.date?.length === 10) this.page.store.note(`home ${name}`, { date: entry.date, sum: await sumOf(out) });
         tell('files-status', `${entry.name}: ${out.length} bytes`);

@@ -21,7 +21,7 @@ export const isCore = ({ name, isByBlocks, kind }) => !isByBlocks && (name.endsW
 /** @param {Entry} it */
 export const isNamedCore = it => it.name.endsWith('.SV') && !it.isByBlocks && placeOf(it).length === 1;
 
-// The words by which the program finds a file of a volume. They are its name, its first block where the name can't be typed, or its blocks where the
+// The words by which the program finds a file of a volume. They are its name, its first block where the name has other characters, or its blocks where the
 // directory is refused.
 /** @param {Entry} it */
 export function placeOf({ name, first, length, isByBlocks }) {

@@ -25,10 +25,10 @@ from tests.model.compare import outside
 from tests.model.compare_indexes import random_file
 from tests.model.disks import Held, held_image, with_margins, wrong_size
 from tests.model.index import parts_of, volume_of
-from tests.model.keeper import TEXTS, Asked, Keeper, extension, given_of, has_sign, host_name
+from tests.model.keeper import TEXTS, Asked, Keeper, extension, given_of, has_sign
 from tests.model.survey import damaged, surveyed
 from tests.model.volume import Unsound, Volume, made_image, read_volume, words_of_image
-from tests.model.words import octal, parsed_name, shown_name
+from tests.model.words import octal, spelled_name
 
 SHOWN = 3
 COMMANDS = 20
@@ -45,12 +45,12 @@ def random_image(random: Random) -> bytes:
 
 
 def random_name(random: Random, volume: Volume) -> bytes:
-    """The name of a file that is there, if one can be typed, or of one that is not, or none."""
-    there = [it for it in map(shown_name, volume.files) if parsed_name(it.encode())]
+    """The name of a file that is there, or of one that is not, or none."""
+    there = [spelled_name(it) for it in volume.files]
     if there and random.random() < 0.8:
         name = random.choice(there).encode()
         return name.lower() if random.random() < 0.2 else name
-    return random.choice([b"NEW", b"NEW.TX", b"B.BN", b"Z9", b"LONGER", b"F0", b"F1", b"a-", b"f0", b"new.tx", b"TOOLONG", b"A.PAL", b".X"])
+    return random.choice([b"NEW", b"NEW.TX", b"B.BN", b"Z9", b"LONGER", b"F0", b"F1", b"a-", b"f0", b"new.tx", b"TOOLONG", b"A.PAL", b".X", b"HI_41.TX", b"_00_00A", b"A_8", b"_4", b"A._00", b"_01B"])
 
 
 def random_asked(random: Random, volume: Volume) -> Asked:
@@ -167,12 +167,12 @@ class Case:
         words = ["get", image, *asked, *(word for it in places for word in it.split()), *(["--all"] if is_all else []), *options]
         names, refused = self.keeper.chosen(image, [*asked, *places], is_all)
         folder = tempfile.mkdtemp(dir=self.folder)
-        files = {host_name(volume, it): given_of(volume.files[it].words, extension(it) in texts) for it in names}
+        files = {spelled_name(it): given_of(volume.files[it].words, extension(it) in texts) for it in names}
         there = random.choice(sorted(files)) if files and random.random() < 0.3 else ""
         is_forced = random.random() < 0.3
         if there:
             write(f"{folder}/{there}", b"older")
-        lines = {host_name(volume, it): f"GOT {shown_name(it)} {volume.files[it].blocks}" for it in names}
+        lines = {spelled_name(it): f"GOT {spelled_name(it)} {volume.files[it].blocks}" for it in names}
         if there and not is_forced:
             lines[there], files[there] = f"{there}: ? HOST EXISTS", b"older"
         words += ["--into", folder, *self.where(image), *(["--force"] if is_forced else [])]
@@ -200,7 +200,7 @@ class Case:
     def put_many(self) -> str:
         """Puts files of the host, mostly of good names, some of which are no texts."""
         random, image = self.random, self.random.choice(IMAGES)
-        names = random.sample(["new.pa", "S1.PA", "b.bn", "C.BN", "f0", "x.tx", "S1.pa", "notes.text", "T.LS", "a-b"], random.choice([1, 2, 2, 3, 5]))
+        names = random.sample(["new.pa", "S1.PA", "b.bn", "C.BN", "f0", "x.tx", "S1.pa", "notes.text", "T.LS", "a-b", "a_37.t_77", "_00_77", "_8"], random.choice([1, 2, 2, 3, 5]))
         given = [(it.encode(), random.choice([b"", b"HELLO\r\nYOU\r\r\n", b"A\n" * 300, random.randbytes(random.choice([3, 400]))])) for it in names]
         texts: list[str] = random.choice([[], TEXTS, ["PA"]])
         options = ["--text"] if texts is TEXTS else ["--text-of", "PA"] if texts else []

@@ -7,7 +7,7 @@ from tests.model.disks import VOLUME, image_in
 from tests.model.keeper import day_of
 from tests.model.tape import meaning_of
 from tests.model.volume import Unsound, Volume, read_volume, words_of_image
-from tests.model.words import BLOCK_WORDS, Name, frames_of, octal
+from tests.model.words import BLOCK_WORDS, Name, frames_of, octal, spelled_name
 
 DISK, TAPE, LARGEST, BLOCK = 2 * VOLUME, 1474 * 258, 4095 * 512, 512
 TEXT = {7, *range(0o11, 0o16), *range(0o40, 0o200)}
@@ -125,19 +125,6 @@ def kind_of(words: list[int]) -> str:
 
 
 # ## Lines
-
-
-def spelled_codes(codes: list[int]) -> str:
-    while codes and not codes[-1]:
-        codes = codes[:-1]
-    return "".join(chr(it + 64) if 1 <= it <= 26 else chr(it) if 48 <= it <= 57 else f"_{octal(it, 2)}" for it in codes)
-
-
-def spelled_name(name: Name) -> str:
-    """A name with each code that is no letter and no digit as `_` and two octal digits."""
-    codes = [code for word in name for code in (word // 64, word % 64)]
-    extension = spelled_codes(codes[6:])
-    return spelled_codes(codes[:6]) + (f".{extension}" if extension else "")
 
 
 def spelled_date(info: tuple[int, ...], last: int) -> str:

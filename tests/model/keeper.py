@@ -6,7 +6,7 @@ import re
 from dataclasses import dataclass, replace
 from typing import Optional, Union
 from tests.model.volume import File, Run, Volume
-from tests.model.words import Name, frames_of, octal, packed, parsed_name, shown_name, shown_word, stored_host_text, text_of
+from tests.model.words import Name, frames_of, octal, packed, read_name, shown_word, spelled_name, stored_host_text, text_of
 
 FULL = "? 4.3 DIRECTORY FULL"
 BAD_NAME = "? 4.5 BAD NAME"
@@ -24,7 +24,7 @@ Asked = Union[bytes, int]
 
 def typed_name(typed: bytes) -> Optional[Name]:
     """The name that is typed on a command line, where small letters are taken for capitals."""
-    return parsed_name(typed.upper())
+    return read_name(typed.upper())
 
 
 def day_of(info: tuple[int, ...], last: int) -> list[str]:
@@ -40,15 +40,6 @@ def day_of(info: tuple[int, ...], last: int) -> list[str]:
 
 def asked_text(asked: Asked) -> str:
     return f"--at {asked}" if isinstance(asked, int) else asked.decode().upper()
-
-
-def can_be_typed(name: Name) -> bool:
-    return parsed_name(shown_name(name).encode("latin-1")) == name
-
-
-def host_name(volume: Volume, name: Name) -> str:
-    """The name of the host's file for a file of a volume."""
-    return shown_name(name) if can_be_typed(name) else f"at-{volume.places[name]}"
 
 
 def found(volume: Volume, asked: Asked) -> tuple[Optional[Name], str]:
@@ -92,7 +83,7 @@ class Keeper:
         if len(runs) > volume.limit:
             return refused(FULL)
         self.volumes[image] = with_files(volume, {**volume.files, name: file}, runs)
-        return [f"STORED {shown_name(name)} {file.blocks}"], 0
+        return [f"STORED {spelled_name(name)} {file.blocks}"], 0
 
     def put_frames(self, image: str, typed: bytes, frames: bytes, info: Optional[tuple[int, ...]]) -> Answer:
         name = typed_name(typed)
@@ -102,11 +93,11 @@ class Keeper:
 
     def put_all(self, image: str, given: list[tuple[bytes, bytes]], texts: list[str], info: Optional[tuple[int, ...]]) -> Answer:
         """Puts files of the host in, each with its bytes, all or none; those with one of these extensions as texts."""
-        before, lines, names = self.volumes[image], [], [parsed_name(path.upper()) for path, _ in given]
+        before, lines, names = self.volumes[image], [], [typed_name(path) for path, _ in given]
         for at, name in enumerate(names):
             note = f"note: {given[at][0].decode()} is refused, and no file is put"
             if name is None:
-                return [note, "note: a file's name is 1 to 6 letters or digits, then nothing, or a dot and 1 or 2 more", BAD_NAME], 1
+                return [note, "note: a file's name is 1 to 6 letters, digits or escapes (_ and two octal digits), then nothing, or a dot and 1 or 2 more", BAD_NAME], 1
             if name in names[:at]:
                 return [note, "? PUT 1 SAME NAME"], 1
         for (path, content), name in zip(given, names):
@@ -141,7 +132,7 @@ class Keeper:
                 runs = volume.without(name)
                 why = FULL if len(runs) > volume.limit else ""
                 volume = with_files(volume, {it: file for it, file in volume.files.items() if it != name}, runs)
-                lines.append(f"DELETED {shown_name(name)}")
+                lines.append(f"DELETED {spelled_name(name)}")
             if why:
                 note = [f"note: {asked_text(one)} is refused, and no file is taken out"] if len(asked) > 1 else []
                 return [*note, why], 1
@@ -161,7 +152,7 @@ class Keeper:
             return refused(FULL)
         files = {new if it == name else it: file for it, file in volume.files.items()}
         self.volumes[image] = with_files(volume, files, [(new if it == name else it, blocks) for it, blocks in volume.runs])
-        return [f"RENAMED {shown_name(name)} {shown_name(new)}"], 0
+        return [f"RENAMED {spelled_name(name)} {spelled_name(new)}"], 0
 
     def copy(self, image: str, asked: Asked, to: str, wanted: Optional[bytes]) -> Answer:
         name, why = found(self.volumes[image], asked)
@@ -180,12 +171,12 @@ class Keeper:
             return [f"note: {word} is refused, and no file is copied", why], 1
         for name in names:
             if name in before.files and not is_forced:
-                return [f"note: {host_name(source, name)} is refused, and no file is copied", "? COPY 1 FILE EXISTS"], 1
+                return [f"note: {spelled_name(name)} is refused, and no file is copied", "? COPY 1 FILE EXISTS"], 1
         for name in names:
             told, status = self.put(to, name, source.files[name].words, source.files[name].info)
             if status:
                 self.volumes[to] = before
-                return [f"note: {host_name(source, name)} is refused, and no file is copied", f"note: {to} is the image that refuses", *told], 1
+                return [f"note: {spelled_name(name)} is refused, and no file is copied", f"note: {to} is the image that refuses", *told], 1
             lines += told
         return lines, 0
 
@@ -204,10 +195,10 @@ class Keeper:
         return self.chosen(image, words, not words)
 
     def list_short(self, image: str, words: list[str]) -> Answer:
-        volume, places = self.volumes[image], self.volumes[image].places
+        volume = self.volumes[image]
         names, lines = self.listed(image, words)
         for name in sorted(names):
-            lines.append(f"{shown_name(name)} {volume.files[name].blocks}" + ("" if can_be_typed(name) else f" AT {places[name]}"))
+            lines.append(f"{spelled_name(name)} {volume.files[name].blocks}")
         return [*lines, f"FREE {volume.capacity - volume.used}"], 1 if self.listed(image, words)[1] else 0
 
     def list_long(self, image: str, last: int, words: list[str]) -> Answer:
@@ -216,7 +207,7 @@ class Keeper:
         for name, blocks in volume.runs:
             if name is not None and name in names:
                 info = volume.files[name].info
-                lines.append(" ".join([shown_name(name), str(blocks), str(place), *(octal(it, 4) for it in info), *day_of(info, last)]))
+                lines.append(" ".join([spelled_name(name), str(blocks), str(place), *(octal(it, 4) for it in info), *day_of(info, last)]))
             place += blocks
         return [*lines, f"FREE {volume.capacity - volume.used}"], 1 if self.listed(image, words)[1] else 0
 
@@ -253,7 +244,7 @@ class Keeper:
         text, shown, are_several = b"", list[Name](), len({it for names, _ in parts for it in names}) > 1
         for names, lines in parts:
             for name in (it for it in names if it not in shown):
-                head = f"==> {host_name(volume, name)} <==\n" if are_several else ""
+                head = f"==> {spelled_name(name)} <==\n" if are_several else ""
                 text += (b"\n" if shown else b"") + head.encode("latin-1") + given_of(volume.files[name].words, True)
                 shown.append(name)
             text += "".join(f"{line}\n" for line in lines).encode("latin-1")

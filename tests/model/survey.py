@@ -2,7 +2,7 @@
 the blocks that two entries claim. Also images whose directories are damaged."""
 from random import Random
 from tests.model.volume import FIRST_ENTRY, words_of_image
-from tests.model.words import BLOCK_WORDS, shown_name
+from tests.model.words import BLOCK_WORDS, spelled_name
 
 PAST_VOLUME, SAME_NAME = "? DIRECTORY 4 PAST VOLUME", "? DIRECTORY 5 SAME NAME"
 
@@ -58,7 +58,7 @@ class Survey:
 
     def entry(self, name: tuple[int, int, int, int] | None, place: int, length: int) -> None:
         why = PAST_VOLUME if place + length > self.blocks else SAME_NAME if name in self.names else ""
-        line = f"EMPTY {place} {length}" if name is None else f"FILE {shown_name(name)} {place} {length}"
+        line = f"EMPTY {place} {length}" if name is None else f"FILE {spelled_name(name)} {place} {length}"
         if why:
             self.fault(why)
             self.lines.append(f"UNSOUND {line}")

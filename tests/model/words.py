@@ -30,6 +30,34 @@ def shown_name(name: Name) -> str:
     return "".join(map(shown_word, name[:3])) + ("." + shown_word(name[3]) if name[3] else "")
 
 
+def spelled_codes(codes: list[int]) -> str:
+    while codes and not codes[-1]:
+        codes = codes[:-1]
+    return "".join(chr(it + 64) if 1 <= it <= 26 else chr(it) if 48 <= it <= 57 else f"_{octal(it, 2)}" for it in codes)
+
+
+def spelled_name(name: Name) -> str:
+    """A name with each code that is no letter and no digit as `_` and two octal digits."""
+    codes = [code for word in name for code in (word // 64, word % 64)]
+    extension = spelled_codes(codes[6:])
+    return spelled_codes(codes[:6]) + (f".{extension}" if extension else "")
+
+
+def read_codes(typed: bytes, size: int) -> list[int]:
+    codes = [int(it[1:], 8) if it[:1] == b"_" else it[0] & 0o77 for it in re.findall(rb"_..|.", typed)]
+    return codes + [0] * (size - len(codes))
+
+
+def read_name(typed: bytes) -> Optional[Name]:
+    """The name of a file that was typed with escapes: up to 6 codes, then nothing, or a dot and 1 or 2 more. Its first word is not 0."""
+    parts = re.fullmatch(rb"((?:[A-Z0-9]|_[0-7][0-7]){0,6})(?:\.((?:[A-Z0-9]|_[0-7][0-7]){1,2}))?", typed)
+    if not parts:
+        return None
+    codes = read_codes(parts[1], 6) + read_codes(parts[2] or b"", 2)
+    words = (64 * codes[0] + codes[1], 64 * codes[2] + codes[3], 64 * codes[4] + codes[5], 64 * codes[6] + codes[7])
+    return words if words[0] else None
+
+
 def frames_of(words: list[int]) -> list[int]:
     """Three frames for each two words."""
     frames = []

@@ -9,7 +9,7 @@ use Rattle.os8_dir.specs.Entries.{DirectoryState}
 use Rattle.os8_dir.specs.Found.{FilePlace, files_at, free_blocks}
 use Rattle.os8_dir.specs.Reading.{directory_of}
 use Rattle.script8.specs.Replies.{free_line}
-use Rattle.script8.specs.Shown.{name_text}
+use Rattle.name_spelling.specs.Spelling.{text_of}
 use Rattle.archive_files.specs.declared.faults.ArchiveFault.{ArchiveFault}
 use Rattle.archive_files.specs.LongListing.{information_text}
 use Rattle.archive_files.specs.Opening.{IsUnopened}
@@ -34,7 +34,7 @@ date_text last (word ∷ words) = date_of_word last word
 -- the line of a file: its name, how many blocks it has, its first block, so many information words, and its date
 abbrev pub dated_line : ℕ → ℕ → FilePlace → List ℕ
 dated_line last info f =
-    name_text f.name ++ 0o40 ∷ decimal f.size ++ 0o40 ∷ decimal f.place ++ information_text (take info f.info) ++ date_text last (take info f.info) ++ 0o12 ∷ []
+    text_of f.name ++ 0o40 ∷ decimal f.size ++ 0o40 ∷ decimal f.place ++ information_text (take info f.info) ++ date_text last (take info f.info) ++ 0o12 ∷ []
 
 -- a file of a name is listed: one of some words chooses it, or there are none
 abbrev pub is_listed : List (List ℕ) → ℕ → Bool

@@ -7,7 +7,7 @@ use Rattle.block_dump.specs.Rows.{rows}
 use Rattle.block_dump.specs.declared.dumping.DumpForm.{DumpForm}
 use Rattle.block_dump.specs.declared.dumping.DumpForm.TheVariants.{Sixbit, Text}
 use Rattle.volume_image.specs.Image.{image_word}
-use Rattle.script8.specs.Shown.{name_text}
+use Rattle.name_spelling.specs.Spelling.{text_of}
 use Rattle.script8.specs.declared.faults.SessionFault.TheVariants.{Memory}
 use Rattle.archive_files.specs.declared.faults.ArchiveFault.{ArchiveFault}
 use Rattle.archive_many.specs.Opened.{OpensVolume, files_on}
@@ -31,7 +31,7 @@ owner_in (file ∷ files) block =
 
 abbrev pub owner_text : Option ℕ → List ℕ
 owner_text None = []
-owner_text (Some name) = 0o40 ∷ name_text name
+owner_text (Some name) = 0o40 ∷ text_of name
 
 -- a block's number, and the file that has it
 abbrev pub heading : List VolumeFile → ℕ → List ℕ

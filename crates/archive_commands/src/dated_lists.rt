@@ -4,16 +4,17 @@ ghost use Rattle.word12.specs.declared.sizes.TheConstants.{MOST_BLOCKS};
 ghost use Rattle.os8_dates.specs.declared.years.TheConstants.{LAST_YEAR, LEAST_LAST};
 ghost use Rattle.os8_dir.specs.Entries.{total};
 ghost use Rattle.script8.specs.Replies.{free_line};
-ghost use Rattle.script8.specs.Shown.{name_text};
+ghost use Rattle.name_spelling.specs.Spelling.{text_of};
 ghost use Rattle.archive_files.specs.LongListing.{information_text};
 ghost use Rattle.archive_commands.specs.Dates as spec;
 ghost use Rattle.archive_commands.specs.Dates.{ListsChosen, ListsDates, date_of_word, date_text, dated_lines};
 ghost use Rattle.archive_commands.specs.DateSteps.{line_of_entry, lines_of_entries};
 
-use crate::lines::{put_number, put_shown};
+use crate::lines::put_number;
 use archive_files::ArchiveFault;
 use archive_files::parts::volume_of;
 use archive_many::is_chosen_by;
+use name_spelling::put_name;
 use os8_dates::{date_of, put_date};
 use os8_dir::{DirEntry, DirFault, Directory, Name};
 use script8::SessionFault;
@@ -149,9 +150,9 @@ fn is_listed(words: &[String], name: Name) -> bool
 /// Appends a name, how many blocks its file has, and the first of them.
 fn put_extent(name: Name, size: usize, place: usize, out: &mut Vec<u8>) -> Result<(), AllocError>
     ensures { OnOk result (out.new.items
-        ≡ out.old.items ++ (name_text name ++ 0o40 ∷ decimal size ++ 0o40 ∷ decimal place)) }
+        ≡ out.old.items ++ (text_of name ++ 0o40 ∷ decimal size ++ 0o40 ∷ decimal place)) }
 {
-    put_shown(out, name)?;
+    put_name(out, name)?;
     out.push(b' ')?;
     put_number(out, size as u64)?;
     out.push(b' ')?;

@@ -3,12 +3,13 @@ ghost use Rattle.std.specs.Prelude.{◌≡◌, ◌+◌, ◌*◌, ◌≤◌, ◌<
 ghost use Rattle.word12.specs.declared.sizes.TheConstants.{BLOCK};
 ghost use Rattle.archive_commands.specs.Dumping.{Dumps, IsDump, bad_line, bad_lines, block_lines, block_rows, block_text, block_words, form_of, heading, span_or};
 
-use crate::lines::{put_bits, put_number, put_shown};
+use crate::lines::{put_bits, put_number};
 use crate::owners::{files_in, owner_in};
 use archive_many::VolumeFile;
 use block_dump::{DumpForm, put_words};
 use hosts::Host;
 use image_patch::word_at;
+use name_spelling::put_name;
 use outcome::Ending;
 use program_reports::ProgramLine;
 use program_tasks::ImageForm;
@@ -143,7 +144,7 @@ fn put_heading(files: &[VolumeFile], block: usize, text: &mut Vec<u8>) -> Result
     put_number(text, block as u64)?;
     if let Some(name) = owner_in(files, block) {
         text.push(b' ')?;
-        put_shown(text, name)?;
+        put_name(text, name)?;
     }
     text.push(b'\n')?;
     Ok(())

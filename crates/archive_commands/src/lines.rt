@@ -1,11 +1,8 @@
 //! Parts of lines.
 ghost use Rattle.std.specs.Prelude.{◌≡◌, ◌++◌, decimal, OnOk};
 ghost use Rattle.archive_commands.specs.Lines.{bits_text, six_digits};
-ghost use Rattle.script8.specs.Shown.{name_text};
 ghost use Rattle.word12.specs.Octal.{octal_digit};
 
-use os8_dir::Name;
-use script8::text_lines::{TextLine, put_name};
 use std::alloc::AllocError;
 use word12::Word;
 
@@ -15,15 +12,6 @@ pub fn put_number(text: &mut Vec<u8>, number: u64) -> Result<(), AllocError>
 {
     let mut digits = itoa::Buffer::new();
     text.extend_from_slice(digits.format(number).as_bytes())
-}
-
-/// Appends a name as it is shown.
-pub fn put_shown(text: &mut Vec<u8>, name: Name) -> Result<(), AllocError>
-    ensures { OnOk result (text.new.items ≡ text.old.items ++ name_text name) }
-{
-    let mut line = TextLine::new();
-    put_name(&mut line, name);
-    text.extend_from_slice(line.as_slice())
 }
 
 /// Appends a word of sixteen bits in octal: four digits, or six where it has more than twelve bits.

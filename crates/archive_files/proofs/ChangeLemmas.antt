@@ -6,7 +6,7 @@ use Rattle.std.proofs.lemmas.Cmp.{nat_cmp_total}
 use Rattle.std.proofs.lemmas.Bool.Decides.{eqb_tells}
 use Rattle.volume_image.specs.Image.{IsImageOf, WrittenIsReadBack}
 use Rattle.char_pack.specs.declared.forms.GetForm.{GetForm}
-use Rattle.os8_dir.specs.Names.{parsed_name}
+use Rattle.name_spelling.specs.Reading.{typed_name}
 use Rattle.os8_dir.specs.declared.entries.DirEntry.{DirEntry}
 use Rattle.os8_dir.specs.declared.faults.DirFault.{DirFault}
 use Rattle.os8_dir.specs.Entries.{DirectoryState, contains, IsTidy}
@@ -234,7 +234,7 @@ renamed_begins law is-directory image other place file new is has =
           ∙ ap (λ (blocks : List (List ℕ)). get (files_of blocks) found.number) (sym (one_volume law new.bytes.items is.after.blocks found.blocks is.is_image found.opened.is_image)) ∙ found.there;
     }
 
-pub renamed_gone : (image text other : List ℕ) (wanted : Target) (new : RenamedImage) → HasRenamedIn image wanted other new → parsed_name text ≡ Some new.old_name → IsNoFile new.bytes.items (OfName text)
+pub renamed_gone : (image text other : List ℕ) (wanted : Target) (new : RenamedImage) → HasRenamedIn image wanted other new → typed_name text ≡ Some new.old_name → IsNoFile new.bytes.items (OfName text)
 renamed_gone image text other wanted new is named =
     let apart = two-apart (files_of is.before.blocks) new.old_name new.new_name is.renamed.file is.renamed.there is.renamed.fresh in
     record {

@@ -5,7 +5,7 @@ use Rattle.os8_dir.specs.Entries.{DirectoryState, end_of, size_of, total, IsTidy
 use Rattle.os8_dir.specs.Found.{IsDirectory}
 use Rattle.os8_dir.specs.declared.entries.DirEntry.{DirEntry}
 use Rattle.os8_dir.specs.declared.entries.DirEntry.TheVariants.{File, Empty}
-use Rattle.script8.specs.Shown.{name_text}
+use Rattle.name_spelling.specs.Spelling.{text_of}
 use Rattle.archive_files.specs.Checking.{blocks_line, check_lines, extent_text, entry_line, entry_lines, outside_line, segment_lines}
 use Rattle.archive_files.specs.Laws.{Extent, entry_label, entry_extents, outside_extents, extents, extent_lines, FollowOneAnother, count_having}
 
@@ -74,7 +74,7 @@ one-has block from end (e ∷ es) is least most =
 
 entry-line : (place : ℕ) (entry : DirEntry) → entry_line place entry ≡ entry_label entry ++ extent_text place (size_of entry)
 entry-line place (File name info size) =
-    ap (λ l. codes "FILE " ++ l) (sym (append_assoc (name_text name) (32 ∷ []) (extent_text place size)))
+    ap (λ l. codes "FILE " ++ l) (sym (append_assoc (text_of name) (32 ∷ []) (extent_text place size)))
 entry-line place (Empty size) = refl
 
 lines-entries : (place : ℕ) (entries : List DirEntry) → entry_lines place entries ≡ extent_lines (entry_extents place entries)

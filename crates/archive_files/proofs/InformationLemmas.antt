@@ -2,7 +2,8 @@
 use Rattle.std.proofs.Common.{◌≡◌, ◌≢◌, ◌≤◌, ◌∙◌, ℕ, zero, suc, Option, Some, None, List, [], ◌∷◌, length, take, replicate, refl, sym, ap, subst, arith}
 use Rattle.std.specs.FinMap.{get}
 use Rattle.volume_image.specs.Image.{IsImageOf, WrittenIsReadBack}
-use Rattle.os8_dir.specs.Names.{with_end_zeros, parsed_name}
+use Rattle.os8_dir.specs.Names.{with_end_zeros}
+use Rattle.name_spelling.specs.Reading.{typed_name}
 use Rattle.os8_dir.specs.Entries.{DirectoryState}
 use Rattle.os8_dir.specs.Reading.{directory_of}
 use Rattle.os8_dir.specs.Found.{FilePlace, IsDirectory, files_at, find}
@@ -79,7 +80,7 @@ put-has : (image name words : List ℕ) (info : Option (List ℕ)) (new : NewIma
     → HasFile new.bytes.items (OfName name) (with_end_zeros (info_of put.before.blocks) (information_for put.before new.name info), words)
 put-has image name words info new put = record {
   blocks = put.after.blocks;
-  opened = new_image image (parsed_name name) words info new put;
+  opened = new_image image (typed_name name) words info new put;
   number = new.name;
   named = put.named;
   there = ap (λ (m : Files). get m new.name) put.put.files ∙ get-here (files_of put.before.blocks) new.name (file_with put.before (information_for put.before new.name info) words);

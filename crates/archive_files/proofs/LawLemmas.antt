@@ -5,7 +5,7 @@ use Rattle.std.specs.Ordering.{nat_cmp, eq_by_cmp}
 use Rattle.std.proofs.lemmas.Cmp.{nat_cmp_total}
 use Rattle.std.proofs.lemmas.Bool.Decides.{nat_tests, eqb_tells}
 use Rattle.volume_image.specs.Image.{IsImageOf, WrittenIsReadBack}
-use Rattle.os8_dir.specs.Names.{parsed_name}
+use Rattle.name_spelling.specs.Reading.{typed_name}
 use Rattle.os8_dir.specs.Entries.{DirectoryState}
 use Rattle.os8_dir.specs.Reading.{directory_of}
 use Rattle.os8_dir.specs.Files.{FileData, Files, files_of}
@@ -66,7 +66,7 @@ new_image image name words info new put = record {
 pub put_file : (image name words : List ℕ) (info : Option (List ℕ)) (new : NewImage) → (put : HasPutInto image name info words new) → IsFile new.bytes.items (OfName name) words
 put_file image name words info new put = record {
   blocks = put.after.blocks;
-  opened = new_image image (parsed_name name) words info new put;
+  opened = new_image image (typed_name name) words info new put;
   number = new.name;
   named = put.named;
   info = (file_with put.before (information_for put.before new.name info) words).0;
@@ -75,7 +75,7 @@ put_file image name words info new put = record {
 
 -- another file of an image is there in the new one, with the words that it had
 pub other_stays : WrittenIsReadBack → DirectoryIs → (image name words was : List ℕ) (one : Target) (info : Option (List ℕ)) (new : NewImage) (blocks : List (List ℕ)) → IsImageOf image blocks
-    → asked_name blocks one ≢ parsed_name name → HasPutInto image name info words new → IsFile image one was → IsFile new.bytes.items one was
+    → asked_name blocks one ≢ typed_name name → HasPutInto image name info words new → IsFile image one was → IsFile new.bytes.items one was
 other_stays law is-directory image name words was one info new blocks own differ put before =
     let old : before.blocks ≡ put.before.blocks = one_volume law image put.before.blocks before.blocks put.mounted.opened.is_image before.opened.is_image in
     let first : asked_name put.before.blocks one ≡ Some before.number = ap (λ (b : List (List ℕ)). asked_name b one) (sym old) ∙ before.named in
@@ -84,7 +84,7 @@ other_stays law is-directory image name words was one info new blocks own differ
     ∙ first ∙ ap Some (sym same) ∙ sym put.named) in
     record {
       blocks = put.after.blocks;
-      opened = new_image image (parsed_name name) words info new put;
+      opened = new_image image (typed_name name) words info new put;
       number = before.number;
       named = asked-again is-directory one put.before.blocks put.after.blocks before.number first (put.put.places before.number apart (goes-on new.name given words put.before put.after put.put));
       info = before.info;

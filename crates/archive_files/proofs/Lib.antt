@@ -17,5 +17,5 @@ mod ChangeLemmas
 mod InformationLemmas
 mod BlockLemmas
 mod LongLemmas
-mod SpellLemmas
+mod PlainLemmas
 mod CopyLemmas

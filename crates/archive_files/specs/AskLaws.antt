@@ -1,10 +1,9 @@
 -- What holds of files that are asked for by their first blocks.
-use Rattle.std.specs.Prelude.{◌≡◌, ◌↔◌, ℕ, true, Some, Result, List, [], ◌∷◌}
+use Rattle.std.specs.Prelude.{◌≡◌, ℕ, Some, Result, List, [], ◌∷◌}
 use Rattle.std.specs.Global.{Vec}
 use Rattle.std.specs.FinMap.{get}
 use Rattle.volume_image.specs.Image.{IsImageOf}
 use Rattle.char_pack.specs.declared.forms.GetForm.{GetForm}
-use Rattle.os8_dir.specs.Entries.{DirectoryState}
 use Rattle.os8_dir.specs.Names.{parsed_name}
 use Rattle.os8_dir.specs.Reading.{Sound}
 use Rattle.os8_dir.specs.Files.{FileData, files_of}
@@ -12,7 +11,6 @@ use Rattle.archive_files.specs.declared.faults.ArchiveFault.{ArchiveFault}
 use Rattle.archive_files.specs.Asking.{Target, AtBlock, asked_name}
 use Rattle.archive_files.specs.Getting.{Gets}
 use Rattle.archive_files.specs.Listing.{listed_lines}
-use Rattle.archive_files.specs.Spelling.{is_typable}
 use Rattle.script8.specs.Replies.{file_lines}
 
 -- what has one name is got alike however it is asked for: by its first block just as by a text that spells its name
@@ -28,15 +26,11 @@ EachBeginsAtABlock = (blocks : List (List ℕ)) (name : ℕ) (file : FileData) �
 abbrev pub WhatBeginsIsThere : Type 0
 WhatBeginsIsThere = (blocks : List (List ℕ)) (place name : ℕ) → asked_name blocks (AtBlock place) ≡ Some name → (file : FileData) × (get (files_of blocks) name ≡ Some file)
 
--- a file's line of a list shows where it begins just where no text spells its name
-abbrev pub TypableIsSpelled : Type 0
-TypableIsSpelled = (name : ℕ) → (is_typable name ≡ true) ↔ ((text : List ℕ) × (parsed_name text ≡ Some name))
+-- a text of letters and digits spells each of the names
+abbrev pub ArePlain : List (ℕ × ℕ) → Type 0
+ArePlain [] = Unit {0}
+ArePlain (file ∷ files) = ((text : List ℕ) × (parsed_name text ≡ Some file.0)) × ArePlain files
 
--- a text spells each of the names
-abbrev pub AreSpelled : List (ℕ × ℕ) → Type 0
-AreSpelled [] = Unit {0}
-AreSpelled (file ∷ files) = (is_typable file.0 ≡ true) × AreSpelled files
-
--- the lines of files that a text spells are those of `DIRECT`
-abbrev pub SpelledAreAsDirect : Type 0
-SpelledAreAsDirect = (d : DirectoryState) (files : List (ℕ × ℕ)) → AreSpelled files → listed_lines d files ≡ file_lines files
+-- the lines of files of such names are those of `DIRECT`
+abbrev pub PlainAreAsDirect : Type 0
+PlainAreAsDirect = (files : List (ℕ × ℕ)) → ArePlain files → listed_lines files ≡ file_lines files

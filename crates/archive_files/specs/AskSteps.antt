@@ -2,7 +2,7 @@
 use Rattle.std.specs.Prelude.{◌≡◌, ℕ, ◌+◌, ◌==◌, if◌then◌else◌, Option, Some, None, Result, Ok, Err, List, [], ◌∷◌}
 use Rattle.os8_dir.specs.declared.entries.DirEntry.{DirEntry}
 use Rattle.os8_dir.specs.Entries.{name_in, size_of}
-use Rattle.os8_dir.specs.Names.{parsed_name}
+use Rattle.name_spelling.specs.Reading.{typed_name}
 use Rattle.os8_files.specs.Mounted.{MountState}
 use Rattle.os8_dir.specs.declared.file_faults.FileFault.{FileFault}
 use Rattle.os8_dir.specs.declared.file_faults.FileFault.TheVariants.{BadName, NotFound}
@@ -27,7 +27,7 @@ name_of_entries place at (entry ∷ entries) = first_name (name_of_entry place a
 
 -- no file is named: what was typed is no name, or none begins at the block
 abbrev pub IsUnnamed : List (List ℕ) → Target → FileFault → Type 0
-IsUnnamed blocks (OfName text) BadName = parsed_name text ≡ None
+IsUnnamed blocks (OfName text) BadName = typed_name text ≡ None
 IsUnnamed blocks (OfName text) fault = ⊥
 IsUnnamed blocks (AtBlock place) NotFound = asked_name blocks (AtBlock place) ≡ None
 IsUnnamed blocks (AtBlock place) fault = ⊥

@@ -1,7 +1,7 @@
 -- Which file of a volume is asked for (this project's profile: by a name that is typed, or by its first block).
 use Rattle.std.specs.Prelude.{◌≡◌, ◌⊎◌, ℕ, ◌==◌, if◌then◌else◌, Option, Some, None, Result, Ok, Err, List, [], ◌∷◌}
 use Rattle.std.specs.FinMap.{get}
-use Rattle.os8_dir.specs.Names.{parsed_name}
+use Rattle.name_spelling.specs.Reading.{typed_name}
 use Rattle.os8_dir.specs.Entries.{DirectoryState}
 use Rattle.os8_dir.specs.Found.{FilePlace, files_at}
 use Rattle.os8_dir.specs.Files.{files_of}
@@ -32,17 +32,17 @@ name_at place (Err fault) = None
 
 -- the name of the file that is wanted of a volume: the one that a text spells, or that of the file whose first block this is
 abbrev pub asked_name : List (List ℕ) → Target → Option ℕ
-asked_name blocks (OfName text) = parsed_name text
+asked_name blocks (OfName text) = typed_name text
 asked_name blocks (AtBlock place) = name_at place (directory_of blocks)
 
 -- what was typed is no name
 abbrev pub IsBadName : Target → Type 0
-IsBadName (OfName text) = parsed_name text ≡ None
+IsBadName (OfName text) = typed_name text ≡ None
 IsBadName (AtBlock place) = ⊥
 
 -- A file that was wanted of a volume is not there now: none has the name; or none began at the block, or the one that did is gone.
 abbrev pub IsMissing : List (List ℕ) → List (List ℕ) → Target → Type 0
-IsMissing was now (OfName text) = (number : ℕ) × (parsed_name text ≡ Some number) × (get (files_of now) number ≡ None)
+IsMissing was now (OfName text) = (number : ℕ) × (typed_name text ≡ Some number) × (get (files_of now) number ≡ None)
 IsMissing was now (AtBlock place) = (asked_name was (AtBlock place) ≡ None)
     ⊎ ((number : ℕ) × (asked_name was (AtBlock place) ≡ Some number) × (get (files_of now) number ≡ None))
 

@@ -4,7 +4,7 @@ use Rattle.std.specs.Global.{Vec}
 use Rattle.std.specs.FinMap.{get}
 use Rattle.volume_image.specs.Image.{IsImageOf}
 use Rattle.char_pack.specs.declared.forms.GetForm.{GetForm}
-use Rattle.os8_dir.specs.Names.{parsed_name}
+use Rattle.name_spelling.specs.Reading.{typed_name}
 use Rattle.os8_dir.specs.Reading.{directory_of}
 use Rattle.os8_dir.specs.Files.{FileData, files_of}
 use Rattle.os8_dir.specs.Names.{with_end_zeros}
@@ -87,7 +87,7 @@ RenamedBeginsThere = (image other : List ℕ) (place : ℕ) (file : FileData) (n
 
 -- none of the old name is there
 abbrev pub OldNameIsGone : Type 0
-OldNameIsGone = (image text other : List ℕ) (wanted : Target) (new : RenamedImage) → RenamesFile image wanted other (Ok new) → parsed_name text ≡ Some new.old_name
+OldNameIsGone = (image text other : List ℕ) (wanted : Target) (new : RenamedImage) → RenamesFile image wanted other (Ok new) → typed_name text ≡ Some new.old_name
     → IsNoFile new.bytes.items (OfName text)
 
 -- any other file is there as it was

@@ -7,7 +7,7 @@ use Rattle.os8_dir.specs.Entries.{DirectoryState, end_of, size_of}
 use Rattle.os8_dir.specs.Reading.{block, word, directory_of}
 use Rattle.os8_dir.specs.declared.entries.DirEntry.{DirEntry}
 use Rattle.os8_dir.specs.declared.entries.DirEntry.TheVariants.{File, Empty}
-use Rattle.script8.specs.Shown.{name_text}
+use Rattle.name_spelling.specs.Spelling.{text_of}
 use Rattle.archive_files.specs.declared.faults.ArchiveFault.{ArchiveFault}
 use Rattle.archive_files.specs.Opening.{IsUnopened}
 
@@ -32,7 +32,7 @@ segment_lines (suc left) blocks (suc number) =
 
 -- the line of an entry that begins at a block
 abbrev pub entry_line : ℕ → DirEntry → List ℕ
-entry_line place (File name info size) = codes "FILE " ++ name_text name ++ 0o40 ∷ extent_text place size
+entry_line place (File name info size) = codes "FILE " ++ text_of name ++ 0o40 ∷ extent_text place size
 entry_line place (Empty size) = codes "EMPTY " ++ extent_text place size
 
 -- the lines of entries, the first of which begins at a block

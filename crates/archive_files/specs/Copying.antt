@@ -1,6 +1,7 @@
 -- The result of copying a file from one image into another.
 use Rattle.std.specs.Prelude.{◌≡◌, ℕ, Option, Some, None, Result, Ok, Err, List}
-use Rattle.os8_dir.specs.Names.{with_end_zeros, parsed_name}
+use Rattle.os8_dir.specs.Names.{with_end_zeros}
+use Rattle.name_spelling.specs.Reading.{typed_name}
 use Rattle.os8_dir.specs.Files.{FileData}
 use Rattle.os8_dir.specs.declared.file_faults.FileFault.TheVariants.{BadName, NoRoom, DirectoryFull}
 use Rattle.script8.specs.declared.faults.SessionFault.TheVariants.{File}
@@ -17,7 +18,7 @@ use Rattle.archive_files.specs.Putting.{HasPutUnder, IsFullUnder}
 -- the name that a copy gets: the new one that was typed, if that is one, or else that of the file
 abbrev pub target : ℕ → Option (List ℕ) → Option ℕ
 target name None = Some name
-target name (Some other) = parsed_name other
+target name (Some other) = typed_name other
 
 -- the new image is that of the volume into which the file that is wanted is put with its words and its information words
 pub record HasCopied (from : List ℕ) (wanted : Target) (to : List ℕ) (other : Option (List ℕ)) (new : NewImage) : Type 0 where

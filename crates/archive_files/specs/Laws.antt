@@ -5,13 +5,13 @@ use Rattle.char_pack.specs.Packing.{block_count, block_frames}
 use Rattle.char_pack.specs.Texts.{is_storable}
 use Rattle.word12.specs.declared.sizes.TheConstants.{FIRST_FILE_BLOCK}
 use Rattle.volume_image.specs.Image.{IsImageOf}
-use Rattle.os8_dir.specs.Names.{parsed_name}
+use Rattle.name_spelling.specs.Reading.{typed_name}
 use Rattle.os8_dir.specs.Entries.{DirectoryState, AreDistinct, end_of, size_of}
 use Rattle.os8_dir.specs.Reading.{◌>>=◌, block, word, head_of, with_segment, directory_of}
 use Rattle.os8_dir.specs.declared.faults.DirFault.{DirFault}
 use Rattle.os8_dir.specs.declared.entries.DirEntry.{DirEntry}
 use Rattle.os8_dir.specs.declared.entries.DirEntry.TheVariants.{File, Empty}
-use Rattle.script8.specs.Shown.{name_text}
+use Rattle.name_spelling.specs.Spelling.{text_of}
 use Rattle.script8.specs.declared.faults.SessionFault.TheVariants.{Memory}
 use Rattle.char_pack.specs.declared.forms.GetForm.{GetForm}
 use Rattle.char_pack.specs.declared.forms.GetForm.TheVariants as get_as
@@ -83,7 +83,7 @@ TextComesBack = (image other again chars : List ℕ) (wanted : Target) (info : O
 -- another file that could be got is got in the same form with the same bytes, or memory is wanted
 abbrev pub OthersStay : Type 0
 OthersStay = (image name bytes : List ℕ) (one : Target) (info : Option (List ℕ)) (kind : PutForm) (form : GetForm) (new : NewImage) (before : Vec ℕ)
-    (answer : Result (Vec ℕ) ArchiveFault) (blocks : List (List ℕ)) → IsImageOf image blocks → asked_name blocks one ≢ parsed_name name → PutsFile image name kind bytes info (Ok new)
+    (answer : Result (Vec ℕ) ArchiveFault) (blocks : List (List ℕ)) → IsImageOf image blocks → asked_name blocks one ≢ typed_name name → PutsFile image name kind bytes info (Ok new)
     → Gets image one form (Ok before) → Gets new.bytes.items one form answer
     → GivesOrLacks before.items answer
 
@@ -97,7 +97,7 @@ pub record Extent : Type 0 where
 
 -- what an entry's line begins with
 abbrev pub entry_label : DirEntry → List ℕ
-entry_label (File name info size) = codes "FILE " ++ name_text name ++ 0o40 ∷ []
+entry_label (File name info size) = codes "FILE " ++ text_of name ++ 0o40 ∷ []
 entry_label (Empty size) = codes "EMPTY "
 
 -- the extents of entries, the first of which begins at a block

@@ -1,7 +1,6 @@
 pub mod Opening
 pub mod Asking
 pub mod Getting
-pub mod Spelling
 pub mod Listing
 pub mod HostTexts
 pub mod Putting

@@ -7,7 +7,7 @@ use Rattle.os8_dir.specs.Entries.{DirectoryState}
 use Rattle.os8_dir.specs.Found.{FilePlace, files_at, free_blocks}
 use Rattle.os8_dir.specs.Reading.{directory_of}
 use Rattle.script8.specs.Replies.{free_line}
-use Rattle.script8.specs.Shown.{name_text}
+use Rattle.name_spelling.specs.Spelling.{text_of}
 use Rattle.archive_files.specs.declared.faults.ArchiveFault.{ArchiveFault}
 use Rattle.archive_files.specs.Opening.{IsUnopened}
 
@@ -18,7 +18,7 @@ information_text (word ∷ words) = 0o40 ∷ octal4 word ++ information_text wor
 
 -- the line of a file: its name, how many blocks it has, its first block, and so many information words
 abbrev pub long_line : ℕ → FilePlace → List ℕ
-long_line info f = name_text f.name ++ 0o40 ∷ decimal f.size ++ 0o40 ∷ decimal f.place ++ information_text (take info f.info) ++ 0o12 ∷ []
+long_line info f = text_of f.name ++ 0o40 ∷ decimal f.size ++ 0o40 ∷ decimal f.place ++ information_text (take info f.info) ++ 0o12 ∷ []
 
 -- the lines of files
 abbrev pub lines_of_files : ℕ → List FilePlace → List ℕ

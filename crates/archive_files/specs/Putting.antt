@@ -4,7 +4,7 @@ use Rattle.std.specs.FinMap.{get, insert}
 use Rattle.volume_image.specs.Image.{IsImageOf}
 use Rattle.char_pack.specs.Packing.{packed_blocks}
 use Rattle.char_pack.specs.Texts.{is_storable}
-use Rattle.os8_dir.specs.Names.{parsed_name}
+use Rattle.name_spelling.specs.Reading.{typed_name}
 use Rattle.os8_dir.specs.Files.{files_of}
 use Rattle.os8_files.specs.Mounted.{MountState}
 use Rattle.os8_files.specs.Calls.{IsLargest, IsOver, IsReady}
@@ -65,7 +65,7 @@ pub record HasPutUnder (image : List ℕ) (name : Option ℕ) (info : Option (Li
 
 -- the same under a name that was typed
 abbrev pub HasPutInto : List ℕ → List ℕ → Option (List ℕ) → List ℕ → NewImage → Type 0
-HasPutInto image name info words new = HasPutUnder image (parsed_name name) info words new
+HasPutInto image name info words new = HasPutUnder image (typed_name name) info words new
 
 -- the largest empty of the volume, which has so many blocks, has no room for the words, or its directory none for the entry
 abbrev pub IsFull : MountState → ℕ → Option (List ℕ) → List ℕ → SessionFault → Type 0
@@ -84,13 +84,13 @@ pub record IsFullUnder (image : List ℕ) (name : Option ℕ) (info : Option (Li
 
 -- the same under a name that was typed
 abbrev pub IsFullFor : List ℕ → List ℕ → Option (List ℕ) → List ℕ → SessionFault → Type 0
-IsFullFor image name info words fault = IsFullUnder image (parsed_name name) info words fault
+IsFullFor image name info words fault = IsFullUnder image (typed_name name) info words fault
 
 -- a file is not put into an image, for the first of these: no name, bytes that are not those of a file, no room
 abbrev pub PutRefused : List ℕ → List ℕ → PutForm → List ℕ → Option (List ℕ) → SessionFault → Type 0
-PutRefused image name form bytes info (File BadName) = (blocks : List (List ℕ)) × IsOpened image blocks × (parsed_name name ≡ None)
-PutRefused image name form bytes info (File NothingWritten) = IsUnfit form bytes (File NothingWritten) × (blocks : List (List ℕ)) × IsOpened image blocks × (number : ℕ) × (parsed_name name ≡ Some number)
-PutRefused image name form bytes info BadText = IsUnfit form bytes BadText × (blocks : List (List ℕ)) × IsOpened image blocks × (number : ℕ) × (parsed_name name ≡ Some number)
+PutRefused image name form bytes info (File BadName) = (blocks : List (List ℕ)) × IsOpened image blocks × (typed_name name ≡ None)
+PutRefused image name form bytes info (File NothingWritten) = IsUnfit form bytes (File NothingWritten) × (blocks : List (List ℕ)) × IsOpened image blocks × (number : ℕ) × (typed_name name ≡ Some number)
+PutRefused image name form bytes info BadText = IsUnfit form bytes BadText × (blocks : List (List ℕ)) × IsOpened image blocks × (number : ℕ) × (typed_name name ≡ Some number)
 PutRefused image name form bytes info (File (NoRoom largest)) = IsFullFor image name info (put_words form bytes) (File (NoRoom largest))
 PutRefused image name form bytes info (File DirectoryFull) = IsFullFor image name info (put_words form bytes) (File DirectoryFull)
 PutRefused image name form bytes info fault = IsUnopened image (Refused fault)

@@ -2,7 +2,7 @@
 use Rattle.std.specs.Prelude.{◌≡◌, ◌⊎◌, ℕ, ◌<◌, Some, None, Result, Ok, Err, List}
 use Rattle.std.specs.FinMap.{get}
 use Rattle.volume_image.specs.Image.{IsImageOf}
-use Rattle.os8_dir.specs.Names.{parsed_name}
+use Rattle.name_spelling.specs.Reading.{typed_name}
 use Rattle.os8_dir.specs.Files.{files_of, limit_of}
 use Rattle.os8_files.specs.Mounted.{MountState}
 use Rattle.os8_files.specs.Calls.{IsThere}
@@ -25,7 +25,7 @@ pub record HasRenamedIn (image : List ℕ) (wanted : Target) (other : List ℕ) 
   pub after : MountState
   pub mounted : IsMounted image before
   pub named : asked_name before.blocks wanted ≡ Some new.old_name
-  pub next_named : parsed_name other ≡ Some new.new_name
+  pub next_named : typed_name other ≡ Some new.new_name
   pub renamed : HasRenamed before new.old_name new.new_name after
   pub is_image : IsImageOf new.bytes.items after.blocks
 
@@ -33,7 +33,7 @@ pub record HasRenamedIn (image : List ℕ) (wanted : Target) (other : List ℕ) 
 pub record IsNoName (image : List ℕ) (wanted : Target) (other : List ℕ) : Type 0 where
   pub blocks : List (List ℕ)
   pub opened : IsOpened image blocks
-  pub none : IsBadName wanted ⊎ (parsed_name other ≡ None)
+  pub none : IsBadName wanted ⊎ (typed_name other ≡ None)
 
 -- the volume has the file that is wanted, and one of the new name
 pub record HasBoth (image : List ℕ) (wanted : Target) (other : List ℕ) : Type 0 where
@@ -43,7 +43,7 @@ pub record HasBoth (image : List ℕ) (wanted : Target) (other : List ℕ) : Typ
   pub named : asked_name before.blocks wanted ≡ Some number
   pub there : IsThere before number
   pub next : ℕ
-  pub next_named : parsed_name other ≡ Some next
+  pub next_named : typed_name other ≡ Some next
   pub next_there : IsThere before next
 
 -- the volume has the file that is wanted and none of the new name, and its directory has more entries than are written
@@ -54,14 +54,14 @@ pub record HasTooMany (image : List ℕ) (wanted : Target) (other : List ℕ) : 
   pub named : asked_name before.blocks wanted ≡ Some number
   pub there : IsThere before number
   pub next : ℕ
-  pub next_named : parsed_name other ≡ Some next
+  pub next_named : typed_name other ≡ Some next
   pub fresh : get (files_of before.blocks) next ≡ None
   pub over : limit_of before.blocks < entries_of before.blocks
 
 -- a file is not renamed, for the first of these: no name, no file, a file of the new name, too many entries
 abbrev pub RenameRefused : List ℕ → Target → List ℕ → SessionFault → Type 0
 RenameRefused image wanted other (File BadName) = IsNoName image wanted other
-RenameRefused image wanted other (File NotFound) = ((next : ℕ) × (parsed_name other ≡ Some next)) × IsNoFile image wanted
+RenameRefused image wanted other (File NotFound) = ((next : ℕ) × (typed_name other ≡ Some next)) × IsNoFile image wanted
 RenameRefused image wanted other (File DirectoryFull) = HasTooMany image wanted other
 RenameRefused image wanted other fault = IsUnopened image (Refused fault)
 

@@ -9,6 +9,7 @@ ghost use Rattle.archive_files.specs.AskSteps.{FindsFile, FindsName, name_of_ent
 
 use crate::ArchiveFault;
 use crate::opening::open_image;
+use name_spelling::typed_name;
 use os8_dir::{DirEntry, Directory, Name};
 use os8_files::{FileFault, FileService};
 use script8::SessionFault;
@@ -48,7 +49,7 @@ pub fn name_of(directory: &Directory, asked: &Asked) -> Result<Name, FileFault>
     ensures named { IfOk result IsNamed }
 {
     match asked {
-        Asked::Name(text) => match Name::parse(text.as_bytes()) {
+        Asked::Name(text) => match typed_name(text.as_bytes()) {
             None => Err(FileFault::BadName),
             Some(name) => Ok(name),
         },

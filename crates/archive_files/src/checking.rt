@@ -9,9 +9,10 @@ ghost use Rattle.archive_files.specs.Checking.{Checks};
 
 use crate::ArchiveFault;
 use crate::opening::volume_of;
+use name_spelling::put_spelled;
 use os8_dir::{DirEntry, DirFault, Directory};
 use script8::SessionFault;
-use script8::text_lines::{TextLine, put, put_name, put_number};
+use script8::text_lines::{TextLine, put, put_number};
 use std::alloc::{AllocError, Global};
 use volume_image::{BlockStore, MemoryVolume};
 use word12::{FIRST_FILE_BLOCK, Word};
@@ -118,7 +119,7 @@ fn put_entry(place: usize, entry: &DirEntry, out: &mut Vec<u8>) -> Result<(), Al
     match entry {
         DirEntry::File { name, length, .. } => {
             put(&mut line, b"FILE ");
-            put_name(&mut line, *name);
+            put_spelled(&mut line, *name);
             put(&mut line, b" ");
             put_extent(&mut line, place, *length);
         }
@@ -145,7 +146,7 @@ fn put_outside(place: usize, size: usize, out: &mut Vec<u8>) -> Result<(), Alloc
 
 /// Puts a block, how many from it on, and the line's end.
 fn put_extent(line: &mut TextLine, place: usize, size: usize)
-    requires { array_vec_len line.old ≤ 20 }
+    requires { array_vec_len line.old ≤ 35 }
     ensures { line.new.items ≡ line.old.items ++ spec.extent_text place size }
 {
     put_number(line, place as u64);

@@ -1,6 +1,6 @@
 ghost use Rattle.std.specs.Prelude.{Some, option_copied};
 ghost use Rattle.os8_dir.specs.Entries.{IsNamed};
-ghost use Rattle.os8_dir.specs.Names.{parsed_name};
+ghost use Rattle.name_spelling.specs.Reading.{typed_name};
 ghost use Rattle.archive_files.specs.Asking.{target_of};
 ghost use Rattle.archive_files.specs.ChangeSteps.{PutsBlocks, ReadsFile};
 ghost use Rattle.archive_files.specs.Copying.{CopiesFile};
@@ -11,6 +11,7 @@ use crate::getting::words_of;
 use crate::opening::mount_image;
 use crate::putting::put_words;
 use crate::{ArchiveFault, Asked, CopyFault, NewImage};
+use name_spelling::typed_name;
 use os8_dir::Name;
 use os8_files::FileFault;
 use os8_files::laws::whole_files;
@@ -78,10 +79,10 @@ fn put_typed(
     info: &[Word],
 ) -> Result<NewImage, ArchiveFault>
     requires { AreBlocks words.now }
-    ensures { PutsBlocks image.now (parsed_name name.now) info.now words.now result }
+    ensures { PutsBlocks image.now (typed_name name.now) info.now words.now result }
 {
     let files = mount_image(alloc, image)?;
-    match Name::parse(name) {
+    match typed_name(name) {
         None => Err(ArchiveFault::Refused(SessionFault::File(FileFault::BadName))),
         Some(name) => {
             let new = put_words(alloc, files, name, words, Some(info))?;

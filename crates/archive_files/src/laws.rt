@@ -1,11 +1,13 @@
 //! What holds of a file that was put into an image and is got from the new one, and of what a check lists.
-ghost use Rattle.archive_files.specs.AskLaws.{EachBeginsAtABlock, OneNameIsGotAlike, SpelledAreAsDirect, TypableIsSpelled, WhatBeginsIsThere};
+ghost use Rattle.archive_files.specs.AskLaws.{EachBeginsAtABlock, OneNameIsGotAlike, PlainAreAsDirect, WhatBeginsIsThere};
 ghost use Rattle.archive_files.specs.ChangeLaws.{CopyHasItsName, CopyIsTheSame, CopyLeavesOthers, DeletedAreGone, DeletedLeaveOthers, DeletedLeaveWhatIsGot, PutAnewHasZeros, PutGivesInformation, PutKeepsInformation, RenamedBackIsAsBefore, RenamedBeginsThere, OldNameIsGone, RenamedIsThere, RenamedLeavesOthers, SqueezedAreGot, SqueezedAreThere, SqueezedKeepNames};
 ghost use Rattle.archive_files.specs.Laws.{ChecksTellEachBlock, ChecksTellEachSegment, FramesComeBack, LinesComeBack, OthersStay, TapeComesBack, TextComesBack};
 
 use bin_tape::laws::{longer_tape, no_fault};
 use char_pack::laws::{packed_bytes, stored_text};
+use name_spelling::laws::plain_names;
 use os8_dir::laws::{file_information, file_renamed, files_found, sound_directory};
+use script8::laws::name_as_typed;
 use volume_image::image_round_trip;
 
 /// A law: what was put is got again, or memory is wanted. The bytes have zeros after them to the end of their last block. The tape is the one that
@@ -51,11 +53,13 @@ pub fn asked_files()
     sound_directory();
 }
 
-/// A law: the names that a list takes for names that a text spells are just those, and the lines of their files are those of `DIRECT`.
-pub fn typable_names()
-    ensures spelled { TypableIsSpelled }
-    ensures direct { SpelledAreAsDirect }
-{}
+/// A law: the lines that a list has of files whose names are of letters and digits are those of `DIRECT`.
+pub fn plain_lists()
+    ensures { PlainAreAsDirect }
+{
+    plain_names();
+    name_as_typed();
+}
 
 /// A law: after a deletion the volume has none of the files that were named. Each other file is as it was, with its words and its information
 /// words. It is got as before, in each form, with the same bytes, or memory is wanted.
@@ -112,7 +116,7 @@ pub fn put_information()
 }
 
 /// A law: a copy has the words of the file that was copied. It has its first information words, as many as the files of its volume have, with
-/// zeros for missing ones. Its name is the one that was typed for it, or else that of the file, which may be one that no text spells. Each other
+/// zeros for missing ones. Its name is the one that was typed for it, or else that of the file. Each other
 /// file of the image that it is put into is there as it was.
 pub fn copied_file()
     ensures same { CopyIsTheSame }

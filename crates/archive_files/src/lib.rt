@@ -19,7 +19,6 @@ pub mod parts;
 mod places;
 mod putting;
 mod renaming;
-mod spelling;
 mod squeezing;
 mod tapes;
 mod texts;

@@ -1,16 +1,17 @@
 ghost use Rattle.std.specs.Prelude.{◌≡◌, ◌+◌, ◌≤◌, ◌∷◌, ◌++◌, decimal, length, OnOk};
 ghost use Rattle.word12.specs.declared.sizes.TheConstants.{MOST_BLOCKS};
 ghost use Rattle.os8_dir.specs.Entries.{total};
-ghost use Rattle.script8.specs.Shown.{name_text};
+ghost use Rattle.name_spelling.specs.Spelling.{text_of};
 ghost use Rattle.archive_files.specs.LongListing.{ListsLong, information_text, long_lines};
 ghost use Rattle.archive_files.specs.LongSteps.{line_of_entry, lines_of_entries};
 
 use crate::ArchiveFault;
 use crate::listing::put_free;
 use crate::opening::volume_of;
+use name_spelling::put_spelled;
 use os8_dir::{DirEntry, DirFault, Directory, Name};
 use script8::SessionFault;
-use script8::text_lines::{TextLine, put, put_name, put_number};
+use script8::text_lines::{TextLine, put, put_number};
 use std::alloc::{AllocError, Global};
 use word12::Word;
 
@@ -93,10 +94,10 @@ fn put_entry(
 /// Appends a name, how many blocks its file has, and the first of them.
 fn put_extent(name: Name, size: usize, place: usize, out: &mut Vec<u8>) -> Result<(), AllocError>
     ensures { OnOk result (out.new.items
-        ≡ out.old.items ++ (name_text name ++ 0o40 ∷ decimal size ++ 0o40 ∷ decimal place)) }
+        ≡ out.old.items ++ (text_of name ++ 0o40 ∷ decimal size ++ 0o40 ∷ decimal place)) }
 {
     let mut line = TextLine::new();
-    put_name(&mut line, name);
+    put_spelled(&mut line, name);
     put(&mut line, b" ");
     put_number(&mut line, size as u64);
     put(&mut line, b" ");

@@ -9,6 +9,7 @@ use crate::opening::{image_of, mount_image};
 use crate::texts::text_frames;
 use crate::{ArchiveFault, PutForm};
 use char_pack::{is_storable, pack_blocks};
+use name_spelling::typed_name;
 use os8_dir::Name;
 use os8_files::{FileFault, FileService};
 use script8::SessionFault;
@@ -39,7 +40,7 @@ pub fn put(
     ensures { PutsFile image.now name.now form bytes.now (option_copied info.entry) result }
 {
     let files = mount_image(alloc, image)?;
-    match Name::parse(name) {
+    match typed_name(name) {
         None => Err(ArchiveFault::Refused(SessionFault::File(FileFault::BadName))),
         Some(name) => {
             let words = stored_words(alloc, bytes, form)?;

@@ -11,6 +11,7 @@ ghost use Rattle.script8.specs.declared.faults.SessionFault.TheVariants.{File};
 use crate::asking::name_of;
 use crate::opening::{image_of, open_image};
 use crate::{ArchiveFault, Asked, RenameFault};
+use name_spelling::typed_name;
 use os8_dir::Name;
 use os8_files::{FileFault, FileService};
 use script8::SessionFault;
@@ -36,7 +37,7 @@ pub fn rename(
     ensures { RenamesFile image.now (target_of asked.now) new_name.now result }
 {
     let (files, directory) = open_image(alloc, image)?;
-    match Name::parse(new_name) {
+    match typed_name(new_name) {
         None => Err(fault_of_rename(FileFault::BadName)),
         Some(new_name) => match name_of(&directory, asked) {
             Err(fault) => Err(fault_of_rename(fault)),

@@ -3,7 +3,9 @@ use Rattle.std.proofs.Common.{◌≡◌, ◌<◌, ◌≤◌, ℕ, Bool, true, fa
 use Rattle.std.specs.Prelude.{◌&&◌, nat_le}
 use Rattle.std.specs.Option.{is_some}
 use Rattle.std.proofs.lemmas.Bool.Decides.{nat_tests}
-use Rattle.os8_dir.specs.Names.{after_dot, before_dot, parsed_name}
+use Rattle.os8_dir.specs.Names.{after_dot, before_dot}
+use Rattle.name_spelling.specs.Laws.{TypedAreShort}
+use Rattle.name_spelling.specs.Reading.{typed_name}
 use Rattle.archive_many.specs.Patterns.{are_of_pattern, are_within, has_sign, is_choice, is_extension_pattern, is_pattern}
 use Rattle.archive_many.proofs.HostLemmas.{following-dot, length-parts, none-if}
 
@@ -31,7 +33,7 @@ short-pattern word is =
     let sum = length-parts word in
     omega (arith, sum, stem, extension)
 
-no-pattern : (b : Bool) (word : List ℕ) → is_pattern word ≡ b → 17 < length word → is_pattern word ≡ false
+no-pattern : (b : Bool) (word : List ℕ) → is_pattern word ≡ b → 25 < length word → is_pattern word ≡ false
 no-pattern false word is long = is
 no-pattern true word is long = let few = short-pattern word is in absurd (omega (arith, few, long))
 
@@ -40,7 +42,7 @@ either-false true one two first second = sym first
 either-false false one two first second = sym second
 
 -- a longer word is no choice
-pub long-no-choice : (word : List ℕ) → 17 < length word → false ≡ is_choice word
-long-no-choice word long =
-    either-false (has_sign word) (is_pattern word) (is_some (parsed_name word)) (no-pattern (is_pattern word) word refl long)
-    (ap is_some (sym (none-if word (parsed_name word) refl (omega (arith, long)))))
+pub long-no-choice : TypedAreShort → (word : List ℕ) → 25 < length word → false ≡ is_choice word
+long-no-choice law word long =
+    either-false (has_sign word) (is_pattern word) (is_some (typed_name word)) (no-pattern (is_pattern word) word refl long)
+    (ap is_some (sym (none-if law word (typed_name word) refl long)))

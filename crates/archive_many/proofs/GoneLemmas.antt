@@ -7,13 +7,13 @@ use Rattle.std.proofs.lemmas.List.{append-nil}
 use Rattle.std.proofs.lemmas.Bool.Decides.{nat_tests, eqb_tells}
 use Rattle.volume_image.specs.Image.{IsImageOf, WrittenIsReadBack}
 use Rattle.os8_dir.specs.Entries.{AreDistinct, DirectoryState, contains}
-use Rattle.os8_dir.specs.Found.{AreApart, IsDirectory, FilePlace, files_at, find}
+use Rattle.os8_dir.specs.Found.{AreApart, FilePlace, files_at, find}
 use Rattle.os8_dir.specs.Files.{FileData, Files, files_of, data_if_there}
 use Rattle.os8_dir.specs.Reading.{directory_of}
 use Rattle.os8_dir.specs.declared.faults.DirFault.{DirFault}
 use Rattle.archive_files.specs.Opening.{IsOpened}
 use Rattle.archive_files.specs.Asking.{AtBlock, AreAsked, asked_name, name_at, name_beginning}
-use Rattle.archive_files.specs.Deleting.{DeletesFiles, HasDeletedFrom, without}
+use Rattle.archive_files.specs.Deleting.{DeletesFiles, without}
 use Rattle.archive_files.specs.declared.deleting.DeletedImage.{DeletedImage}
 use Rattle.archive_many.specs.Opened.{file_at, files_in, files_on, files_or}
 use Rattle.archive_many.specs.Patterns.{files_like, is_choice, is_like_one, matches}

@@ -1,12 +1,13 @@
 -- Paths of the host, and names as they are typed.
-use Rattle.std.proofs.Common.{◌≡◌, ◌≢◌, ◌∙◌, ◌≤◌, ◌<◌, ◌+◌, ◌-◌, ℕ, zero, suc, Bool, true, false, cond, Option, Some, None, List, [], ◌∷◌, ◌++◌, get_or, map, take, drop, length, append_assoc, refl, sym, ap, arith, inl, inr}
+use Rattle.std.proofs.Common.{◌≡◌, ◌≢◌, ◌∙◌, ◌≤◌, ◌<◌, ◌+◌, ◌-◌, ℕ, zero, suc, Bool, true, false, cond, if◌then◌else◌, subst, Option, Some, None, List, [], ◌∷◌, ◌++◌, get_or, map, take, drop, length, append_assoc, refl, sym, ap, arith, inl, inr}
 use Rattle.std.specs.Prelude.{◌==◌, ◌&&◌, nat_le}
 use Rattle.std.specs.Str.{IsAscii}
 use Rattle.std.proofs.lemmas.List.{length-map, take_all}
 use Rattle.std.proofs.lemmas.Bool.Decides.{nat_tests}
-use Rattle.word12.specs.Sixbit.{sixbit_code}
-use Rattle.os8_dir.specs.Names.{after_dot, before_dot, codes_of, codes_within, extension_codes, parsed_name, name_of_codes, with_code}
-use Rattle.archive_many.specs.HostNames.{IsFolder, has_no_slash, is_slash}
+use Rattle.os8_dir.specs.Names.{after_dot, before_dot}
+use Rattle.name_spelling.specs.Laws.{TypedAreShort, are_safe, is_safe}
+use Rattle.name_spelling.specs.Reading.{typed_name}
+use Rattle.archive_many.specs.HostNames.{IsFolder, IsLastPart, NamesVolume, capital_of, has_no_slash, is_slash}
 
 -- ## The last part of a path
 
@@ -49,7 +50,7 @@ at-other path part (c ∷ rest) some is so =
     rw (tail-is c rest)
     (so.0, so.1 ++ c ∷ [], so.2, so.3, so.4 ∙ sym (append_assoc so.1 (c ∷ []) rest), no-slash-more so.1 c (no-slash-here c is) so.5)
 
--- ## Typed names are short
+-- ## A text and its parts
 
 abbrev pub following-dot : Option (List ℕ) → ℕ
 following-dot None = 0
@@ -64,45 +65,21 @@ pub length-parts : (text : List ℕ) → length text ≡ length (before_dot text
 length-parts [] = omega arith
 length-parts (c ∷ cs) = dot-length (c == 0o56) c cs (length-parts cs)
 
--- codes of a part: it has no more characters, and each has a code
-within-test : (some few : Bool) (most size : ℕ) (o : Option (List ℕ)) (known : List ℕ) → some ≡ nat_le 1 size → few ≡ nat_le size most → cond (some && few) o None ≡ Some known → (size ≤ most) × (o ≡ Some known)
-within-test true true most size o known one two is = (grind (arith, nat_tests), is)
-within-test true false most size o known one two is = absurd (cc)
-within-test false few most size o known one two is = absurd (cc)
+-- ## Typed names are short
 
-pub within : (most : ℕ) (text : List ℕ) (known : List ℕ) → codes_within most text ≡ Some known → (length text ≤ most) × (codes_of text ≡ Some known)
-within most text known is = within-test (nat_le 1 (length text)) (nat_le (length text) most) most (length text) (codes_of text) known refl refl is
-
--- what a typed name is made of
-pub record Typed (stem extension : Option (List ℕ)) : Type 0 where
-  pub codes : List ℕ
-  pub others : List ℕ
-  pub stem_is : stem ≡ Some codes
-  pub extension_is : extension ≡ Some others
-
-pub typed : (stem extension : Option (List ℕ)) (name : ℕ) → name_of_codes stem extension ≡ Some name → Typed stem extension
-typed (Some stem) (Some extension) name is = record { codes = stem; others = extension; stem_is = refl; extension_is = refl }
-typed (Some stem) None name is = absurd (cc)
-typed None extension name is = absurd (cc)
-
-extension-short : (o : Option (List ℕ)) (known : List ℕ) → extension_codes o ≡ Some known → following-dot o ≤ 3
-extension-short None known is = omega arith
-extension-short (Some text) known is = omega (arith, (within 2 text known is).0)
-
-typed-length : (text : List ℕ) (name : ℕ) → parsed_name text ≡ Some name → length text ≤ 9
-typed-length text name is =
-    let parts = typed (codes_within 6 (before_dot text)) (extension_codes (after_dot text)) name is in
-    omega (arith, length-parts text, (within 6 (before_dot text) parts.codes parts.stem_is).0, extension-short (after_dot text) parts.others parts.extension_is)
-
-pub none-if : (text : List ℕ) (o : Option ℕ) → parsed_name text ≡ o → 9 < length text → None ≡ parsed_name text
-none-if text None is long = sym is
-none-if text (Some name) is long = absurd (omega (arith, long, typed-length text name is))
+pub none-if : TypedAreShort → (text : List ℕ) (o : Option ℕ) → typed_name text ≡ o → 25 < length text → None ≡ typed_name text
+none-if law text None is long = sym is
+none-if law text (Some name) is long = absurd (omega (arith, long, law text name is))
 
 -- a longer text is no name
-pub long-none : (f : ℕ → ℕ) (text : List ℕ) → 9 < length text → None ≡ parsed_name (map f text)
-long-none f text long = none-if (map f text) (parsed_name (map f text)) refl (omega (arith, long, length-map text f))
+pub long-none : TypedAreShort → (f : ℕ → ℕ) (text : List ℕ) → 25 < length text → None ≡ typed_name (map f text)
+long-none law f text long = none-if law (map f text) (typed_name (map f text)) refl (omega (arith, long, length-map text f))
 
--- ## Typed names are ASCII
+-- ## Safe characters
+
+both-safe : (a b : Bool) → (a && b) ≡ true → (a ≡ true) × (b ≡ true)
+both-safe true b is = (refl, is)
+both-safe false b is = absurd (cc)
 
 ascii-nil : IsAscii []
 ascii-nil i = omega arith
@@ -111,62 +88,67 @@ ascii-cons : (c : ℕ) (cs : List ℕ) → c < 128 → IsAscii cs → IsAscii (c
 ascii-cons c cs low rest zero = low
 ascii-cons c cs low rest (suc i) = rest i
 
-code-low : (c x : ℕ) → sixbit_code c ≡ Some x → c < 128
-code-low c x is = letter-or (nat_le 0o101 c) (nat_le c 0o132) (nat_le 0o60 c) (nat_le c 0o71) refl refl is
+safe-low : (c : ℕ) → is_safe c ≡ true → c < 128
+safe-low c is = grind (arith, nat_tests)
+
+pub safe-ascii : (text : List ℕ) → are_safe text ≡ true → IsAscii text
+safe-ascii [] safe = ascii-nil
+safe-ascii (c ∷ cs) safe = let parts = both-safe (is_safe c) (are_safe cs) safe in ascii-cons c cs (safe-low c parts.0) (safe-ascii cs parts.1)
+
+-- no small letter stands in it
+safe-capital : (c : ℕ) → is_safe c ≡ true → capital_of c ≡ c
+safe-capital c is = ap (λ (b : Bool). if b then c - 0o40 else c) (no-small c is)
   where
-    letter-or : (a b d e : Bool) → b ≡ nat_le c 0o132 → e ≡ nat_le c 0o71 → cond (a && b) (Some (c - 0o100)) (cond (d && e) (Some c) None) ≡ Some x → c < 128
-    letter-or true true d e two four is = grind (arith, nat_tests)
-    letter-or true false true true two four is = grind (arith, nat_tests)
-    letter-or true false true false two four is = absurd (cc)
-    letter-or true false false e two four is = absurd (cc)
-    letter-or false b true true two four is = grind (arith, nat_tests)
-    letter-or false b true false two four is = absurd (cc)
-    letter-or false b false e two four is = absurd (cc)
+    no-small : (c : ℕ) → is_safe c ≡ true → (nat_le 0o141 c && nat_le c 0o172) ≡ false
+    no-small c is = grind (arith, nat_tests)
 
-record Coded (one : Option ℕ) (rest : Option (List ℕ)) : Type 0 where
-  code : ℕ
-  others : List ℕ
-  one_is : one ≡ Some code
-  rest_is : rest ≡ Some others
+safe-raised : (text : List ℕ) → are_safe text ≡ true → map capital_of text ≡ text
+safe-raised [] safe = refl
+safe-raised (c ∷ cs) safe =
+    let parts = both-safe (is_safe c) (are_safe cs) safe in
+    ap (λ n. n ∷ map capital_of cs) (safe-capital c parts.0) ∙ ap (λ l. c ∷ l) (safe-raised cs parts.1)
 
-coded : (one : Option ℕ) (rest : Option (List ℕ)) (known : List ℕ) → with_code one rest ≡ Some known → Coded one rest
-coded (Some code) (Some codes) known is = record { code = code; others = codes; one_is = refl; rest_is = refl }
-coded (Some code) None known is = absurd (cc)
-coded None rest known is = absurd (cc)
+-- and no slash
+safe-slash : (c : ℕ) → is_safe c ≡ true → is_slash c ≡ false
+safe-slash c is = grind (arith, nat_tests)
 
-ascii-codes : (cs known : List ℕ) → codes_of cs ≡ Some known → IsAscii cs
-ascii-codes [] known is = ascii-nil
-ascii-codes (c ∷ cs) known is =
-    let all = coded (sixbit_code c) (codes_of cs) known is in
-    ascii-cons c cs (code-low c all.code all.one_is) (ascii-codes cs all.others all.rest_is)
+safe-part : (text : List ℕ) → are_safe text ≡ true → has_no_slash text ≡ true
+safe-part [] safe = refl
+safe-part (c ∷ cs) safe =
+    let parts = both-safe (is_safe c) (are_safe cs) safe in
+    ap (λ (b : Bool). if b then false else has_no_slash cs) (safe-slash c parts.0) ∙ safe-part cs parts.1
 
-abbrev AsciiAfter : Option (List ℕ) → Type 0
-AsciiAfter None = Unit {0}
-AsciiAfter (Some text) = IsAscii text
+-- ## The part after a slash
 
-ascii-extension : (o : Option (List ℕ)) (known : List ℕ) → extension_codes o ≡ Some known → AsciiAfter o
-ascii-extension None known is = tt
-ascii-extension (Some text) known is = ascii-codes text known (within 2 text known is).1
+slash-in : (seen rest : List ℕ) → has_no_slash (seen ++ 0o57 ∷ rest) ≡ true → ⊥
+slash-in [] rest none = absurd (cc)
+slash-in (c ∷ seen) rest none = by (is_slash c) (slash-in seen rest) none
+  where
+    by : (b : Bool) → (has_no_slash (seen ++ 0o57 ∷ rest) ≡ true → ⊥) → (if b then false else has_no_slash (seen ++ 0o57 ∷ rest)) ≡ true → ⊥
+    by true more none = absurd (cc)
+    by false more none = more none
 
-is-dot : (c : ℕ) → (c == 0o56) ≡ true → c < 128
-is-dot c is = grind (arith, nat_tests)
+last-slash : (before text : List ℕ) → before ++ 0o57 ∷ [] ≡ [] → ⊥
+last-slash [] text is = cc
+last-slash (c ∷ before) text is = cc
 
-head-low : (c : ℕ) (cs : List ℕ) → IsAscii (c ∷ cs) → c < 128
-head-low c cs is = is 0
+same-following : (x y : ℕ) (xs ys : List ℕ) → x ∷ xs ≡ y ∷ ys → xs ≡ ys
+same-following x y xs ys is = cc
 
-tail-low : (c : ℕ) (cs : List ℕ) → IsAscii (c ∷ cs) → IsAscii cs
-tail-low c cs is i = is (suc i)
+-- a part that has no slash, after a text that ends with one, is the last part
+one-part : (folder before text part : List ℕ) → before ++ 0o57 ∷ part ≡ folder ++ 0o57 ∷ text → has_no_slash text ≡ true → has_no_slash part ≡ true → part ≡ text
+one-part [] [] text part is none also = same-following 0o57 0o57 part text is
+one-part [] (c ∷ before) text part is none also = absurd (slash-in before part (subst (λ l. has_no_slash l ≡ true) (sym (same-following c 0o57 (before ++ 0o57 ∷ part) text is)) none))
+one-part (c ∷ folder) [] text part is none also = absurd (slash-in folder text (subst (λ l. has_no_slash l ≡ true) (same-following 0o57 c part (folder ++ 0o57 ∷ text) is) also))
+one-part (c ∷ folder) (d ∷ before) text part is none also = one-part folder before text part (same-following d c (before ++ 0o57 ∷ part) (folder ++ 0o57 ∷ text) is) none also
 
-dot-ascii : (dot : Bool) (c : ℕ) (cs : List ℕ) → (c == 0o56) ≡ dot → (IsAscii (before_dot cs) → AsciiAfter (after_dot cs) → IsAscii cs)
-    → IsAscii (cond dot [] (c ∷ before_dot cs)) → AsciiAfter (cond dot (Some cs) (after_dot cs)) → IsAscii (c ∷ cs)
-dot-ascii true c cs is parts stem following = ascii-cons c cs (is-dot c is) following
-dot-ascii false c cs is parts stem following = ascii-cons c cs (head-low c (before_dot cs) stem) (parts (tail-low c (before_dot cs) stem) following)
+last-is : (folder text part : List ℕ) → IsLastPart (folder ++ 0o57 ∷ text) part → has_no_slash text ≡ true → part ≡ text
+last-is folder text part last none = elim last.is_folder [
+  | inl empty ↦ absurd (slash-in folder text (subst (λ l. has_no_slash l ≡ true) (sym (last.path_is ∙ ap (λ l. l ++ part) empty)) last.no_slash))
+  | inr ended ↦ one-part folder ended.0 text part (sym (append_assoc ended.0 (0o57 ∷ []) part) ∙ ap (λ l. l ++ part) (sym ended.1) ∙ sym last.path_is) none last.no_slash
+]
 
-ascii-parts : (text : List ℕ) → IsAscii (before_dot text) → AsciiAfter (after_dot text) → IsAscii text
-ascii-parts [] stem following = ascii-nil
-ascii-parts (c ∷ cs) stem following = dot-ascii (c == 0o56) c cs refl (ascii-parts cs) stem following
-
-pub typed-ascii : (text : List ℕ) (name : ℕ) → parsed_name text ≡ Some name → IsAscii text
-typed-ascii text name is =
-    let parts = typed (codes_within 6 (before_dot text)) (extension_codes (after_dot text)) name is in
-    ascii-parts text (ascii-codes (before_dot text) parts.codes (within 6 (before_dot text) parts.codes parts.stem_is).1) (ascii-extension (after_dot text) parts.others parts.extension_is)
+-- a safe text in a folder is taken for the name that it spells
+pub names-back : (folder text : List ℕ) (name : Option ℕ) → are_safe text ≡ true → NamesVolume (folder ++ 0o57 ∷ text) name → name ≡ typed_name text
+names-back folder text name safe names =
+    names.2 ∙ ap (λ l. typed_name (map capital_of l)) (last-is folder text names.0 names.1 (safe-part text safe)) ∙ ap typed_name (safe-raised text safe)

@@ -4,7 +4,7 @@ use Rattle.std.proofs.lemmas.Bool.Decides.{nat_tests}
 use Rattle.std.specs.Prelude.{◌&&◌, ◌||◌, ◌==◌}
 use Rattle.std.proofs.lemmas.List.{take_all}
 use Rattle.os8_dir.specs.Names.{after_dot, before_dot, words_of_name}
-use Rattle.archive_many.specs.Patterns.{are_within, codes_in, extension_of, is_extension_pattern, is_pattern, matches, stem_of, without_zeros, like, like_extension, stands_for}
+use Rattle.archive_many.specs.Patterns.{are_within, codes_in, extension_of, is_extension_pattern, is_name_like, is_pattern, stem_of, without_zeros, like, like_extension, stands_for}
 use Rattle.archive_many.specs.PatternSteps.{is_pattern_from, like_from}
 
 -- ## The parts of a word
@@ -139,14 +139,14 @@ both-match word front back codes ends place at is_front is_back =
 
 pub names-match : (word front back : List ℕ) (name place a b c d : ℕ) (one two : Bool) → place ≡ length (before_dot word) → front ≡ take place word → back ≡ drop place word
     → a ∷ b ∷ c ∷ d ∷ [] ≡ words_of_name name → one ≡ like front (without_zeros (codes_in (a ∷ b ∷ c ∷ []))) → one ≡ true
-    → two ≡ like_from back (without_zeros (codes_in (d ∷ []))) → two ≡ matches word name
+    → two ≡ like_from back (without_zeros (codes_in (d ∷ []))) → two ≡ is_name_like word name
 names-match word front back name place a b c d one two at is_front is_back words first holds second =
     second ∙ sym (and-true (like front (stem_of (a ∷ b ∷ c ∷ d ∷ []))) (like_from back (extension_of (a ∷ b ∷ c ∷ d ∷ []))) (sym first ∙ holds))
     ∙ both-match word front back (stem_of (a ∷ b ∷ c ∷ d ∷ [])) (extension_of (a ∷ b ∷ c ∷ d ∷ [])) place at is_front is_back
     ∙ ap (λ l. like (before_dot word) (stem_of l) && like_extension (after_dot word) (extension_of l)) words
 
 pub names-differ : (word front back : List ℕ) (name place a b c d : ℕ) (one : Bool) → place ≡ length (before_dot word) → front ≡ take place word → back ≡ drop place word
-    → a ∷ b ∷ c ∷ d ∷ [] ≡ words_of_name name → one ≡ like front (without_zeros (codes_in (a ∷ b ∷ c ∷ []))) → one ≡ false → one ≡ matches word name
+    → a ∷ b ∷ c ∷ d ∷ [] ≡ words_of_name name → one ≡ like front (without_zeros (codes_in (a ∷ b ∷ c ∷ []))) → one ≡ false → one ≡ is_name_like word name
 names-differ word front back name place a b c d one at is_front is_back words first fails =
     fails ∙ sym (and-false (like front (stem_of (a ∷ b ∷ c ∷ d ∷ []))) (like_from back (extension_of (a ∷ b ∷ c ∷ d ∷ []))) (sym first ∙ fails))
     ∙ both-match word front back (stem_of (a ∷ b ∷ c ∷ d ∷ [])) (extension_of (a ∷ b ∷ c ∷ d ∷ [])) place at is_front is_back

@@ -1,22 +1,21 @@
 -- The files that are told of a volume.
-use Rattle.std.proofs.Common.{◌≡◌, ◌≢◌, ◌∙◌, ◌<◌, ◌≤◌, ◌+◌, ℕ, zero, suc, Bool, true, false, true≢false, cond, Option, Some, None, Result, Ok, Err, List, [], ◌∷◌, ◌++◌, length, append_assoc, map, refl, sym, ap, subst, arith, inl, inr}
-use Rattle.std.specs.Prelude.{◌==◌, codes, decimal}
+use Rattle.std.proofs.Common.{◌≡◌, ◌≢◌, ◌∙◌, ◌<◌, ◌≤◌, ◌+◌, ℕ, zero, suc, Bool, true, false, true≢false, cond, Option, Some, Result, Ok, Err, List, [], ◌∷◌, ◌++◌, length, append_assoc, map, refl, sym, ap, subst, arith, inl, inr}
+use Rattle.std.specs.Prelude.{◌==◌}
 use Rattle.std.proofs.lemmas.Bool.Decides.{eqb_tells}
-use Rattle.std.proofs.lemmas.Fmt.{decimal_injective}
 use Rattle.os8_dir.specs.declared.entries.DirEntry.{DirEntry}
 use Rattle.os8_dir.specs.declared.entries.DirEntry.TheVariants as entry
 use Rattle.os8_dir.specs.declared.faults.DirFault.{DirFault}
-use Rattle.os8_dir.specs.Entries.{AreDistinct, DirectoryState, contains, names_of}
+use Rattle.os8_dir.specs.Entries.{AreDistinct, AreWritable, DirectoryState, IsNamed, contains, names_of}
 use Rattle.os8_dir.specs.Found.{AreApart, IsDirectory, FilePlace, extent_of, files_at, find}
-use Rattle.os8_dir.specs.Names.{parsed_name, before_dot, after_dot, codes_within, extension_codes}
+use Rattle.name_spelling.specs.Laws.{ReadsWhatItSpells}
+use Rattle.name_spelling.specs.Reading.{read_name}
 use Rattle.os8_dir.specs.Reading.{directory_of}
 use Rattle.os8_dir.specs.Files.{FileData}
-use Rattle.volume_image.specs.Volume.{IsVolume}
 use Rattle.archive_many.specs.Opened.{LiesOn, file_at, files_or}
 use Rattle.archive_many.specs.HostNames.{NamesHost}
+use Rattle.archive_many.specs.Laws.{IsOfWords}
 use Rattle.archive_many.specs.declared.opened.VolumeFile.{VolumeFile}
 use Rattle.archive_many.proofs.FileLemmas.{FoundSo, lies}
-use Rattle.archive_many.proofs.HostLemmas.{typed, within}
 
 -- ## Lists
 
@@ -137,15 +136,6 @@ in-order from bound (f ∷ fs) (b ∷ before) between following one two apart is
 some-eq : {X : Type 0} (x y : X) → Some x ≡ Some y → x ≡ y
 some-eq x y same = cc
 
-none-known : (known : List ℕ) → ◌≡◌ {A = Option (List ℕ)} None (Some known) → ⊥
-none-known known is = cc
-
--- no typed name begins with a small letter
-never-typed : (rest : List ℕ) (name : ℕ) → parsed_name (codes "at-" ++ rest) ≡ Some name → ⊥
-never-typed rest name is =
-    let parts = typed (codes_within 6 (before_dot (codes "at-" ++ rest))) (extension_codes (after_dot (codes "at-" ++ rest))) name is in
-    none-known parts.codes (within 6 (before_dot (codes "at-" ++ rest)) parts.codes parts.stem_is).1
-
 -- two files of one name are one
 one-file : (fs : List FilePlace) (one two : VolumeFile) → Found fs one → Found fs two → one.name ≡ two.name → one.place ≡ two.place
 one-file fs one two first second same =
@@ -175,26 +165,30 @@ are-two sound blocks before between following one two is =
       end = begins-before d.first (length blocks) (files_at d.first d.entries) (before ++ one ∷ between) following two directory.apart parted;
     }
 
-same-decimal : (p q : List ℕ) → codes "at-" ++ p ≡ codes "at-" ++ q → p ≡ q
-same-decimal p q is = same-following 0o55 0o55 p q (same-following 0o164 0o164 (0o55 ∷ p) (0o55 ∷ q) (same-following 0o141 0o141 (0o164 ∷ 0o55 ∷ p) (0o164 ∷ 0o55 ∷ q) is))
-
-at-places : (blocks : List (List ℕ)) (one two : VolumeFile) → AreTwo blocks one two → IsVolume blocks → decimal one.place ≡ decimal two.place → ⊥
-at-places blocks one two both volume same =
-    let equal = decimal_injective one.place two.place (omega (arith, both.order, both.end, volume.most)) (omega (arith, both.end, volume.most)) same in
-    omega (arith, equal, both.order)
-
-hosts-differ : (blocks : List (List ℕ)) (one two : VolumeFile) (text other : List ℕ) → AreTwo blocks one two → IsVolume blocks → NamesHost one text → NamesHost two other → text ≢ other
-hosts-differ blocks one two text other both volume (inl spelled) (inl also) same =
-    let place = one-file both.files one two both.first both.second (some-eq one.name two.name (sym spelled ∙ ap parsed_name same ∙ also)) in
+hosts-differ : ReadsWhatItSpells → (blocks : List (List ℕ)) (one two : VolumeFile) (text other : List ℕ) → AreTwo blocks one two → IsOfWords one.name → IsOfWords two.name → NamesHost one text → NamesHost two other → text ≢ other
+hosts-differ law blocks one two text other both small less spelled also same =
+    let name = some-eq one.name two.name (sym (law one.name small) ∙ ap read_name (sym spelled ∙ same ∙ also) ∙ law two.name less) in
+    let place = one-file both.files one two both.first both.second name in
     omega (arith, place, both.order)
-hosts-differ blocks one two text other both volume (inl spelled) (inr also) same =
-    never-typed (decimal two.place) one.name (sym (ap parsed_name (same ∙ also.1)) ∙ spelled)
-hosts-differ blocks one two text other both volume (inr untyped) (inl also) same =
-    never-typed (decimal one.place) two.name (sym (ap parsed_name (sym same ∙ untyped.1)) ∙ also)
-hosts-differ blocks one two text other both volume (inr untyped) (inr also) same =
-    at-places blocks one two both volume (same-decimal (decimal one.place) (decimal two.place) (sym untyped.1 ∙ same ∙ also.1))
 
-pub names-differ : SoundSo → (blocks : List (List ℕ)) (before between following : List VolumeFile) (one two : VolumeFile) (text other : List ℕ) → IsVolume blocks
+pub names-differ : ReadsWhatItSpells → SoundSo → (blocks : List (List ℕ)) (before between following : List VolumeFile) (one two : VolumeFile) (text other : List ℕ) → IsOfWords one.name → IsOfWords two.name
     → files_or (directory_of blocks) ≡ before ++ one ∷ (between ++ two ∷ following) → NamesHost one text → NamesHost two other → text ≢ other
-names-differ sound blocks before between following one two text other volume is first second =
-    hosts-differ blocks one two text other (are-two sound blocks before between following one two is) volume first second
+names-differ law sound blocks before between following one two text other small less is first second =
+    hosts-differ law blocks one two text other (are-two sound blocks before between following one two is) small less first second
+
+-- each file of a volume has a name
+writable-named : (info place : ℕ) (es : List DirEntry) (before following : List VolumeFile) (file : VolumeFile) → AreWritable info es → map file_at (files_at place es) ≡ before ++ file ∷ following → IsNamed file.name
+writable-named info place [] before following file writable is = absurd (no-end before following file is)
+writable-named info place (entry.File name words zero ∷ es) before following file writable is = writable-named info place es before following file writable.1 is
+writable-named info place (entry.File name words (suc size) ∷ es) [] following file writable is =
+    subst IsNamed (ap (λ (v : VolumeFile). v.name) (same-first (record { name = name; place = place; blocks = suc size }) file (map file_at (files_at (place + suc size) es)) following is)) writable.0.0
+writable-named info place (entry.File name words (suc size) ∷ es) (b ∷ before) following file writable is =
+    writable-named info (place + suc size) es before following file writable.1
+    (same-following (record { name = name; place = place; blocks = suc size }) b (map file_at (files_at (place + suc size) es)) (before ++ file ∷ following) is)
+writable-named info place (entry.Empty size ∷ es) before following file writable is = writable-named info (place + size) es before following file writable.1 is
+
+pub each-named : SoundSo → (blocks : List (List ℕ)) (before following : List VolumeFile) (file : VolumeFile) → files_or (directory_of blocks) ≡ before ++ file ∷ following → IsNamed file.name
+each-named sound blocks before following file is =
+    let read = read-files (directory_of blocks) before following file is in
+    let d = read.directory in
+    writable-named d.info d.first d.entries before following file (sound blocks d read.is_read).writable read.files_are

@@ -4,7 +4,6 @@ use Rattle.std.specs.Global.{Vec}
 use Rattle.archive_files.specs.Asking.{AtBlock}
 use Rattle.archive_files.specs.Copying.{CopiesFile, HasCopied}
 use Rattle.archive_files.specs.Opening.{IsUnopened}
-use Rattle.archive_files.specs.declared.faults.CopyFault.{CopyFault}
 use Rattle.archive_files.specs.declared.putting.NewImage.{NewImage}
 use Rattle.archive_many.specs.Copying.{AreCopied, IsNotCopied, KeepsOut}
 use Rattle.archive_many.specs.declared.opened.VolumeFile.{VolumeFile}

@@ -1,17 +1,14 @@
 -- Names of files of the host for files of a volume, and the other way round (this project's profile).
-use Rattle.std.specs.Prelude.{◌≡◌, ◌⊎◌, ℕ, ◌-◌, ◌==◌, ◌&&◌, nat_le, Bool, true, false, if◌then◌else◌, codes, decimal, Option, Some, List, [], ◌∷◌, ◌++◌, map}
-use Rattle.os8_dir.specs.Names.{parsed_name}
+use Rattle.std.specs.Prelude.{◌≡◌, ◌⊎◌, ℕ, ◌-◌, ◌==◌, ◌&&◌, nat_le, Bool, true, false, if◌then◌else◌, Option, List, [], ◌∷◌, ◌++◌, map}
+use Rattle.name_spelling.specs.Reading.{typed_name}
+use Rattle.name_spelling.specs.Spelling.{text_of}
 use Rattle.archive_many.specs.declared.opened.VolumeFile.{VolumeFile}
 
 -- ## For the host
 
--- no typed text spells a name
-abbrev pub IsUntyped : ℕ → Type 0
-IsUntyped name = (typed : List ℕ) → parsed_name typed ≡ Some name → ⊥
-
--- the name of the host's file for a file of a volume: the text that spells its name, or by its first block where none does
+-- the name of the host's file for a file of a volume: its name as it is typed
 abbrev pub NamesHost : VolumeFile → List ℕ → Type 0
-NamesHost file text = (parsed_name text ≡ Some file.name) ⊎ (IsUntyped file.name × (text ≡ codes "at-" ++ decimal file.place))
+NamesHost file text = text ≡ text_of file.name
 
 -- ## From the host
 
@@ -41,4 +38,4 @@ capital_of character = if nat_le 0o141 character && nat_le character 0o172 then 
 
 -- the name that the last part of a path spells with its small letters raised
 abbrev pub NamesVolume : List ℕ → Option ℕ → Type 0
-NamesVolume path result = (part : List ℕ) × IsLastPart path part × (result ≡ parsed_name (map capital_of part))
+NamesVolume path result = (part : List ℕ) × IsLastPart path part × (result ≡ typed_name (map capital_of part))

@@ -3,11 +3,11 @@ use Rattle.std.specs.Prelude.{◌≡◌, ◌≢◌, ℕ, ◌<◌, true, false, i
 use Rattle.std.specs.Global.{Vec}
 use Rattle.std.specs.FinMap.{get}
 use Rattle.volume_image.specs.Image.{IsImageOf}
-use Rattle.volume_image.specs.Volume.{IsVolume}
 use Rattle.char_pack.specs.declared.forms.GetForm.{GetForm}
 use Rattle.char_pack.specs.declared.forms.GetForm.TheVariants as get_as
 use Rattle.char_pack.specs.declared.forms.PutForm.TheVariants as put_as
-use Rattle.os8_dir.specs.Names.{parsed_name, with_end_zeros}
+use Rattle.os8_dir.specs.Names.{with_end_zeros}
+use Rattle.name_spelling.specs.Reading.{typed_name}
 use Rattle.os8_dir.specs.Files.{FileData, files_of}
 use Rattle.os8_files.specs.Calls.{info_of}
 use Rattle.archive_files.specs.Opening.{IsOpened}
@@ -18,9 +18,9 @@ use Rattle.archive_files.specs.Laws.{whole_blocks}
 use Rattle.archive_many.specs.Copying.{AreCopied}
 use Rattle.archive_many.specs.Opened.{GetsFile, LiesOn, OpensVolume, files_on}
 use Rattle.archive_many.specs.Putting.{PutsAll, words_in}
-use Rattle.archive_many.specs.Patterns.{is_choice, is_like_one, matches}
+use Rattle.archive_many.specs.Patterns.{has_sign, is_choice, is_like_one, matches}
 use Rattle.archive_many.specs.Wishing.{by_place, first_unfound, found_files, wishes_of}
-use Rattle.archive_many.specs.HostNames.{NamesHost}
+use Rattle.archive_many.specs.HostNames.{NamesHost, NamesVolume}
 use Rattle.archive_many.specs.declared.opened.VolumeFile.{VolumeFile}
 use Rattle.archive_many.specs.declared.putting.NewFile.{NewFile}
 use Rattle.archive_many.specs.declared.putting.ManyImage.{ManyImage}
@@ -72,9 +72,9 @@ pub record AllAreLike : Type 0 where
   pub choice : is_choice (codes "*.*") ≡ true
   pub like : (name : ℕ) → matches (codes "*.*") name ≡ true
 
--- only the name that a word spells is like that word
+-- only the name that a word with no sign spells is like that word
 abbrev pub SpelledAlone : Type 0
-SpelledAlone = (word : List ℕ) (spelled name : ℕ) → parsed_name word ≡ Some spelled → matches word name ≡ true → name ≡ spelled
+SpelledAlone = (word : List ℕ) (spelled name : ℕ) → has_sign word ≡ false → typed_name word ≡ Some spelled → matches word name ≡ true → name ≡ spelled
 
 -- ## Files that are taken out
 
@@ -109,7 +109,16 @@ LikeAreCopied = (from to : List ℕ) (source old words : List (List ℕ)) (new :
 abbrev pub EachLies : Type 0
 EachLies = (blocks : List (List ℕ)) (before following : List VolumeFile) (file : VolumeFile) → files_on blocks ≡ before ++ file ∷ following → (held : FileData) × LiesOn blocks file held
 
+-- a name is one of four words of twelve bits
+abbrev pub IsOfWords : ℕ → Type 0
+IsOfWords name = name < 0o10000000000000000
+
+-- the name of the host's file for a file of a volume, in any folder, is taken for the name of the file
+abbrev pub HostNamesComeBack : Type 0
+HostNamesComeBack = (blocks : List (List ℕ)) (before following : List VolumeFile) (file : VolumeFile) (folder text : List ℕ) (name : Option ℕ) → IsOfWords file.name
+    → files_on blocks ≡ before ++ file ∷ following → NamesHost file text → NamesVolume (folder ++ 0o57 ∷ text) name → name ≡ Some file.name
+
 -- of two files of a volume the host's files have two names
 abbrev pub NamesDiffer : Type 0
-NamesDiffer = (blocks : List (List ℕ)) (before between following : List VolumeFile) (one two : VolumeFile) (text other : List ℕ) → IsVolume blocks
+NamesDiffer = (blocks : List (List ℕ)) (before between following : List VolumeFile) (one two : VolumeFile) (text other : List ℕ) → IsOfWords one.name → IsOfWords two.name
     → files_on blocks ≡ before ++ one ∷ (between ++ two ∷ following) → NamesHost one text → NamesHost two other → text ≢ other

@@ -1,8 +1,6 @@
 -- The list of those files of a volume whose names are like words (this project's profile).
 use Rattle.std.specs.Prelude.{◌≡◌, ℕ, ◌+◌, if◌then◌else◌, Result, Ok, Err, List, [], ◌∷◌, ◌++◌}
 use Rattle.std.specs.Global.{Vec}
-use Rattle.os8_dir.specs.Entries.{DirectoryState}
-use Rattle.os8_dir.specs.Reading.{directory_of}
 use Rattle.os8_dir.specs.Files.{files_of, capacity_of}
 use Rattle.os8_files.specs.Service.{lengths_of, blocks_in_use}
 use Rattle.script8.specs.Replies.{free_line}
@@ -12,19 +10,17 @@ use Rattle.archive_files.specs.Opening.{IsOpened, IsUnopened}
 use Rattle.archive_many.specs.Patterns.{is_chosen_by}
 
 -- the lines of those files that one of some words chooses
-abbrev pub like_lines : DirectoryState → List (List ℕ) → List (ℕ × ℕ) → List ℕ
-like_lines d words [] = []
-like_lines d words (file ∷ files) = (if is_chosen_by words file.0 then listed_line d file else []) ++ like_lines d words files
+abbrev pub like_lines : List (List ℕ) → List (ℕ × ℕ) → List ℕ
+like_lines words [] = []
+like_lines words (file ∷ files) = (if is_chosen_by words file.0 then listed_line file else []) ++ like_lines words files
 
 -- their lines in name order, as a list of all files has them, and the free blocks of the whole volume
 pub record IsListOfLike (words : List (List ℕ)) (image text : List ℕ) : Type 0 where
   pub blocks : List (List ℕ)
   pub opened : IsOpened image blocks
-  pub directory : DirectoryState
-  pub read : directory_of blocks ≡ Ok directory
   pub free : ℕ
   pub free_are : free + blocks_in_use (files_of blocks) ≡ capacity_of blocks
-  pub lines : text ≡ like_lines directory words (lengths_of (files_of blocks)) ++ free_line free
+  pub lines : text ≡ like_lines words (lengths_of (files_of blocks)) ++ free_line free
 
 abbrev pub ListsLike : List (List ℕ) → List ℕ → Result (Vec ℕ) ArchiveFault → Type 0
 ListsLike words image (Ok text) = IsListOfLike words image text.items

@@ -5,7 +5,8 @@ use Rattle.std.specs.Option.{is_some}
 use Rattle.std.specs.Global.{Vec}
 use Rattle.word12.specs.Sixbit.{is_digit, is_letter, sixbit_code}
 use Rattle.os8_dir.specs.Entries.{is_zero}
-use Rattle.os8_dir.specs.Names.{after_dot, before_dot, parsed_name, words_of_name}
+use Rattle.os8_dir.specs.Names.{after_dot, before_dot, words_of_name}
+use Rattle.name_spelling.specs.Reading.{typed_name}
 use Rattle.archive_many.specs.declared.opened.VolumeFile.{VolumeFile}
 use Rattle.archive_many.specs.declared.faults.ChoiceFault.{ChoiceFault}
 use Rattle.archive_many.specs.declared.faults.ChoiceFault.TheVariants.{BadName, NotFound, Memory}
@@ -84,14 +85,9 @@ abbrev pub like_extension : Option (List ℕ) → List ℕ → Bool
 like_extension None = is_none_left
 like_extension (Some pattern) = like pattern
 
--- a name is like a word: the characters before the dot, and those of extension
-abbrev pub matches : List ℕ → ℕ → Bool
-matches word name = like (before_dot word) (stem_of (words_of_name name)) && like_extension (after_dot word) (extension_of (words_of_name name))
-
--- a name is like one of some words
-abbrev pub is_like_one : List (List ℕ) → ℕ → Bool
-is_like_one [] name = false
-is_like_one (word ∷ words) name = matches word name || is_like_one words name
+-- a name is like a pattern: the characters before the dot, and those of extension
+abbrev pub is_name_like : List ℕ → ℕ → Bool
+is_name_like pattern name = like (before_dot pattern) (stem_of (words_of_name name)) && like_extension (after_dot pattern) (extension_of (words_of_name name))
 
 -- ## Words that choose
 
@@ -104,6 +100,20 @@ has_sign (character ∷ word) = is_sign character || has_sign word
 abbrev pub has_pattern : List (List ℕ) → Bool
 has_pattern [] = false
 has_pattern (word ∷ words) = has_sign word || has_pattern words
+
+-- a name is known to be this one
+abbrev pub is_name : Option ℕ → ℕ → Bool
+is_name None name = false
+is_name (Some known) name = known == name
+
+-- a name is like a word: where a sign stands in it, like that pattern, and else just the name that it spells
+abbrev pub matches : List ℕ → ℕ → Bool
+matches word name = if has_sign word then is_name_like word name else is_name (typed_name word) name
+
+-- a name is like one of some words
+abbrev pub is_like_one : List (List ℕ) → ℕ → Bool
+is_like_one [] name = false
+is_like_one (word ∷ words) name = matches word name || is_like_one words name
 
 -- capital letters, digits and signs
 abbrev pub are_of_pattern : List ℕ → Bool
@@ -125,7 +135,7 @@ is_pattern word = are_within 12 (before_dot word) && is_extension_pattern (after
 
 -- a word that chooses files: a name, or where a sign stands in it a pattern
 abbrev pub is_choice : List ℕ → Bool
-is_choice word = if has_sign word then is_pattern word else is_some (parsed_name word)
+is_choice word = if has_sign word then is_pattern word else is_some (typed_name word)
 
 -- one of some words chooses the file of a name
 abbrev pub is_chosen_by : List (List ℕ) → ℕ → Bool

@@ -1,50 +1,40 @@
-ghost use Rattle.std.specs.Prelude.{◌≡◌, ◌↔◌, ◌++◌, codes, decimal, map, Some, IfOk, IsTrue};
-ghost use Rattle.os8_dir.specs.Names.{parsed_name};
+ghost use Rattle.std.specs.Prelude.{◌≡◌, map, IfOk};
+ghost use Rattle.name_spelling.specs.Reading.{typed_name};
 ghost use Rattle.archive_many.specs.HostNames.{IsLastPart, NamesHost, NamesVolume};
+ghost use Rattle.archive_many.specs.Laws.{IsOfWords};
 ghost use Rattle.archive_many.specs.HostNames as spec;
 
 use crate::VolumeFile;
 use arrayvec::ArrayVec;
+use name_spelling::laws::{safe_names, short_names};
+use name_spelling::{put_spelled, typed_name};
 use os8_dir::Name;
-use script8::laws::name_as_typed;
-use script8::text_lines::{TextLine, put_name};
+use script8::text_lines::TextLine;
 use std::alloc::{AllocError, Global};
 
 /// The most bytes of a typed name.
-const MOST: usize = 9;
+const MOST: usize = 25;
 
-/// The name of the host's file for a file of a volume, as it is typed (this project's profile). For a name that no typed text
-/// spells it is `at-42` by its first block, which is no typed name.
+/// The name of the host's file for a file of a volume: its name as it is typed (this project's profile).
 pub fn host_name(alloc: Global, file: &VolumeFile) -> Result<String, AllocError>
     ensures { IfOk result (λ text. NamesHost file.now text.bytes.items) }
 {
-    name_as_typed();
+    safe_names();
+    name_range(file.name);
     let mut line = TextLine::new();
-    put_name(&mut line, file.name);
-    if !is_spelled(line.as_slice(), file.name) {
-        return by_place(alloc, file.place);
-    }
+    put_spelled(&mut line, file.name);
     match str::from_utf8(line.as_slice()) {
         Ok(text) => String::from_str(alloc, text),
         Err(_) => unreachable!(),
     }
 }
 
-/// Whether a text spells a name.
-fn is_spelled(text: &[u8], name: Name) -> bool
-    ensures { IsTrue result ↔ (parsed_name text.now ≡ Some name) }
+/// A name is one of four words of twelve bits. The call does nothing: its contract is what the words say.
+fn name_range(name: Name)
+    ensures { IsOfWords name }
 {
-    match Name::parse(text) {
-        None => false,
-        Some(spelled) => spelled == name,
-    }
-}
-
-/// The name of the host's file for a file that begins at a block.
-fn by_place(alloc: Global, place: usize) -> Result<String, AllocError>
-    ensures { IfOk result (λ text. text.bytes.items ≡ codes "at-" ++ decimal place) }
-{
-    format!(in alloc; "at-{place}")
+    let [first, second, third, extension] = name.words();
+    let _bits = [first.get(), second.get(), third.get(), extension.get()];
 }
 
 /// The name of a volume's file for a path of the host: what stands after its last slash, with small letters raised, where that
@@ -72,16 +62,17 @@ fn last_part(path: &[u8]) -> &[u8]
 
 /// The name that a text spells with its small letters raised.
 fn raised_name(part: &[u8]) -> Option<Name>
-    ensures { result ≡ parsed_name (map spec.capital_of part.now) }
+    ensures { result ≡ typed_name (map spec.capital_of part.now) }
 {
     if part.len() > MOST {
+        short_names();
         return None;
     }
     let mut text: ArrayVec<u8, MOST> = ArrayVec::new();
     for character in part {
         text.push(capital_of(*character));
     }
-    Name::parse(text.as_slice())
+    typed_name(text.as_slice())
 }
 
 /// A capital letter for a small one, and any other character as it is.

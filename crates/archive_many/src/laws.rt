@@ -1,7 +1,8 @@
 //! What holds of many files that are got and put. Each function does nothing: its contract is the law.
-ghost use Rattle.archive_many.specs.Laws.{AllAreLike, EachLies, LikeAreCopied, LikeAreGone, NamesDiffer, OthersLie, OthersStay, PutAreGot, PutAreThere, PutFramesAreGot, SpelledAlone};
+ghost use Rattle.archive_many.specs.Laws.{AllAreLike, EachLies, HostNamesComeBack, LikeAreCopied, LikeAreGone, NamesDiffer, OthersLie, OthersStay, PutAreGot, PutAreThere, PutFramesAreGot, SpelledAlone};
 
 use char_pack::laws::packed_bytes;
+use name_spelling::laws::{safe_names, shown_names, typed_names};
 use os8_dir::laws::{files_found, sound_directory};
 use volume_image::image_round_trip;
 
@@ -20,7 +21,7 @@ pub fn put_many_is_got()
     packed_bytes();
 }
 
-/// A law: `*.*` chooses all files, and a word that spells a name no file of another name.
+/// A law: `*.*` chooses all files, and a word that spells a name, with no sign in it, no file of another name.
 pub fn words_choose()
     ensures all { AllAreLike }
     ensures one { SpelledAlone }
@@ -53,9 +54,14 @@ pub fn files_lie()
     sound_directory();
 }
 
-/// A law: of two files of a volume the host's files have two names, so none is written over the other.
-pub fn host_names_differ()
-    ensures { NamesDiffer }
+/// A law: the host's file for a file of a volume, in any folder, is put under the name of that file. Of two files of a volume the host's
+/// files have two names, so none is written over the other.
+pub fn host_names_come_back()
+    ensures back { HostNamesComeBack }
+    ensures differ { NamesDiffer }
 {
     sound_directory();
+    safe_names();
+    shown_names();
+    typed_names();
 }

@@ -1,8 +1,11 @@
 ghost use Rattle.std.specs.Prelude.{◌≡◌, ◌≤◌, [], ◌∷◌, length, map, take};
 ghost use Rattle.os8_dir.specs.Names.{before_dot, words_of_name};
+ghost use Rattle.name_spelling.specs.Reading.{typed_name};
 ghost use Rattle.archive_many.specs.Patterns as spec;
 ghost use Rattle.archive_many.specs.PatternSteps.{is_pattern_from, like_from};
 
+use name_spelling::laws::short_names;
+use name_spelling::typed_name;
 use os8_dir::Name;
 use word12::{Word, sixbit};
 
@@ -12,14 +15,35 @@ const ANY: u8 = b'*';
 /// The sign for one character.
 const ONE: u8 = b'?';
 
-/// The most characters of a word that chooses files: twelve, a dot, and four more.
-const MOST: usize = 17;
+/// The most characters of a word that chooses files, those of a name in which each is an escape: eighteen, a dot, and six more.
+const MOST: usize = 25;
 
 /// Whether a name is like a word.
 pub fn matches(word: &[u8], name: Name) -> bool
     ensures { result ≡ spec.matches word.now name }
 {
-    let (stem, rest) = word.split_at(dot_in(word));
+    if has_sign(word) {
+        is_name_like(word, name)
+    } else {
+        is_spelled(word, name)
+    }
+}
+
+/// Whether a text spells a name.
+fn is_spelled(text: &[u8], name: Name) -> bool
+    ensures { result ≡ spec.is_name (typed_name text.now) name }
+{
+    match typed_name(text) {
+        None => false,
+        Some(spelled) => spelled == name,
+    }
+}
+
+/// Whether a name is like a pattern.
+fn is_name_like(pattern: &[u8], name: Name) -> bool
+    ensures { result ≡ spec.is_name_like pattern.now name }
+{
+    let (stem, rest) = pattern.split_at(dot_in(pattern));
     let [a, b, c, extension] = name.words();
     is_stem_like(stem, a, b, c) && is_extension_like(rest, extension)
 }
@@ -41,12 +65,13 @@ pub fn is_choice(word: &[u8]) -> bool
     ensures { result ≡ spec.is_choice word.now }
 {
     if word.len() > MOST {
+        short_names();
         return false;
     }
     if has_sign(word) {
         is_pattern(word)
     } else {
-        Name::parse(word).is_some()
+        typed_name(word).is_some()
     }
 }
 

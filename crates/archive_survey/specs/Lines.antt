@@ -2,7 +2,7 @@
 use Rattle.std.specs.Prelude.{ℕ, zero, suc, ◌+◌, ◌&&◌, Bool, false, not, codes, decimal, nat_le, nat_lt, if◌then◌else◌, List, [], ◌∷◌, ◌++◌, length}
 use Rattle.os8_dir.specs.declared.faults.DirFault.{DirFault}
 use Rattle.script8.specs.Faults.{directory_fault_text}
-use Rattle.script8.specs.Shown.{name_text}
+use Rattle.name_spelling.specs.Spelling.{text_of}
 use Rattle.archive_survey.specs.declared.parts.Part.{Part}
 use Rattle.archive_survey.specs.declared.parts.Part.TheVariants.{Segment, Fault, File, Empty}
 use Rattle.archive_survey.specs.Findings.{Finding, Clean, Unsound, findings}
@@ -18,7 +18,7 @@ extent_text place size = decimal place ++ 0o40 ∷ decimal size ++ 0o12 ∷ []
 abbrev pub part_line : Part → List ℕ
 part_line (Segment number count) = codes "SEGMENT " ++ extent_text number count
 part_line (Fault fault) = fault_line fault
-part_line (File name info place size) = codes "FILE " ++ name_text name ++ 0o40 ∷ extent_text place size
+part_line (File name info place size) = codes "FILE " ++ text_of name ++ 0o40 ∷ extent_text place size
 part_line (Empty place size) = codes "EMPTY " ++ extent_text place size
 
 -- the lines of what is found; an unsound entry's fault has a line of its own

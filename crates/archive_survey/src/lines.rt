@@ -4,9 +4,10 @@ ghost use Rattle.arrayvec.specs.ArrayVec.{array_vec_len};
 ghost use Rattle.archive_survey.specs.Lines.{extent_text, fault_line, part_line};
 
 use crate::Part;
+use name_spelling::put_spelled;
 use os8_dir::DirFault;
 use script8::put_directory_fault;
-use script8::text_lines::{TextLine, put, put_name, put_number};
+use script8::text_lines::{TextLine, put, put_number};
 use std::alloc::AllocError;
 
 /// Appends the line of a fault of a directory.
@@ -21,7 +22,7 @@ pub(crate) fn put_fault(fault: DirFault, out: &mut Vec<u8>) -> Result<(), AllocE
 
 /// Puts a block, how many from it on, and the line's end.
 fn put_extent(line: &mut TextLine, place: u64, size: u64)
-    requires { array_vec_len line.old ≤ 30 }
+    requires { array_vec_len line.old ≤ 35 }
     ensures { line.new.items ≡ line.old.items ++ extent_text place size }
 {
     put_number(line, place);
@@ -48,7 +49,7 @@ pub(crate) fn put_part(part: &Part, out: &mut Vec<u8>) -> Result<(), AllocError>
             ..
         } => {
             put(&mut line, b"FILE ");
-            put_name(&mut line, *name);
+            put_spelled(&mut line, *name);
             put(&mut line, b" ");
             put_extent(&mut line, u64::from(*place), u64::from(*size));
         }

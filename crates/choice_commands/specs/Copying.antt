@@ -2,9 +2,9 @@
 use Rattle.std.specs.Prelude.{◌≡◌, ◌⊎◌, ℕ, Bool, true, false, None, Some, Result, Ok, Err, List, [], ◌∷◌, ◌++◌, length, map}
 use Rattle.std.specs.Global.{Vec}
 use Rattle.hosts.specs.Event.{Event}
-use Rattle.script8.specs.Replies.{line_of, line_reply_text}
+use Rattle.program_reports.specs.Program.{program_line}
 use Rattle.script8.specs.declared.faults.SessionFault.TheVariants.{Memory}
-use Rattle.script8.specs.declared.replies.LineReply.TheVariants.{Stored}
+use Rattle.program_reports.specs.declared.programs.ProgramLine.TheVariants as line
 use Rattle.archive_files.specs.declared.faults.ArchiveFault.{ArchiveFault}
 use Rattle.archive_many.specs.Copying.{CopiesAll}
 use Rattle.archive_many.specs.Opened.{OpensVolume}
@@ -53,7 +53,7 @@ PutsFiles form from files to old (Err ending) new = (fault : CopyAllFault) × Co
 -- the line of each
 abbrev pub stored_lines : List VolumeFile → List ℕ
 stored_lines [] = []
-stored_lines (file ∷ files) = line_of (line_reply_text (Stored file.name file.blocks)) ++ stored_lines files
+stored_lines (file ∷ files) = program_line (line.Stored file.name file.blocks) ++ stored_lines files
 
 -- an image is saved, and only then the lines of the files are printed
 abbrev pub StoresCopies : Image → List ℕ → List VolumeFile → List Event → Result (Unit {0}) Ending → List Event → Type 0

@@ -13,8 +13,8 @@ use crate::wishing::wishes_on;
 use archive_many::{OpenVolume, VolumeFile, Wish, copy_all, first_unfound, open};
 use hosts::Host;
 use outcome::Ending;
+use program_reports::{ProgramLine, put_program};
 use program_tasks::CopyManyForm;
-use script8::{LineReply, Reply, put_reply};
 use std::alloc::{AllocError, Global};
 use image_files::{Image, is_one_image, look_at, refuse_one, store};
 
@@ -190,11 +190,7 @@ fn put_lines(files: &[VolumeFile], lines: &mut Vec<u8>) -> Result<(), Ending>
 {
     let mut rest = files;
     while let [file, others @ ..] = rest {
-        let stored = Reply::Line(LineReply::Stored {
-            name: file.name,
-            blocks: file.blocks,
-        });
-        put_reply(None, &Ok(stored), lines)?;
+        put_program(&ProgramLine::Stored(file.name, file.blocks), lines)?;
         rest = others;
     }
     Ok(())

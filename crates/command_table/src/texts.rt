@@ -137,7 +137,7 @@ pub fn texts_of(verb: Verb) -> Texts {
         },
         Verb::List => Texts {
             about: "List the files of a volume",
-            long_about: "Prints a line NAME n for each file of the OS/8 volume in the file IMAGE, in name order, with its{n}length in blocks, and a line FREE n for the blocks of no file of the whole volume. With --long the{n}files are in the order of the directory, each with its first block, its information words and its{n}date after it. Where NAME is given only such files are listed; a pattern, as '*.PA', stands for{n}each name that it fits. IMAGE may be the file of a disk of two volumes or of a DECtape, as --volume{n}and --dectape say. The image is not written.",
+            long_about: "Prints a line NAME n for each file of the OS/8 volume in the file IMAGE, in name order, with its{n}length in blocks, and a line FREE n for the blocks of no file of the whole volume. With --long the{n}files are in the order of the directory, each with its first block, its information words and its{n}date after it. Where NAME is given only such files are listed; a pattern, as '*.PA', stands for{n}each name that it fits. In names _ and two octal digits are a code that is no letter and no digit.{n}IMAGE may be the file of a disk of two volumes or of a DECtape, as --volume and --dectape say. The{n}image is not written.",
             examples: "Examples:\n  pdp8 list disk.img '*.pa'\n  pdp8 list disk.rk05 -l -v 2",
         },
         Verb::Get => Texts {
@@ -172,7 +172,7 @@ pub fn texts_of(verb: Verb) -> Texts {
         },
         Verb::Check => Texts {
             about: "Show what a volume's directory says",
-            long_about: "Accepts or refuses the OS/8 volume in the file IMAGE, and prints its blocks, the segments of its{n}directory, each file and empty with its first block and its length, and the blocks that the{n}directory does not cover. With --all it goes on after a fault, and shows each. Of several images{n}each line begins with the image's name, and a summary comes last. No image is written.",
+            long_about: "Accepts or refuses the OS/8 volume in the file IMAGE, and prints its blocks, the segments of its{n}directory, each file and empty with its first block and its length, and the blocks that the{n}directory does not cover. With --all it goes on after a fault, and shows each. Of several images{n}each line begins with the image's name, and a summary comes last. IMAGE:1 and IMAGE:2 are the volumes{n}of a disk. No image is written.",
             examples: "Examples:\n  pdp8 check disk.img\n  pdp8 check -a *.img",
         },
         Verb::Dump => Texts {
@@ -187,7 +187,7 @@ pub fn texts_of(verb: Verb) -> Texts {
         },
         Verb::Index => Texts {
             about: "List the files of many volumes, with what each holds",
-            long_about: "Prints a line for each file of the OS/8 volumes in the files IMAGE, image after image and by place: the{n}image, the volume, the first block, the length, the name, the date, what the file holds, and a digest{n}of its words, which equal files share. With --find and --grep only those files are listed that these let{n}through, with --same then only those that are equal to others, when all are read. Names of files are{n}quoted, so that none can tear a line. No image is written.",
+            long_about: "Prints a line for each file of the OS/8 volumes in the files IMAGE, image after image and by place: the{n}image, the volume, the first block, the length, the name, the date, what the file holds, and a digest{n}of its words, which equal files share. With --find and --grep only those files are listed that these let{n}through, with --same then only those that are equal to others, when all are read. Names of files are{n}quoted, so that none can tear a line. IMAGE:1 and IMAGE:2 are the volumes of a disk. No image is{n}written.",
             examples: "Examples:\n  pdp8 index *.img\n  pdp8 index *.img --find '*.pa'",
         },
         Verb::Rescue => Texts {

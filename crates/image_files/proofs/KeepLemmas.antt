@@ -6,7 +6,7 @@ use Rattle.outcome.specs.Hints.{image_note}
 use Rattle.outcome.specs.declared.contents.Content.TheVariants as content
 use Rattle.outcome.specs.declared.endings.Ending.{Ending}
 use Rattle.outcome.specs.declared.endings.Ending.TheVariants.{Line, Fault, Failure, Busy, NotWritten, FullOutput, NoReader, Misuse}
-use Rattle.outcome.specs.declared.notes.PlainNote.{PlainNote}
+use Rattle.outcome.specs.declared.hints.ImageNote.{ImageNote}
 use Rattle.archive_files.specs.declared.faults.ArchiveFault.{ArchiveFault}
 use Rattle.image_kind.specs.Kinds.{kind_of}
 use Rattle.image_kind.specs.declared.kinds.ImageKind.{ImageKind}
@@ -21,7 +21,7 @@ use Rattle.program_tasks.specs.declared.forms.ImageForm.{ImageForm}
 use Rattle.image_files.specs.Answers.{Refuses}
 use Rattle.image_files.specs.Laws.{KeepsFiles}
 use Rattle.image_files.specs.Mending.{Mends, TellsLines}
-use Rattle.image_files.specs.Notes.{Tells}
+use Rattle.image_files.specs.Notes.{TellsOfImage}
 use Rattle.image_files.specs.Inputs.{TakesInput}
 use Rattle.image_files.specs.Reading.{IsUnread, FindsIn, FindsOne, Holds, HoldsAt, Looks, LooksAt, LooksIf, LooksImage, MakesOne, OpensAs, hold_calls, looked_name, reading_of, with_lock_note}
 use Rattle.image_files.specs.Saving.{Prints}
@@ -55,7 +55,7 @@ prints-keeps bytes old (Err FullOutput) new p path = same path p
 prints-keeps bytes old (Err NoReader) new p path = same path p
 prints-keeps bytes old (Err Misuse) new p path = absurd p
 
-tells-keeps : (path : List ℕ) (note : Option PlainNote) (old new : List Event) → Tells note old new → about path new ≡ about path old
+tells-keeps : (path : List ℕ) (note : Option ImageNote) (old new : List Event) → TellsOfImage note old new → about path new ≡ about path old
 tells-keeps path None old new p = same path p
 tells-keeps path (Some note) old new p = same path p.1
 

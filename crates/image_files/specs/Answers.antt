@@ -8,14 +8,14 @@ use Rattle.outcome.specs.Endings.{ending_of_archive}
 use Rattle.outcome.specs.Hints.{image_note}
 use Rattle.outcome.specs.declared.endings.Ending.{Ending}
 use Rattle.outcome.specs.declared.endings.Ending.TheVariants.{Fault, Line}
-use Rattle.image_files.specs.Notes.{Tells}
+use Rattle.image_files.specs.Notes.{TellsOfImage}
 use Rattle.archive_many.specs.declared.faults.BlocksFault.{BlocksFault}
 use Rattle.archive_many.specs.declared.faults.BlocksFault.TheVariants.{Archive, NoBlocks}
 use Rattle.program_reports.specs.declared.programs.ProgramLine.TheVariants as line
 
 -- a command ends since an image of so many bytes, or a file of it, is refused; what may help is printed on standard error
 abbrev pub Refuses : ArchiveFault → ℕ → List Event → Ending → List Event → Type 0
-Refuses fault size old ending new = (ending ≡ ending_of_archive fault) × Tells (image_note size fault) old new
+Refuses fault size old ending new = (ending ≡ ending_of_archive fault) × TellsOfImage (image_note size fault) old new
 
 -- why blocks of an image of so many bytes are not given
 abbrev pub RefusesBlocks : BlocksFault → ℕ → List Event → Ending → List Event → Type 0

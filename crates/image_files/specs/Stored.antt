@@ -2,10 +2,10 @@
 use Rattle.std.specs.Prelude.{◌≡◌, ℕ, Bool, true, false, Option, None, Some, List, ◌∷◌}
 use Rattle.std.specs.Global.{Vec}
 use Rattle.hosts.specs.Event.{Event, tell_call}
-use Rattle.script8.specs.Replies.{line_of, line_reply_text}
+use Rattle.program_reports.specs.Program.{program_line}
+use Rattle.program_reports.specs.declared.programs.ProgramLine.TheVariants as line
 use Rattle.script8.specs.declared.faults.SessionFault.{SessionFault}
 use Rattle.script8.specs.declared.faults.SessionFault.TheVariants.{BadLine, NoJob, TooManyJobs, File, Asm, Tape, BadText, Reader, Writer, Memory, TooManyBreaks}
-use Rattle.script8.specs.declared.replies.LineReply.TheVariants.{Stored}
 use Rattle.archive_files.specs.HostTexts.{FindsBad}
 use Rattle.archive_files.specs.declared.faults.ArchiveFault.{ArchiveFault}
 use Rattle.archive_files.specs.declared.faults.ArchiveFault.TheVariants as archive
@@ -48,4 +48,4 @@ is_bad_text (archive.Refused fault) = is_bad fault
 
 -- the line of a file that was put
 abbrev pub stored_line : NewImage → List ℕ
-stored_line new = line_of (line_reply_text (Stored new.name new.blocks))
+stored_line new = program_line (line.Stored new.name new.blocks)

@@ -13,7 +13,6 @@ use archive_many::{OpenVolume, open};
 use hosts::Host;
 use outcome::Ending;
 use program_reports::{ProgramLine, put_program};
-use script8::{LineReply, Reply, put_reply};
 use std::alloc::Global;
 
 /// What a call on an image of so many bytes answers. Where it or a file of it is refused, what may help is printed.
@@ -65,11 +64,5 @@ pub fn show_file<H: Host>(
 pub fn stored_line(alloc: Global, new: &NewImage) -> Result<Vec<u8>, Ending>
     ensures { AreLines (stored_line new.now) result }
 {
-    let stored = Reply::Line(LineReply::Stored {
-        name: new.name,
-        blocks: new.blocks,
-    });
-    let mut line = Vec::new(alloc);
-    put_reply(None, &Ok(stored), &mut line)?;
-    Ok(line)
+    program_line(alloc, &ProgramLine::Stored(new.name, new.blocks))
 }

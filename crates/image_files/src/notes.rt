@@ -1,14 +1,14 @@
 //! Notes on standard error.
-ghost use Rattle.std.specs.Prelude.{◌≡◌, ◌∷◌, OnOk, OnErr};
+ghost use Rattle.std.specs.Prelude.{◌≡◌, ◌∷◌, Some, OnOk, OnErr};
 ghost use Rattle.hosts.specs.Event.{tell_call};
 ghost use Rattle.outcome.specs.Endings.{ending_of_archive};
 ghost use Rattle.outcome.specs.Hints.{image_note};
 ghost use Rattle.outcome.specs.Notes.{note_text};
-ghost use Rattle.image_files.specs.Notes.{Tells};
+ghost use Rattle.image_files.specs.Notes.{TellsOfImage};
 
 use archive_files::ArchiveFault;
 use hosts::Host;
-use outcome::{Ending, Note, image_note};
+use outcome::{Ending, ImageNote, Note, image_note, size_text};
 use std::alloc::{AllocError, Global};
 
 /// Prints a text on standard error. Where that takes no more, the work goes on.
@@ -31,10 +31,20 @@ pub fn tell_note<H: Host>(host: &mut H, alloc: Global, note: Note<'_>) -> Result
 /// How a command ends if its image, of so many bytes, or a file of it is refused. What may help is printed on standard error.
 pub fn refuse_image<H: Host>(host: &mut H, size: usize, fault: ArchiveFault) -> Ending
     ensures ends { result ≡ ending_of_archive fault }
-    ensures notes { Tells (image_note size fault) (H.history host.old) (H.history host.new) }
+    ensures notes { TellsOfImage (image_note size fault) (H.history host.old) (H.history host.new) }
 {
     if let Some(note) = image_note(size, &fault) {
-        tell(host, note.text());
+        tell_of_image(host, note);
     }
     Ending::from(fault)
+}
+
+/// Prints a note on an image on standard error.
+fn tell_of_image<H: Host>(host: &mut H, note: ImageNote)
+    ensures { TellsOfImage (Some note) (H.history host.old) (H.history host.new) }
+{
+    match note {
+        ImageNote::Plain(note) => tell(host, note.text()),
+        ImageNote::Size(size) => tell(host, size_text(size).as_str()),
+    }
 }

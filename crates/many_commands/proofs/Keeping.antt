@@ -13,11 +13,11 @@ use Rattle.outcome.specs.Hints.{image_note}
 use Rattle.outcome.specs.declared.contents.Content.TheVariants as content
 use Rattle.outcome.specs.declared.endings.Ending.{Ending}
 use Rattle.outcome.specs.declared.endings.Ending.TheVariants.{Line, Fault, Failure, Busy, NotWritten, FullOutput, NoReader, Misuse}
-use Rattle.outcome.specs.declared.notes.PlainNote.{PlainNote}
+use Rattle.outcome.specs.declared.hints.ImageNote.{ImageNote}
 use Rattle.archive_files.specs.declared.faults.ArchiveFault.{ArchiveFault}
 use Rattle.program_tasks.specs.declared.forms.ImageForm.{ImageForm}
 use Rattle.image_files.specs.Answers.{Answers, Refuses}
-use Rattle.image_files.specs.Notes.{Tells}
+use Rattle.image_files.specs.Notes.{TellsOfImage}
 use Rattle.image_files.specs.Mending.{Mends, TellsLines}
 use Rattle.image_files.specs.declared.mending.ImageReading.{ImageReading}
 use Rattle.disk_layouts.specs.declared.layouts.Layout.{Layout}
@@ -64,7 +64,7 @@ prints-never bytes old (Err FullOutput) new p = λ path. ap (λ (events : List E
 prints-never bytes old (Err NoReader) new p = λ path. ap (λ (events : List Event). about path events) p
 prints-never bytes old (Err Misuse) new p = absurd p
 
-pub tells-never : (note : Option PlainNote) (old new : List Event) → Tells note old new → ChangesNothing old new
+pub tells-never : (note : Option ImageNote) (old new : List Event) → TellsOfImage note old new → ChangesNothing old new
 tells-never None old new p = same old new p
 tells-never (Some note) old new p = told p.0 _ old new p.1
 

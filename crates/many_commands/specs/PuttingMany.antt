@@ -3,9 +3,9 @@ use Rattle.std.specs.Prelude.{◌≡◌, ◌⊎◌, ◌||◌, ℕ, ◌+◌, Bool
 use Rattle.std.specs.Global.{Vec}
 use Rattle.hosts.specs.Event.{Event, tell_call}
 use Rattle.os8_dir.specs.declared.file_faults.FileFault.TheVariants.{BadName, NothingWritten}
-use Rattle.script8.specs.Replies.{line_of, line_reply_text}
+use Rattle.program_reports.specs.Program.{program_line}
 use Rattle.script8.specs.declared.faults.SessionFault.TheVariants.{File, Memory}
-use Rattle.script8.specs.declared.replies.LineReply.TheVariants.{Stored}
+use Rattle.program_reports.specs.declared.programs.ProgramLine.TheVariants as line
 use Rattle.archive_files.specs.declared.faults.ArchiveFault.{ArchiveFault}
 use Rattle.archive_many.specs.Emptying.{empties}
 use Rattle.archive_many.specs.HostNames.{NamesVolume}
@@ -166,7 +166,7 @@ MakesMany form files image old (Err ending) new = (fault : ManyFault) × PutsAll
 abbrev pub stored_lines : List NewFile → List ℕ → List ℕ
 stored_lines [] blocks = []
 stored_lines (file ∷ files) [] = []
-stored_lines (file ∷ files) (count ∷ counts) = line_of (line_reply_text (Stored file.name count)) ++ stored_lines files counts
+stored_lines (file ∷ files) (count ∷ counts) = program_line (line.Stored file.name count) ++ stored_lines files counts
 
 -- the image with the files is saved once, and only then their lines are printed
 abbrev pub PutsFiles : PutManyForm → Image → List NewFile → List Event → Result (Unit {0}) Ending → List Event → Type 0

@@ -18,8 +18,9 @@ use hosts::Host;
 use image_files::{Image, refuse_image, store, tell_note};
 use os8_dir::FileFault;
 use outcome::{Ending, NameNote, Note};
+use program_reports::{ProgramLine, put_program};
 use program_tasks::PutManyForm;
-use script8::{LineReply, Reply, SessionFault, put_reply};
+use script8::SessionFault;
 use std::alloc::{AllocError, Global};
 use word12::Word;
 
@@ -298,11 +299,7 @@ fn put_lines(files: &[NewFile], blocks: &[usize], lines: &mut Vec<u8>) -> Result
         let [count, later @ ..] = counts else {
             return Ok(());
         };
-        let stored = Reply::Line(LineReply::Stored {
-            name: file.name,
-            blocks: *count,
-        });
-        put_reply(None, &Ok(stored), lines)?;
+        put_program(&ProgramLine::Stored(file.name, *count), lines)?;
         rest = others;
         counts = later;
     }

@@ -1,2 +1,4 @@
 pub mod CodeLemmas
 pub mod TextLemmas
+pub mod PlainLemmas
+pub mod ShortLemmas

@@ -1,5 +1,5 @@
 -- The text of a name is read as the name, and is safe.
-use Rattle.std.proofs.Common.{◌≡◌, ℕ, suc, ◌+◌, ◌*◌, ◌/◌, ◌%◌, ◌<◌, nat_eq, Bool, true, false, true≢false, ◌&&◌, ◌||◌, if◌then◌else◌, Option, Some, None, List, [], ◌∷◌, ◌++◌, length, drop, take, refl, ap, sym, ◌∙◌, arith}
+use Rattle.std.proofs.Common.{◌≡◌, ℕ, ◌+◌, ◌*◌, ◌/◌, ◌%◌, ◌<◌, Bool, true, false, true≢false, ◌&&◌, if◌then◌else◌, Some, List, [], ◌∷◌, ◌++◌, length, drop, take, refl, ap, sym, ◌∙◌, arith}
 use Rattle.std.specs.Prelude.{◌==◌}
 use Rattle.std.proofs.lemmas.Bool.Decides.{nat_tests}
 use Rattle.word12.specs.Octal.{octal_digit}
@@ -170,6 +170,7 @@ first_word : (name : ℕ) → name < 281474976710656 → name / 68719476736 < 40
 first_word name small = omega (arith, small)
 
 pub shown_is_read : (name : ℕ) → name < 281474976710656 → read_name (text_of name) ≡ Some name
+unfolding text_of
 shown_is_read name small =
     words_back (name / 68719476736) (name / 16777216 % 4096) (name / 4096 % 4096) (name % 4096) (first_word name small) (below (name / 16777216))
     (below (name / 4096)) (below name)
@@ -223,6 +224,7 @@ dotted_safe codes = by (all_zero codes)
     by false = codes_safe codes
 
 pub texts_are_safe : (name : ℕ) → name < 281474976710656 → are_safe (text_of name) ≡ true
+unfolding text_of
 texts_are_safe name small =
     let stem = name / 68719476736 / 64 ∷ name / 68719476736 % 64 ∷ name / 16777216 % 4096 / 64 ∷ name / 16777216 % 4096 % 64 ∷ name / 4096 % 4096 / 64 ∷ name / 4096 % 4096 % 64 ∷ [] in
     let two = name % 4096 / 64 ∷ name % 4096 % 64 ∷ [] in

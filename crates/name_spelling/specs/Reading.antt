@@ -1,5 +1,5 @@
 -- Which name a text spells (this project's profile).
-use Rattle.std.specs.Prelude.{ℕ, ◌+◌, ◌*◌, nat_eq, nat_lt, if◌then◌else◌, Option, Some, None, List, [], ◌∷◌, drop, length, take}
+use Rattle.std.specs.Prelude.{ℕ, ◌+◌, ◌*◌, ◌/◌, nat_eq, nat_lt, if◌then◌else◌, Option, Some, None, List, [], ◌∷◌, drop, length, take}
 use Rattle.word12.specs.Octal.{octal_of}
 use Rattle.word12.specs.Sixbit.{sixbit_code}
 use Rattle.os8_dir.specs.Names.{before_dot, name_of}
@@ -66,3 +66,12 @@ join_codes None extension = None
 -- the name that a text spells, cut at its first dot
 abbrev pub read_name : List ℕ → Option ℕ
 read_name text = join_codes (stem_in (take (length (before_dot text)) text)) (extension_in (drop (length (before_dot text)) text))
+
+-- a name that a file has: its first word is not 0
+abbrev pub of_a_file : Option ℕ → Option ℕ
+of_a_file None = None
+of_a_file (Some name) = if nat_eq (name / 0o1000000000000) 0 then None else Some name
+
+-- the name of a file that a text spells
+unfoldable pub typed_name : List ℕ → Option ℕ
+typed_name text = of_a_file (read_name text)

@@ -39,5 +39,5 @@ text_of_words (a ∷ b ∷ c ∷ extension ∷ []) = spelled_codes (two_codes a 
 text_of_words words = []
 
 -- the text of a name
-abbrev pub text_of : ℕ → List ℕ
+unfoldable pub text_of : ℕ → List ℕ
 text_of name = text_of_words (words_of_name name)

@@ -1,4 +1,5 @@
-//! Names of files as any of them can be typed: a name of letters and digits as it is, and each other code by an escape.
+//! Names of files as they are shown and typed, so that any of them can be: a name of letters and digits as it is, and each other code by an
+//! escape.
 //!
 //! In each contract a name is one number, its four words to the base 0o10000, as `os8_dir` has it.
 #![tactic(auto)]
@@ -7,5 +8,5 @@ pub mod laws;
 mod reading;
 mod writing;
 
-pub use reading::read_name;
-pub use writing::put_name;
+pub use reading::{read_name, typed_name};
+pub use writing::{put_name, put_spelled};

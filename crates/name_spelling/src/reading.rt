@@ -1,10 +1,26 @@
 ghost use Rattle.std.specs.Prelude.{◌≡◌, ℕ, ◌+◌, ◌<◌, ◌≤◌, length, IfSome};
+ghost use Rattle.os8_dir.specs.Entries.{IsNamed};
 ghost use Rattle.os8_dir.specs.Names.{before_dot};
-ghost use Rattle.name_spelling.specs.Reading.{extension_in, next_code, read_name, stem_in, word_in};
+ghost use Rattle.name_spelling.specs.Reading.{extension_in, next_code, read_name, stem_in, typed_name, word_in};
 
 use crate::writing::ESCAPE;
 use os8_dir::Name;
 use word12::{Word, octal, sixbit};
+
+/// The name of a file that a text spells, as `read_name` has it; nothing where its first word is 0, since no file has such a name (OS/8
+/// Software Support Manual; the spelling is this project's profile).
+#[tactic(auto, unfolding(crate::specs::Reading::typed_name))]
+pub fn typed_name(text: &[u8]) -> Option<Name>
+    ensures name { result ≡ typed_name text.now }
+    ensures named { IfSome result IsNamed }
+{
+    let name = read_name(text)?;
+    let [first, ..] = name.words();
+    if first == Word::ZERO {
+        return None;
+    }
+    Some(name)
+}
 
 /// The name that a text spells as `put_name` does, of at most six codes and two of extension; nothing where it spells none (this project's
 /// profile). Each name that can be typed in a script is spelled so too.

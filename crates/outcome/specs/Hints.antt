@@ -1,5 +1,5 @@
 -- What may help where an image is refused (this project's profile).
-use Rattle.std.specs.Prelude.{ℕ, nat_eq, nat_lt, if◌then◌else◌, Option, Some, None}
+use Rattle.std.specs.Prelude.{ℕ, ◌%◌, nat_eq, nat_le, nat_lt, Bool, ◌&&◌, if◌then◌else◌, codes, decimal, Option, Some, None, List, ◌++◌}
 use Rattle.disk_layouts.specs.Disks.{guess_of}
 use Rattle.disk_layouts.specs.declared.layouts.Layout.{Layout}
 use Rattle.disk_layouts.specs.declared.layouts.Layout.TheVariants.{First, Second, Dectape}
@@ -10,19 +10,26 @@ use Rattle.os8_dir.specs.declared.faults.DirFault.TheVariants as directory
 use Rattle.archive_files.specs.declared.faults.ArchiveFault.{ArchiveFault}
 use Rattle.archive_files.specs.declared.faults.ArchiveFault.TheVariants.{Image, Directory, Refused}
 use Rattle.outcome.specs.declared.hints.TheConstants.{IMAGE}
+use Rattle.outcome.specs.declared.hints.ImageNote.{ImageNote}
+use Rattle.outcome.specs.declared.hints.ImageNote.TheVariants.{Plain, Size}
+use Rattle.outcome.specs.Notes.{plain_text}
 use Rattle.outcome.specs.declared.notes.PlainNote.{PlainNote}
 use Rattle.outcome.specs.declared.notes.PlainNote.TheVariants as plain
 
--- a file that is no image may be that of a DECtape or of a disk
-abbrev pub layout_note : Option Layout → Option PlainNote
-layout_note None = None
-layout_note (Some Dectape) = Some plain.Dectape
-layout_note (Some First) = Some plain.Disk
-layout_note (Some Second) = Some plain.Disk
+-- so many bytes are those of a volume: 8 to 4095 blocks of 512
+abbrev pub is_volume_size : ℕ → Bool
+is_volume_size size = nat_eq (size % 512) 0 && (nat_le 4096 size && nat_le size IMAGE)
+
+-- a file that is no image may be that of a DECtape or of a disk; else it may have the length of none
+abbrev pub layout_note : ℕ → Option Layout → Option ImageNote
+layout_note size None = if is_volume_size size then None else Some (Size size)
+layout_note size (Some Dectape) = Some (Plain plain.Dectape)
+layout_note size (Some First) = Some (Plain plain.Disk)
+layout_note size (Some Second) = Some (Plain plain.Disk)
 
 -- a directory that covers more blocks than a file has may be that of a disk whose end was never written
-abbrev pub directory_note : ℕ → DirFault → Option PlainNote
-directory_note size directory.PastVolume = if nat_lt size IMAGE then Some plain.ShortDisk else None
+abbrev pub directory_note : ℕ → DirFault → Option ImageNote
+directory_note size directory.PastVolume = if nat_lt size IMAGE then Some (Plain plain.ShortDisk) else None
 directory_note size (directory.BadLink number) = None
 directory_note size (directory.BadCount number) = None
 directory_note size directory.EntryPastSegment = None
@@ -33,10 +40,19 @@ directory_note size directory.Device = None
 directory_note size directory.Memory = None
 
 -- what may help where an image of so many bytes, or a file of it, is refused
-abbrev pub image_note : ℕ → ArchiveFault → Option PlainNote
-image_note size (Image fault) = layout_note (guess_of size)
+abbrev pub image_note : ℕ → ArchiveFault → Option ImageNote
+image_note size (Image fault) = layout_note size (guess_of size)
 image_note size (Directory fault) = directory_note size fault
 image_note size (Refused fault) = None
+
+-- that a file has so many bytes, and which lengths images have
+abbrev pub size_text : ℕ → List ℕ
+size_text size = codes "note: " ++ decimal size ++ codes " bytes are no image: a volume has 8 to 4095 blocks of 512, a disk 1662977 to 3325952 bytes, a DECtape 380292\n"
+
+-- a note on an image, with the end of its line
+abbrev pub image_text : ImageNote → List ℕ
+image_text (Plain note) = plain_text note
+image_text (Size size) = size_text size
 
 -- what is said of frames that are no BIN tape, by what they are
 abbrev pub kind_note : FileKind → Option PlainNote

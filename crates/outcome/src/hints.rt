@@ -1,10 +1,11 @@
 //! What may help where something is refused.
-ghost use Rattle.std.specs.Prelude.{◌≡◌, codes};
+ghost use Rattle.std.specs.Prelude.{◌≡◌, IsTrue, ◌↔◌, true, codes};
 ghost use Rattle.disk_layouts.specs.Disks.{guess_of};
 ghost use Rattle.outcome.specs.Hints as spec;
 
 use crate::notes::PlainNote;
 use archive_files::ArchiveFault;
+use arrayvec::ArrayString;
 use disk_layouts::{Layout, guess};
 use file_kind::FileKind;
 use os8_dir::DirFault;
@@ -13,8 +14,17 @@ use word12::{BLOCK, Cell, MOST_BLOCKS};
 /// The most bytes that an image has.
 pub const IMAGE: usize = MOST_BLOCKS * BLOCK * 2;
 
+/// A note on an image that is refused.
+#[derive(Clone, Copy)]
+pub enum ImageNote {
+    Plain(PlainNote),
+
+    /// The file has so many bytes, and no image has.
+    Size(usize),
+}
+
 /// What may help where an image of so many bytes, or a file of it, is refused; none where nothing is known (this project's profile).
-pub fn image_note(size: usize, fault: &ArchiveFault) -> Option<PlainNote>
+pub fn image_note(size: usize, fault: &ArchiveFault) -> Option<ImageNote>
     ensures { result ≡ spec.image_note size fault.now }
 {
     match fault {
@@ -25,22 +35,53 @@ pub fn image_note(size: usize, fault: &ArchiveFault) -> Option<PlainNote>
 }
 
 /// What may help where so many bytes are no image.
-fn layout_note(size: usize) -> Option<PlainNote>
-    ensures { result ≡ spec.layout_note (guess_of size) }
+fn layout_note(size: usize) -> Option<ImageNote>
+    ensures { result ≡ spec.layout_note size (guess_of size) }
 {
     match guess(size) {
-        Some(Layout::Dectape) => Some(PlainNote::Dectape),
-        Some(Layout::First | Layout::Second) => Some(PlainNote::Disk),
-        None => None,
+        Some(Layout::Dectape) => Some(ImageNote::Plain(PlainNote::Dectape)),
+        Some(Layout::First | Layout::Second) => Some(ImageNote::Plain(PlainNote::Disk)),
+        None => size_note(size),
     }
 }
 
+/// That no image has so many bytes, where none has.
+fn size_note(size: usize) -> Option<ImageNote>
+    ensures { result ≡ spec.layout_note size None }
+{
+    if is_volume_size(size) {
+        return None;
+    }
+    Some(ImageNote::Size(size))
+}
+
+/// Whether a volume may have so many bytes.
+fn is_volume_size(size: usize) -> bool
+    ensures { result ≡ spec.is_volume_size size }
+{
+    size % 512 == 0 && size >= 4096 && size <= IMAGE
+}
+
+/// The text of the note that a file has so many bytes, and no image has, with the end of its line (this project's profile). No memory is taken.
+pub fn size_text(size: usize) -> ArrayString<160>
+    ensures { result.bytes ≡ spec.size_text size }
+{
+    let mut text = ArrayString::new();
+    let mut digits = itoa::Buffer::new();
+    text.push_str("note: ");
+    text.push_str(digits.format(size));
+    text.push_str(
+        " bytes are no image: a volume has 8 to 4095 blocks of 512, a disk 1662977 to 3325952 bytes, a DECtape 380292\n",
+    );
+    text
+}
+
 /// What may help where the directory of an image of so many bytes is not sound.
-fn directory_note(size: usize, fault: DirFault) -> Option<PlainNote>
+fn directory_note(size: usize, fault: DirFault) -> Option<ImageNote>
     ensures { result ≡ spec.directory_note size fault }
 {
     match fault {
-        DirFault::PastVolume if size < IMAGE => Some(PlainNote::ShortDisk),
+        DirFault::PastVolume if size < IMAGE => Some(ImageNote::Plain(PlainNote::ShortDisk)),
         _ => None,
     }
 }

@@ -12,7 +12,7 @@ mod streams;
 
 pub use contents::Content;
 pub use endings::Ending;
-pub use hints::{command_hint, image_note, kind_note, start_note};
+pub use hints::{ImageNote, command_hint, image_note, kind_note, size_text, start_note};
 pub use notes::{FileNote, NameNote, Note, PlainNote};
 pub use outcomes::{Outcome, Stream, outcome_of};
 pub use rooms::{LineRoom, no_memory_line};

@@ -169,7 +169,7 @@ impl PlainNote {
             PlainNote::StartAtFirst =>
                 "note: no --start is given, and 00200 has no word: the program starts at the first word of the tape\n",
             PlainNote::FileNames =>
-                "note: a file's name is 1 to 6 letters or digits, then nothing, or a dot and 1 or 2 more\n",
+                "note: a file's name is 1 to 6 letters, digits or escapes (_ and two octal digits), then nothing, or a dot and 1 or 2 more\n",
             PlainNote::FurtherFaults => "note: these words have a fault too:\n",
         }
     }

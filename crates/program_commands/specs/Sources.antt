@@ -3,7 +3,8 @@ use Rattle.std.specs.Prelude.{◌≡◌, ℕ, Bool, true, false, Option, None, S
 use Rattle.std.specs.Global.{Vec, Global}
 use Rattle.hosts.specs.Event.{Event}
 use Rattle.tape_source.specs.declared.faults.ListFault.{ListFault}
-use Rattle.pal8_source.specs.Sources.{IsPal8Fault, IsPal8Source}
+use Rattle.pal8_checked.specs.Checked.{IsCheckedSource}
+use Rattle.pal8_source.specs.Sources.{IsPal8Fault}
 use Rattle.pal8_source.specs.declared.faults.Pal8Fault.{Pal8Fault}
 use Rattle.tape_reports.specs.Written.{IsSourceText, IsTextFault, fault_of_list, fault_of_pal8}
 use Rattle.program_reports.specs.declared.faults.SourceFault.{SourceFault}
@@ -35,9 +36,9 @@ abbrev pub IsPal3Text : List ℕ → List ℕ → Option (List ℕ) → Result (
 IsPal3Text frames starts names (Ok text) = IsSourceText frames starts names text.items
 IsPal3Text frames starts names (Err why) = (fault : ListFault) × IsTextFault frames starts names fault × (why ≡ fault_of_list fault)
 
--- the same of PAL8
+-- The same of PAL8. Such a text comes back: assembled, it gives each cell what the frames give it.
 abbrev pub IsPal8Text : List ℕ → List ℕ → Option (List ℕ) → Result (Vec ℕ) SourceFault → Type 0
-IsPal8Text frames starts names (Ok text) = IsPal8Source frames starts names text.items
+IsPal8Text frames starts names (Ok text) = IsCheckedSource frames starts names text.items
 IsPal8Text frames starts names (Err why) = (fault : Pal8Fault) × IsPal8Fault frames starts names fault × (why ≡ fault_of_pal8 fault)
 
 -- in the language that is asked for

@@ -6,7 +6,7 @@ use crate::kinds::refuse_frames;
 use crate::programs::{Program, given_program};
 use hosts::Host;
 use outcome::Ending;
-use pal8_source::pal8_source;
+use pal8_checked::checked_source;
 use program_reports::SourceFault;
 use program_tasks::SourceForm;
 use std::alloc::Global;
@@ -94,7 +94,7 @@ fn text_of(
     ensures { IsTextOf is_pal8 frames.now starts.now (option_map (λ names. names.items) names.now) result }
 {
     if is_pal8 {
-        return match pal8_source(alloc, frames, starts, names) {
+        return match checked_source(alloc, frames, starts, names) {
             Ok(text) => Ok(text),
             Err(fault) => Err(pal8_fault(fault)),
         };

@@ -15,7 +15,7 @@ use Rattle.terminal8.specs.declared.outcomes.TerminalEnd.TheVariants as why
 use Rattle.volume_image.specs.declared.faults.ImageFault.{ImageFault}
 use Rattle.volume_image.specs.declared.faults.ImageFault.TheVariants as image
 use Rattle.script8.specs.Faults.{directory_fault_text}
-use Rattle.script8.specs.Shown.{name_text}
+use Rattle.name_spelling.specs.Spelling.{text_of}
 use Rattle.program_reports.specs.declared.programs.ProgramLine.{ProgramLine}
 use Rattle.program_reports.specs.declared.programs.ProgramLine.TheVariants as line
 
@@ -86,11 +86,13 @@ program_text line.NoWord = codes "? SOURCE 1 NO WORD"
 program_text (line.NoStart cell) = codes "? SOURCE 2 NO WORD AT " ++ octal5 cell
 program_text (line.Reserved cell) = codes "? SOURCE 3 RESERVED NAME AT " ++ octal5 cell
 program_text (line.Names number why) = names_text number why
-program_text (line.Renamed old new) = codes "RENAMED " ++ name_text old ++ codes " " ++ name_text new
+program_text (line.Renamed old new) = codes "RENAMED " ++ text_of old ++ codes " " ++ text_of new
 program_text line.Exists = codes "? RENAME 1 FILE EXISTS"
 program_text line.CopyExists = codes "? COPY 1 FILE EXISTS"
 program_text (line.Squeezed moved) = codes "SQUEEZED " ++ decimal moved
-program_text (line.Got name blocks) = codes "GOT " ++ name_text name ++ codes " " ++ decimal blocks
+program_text (line.Stored name blocks) = codes "STORED " ++ text_of name ++ codes " " ++ decimal blocks
+program_text (line.Deleted name) = codes "DELETED " ++ text_of name
+program_text (line.Got name blocks) = codes "GOT " ++ text_of name ++ codes " " ++ decimal blocks
 program_text line.HostExists = codes "? HOST EXISTS"
 program_text line.SameName = codes "? PUT 1 SAME NAME"
 program_text (line.OnlyBlocks blocks) = codes "? BLOCKS 1 ONLY " ++ decimal blocks

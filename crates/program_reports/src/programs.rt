@@ -1,15 +1,17 @@
-ghost use Rattle.std.specs.Prelude.{◌≡◌, ◌+◌, ◌≤◌, ◌++◌, length, OnOk, OnErr, IsOk, IsOkUnless, vec_len, vec_capacity};
+ghost use Rattle.std.specs.Prelude.{◌≡◌, ◌+◌, ◌≤◌, ◌++◌, codes, decimal, length, OnOk, OnErr, IsOk, IsOkUnless, vec_len, vec_capacity};
 ghost use Rattle.arrayvec.specs.ArrayVec.{array_vec_len};
 ghost use Rattle.word12.specs.Octal.{octal5};
+ghost use Rattle.name_spelling.specs.Spelling.{text_of};
 ghost use Rattle.program_reports.specs.Program.{program_line, program_text, disk_text, image_text, halted_text, core_text, frame_text, names_text, steps_text, why_text};
 ghost use Rattle.program_reports.specs.Program as spec;
 ghost use Rattle.script8.specs.declared.faults.SessionFault.TheVariants.{Memory};
 
 use core_image::CoreFault;
 use disk_layouts::DiskFault;
+use name_spelling::put_spelled;
 use os8_dir::{DirFault, Name};
 use rim_tape::RimFault;
-use script8::text_lines::{TextLine, put, put_name, put_number};
+use script8::text_lines::{TextLine, put, put_number};
 use script8::{SessionFault, put_directory_fault};
 use source_names::LineRefusal as Unnamed;
 use terminal8::{Ended, TerminalEnd};
@@ -54,6 +56,12 @@ pub enum ProgramLine {
 
     /// So many files were moved together.
     Squeezed(usize),
+
+    /// A file of so many blocks was put into an image.
+    Stored(Name, usize),
+
+    /// A file was taken out of an image.
+    Deleted(Name),
 
     /// A file of so many blocks was written to a folder.
     Got(Name, usize),
@@ -147,9 +155,9 @@ fn put_line(text: &mut TextLine, line: ProgramLine)
         ProgramLine::Names(line, why) => put_names(text, line, why),
         ProgramLine::Renamed(old, new) => {
             put(text, b"RENAMED ");
-            put_name(text, old);
+            put_spelled(text, old);
             put(text, b" ");
-            put_name(text, new);
+            put_spelled(text, new);
         }
         ProgramLine::Exists => put(text, b"? RENAME 1 FILE EXISTS"),
         ProgramLine::CopyExists => put(text, b"? COPY 1 FILE EXISTS"),
@@ -157,12 +165,12 @@ fn put_line(text: &mut TextLine, line: ProgramLine)
             put(text, b"SQUEEZED ");
             put_number(text, moved as u64);
         }
-        ProgramLine::Got(name, blocks) => {
-            put(text, b"GOT ");
-            put_name(text, name);
-            put(text, b" ");
-            put_number(text, blocks as u64);
+        ProgramLine::Stored(name, blocks) => put_blocks(text, b"STORED ", name, blocks),
+        ProgramLine::Deleted(name) => {
+            put(text, b"DELETED ");
+            put_spelled(text, name);
         }
+        ProgramLine::Got(name, blocks) => put_blocks(text, b"GOT ", name, blocks),
         ProgramLine::HostExists => put(text, b"? HOST EXISTS"),
         ProgramLine::SameName => put(text, b"? PUT 1 SAME NAME"),
         ProgramLine::OnlyBlocks(blocks) => {
@@ -197,6 +205,19 @@ fn put_line(text: &mut TextLine, line: ProgramLine)
         ProgramLine::Image(fault) => put_image(text, fault),
         ProgramLine::Directory(fault) => put_directory_fault(text, fault),
     }
+}
+
+/// Puts a head of at most ten bytes, the name of a file, and how many blocks it has into an empty line.
+fn put_blocks(text: &mut TextLine, head: &[u8], name: Name, blocks: usize)
+    requires empty { array_vec_len text.old ≡ 0 }
+    requires few { length head.now ≤ 10 }
+    ensures text { text.new.items ≡ text.old.items ++ (head.now ++ text_of name ++ codes " " ++ decimal blocks) }
+    ensures short { array_vec_len text.new ≤ 60 }
+{
+    put(text, head);
+    put_spelled(text, name);
+    put(text, b" ");
+    put_number(text, blocks as u64);
 }
 
 /// Puts how many of how many images were refused into an empty line.

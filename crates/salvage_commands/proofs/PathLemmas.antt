@@ -11,13 +11,13 @@ use Rattle.image_volumes.specs.declared.volumes.Volumes.TheVariants.{One, Both}
 use Rattle.outcome.specs.Hints.{image_note}
 use Rattle.outcome.specs.declared.endings.Ending.{Ending}
 use Rattle.outcome.specs.declared.endings.Ending.TheVariants.{Line, Fault, Failure, Busy, NotWritten, FullOutput, NoReader, Misuse}
-use Rattle.outcome.specs.declared.notes.PlainNote.{PlainNote}
+use Rattle.outcome.specs.declared.hints.ImageNote.{ImageNote}
 use Rattle.archive_files.specs.declared.faults.ArchiveFault.{ArchiveFault}
 use Rattle.archive_many.specs.declared.faults.BlocksFault.{BlocksFault}
 use Rattle.archive_many.specs.declared.faults.BlocksFault.TheVariants.{Archive, NoBlocks}
 use Rattle.program_tasks.specs.declared.forms.ImageForm.{ImageForm}
 use Rattle.image_files.specs.Answers.{Answers, AreLines, Refuses}
-use Rattle.image_files.specs.Notes.{Tells}
+use Rattle.image_files.specs.Notes.{TellsOfImage}
 use Rattle.disk_layouts.specs.declared.layouts.Layout.{Layout}
 use Rattle.lenient_images.specs.Lines.{mended_lines}
 use Rattle.image_files.specs.Mending.{Mends, TellsLines}
@@ -61,7 +61,7 @@ prints-stays path bytes old (Err FullOutput) new p = same path p
 prints-stays path bytes old (Err NoReader) new p = same path p
 prints-stays path bytes old (Err Misuse) new p = absurd p
 
-tells-stays : (path : List ℕ) (note : Option PlainNote) (old new : List Event) → Tells note old new → about path new ≡ about path old
+tells-stays : (path : List ℕ) (note : Option ImageNote) (old new : List Event) → TellsOfImage note old new → about path new ≡ about path old
 tells-stays path None old new p = same path p
 tells-stays path (Some note) old new p = same path p.1
 

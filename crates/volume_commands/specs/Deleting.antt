@@ -1,9 +1,9 @@
 -- The command that takes files out of the volume in an image file.
 use Rattle.std.specs.Prelude.{◌≡◌, ◌⊎◌, ℕ, Result, Ok, Err, List, [], ◌∷◌, ◌++◌, length, map}
 use Rattle.hosts.specs.Event.{Event}
-use Rattle.script8.specs.Replies.{line_of, line_reply_text}
+use Rattle.program_reports.specs.Program.{program_line}
 use Rattle.script8.specs.declared.faults.SessionFault.TheVariants.{File, Memory}
-use Rattle.script8.specs.declared.replies.LineReply.TheVariants.{Deleted}
+use Rattle.program_reports.specs.declared.programs.ProgramLine.TheVariants as line
 use Rattle.archive_files.specs.Asking.{Target, target_of}
 use Rattle.archive_files.specs.Deleting.{DeletesFiles}
 use Rattle.archive_files.specs.declared.deleting.DeletedImage.{DeletedImage}
@@ -32,7 +32,7 @@ TakesOut wanted image old (Err ending) new =
 -- the line of each file that was taken out
 abbrev pub deleted_lines : List ℕ → List ℕ
 deleted_lines [] = []
-deleted_lines (name ∷ names) = line_of (line_reply_text (Deleted name)) ++ deleted_lines names
+deleted_lines (name ∷ names) = program_line (line.Deleted name) ++ deleted_lines names
 
 -- the image without the files that are meant, all of them, or why it has them all
 abbrev pub TakesMeant : DeleteForm → List ℕ → List Event → Result DeletedImage Ending → List Event → Type 0

@@ -1,7 +1,7 @@
 -- The command that puts a file of the host, or standard input, on the volume in an image file.
 use Rattle.std.specs.Prelude.{◌≡◌, ◌≢◌, ◌⊎◌, ℕ, Bool, true, false, None, Some, Result, Ok, Err, List, [], ◌∷◌, length}
 use Rattle.hosts.specs.Event.{Event, tell_call}
-use Rattle.os8_dir.specs.Names.{parsed_name}
+use Rattle.name_spelling.specs.Reading.{typed_name}
 use Rattle.os8_dir.specs.declared.file_faults.FileFault.TheVariants.{NothingWritten}
 use Rattle.script8.specs.declared.faults.SessionFault.TheVariants.{File, Memory}
 use Rattle.archive_files.specs.Putting.{PutsFile}
@@ -30,15 +30,15 @@ pub record IsLoss (form : PutOneForm) (image bytes : List ℕ) : Type 0 where
   pub unasked : form.may_empty ≡ false
   pub none : bytes ≡ []
   pub number : ℕ
-  pub named : parsed_name form.name.bytes.items ≡ Some number
+  pub named : typed_name form.name.bytes.items ≡ Some number
   pub blocks : List (List ℕ)
   pub opened : OpensVolume image (Ok blocks)
   pub there : is_among number (files_on blocks) ≡ true
 
 -- nothing is lost: that was asked for, or there is a byte, or no name, or no file of the name on the volume
 abbrev pub IsNoLoss : PutOneForm → List ℕ → List ℕ → Type 0
-IsNoLoss form image bytes = (form.may_empty ≡ true) ⊎ ((bytes ≢ []) ⊎ ((parsed_name form.name.bytes.items ≡ None)
-    ⊎ ((number : ℕ) × (parsed_name form.name.bytes.items ≡ Some number) × (blocks : List (List ℕ)) × OpensVolume image (Ok blocks) × (is_among number (files_on blocks) ≡ false))))
+IsNoLoss form image bytes = (form.may_empty ≡ true) ⊎ ((bytes ≢ []) ⊎ ((typed_name form.name.bytes.items ≡ None)
+    ⊎ ((number : ℕ) × (typed_name form.name.bytes.items ≡ Some number) × (blocks : List (List ℕ)) × OpensVolume image (Ok blocks) × (is_among number (files_on blocks) ≡ false))))
 
 -- The command ends since a text of no byte would replace a file, which is printed; since the volume is refused; or memory is wanted.
 abbrev pub IsKept : PutOneForm → List ℕ → List ℕ → List Event → Ending → List Event → Type 0

@@ -15,8 +15,9 @@ use hosts::Host;
 use image_files::{Image, refuse_image, store};
 use os8_dir::Name;
 use outcome::Ending;
+use program_reports::{ProgramLine, put_program};
 use program_tasks::DeleteForm;
-use script8::{LineReply, Reply, SessionFault, put_reply};
+use script8::SessionFault;
 use std::alloc::{AllocError, Global};
 
 /// Takes files out of the volume in an image file, all or none, and reports each.
@@ -111,8 +112,7 @@ fn put_lines(names: &[Name], lines: &mut Vec<u8>) -> Result<(), Ending>
 {
     let mut rest = names;
     while let [name, others @ ..] = rest {
-        let deleted = Reply::Line(LineReply::Deleted(*name));
-        put_reply(None, &Ok(deleted), lines)?;
+        put_program(&ProgramLine::Deleted(*name), lines)?;
         rest = others;
     }
     Ok(())

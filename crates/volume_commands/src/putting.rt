@@ -11,6 +11,7 @@ use archive_files::{ArchiveFault, NewImage, bad_text_at, put};
 use archive_many::{VolumeFile, empties, open};
 use hosts::Host;
 use image_files::{Image, date_of_file, given_bytes, refuse_image, store, stored_line, tell_note};
+use name_spelling::typed_name;
 use os8_dir::{FileFault, Name};
 use outcome::{Ending, NameNote, Note};
 use program_tasks::PutOneForm;
@@ -58,7 +59,7 @@ fn keep_words<H: Host>(
     if form.may_empty || !bytes.is_empty() {
         return Ok(());
     }
-    match Name::parse(form.name.as_bytes()) {
+    match typed_name(form.name.as_bytes()) {
         None => Ok(()),
         Some(name) => refuse_loss(host, alloc, image, form.file.as_str(), name),
     }

@@ -7,7 +7,7 @@ use Rattle.rescue.specs.declared.faults.Refusal.{Refusal}
 use Rattle.rescue.specs.declared.faults.Refusal.TheVariants.{NoName, NotWhole, NoRoom, DirectoryFull, Failed}
 use Rattle.rescue.specs.declared.fitting.FittedVolume.{FittedVolume}
 use Rattle.rescue.specs.declared.volumes.KeptFile.{KeptFile}
-use Rattle.script8.specs.Shown.{name_text}
+use Rattle.name_spelling.specs.Spelling.{text_of}
 use Rattle.script8.specs.declared.faults.SessionFault.TheVariants.{Memory}
 use Rattle.archive_files.specs.declared.faults.ArchiveFault.{ArchiveFault}
 use Rattle.archive_files.specs.declared.faults.ArchiveFault.TheVariants.{Image, Directory, Refused}
@@ -39,7 +39,7 @@ reason_text (Failed at) = codes "? 10 MEMORY\n"
 
 -- a file's name, its first block in the old volume, and its length
 abbrev pub place_text : FoundFile → List ℕ
-place_text f = name_text f.name ++ 0o40 ∷ decimal f.place ++ 0o40 ∷ decimal f.size ++ 0o12 ∷ []
+place_text f = text_of f.name ++ 0o40 ∷ decimal f.place ++ 0o40 ∷ decimal f.size ++ 0o12 ∷ []
 
 -- each is 0
 abbrev pub are_zeros : List ℕ → Bool

@@ -5,8 +5,9 @@ ghost use Rattle.volume_salvage.specs.Salvaging as spec;
 ghost use Rattle.volume_salvage.specs.Salvaging.{file_line, file_lines, place_text, reason_text, rescued_line};
 
 use archive_survey::FoundFile;
+use name_spelling::put_spelled;
 use rescue::Refusal;
-use script8::text_lines::{TextLine, put, put_name, put_number};
+use script8::text_lines::{TextLine, put, put_number};
 use std::alloc::AllocError;
 use word12::Word;
 
@@ -79,7 +80,7 @@ fn put_place(head: &[u8], file: &FoundFile, out: &mut Vec<u8>) -> Result<(), All
 {
     let mut line = TextLine::new();
     put(&mut line, head);
-    put_name(&mut line, file.name);
+    put_spelled(&mut line, file.name);
     put(&mut line, b" ");
     put_number(&mut line, file.place as u64);
     put(&mut line, b" ");

@@ -1,0 +1,13 @@
+pub mod DigitLemmas
+pub mod LexLemmas
+pub mod LineLemmas
+pub mod GrammarLemmas
+pub mod PassLemmas
+pub mod BlockLemmas
+pub mod EntryLemmas
+pub mod CellLemmas
+pub mod PlainLemmas
+pub mod MapLemmas
+pub mod TapeLemmas
+pub mod ChoiceLemmas
+pub mod AgainLemmas

@@ -1,0 +1,4 @@
+pub mod Plain
+pub mod Checked
+pub mod Laws
+pub mod Steps
