@@ -9,13 +9,14 @@ use Rattle.outcome.specs.declared.endings.Ending.{Ending}
 use Rattle.program_tasks.specs.declared.forms.PutManyForm.{PutManyForm}
 use Rattle.program_tasks.specs.declared.forms.TextsForm.{TextsForm}
 use Rattle.image_files.specs.Answers.{AreLines}
+use Rattle.image_files.specs.Dates.{DatesFile}
 use Rattle.image_files.specs.Stored.{TellsPlace, is_bad}
 use Rattle.image_files.specs.Reading.{Opens}
 use Rattle.image_files.specs.Saving.{Stores}
 use Rattle.image_files.specs.Work.{Then, Purely}
 use Rattle.image_files.specs.declared.images.Image.{Image}
 use Rattle.many_commands.specs.Laws.{ChangesNothing, LeavesFiles, NeverChanges}
-use Rattle.many_commands.specs.PuttingMany.{AreFiles, FindsFiles, IsNewFile, IsNoName, KeepsIf, KeepsWords, LooksWhole, MakesMany, PutsFiles, PutsMany, ReadsEach, ReadsNext, RefusesLoss, RefusesMany, TakesName, TellsEmpty, TellsPath, TellsText, TellsUnread, WantsMemory, has_empty, loss_from, paths_of, stored_lines}
+use Rattle.many_commands.specs.PuttingMany.{AreFiles, DatesNext, FindsFiles, IsNewFile, IsNoName, KeepsIf, KeepsWords, LooksWhole, MakesMany, PutsFiles, PutsMany, ReadsEach, ReadsNext, RefusesLoss, RefusesMany, TakesName, TellsEmpty, TellsPath, TellsText, TellsUnread, WantsMemory, has_empty, loss_from, paths_of, stored_lines}
 use Rattle.many_commands.specs.Texts.{TakesLists, TellsBadList, lists_of}
 use Rattle.many_commands.proofs.Keeping.{looks-never, opens-never, purely-never, refuses-never, same, stores-leaves, then-leaves, then-never, told}
 
@@ -45,14 +46,24 @@ whole-never : (path : List ℕ) → NeverChanges (LooksWhole path)
 whole-never path old (Ok bytes) new p = looks-never path path old (Ok bytes) new p
 whole-never path old (Err ending) new (why, between, looks, p) = λ at. tells-unread path why between ending new p at ∙ looks-never path path old (Err why) between looks at
 
-next-never : (texts : TextsForm) (files : List NewFile) (path : List ℕ) → NeverChanges (ReadsNext texts files path)
-next-never texts files path =
-    then-never (TakesName files path) (λ name. Then (LooksWhole path) (λ bytes. Purely (IsNewFile texts name bytes.items))) (name-never files path)
-    (λ name. then-never (LooksWhole path) (λ bytes. Purely (IsNewFile texts name bytes.items)) (whole-never path) (λ bytes. purely-never (IsNewFile texts name bytes.items)))
+date-never : (is_dated : Bool) (path : List ℕ) → NeverChanges (DatesFile is_dated path)
+date-never false path old result new p = same old new p.1
+date-never true path old (Ok date) new (seconds, is, p) = same old new p
+date-never true path old (Err ending) new (fault, is, p) = same old new p
 
-each-never : (texts : TextsForm) (files : List NewFile) (paths : List (List ℕ)) → NeverChanges (ReadsEach texts files paths)
-each-never texts files [] = purely-never (AreFiles files)
-each-never texts files (path ∷ paths) = then-never (ReadsNext texts files path) (λ file. ReadsEach texts (files ++ file ∷ []) paths) (next-never texts files path) (λ file. each-never texts (files ++ file ∷ []) paths)
+dated-never : (is_dated : Bool) (path : List ℕ) → NeverChanges (DatesNext is_dated path)
+dated-never is_dated path old (Ok date) new p = date-never is_dated path old (Ok date) new p
+dated-never is_dated path old (Err ending) new (why, between, dates, p) = λ at. tells-unread path why between ending new p at ∙ date-never is_dated path old (Err why) between dates at
+
+next-never : (texts : TextsForm) (is_dated : Bool) (files : List NewFile) (path : List ℕ) → NeverChanges (ReadsNext texts is_dated files path)
+next-never texts is_dated files path =
+    then-never (TakesName files path) (λ name. Then (LooksWhole path) (λ bytes. Then (DatesNext is_dated path) (λ date. Purely (IsNewFile texts name bytes.items date)))) (name-never files path)
+    (λ name. then-never (LooksWhole path) (λ bytes. Then (DatesNext is_dated path) (λ date. Purely (IsNewFile texts name bytes.items date))) (whole-never path)
+    (λ bytes. then-never (DatesNext is_dated path) (λ date. Purely (IsNewFile texts name bytes.items date)) (dated-never is_dated path) (λ date. purely-never (IsNewFile texts name bytes.items date))))
+
+each-never : (texts : TextsForm) (is_dated : Bool) (files : List NewFile) (paths : List (List ℕ)) → NeverChanges (ReadsEach texts is_dated files paths)
+each-never texts is_dated files [] = purely-never (AreFiles files)
+each-never texts is_dated files (path ∷ paths) = then-never (ReadsNext texts is_dated files path) (λ file. ReadsEach texts is_dated (files ++ file ∷ []) paths) (next-never texts is_dated files path) (λ file. each-never texts is_dated (files ++ file ∷ []) paths)
 
 finds-never : (image : List ℕ) → NeverChanges (FindsFiles image)
 finds-never image old (Ok files) new (blocks, opens, are, p) = same old new p
@@ -115,6 +126,6 @@ puts-files form image files =
 
 pub puts-many-leave : (form : PutManyForm) → LeavesFiles (PutsMany form)
 puts-many-leave form =
-    then-leaves (TakesLists form.texts) (λ it. Then (Opens form.image) (λ image. Then (ReadsEach form.texts [] (paths_of form)) (λ files. PutsFiles form image files.items))) (lists-never form.texts)
-    (λ it. then-leaves (Opens form.image) (λ image. Then (ReadsEach form.texts [] (paths_of form)) (λ files. PutsFiles form image files.items)) (opens-never form.image)
-    (λ image. then-leaves (ReadsEach form.texts [] (paths_of form)) (λ files. PutsFiles form image files.items) (each-never form.texts [] (paths_of form)) (λ files. puts-files form image files.items)))
+    then-leaves (TakesLists form.texts) (λ it. Then (Opens form.image) (λ image. Then (ReadsEach form.texts form.is_dated [] (paths_of form)) (λ files. PutsFiles form image files.items))) (lists-never form.texts)
+    (λ it. then-leaves (Opens form.image) (λ image. Then (ReadsEach form.texts form.is_dated [] (paths_of form)) (λ files. PutsFiles form image files.items)) (opens-never form.image)
+    (λ image. then-leaves (ReadsEach form.texts form.is_dated [] (paths_of form)) (λ files. PutsFiles form image files.items) (each-never form.texts form.is_dated [] (paths_of form)) (λ files. puts-files form image files.items)))

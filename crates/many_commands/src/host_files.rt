@@ -156,7 +156,7 @@ fn date_next<H: Host>(
 {
     match date_of_file(host, path, is_dated) {
         Ok(date) => Ok(date),
-        Err(ending) => Err(tell_unread(host, alloc, path, ending)),
+        Err(why) => Err(tell_unread(host, alloc, path, why)),
     }
 }
 
