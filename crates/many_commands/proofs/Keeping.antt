@@ -16,6 +16,7 @@ use Rattle.outcome.specs.declared.endings.Ending.TheVariants.{Line, Fault, Failu
 use Rattle.outcome.specs.declared.hints.ImageNote.{ImageNote}
 use Rattle.archive_files.specs.declared.faults.ArchiveFault.{ArchiveFault}
 use Rattle.program_tasks.specs.declared.forms.ImageForm.{ImageForm}
+use Rattle.image_files.specs.Dates.{DatesFile}
 use Rattle.image_files.specs.Answers.{Answers, Refuses}
 use Rattle.image_files.specs.Notes.{TellsOfImage}
 use Rattle.image_files.specs.Mending.{Mends, TellsLines}
@@ -52,6 +53,11 @@ pub purely-never : {A : Type 0} (gives : Result A Ending → Type 0) → NeverCh
 purely-never gives old result new p = same old new p.1
 
 -- ## What is printed
+
+pub date-never : (is_dated : Bool) (path : List ℕ) → NeverChanges (DatesFile is_dated path)
+date-never false path old result new p = same old new p.1
+date-never true path old (Ok date) new (seconds, is, p) = λ at. ap (λ (events : List Event). about at events) p
+date-never true path old (Err ending) new (fault, is, p) = λ at. ap (λ (events : List Event). about at events) p
 
 pub prints-never : (bytes : List ℕ) → NeverChanges (Prints bytes)
 prints-never bytes old (Ok it) new p = λ path. ap (λ (events : List Event). about path events) p

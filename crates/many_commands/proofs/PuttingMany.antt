@@ -9,7 +9,6 @@ use Rattle.outcome.specs.declared.endings.Ending.{Ending}
 use Rattle.program_tasks.specs.declared.forms.PutManyForm.{PutManyForm}
 use Rattle.program_tasks.specs.declared.forms.TextsForm.{TextsForm}
 use Rattle.image_files.specs.Answers.{AreLines}
-use Rattle.image_files.specs.Dates.{DatesFile}
 use Rattle.image_files.specs.Stored.{TellsPlace, is_bad}
 use Rattle.image_files.specs.Reading.{Opens}
 use Rattle.image_files.specs.Saving.{Stores}
@@ -18,7 +17,7 @@ use Rattle.image_files.specs.declared.images.Image.{Image}
 use Rattle.many_commands.specs.Laws.{ChangesNothing, LeavesFiles, NeverChanges}
 use Rattle.many_commands.specs.PuttingMany.{AreFiles, DatesNext, FindsFiles, IsNewFile, IsNoName, KeepsIf, KeepsWords, LooksWhole, MakesMany, PutsFiles, PutsMany, ReadsEach, ReadsNext, RefusesLoss, RefusesMany, TakesName, TellsEmpty, TellsPath, TellsText, TellsUnread, WantsMemory, has_empty, loss_from, paths_of, stored_lines}
 use Rattle.many_commands.specs.Texts.{TakesLists, TellsBadList, lists_of}
-use Rattle.many_commands.proofs.Keeping.{looks-never, opens-never, purely-never, refuses-never, same, stores-leaves, then-leaves, then-never, told}
+use Rattle.many_commands.proofs.Keeping.{date-never, looks-never, opens-never, purely-never, refuses-never, same, stores-leaves, then-leaves, then-never, told}
 
 tells-list : (list : Option (List ℕ)) (old new : List Event) → TellsBadList list old new → ChangesNothing old new
 tells-list None old new p = same old new p
@@ -45,11 +44,6 @@ tells-unread path why old ending new (inr p) = same old new p.1
 whole-never : (path : List ℕ) → NeverChanges (LooksWhole path)
 whole-never path old (Ok bytes) new p = looks-never path path old (Ok bytes) new p
 whole-never path old (Err ending) new (why, between, looks, p) = λ at. tells-unread path why between ending new p at ∙ looks-never path path old (Err why) between looks at
-
-date-never : (is_dated : Bool) (path : List ℕ) → NeverChanges (DatesFile is_dated path)
-date-never false path old result new p = same old new p.1
-date-never true path old (Ok date) new (seconds, is, p) = same old new p
-date-never true path old (Err ending) new (fault, is, p) = same old new p
 
 dated-never : (is_dated : Bool) (path : List ℕ) → NeverChanges (DatesNext is_dated path)
 dated-never is_dated path old (Ok date) new p = date-never is_dated path old (Ok date) new p
