@@ -1,5 +1,5 @@
 -- The command that puts a file of the host, or standard input, on the volume in an image file.
-use Rattle.std.specs.Prelude.{◌≡◌, ◌≢◌, ◌⊎◌, ℕ, Bool, true, false, None, Some, Result, Ok, Err, List, [], ◌∷◌, length}
+use Rattle.std.specs.Prelude.{◌≡◌, ◌≢◌, ◌⊎◌, ℕ, Bool, true, false, Option, None, Some, Result, Ok, Err, List, [], ◌∷◌, length}
 use Rattle.hosts.specs.Event.{Event, tell_call}
 use Rattle.name_spelling.specs.Reading.{typed_name}
 use Rattle.os8_dir.specs.declared.file_faults.FileFault.TheVariants.{NothingWritten}
