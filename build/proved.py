@@ -32,7 +32,7 @@ SECONDS = {
     "char_pack": 70, "pal_lex": 150, "pal_sym": 65, "pal_asm": 160, "pal_blocks": 55, "source_notes": 60, "source_names": 60, "tape_source": 140,
     "trace8": 65, "profile8": 70, "host_sources": 240, "source_listing": 120, "pal8_join": 70, "terminal8": 90, "disk_layouts": 60, "volume_image": 85,
     "os8_dir": 160, "os8_files": 180, "script8": 170, "archive_files": 220, "archive_many": 130, "archive_survey": 100, "volume_jobs": 150, "system_session": 300,
-    "program_tasks": 40, "command_table": 500, "program_reports": 170, "outcome": 100, "image_files": 120, "volume_commands": 120, "host_progress": 20, "program_commands": 60, "choice_commands": 120, "source_commands": 120,
+    "program_tasks": 40, "command_table": 150, "command_refusals": 100, "command_line": 350, "program_reports": 170, "outcome": 100, "image_files": 120, "volume_commands": 120, "host_progress": 20, "program_commands": 60, "choice_commands": 120, "source_commands": 120,
     "host_output": 25, "script_commands": 120, "tape_commands": 90,
     "monitor8": 150, "pdp8": 140,
 }  # fmt: skip

@@ -484,7 +484,12 @@ export class Files {
 // file that it had before, or a number in brackets.
 /** @param {string} path */
 function nameOf(path) {
-    const name = path.toUpperCase().replace(/ ?\(\d+\)(?=\.|$)/, '').replace(/^([A-Z0-9]{1,6}\.[A-Z0-9]{1,2})\.(TXT|BIN)$/, '$1');
+    const escaped = /^((?:[A-Z0-9]|_[0-7]{2}){1,6}\.(?:[A-Z0-9]|_[0-7]{2}){1,2})\.(TXT|BIN)$/;
+    const name = path.toUpperCase().replace(/ ?\(\d+\)(?=\.|$)/, '').replace(escaped, '$1');
     const [first, ...rest] = name.split('.');
-    return rest.length ? `${first.slice(0, 6)}.${rest[rest.length - 1].slice(0, 2)}` : first.slice(0, 6);
+    return rest.length ? `${cut(first, 6)}.${cut(rest[rest.length - 1], 2)}` : cut(first, 6);
 }
+
+// The first characters of a name, so many; `_` and two octal digits are one.
+/** @param {string} text @param {number} most */
+function cut(text, most) { return text.match(/_[0-7]{2}|./g)?.slice(0, most).join('') ?? ''; }

@@ -8,13 +8,13 @@ use crate::owners::{files_in, owner_in};
 use archive_many::VolumeFile;
 use block_dump::{DumpForm, put_words};
 use hosts::Host;
+use image_files::{look_at, print};
 use image_patch::word_at;
 use name_spelling::put_name;
 use outcome::Ending;
 use program_reports::ProgramLine;
 use program_tasks::ImageForm;
 use std::alloc::{AllocError, Global};
-use image_files::{look_at, print};
 use word12::{BLOCK, Word};
 
 /// Shows blocks of the volume in an image file, which may be damaged. Of each it shows its number, the file that has it, its words of more

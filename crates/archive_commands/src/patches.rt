@@ -7,11 +7,11 @@ ghost use Rattle.archive_commands.specs.Patching.{PatchesWord, GivesPatched, Ref
 use crate::lines::{put_bits, put_number};
 use crate::refusals::refuse_with;
 use hosts::Host;
+use image_files::{Image, store};
 use image_patch::{PatchFault, patch};
 use outcome::Ending;
 use program_tasks::ImageForm;
 use std::alloc::{AllocError, Global};
-use image_files::{Image, store};
 use word12::Word;
 
 /// A word of an image in place of another.

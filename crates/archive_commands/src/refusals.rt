@@ -2,8 +2,8 @@
 ghost use Rattle.archive_commands.specs.Refusing.{EndsWith};
 
 use hosts::Host;
-use outcome::Ending;
 use image_files::print;
+use outcome::Ending;
 
 /// How a command ends that is refused with this line, which is printed.
 pub fn refuse_with<H: Host>(host: &mut H, line: &[u8]) -> Ending

@@ -1,7 +1,6 @@
 ghost use Rattle.std.specs.Prelude.{◌≡◌, map, IfOk};
 ghost use Rattle.name_spelling.specs.Reading.{typed_name};
 ghost use Rattle.archive_many.specs.HostNames.{IsLastPart, NamesHost, NamesVolume};
-ghost use Rattle.archive_many.specs.Laws.{IsOfWords};
 ghost use Rattle.archive_many.specs.HostNames as spec;
 
 use crate::VolumeFile;
@@ -20,21 +19,12 @@ pub fn host_name(alloc: Global, file: &VolumeFile) -> Result<String, AllocError>
     ensures { IfOk result (λ text. NamesHost file.now text.bytes.items) }
 {
     safe_names();
-    name_range(file.name);
     let mut line = TextLine::new();
     put_spelled(&mut line, file.name);
     match str::from_utf8(line.as_slice()) {
         Ok(text) => String::from_str(alloc, text),
         Err(_) => unreachable!(),
     }
-}
-
-/// A name is one of four words of twelve bits. The call does nothing: its contract is what the words say.
-fn name_range(name: Name)
-    ensures { IsOfWords name }
-{
-    let [first, second, third, extension] = name.words();
-    let _bits = [first.get(), second.get(), third.get(), extension.get()];
 }
 
 /// The name of a volume's file for a path of the host: what stands after its last slash, with small letters raised, where that

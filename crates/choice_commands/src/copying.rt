@@ -12,11 +12,11 @@ use crate::refusing::{refuse_copies, refuse_wish};
 use crate::wishing::wishes_on;
 use archive_many::{OpenVolume, VolumeFile, Wish, copy_all, first_unfound, open};
 use hosts::Host;
+use image_files::{Image, is_one_image, look_at, refuse_one, store};
 use outcome::Ending;
 use program_reports::{ProgramLine, put_program};
 use program_tasks::CopyManyForm;
 use std::alloc::{AllocError, Global};
-use image_files::{Image, is_one_image, look_at, refuse_one, store};
 
 /// Copies those files of the volume in an image file that the words choose to the volume in another, all or none, and reports each.
 pub fn copy_files<H: Host>(host: &mut H, alloc: Global, form: &CopyManyForm) -> Result<(), Ending>

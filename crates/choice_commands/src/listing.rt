@@ -10,13 +10,13 @@ use archive_commands::list_chosen;
 use archive_files::ArchiveFault;
 use archive_many::{Wish, first_unfound, list_like};
 use hosts::Host;
+use image_files::{look_at, open_volume, print, refuse_image};
 use os8_files::FileFault;
 use outcome::Ending;
 use program_reports::with_prefix;
 use program_tasks::ListForm;
 use script8::{SessionFault, put_reply};
 use std::alloc::{AllocError, Global};
-use image_files::{look_at, open_volume, print, refuse_image};
 
 /// Lists the files of the one volume that is meant whose names are like the words, as `list_files` or `list_places` has them. A word that is like
 /// none is printed before the list, and why.

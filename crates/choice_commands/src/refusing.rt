@@ -8,13 +8,13 @@ ghost use Rattle.choice_commands.specs.RefusalSteps.{IsOlder, IsRefused, IsToldO
 use archive_files::CopyFault;
 use archive_many::{CopyAllFault, VolumeFile, Wish, host_name};
 use hosts::Host;
+use image_files::{refuse_one, tell_note};
 use os8_files::FileFault;
 use outcome::{Ending, NameNote, Note};
 use program_reports::ProgramLine;
 use program_tasks::CopyManyForm;
 use script8::SessionFault;
 use std::alloc::{AllocError, Global};
-use image_files::{refuse_one, tell_note};
 
 /// How the command ends where a word asks for no file. It is printed.
 pub fn refuse_wish<H: Host>(host: &mut H, alloc: Global, words: &[String], wish: Wish) -> Ending

@@ -9,11 +9,11 @@ use crate::listing::{end_where, put_line, put_word};
 use archive_files::GetForm;
 use archive_many::{OpenVolume, VolumeFile, Wish, host_name, wishes_of};
 use hosts::Host;
+use image_files::{look_at, open_volume, print, tell_line};
 use os8_files::FileFault;
 use outcome::Ending;
 use program_tasks::ImageForm;
 use std::alloc::{AllocError, Global};
-use image_files::{look_at, open_volume, print, tell_line};
 
 /// Prints the texts of the files of a volume that words, first blocks, or all ask for, each file once. Where they are several, a line
 /// with its name stands before each, as `head` prints files (the lines are this project's profile).

@@ -4,8 +4,8 @@ use Rattle.clap.specs.declared.builder.arg.Arg.{Arg}
 use Rattle.clap.specs.declared.builder.command.Command.{Command}
 use Rattle.command_table.specs.declared.table.ArgumentOf.{ArgumentOf}
 use Rattle.command_table.specs.declared.table.EntryOf.{EntryOf}
-use Rattle.command_table.specs.Tables.{app_of_table, app_with, rows_for, leaf_app, leaf_shape, leaf_with, rule_for, rules_for}
-use Rattle.command_table.specs.Steps.{entry_of, row_of, is_fit, is_sound, IsArgument, IsCommand, with_leaf}
+use Rattle.command_table.specs.Tables.{app_of_table, app_with, rows_for, leaf_app, leaf_shape, leaf_with, rule_for, rules_for, entry_of, row_of, IsCommand}
+use Rattle.command_table.specs.Steps.{is_fit, is_sound, IsArgument, with_leaf}
 
 -- ## Arguments
 

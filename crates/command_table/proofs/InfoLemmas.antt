@@ -1,8 +1,7 @@
 -- The information words that are given, by a date or themselves.
 use Rattle.command_table.proofs.Names.{◌≡◌, ◌∙◌, ℕ, ap, map, option_map, sym, List, [], ◌∷◌, Option, Some, None, Text}
-use Rattle.command_table.specs.Found.{date_word}
-use Rattle.command_table.specs.Tasks.{info_or}
-use Rattle.command_table.proofs.WalkLemmas.{some_eq}
+use Rattle.command_table.specs.Found.{date_word, info_or}
+use Rattle.command_table.proofs.OptionLemmas.{some_eq}
 
 pub info-dated : (given : Option Text) (words : Option (List (Option ℕ))) (word : ℕ) (items : List ℕ) → option_map date_word given ≡ Some (Some word)
     → items ≡ word ∷ [] → info_or given words ≡ Some (map (λ word. Some word) items)

@@ -1,14 +1,5 @@
-mod Names
+pub mod Names
+pub mod OptionLemmas
 mod CommandLemmas
-mod WalkLemmas
-mod LeafLemmas
-mod FoundLemmas
-mod RefusalLemmas
-mod SourceLemmas
-mod TableLemmas
-mod NumberLemmas
-mod TaskLemmas
-mod EnterLemmas
-mod UseLemmas
-mod EnteredLemmas
+pub mod NumberLemmas
 mod InfoLemmas

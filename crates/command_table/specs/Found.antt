@@ -142,6 +142,22 @@ volume_of text = if bytes_eq text (codes "1") then First else Second
 abbrev pub layout_of : Text → Text → List Row → Option Layout
 layout_of volume dectape values = if is_set dectape values then Some Dectape else option_map volume_of (first_of volume values)
 
+-- ## Information words
+
+-- the information words that are given themselves
+abbrev pub given_info : List Row → Option (List (Option ℕ))
+given_info values = option_map (map word_of) (all_of (codes "info") values)
+
+-- the word of a date, else those words
+abbrev pub info_or : Option Text → Option (List (Option ℕ)) → Option (List (Option ℕ))
+info_or None words = words
+info_or (Some date) words = Some (date_word date ∷ [])
+
+-- the information words, if any is given
+abbrev pub IsInfo : List Row → Option (List ℕ) → Type 0
+IsInfo values info = info_or (first_of (codes "date") values) (given_info values)
+    ≡ option_map (map (λ word. Some word)) info
+
 -- ## The forms of values
 
 abbrev pub form_of : Kind → Form

@@ -1,6 +1,4 @@
 pub mod Tables
 pub mod Found
-pub mod Refusals
-pub mod Tasks
+pub mod Values
 pub mod Steps
-pub mod Plain

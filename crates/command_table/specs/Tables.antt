@@ -1,11 +1,11 @@
 -- The command line that the table describes, as `clap` reads it: one definition, computed from the table.
-use Rattle.std.specs.Prelude.{find, ◌&&◌, Bool, true, ℕ, codes, List, [], ◌∷◌, ◌++◌, map, not, Option, Some, None}
+use Rattle.std.specs.Prelude.{find, ◌&&◌, Bool, true, ℕ, codes, List, [], ◌∷◌, ◌++◌, map, not, Option, Some, None, ◌≡◌, false, IfOk, Result}
 use Rattle.std.specs.List.{list_any}
 use Rattle.std.specs.Option.{option_map_or}
 use Rattle.std.specs.Str.{bytes_eq}
 use Rattle.clap.specs.Walk.{is_empty}
 use Rattle.clap.specs.Simple.{new_shape}
-use Rattle.clap.specs.Words.{App, Rule, Shape, Text, new_app, new_rule}
+use Rattle.clap.specs.Words.{App, Rule, Shape, Text, new_app, new_rule, app_of}
 use Rattle.clap.specs.declared.builder.range.ValueRange.{ValueRange}
 use Rattle.clap.specs.declared.builder.value_parser.ValueParser.{ValueParser}
 use Rattle.clap.specs.declared.builder.value_parser.ValueParser.TheVariants.{Unsigned}
@@ -19,6 +19,9 @@ use Rattle.command_table.specs.declared.table.EntryOf.{EntryOf}
 use Rattle.command_table.specs.declared.table.TheConstants.{COMMANDS, PAIRS, TAPE, RIM, SOURCE, ASSEMBLE, TELETYPE, TRACE, RUN, CREATE, LIST, GET, PUT, DELETE, RENAME, COPY, SQUEEZE, CHECK, DUMP, PATCH, INDEX, RESCUE, SCAN}
 use Rattle.command_table.specs.declared.table.Verb.{Verb}
 use Rattle.command_table.specs.declared.table.Verb.TheVariants as verb
+use Rattle.std.specs.Borrow.{Bor}
+use Rattle.clap.specs.declared.builder.command.Command.{Command}
+use Rattle.clap.specs.declared.builder.command.Command.TheViews.{out-Command as fields_of}
 
 -- the most that `u64` holds
 abbrev pub most_steps : ℕ
@@ -87,6 +90,17 @@ table = map (entry_with (λ (text : TextAnd Text). text.now)) COMMANDS.now
 
 abbrev pub pairs : List (Text × Text)
 pairs = map (λ (pair : TextAnd Text × TextAnd Text). (pair.0.now, pair.1.now)) PAIRS.now
+
+-- as functions get them
+abbrev pub row_of : ArgumentOf (Bor Text) → Argument
+row_of row = row_with (λ text. text.now) row
+
+abbrev pub entry_of : EntryOf (Bor Text) → Entry
+entry_of entry = entry_with (λ text. text.now) entry
+
+-- two arguments that exclude each other, by their names
+abbrev pub pair_of : Bor Text × Bor Text → Text × Text
+pair_of pair = (pair.0.now, pair.1.now)
 
 -- ## The kinds of argument
 
@@ -166,6 +180,18 @@ app_of_table entries = app_with (map leaf_shape entries)
 -- the program: to its subcommands `clap` adds what is its own, help and version
 abbrev pub pdp8 : App
 pdp8 = app_of_table table
+
+-- ## The command, as `clap` has it
+
+-- This fact stays closed, so a proof cites what `clap` makes of a part and does not compute it again.
+
+-- the command is this one to `clap`, and has no argument for its subcommands too
+unfoldable pub IsCommand : Command → App → Type 0
+IsCommand command app = (app_of command ≡ app) × ((fields_of command).has_globals ≡ false)
+
+-- the command, if there was memory for it, is this one
+abbrev pub IsDraft : {E : Type 0} → Result Command E → App → Type 0
+IsDraft draft app = IfOk draft (λ command. IsCommand command app)
 
 -- no name stands twice
 abbrev pub are_distinct : List Text → Bool

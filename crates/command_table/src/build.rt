@@ -2,8 +2,8 @@
 ghost use Rattle.std.specs.Prelude.{◌≡◌, ◌<◌, true, codes, map, None};
 ghost use Rattle.std.specs.List.{list_all};
 ghost use Rattle.clap.specs.Words.{new_app};
-ghost use Rattle.command_table.specs.Steps.{IsArgument, IsCommand, IsDraft, entry_of, fits, is_fit, is_sound, row_of, option_rule, options_rule};
-ghost use Rattle.command_table.specs.Tables.{bare_app, kind_rule, leaf_app, rule_with_letter, pdp8, rule_for};
+ghost use Rattle.command_table.specs.Steps.{IsArgument, fits, is_fit, is_sound, option_rule, options_rule};
+ghost use Rattle.command_table.specs.Tables.{IsCommand, IsDraft, entry_of, row_of, bare_app, kind_rule, leaf_app, rule_with_letter, pdp8, rule_for};
 ghost use Rattle.command_table.specs.Tables as spec;
 ghost use Rattle.command_table.specs.declared.table.Kind.TheVariants as kind;
 
@@ -105,7 +105,7 @@ fn leaf_of<'a>(alloc: Global, entry: &'a Entry) -> Draft<'a>
 }
 
 /// A subcommand before it has its arguments, with its texts.
-#[tactic(auto, unfolding(crate::specs::Steps::IsCommand))]
+#[tactic(auto, unfolding(crate::specs::Tables::IsCommand))]
 fn bare_leaf<'a>(alloc: Global, entry: &'a Entry) -> Command<'a>
     ensures { IsCommand result (new_app entry.now.word.now) }
 {
@@ -146,7 +146,7 @@ fn bare_command_line<'a>(alloc: Global) -> Draft<'a>
 }
 
 /// The command of the name `pdp8`, by which its texts call it, whatever the first word is.
-#[tactic(auto, unfolding(crate::specs::Steps::IsCommand))]
+#[tactic(auto, unfolding(crate::specs::Tables::IsCommand))]
 fn named_command_line<'a>(alloc: Global) -> Draft<'a>
     ensures { IsDraft result (new_app (codes "pdp8")) }
 {
@@ -154,7 +154,7 @@ fn named_command_line<'a>(alloc: Global) -> Draft<'a>
 }
 
 /// The program's command with its texts for help.
-#[tactic(auto, unfolding(crate::specs::Steps::IsCommand))]
+#[tactic(auto, unfolding(crate::specs::Tables::IsCommand))]
 fn with_texts<'a>(command: Command<'a>) -> Command<'a>
     ensures { (app : _) → IsCommand command.entry app → IsCommand result app }
 {
@@ -164,7 +164,7 @@ fn with_texts<'a>(command: Command<'a>) -> Command<'a>
 }
 
 /// The program's command with its version, which wants a subcommand.
-#[tactic(auto, unfolding(crate::specs::Steps::IsCommand))]
+#[tactic(auto, unfolding(crate::specs::Tables::IsCommand))]
 fn with_version<'a>(command: Command<'a>) -> Command<'a>
     ensures { IsCommand command.entry (new_app (codes "pdp8")) → IsCommand result bare_app }
 {

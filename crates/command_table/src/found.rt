@@ -3,7 +3,7 @@ ghost use Rattle.std.specs.Prelude.{◌≡◌, ◌≤◌, [], codes, true, map, 
 ghost use Rattle.clap.specs.Words.{first_of, one_of};
 ghost use Rattle.word12.specs.declared.sizes.TheConstants.{MOST_BLOCKS};
 ghost use Rattle.command_table.specs.Found.{IsReadAs, number_of, place_of};
-ghost use Rattle.command_table.specs.Steps.{Has, IsFirst, IsTaken, IsText, has_text, kind_at, takes_block, takes_text, takes_texts, values_in};
+ghost use Rattle.command_table.specs.Values.{Has, IsFirst, IsText, has_text, kind_at, takes_block, takes_text, takes_texts, values_in, IsTaken};
 ghost use Rattle.command_table.specs.Tables.{rows_for};
 ghost use Rattle.command_table.specs.declared.table.Form.TheVariants as form;
 ghost use Rattle.command_table.specs.declared.table.Kind.TheVariants as kind;

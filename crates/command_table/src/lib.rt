@@ -1,27 +1,26 @@
-//! What a command line asks of the program, as the library `clap` reads it: its subcommands and their arguments stand in one table. No task is
-//! done here.
+//! The subcommands of a command line and their arguments, in one table, and what the library `clap` reads by it: the command, and what was found for
+//! an argument.
 #![tactic(auto)]
 
-mod archives;
 mod build;
-mod faults;
-mod files;
 mod found;
-mod judging;
 mod laws;
 mod lists;
-mod missing;
 mod numbers;
-mod refusals;
-mod table;
-mod tapes;
-mod tasks;
+pub mod table;
 mod texts;
-mod volumes;
 
-pub use faults::TaskFault;
-pub use laws::{excluded_arguments, letters, options, plain_words};
-pub use refusals::{Refusal, What};
-pub use table::{Argument, ArgumentOf, COMMANDS, Entry, EntryOf, Form, Kind, PAIRS, Pair, Verb};
-pub use tasks::task;
+pub use build::{Draft, command_line};
+pub use found::{
+    Read, block_of, cell_of, count_of, date_of, flag, has, is_set, layout_of, name_if_given,
+    name_of, names_of, octal_of, size_of, span_of, text_given, text_of, texts_in, value_if_given,
+    value_of, values_of, wait_of, word_at, year_of,
+};
+pub use laws::{excluded_arguments, letters};
+pub use lists::{blocks_of, cells_of, info_of};
+pub use numbers::{bits_in, cell_in, date_in, number_in, number_of, span_in, word_in};
+pub use table::{
+    Argument, ArgumentOf, COMMANDS, Entry, EntryOf, Form, Kind, PAIRS, Pair, Verb, arguments_of,
+    pairs,
+};
 pub use texts::SCRIPT_LINES;

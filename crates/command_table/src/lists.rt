@@ -1,10 +1,9 @@
 //! What `clap` found for an option that is given several times, where each value is a number.
 ghost use Rattle.std.specs.Prelude.{◌≡◌, codes, map, option_map, IfOk, None, Some};
-ghost use Rattle.command_table.specs.Found.{cell_of, first_not, place_of, word_of};
-ghost use Rattle.command_table.specs.Steps.{IsFirst, IsWell, kind_at, values_in};
+ghost use Rattle.command_table.specs.Found.{cell_of, first_not, place_of, word_of, IsInfo, given_info};
+ghost use Rattle.command_table.specs.Values.{IsFirst, IsWell, kind_at, values_in};
 ghost use Rattle.command_table.specs.Found as spec;
 ghost use Rattle.command_table.specs.Tables.{rows_for};
-ghost use Rattle.command_table.specs.Tasks.{IsInfo, given_info};
 ghost use Rattle.command_table.specs.declared.table.Form.TheVariants as form;
 ghost use Rattle.command_table.specs.declared.table.Kind.TheVariants as kind;
 

@@ -1,8 +1,7 @@
 //! The subcommands and their arguments: what each takes, which exclude each other, and what help says of them. All else that the command
 //! line does is read from here.
 ghost use Rattle.std.specs.Prelude.{◌≡◌, map};
-ghost use Rattle.command_table.specs.Tables.{rows_for};
-ghost use Rattle.command_table.specs.Steps.{entry_of, pair_of, row_of};
+ghost use Rattle.command_table.specs.Tables.{rows_for, entry_of, pair_of, row_of};
 ghost use Rattle.command_table.specs.Tables as spec;
 
 use word12::MOST_BLOCKS;
@@ -98,7 +97,7 @@ pub enum Verb {
     Scan,
 }
 
-/// The most images that an index takes.
+/// The most images that are checked, or that an index is made of.
 pub const MOST_IMAGES: usize = 1_000_000;
 
 /// An argument of a subcommand, with texts of the type `T`.
@@ -400,7 +399,7 @@ pub const SQUEEZE: &[Argument] = rows! {
 };
 
 pub const CHECK: &[Argument] = rows! {
-    "IMAGE" must Kind::Words(MOST_BLOCKS), "", "The files that hold the volumes";
+    "IMAGE" must Kind::Words(MOST_IMAGES), "", "The files that hold the volumes";
     "all" 'a' flag Kind::Flag, "", "Show each fault of the directory, and the files that are sound";
     "volume" 'v' option Kind::One(Form::Volume), "N", "The volume of an RK05 disk, 1 or 2, where IMAGE is the file of one";
     "dectape" flag Kind::Flag, "", "IMAGE is the file of a DECtape, of 129 words a block";

@@ -106,8 +106,8 @@ has_links [] = true
 has_links (e ∷ earlier) = with_links e.call e.ok e.number (has_links earlier)
 
 -- A call that failed says why. Where a file has the path, by which another program made it meanwhile, that is busy. The empty file of a path
--- that can't be taken away may not be written. Of other calls on a file that is made it is only known that they failed, and one that takes
--- the file beside it away, or gives that a time, says nothing.
+-- that can't be taken away may not be written. Of other calls on a file that is made it is only known that they failed. One that
+-- takes the file beside it away, or gives that a time, says nothing.
 abbrev pub with_fault : Call → Bool → ℕ → ℕ → ℕ
 with_fault There true number before = fault_number host.Busy
 with_fault There false number before = before

@@ -1,2 +1,4 @@
-mod KeepLemmas
+pub mod KeepLemmas
+pub mod LeaveLemmas
 mod ReadLemmas
+pub mod WorkLemmas

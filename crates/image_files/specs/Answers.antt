@@ -1,5 +1,5 @@
 -- The result of a call on the bytes of an image for a command.
-use Rattle.std.specs.Prelude.{◌≡◌, ℕ, Result, Ok, Err, List}
+use Rattle.std.specs.Prelude.{◌≡◌, ℕ, Result, Ok, Err, List, ◌++◌, codes}
 use Rattle.std.specs.Global.{Vec}
 use Rattle.hosts.specs.Event.{Event}
 use Rattle.archive_files.specs.declared.faults.ArchiveFault.{ArchiveFault}
@@ -12,6 +12,7 @@ use Rattle.image_files.specs.Notes.{TellsOfImage}
 use Rattle.archive_many.specs.declared.faults.BlocksFault.{BlocksFault}
 use Rattle.archive_many.specs.declared.faults.BlocksFault.TheVariants.{Archive, NoBlocks}
 use Rattle.program_reports.specs.declared.programs.ProgramLine.TheVariants as line
+use Rattle.program_reports.specs.Prefixes.{with_prefixes}
 
 -- a command ends since an image of so many bytes, or a file of it, is refused; what may help is printed on standard error
 abbrev pub Refuses : ArchiveFault → ℕ → List Event → Ending → List Event → Type 0
@@ -38,3 +39,7 @@ IsTaken size (Err fault) old (Err ending) new = Refuses fault size old ending ne
 abbrev pub AreLines : List ℕ → Result (Vec ℕ) Ending → Type 0
 AreLines text (Ok lines) = lines.items ≡ text
 AreLines text (Err ending) = ending ≡ Fault Memory
+
+-- each line has the name of its file or volume before it
+abbrev pub named_lines : List ℕ → List ℕ → List ℕ
+named_lines file text = with_prefixes (file ++ codes ": ") text

@@ -1,5 +1,5 @@
 -- What is printed at the end of a command, and its exit status.
-use Rattle.std.specs.Prelude.{◌≡◌, ◌⊎◌, ℕ, Bool, Option, None, Some, Result, Ok, Err, List, ◌∷◌, IsUtf8}
+use Rattle.std.specs.Prelude.{◌≡◌, ◌⊎◌, ℕ, Bool, Option, None, Some, Result, Ok, Err, List, ◌∷◌, IsUtf8, true, false}
 use Rattle.hosts.specs.Event.{Event, tell_call}
 use Rattle.outcome.specs.Contents.{content_name}
 use Rattle.outcome.specs.Notes.{file_text}
@@ -12,6 +12,7 @@ use Rattle.outcome.specs.declared.outcomes.Stream.{Stream}
 use Rattle.outcome.specs.declared.outcomes.Stream.TheVariants.{Output, Errors}
 use Rattle.outcome.specs.declared.endings.Ending.{Ending}
 use Rattle.image_files.specs.Saving.{Prints, IsDone}
+use Rattle.outcome.specs.declared.endings.Ending.TheVariants.{Failure}
 
 -- the note is printed on standard error, if there is one
 abbrev pub with_note : Option (FileNote × Content) → Bool → List Event → List Event
@@ -45,3 +46,10 @@ pub record EndsSo (is_data : Bool) (work : Result (Unit {0}) Ending) (old new : 
   pub between : List Event
   pub prints : PrintsOutcome outcome old printed between
   pub after : EndsAfter is_data outcome printed between new status
+
+-- the command ends well where all is sound
+abbrev pub EndsSound : Bool → Result (Unit {0}) Ending → Type 0
+EndsSound true (Ok it) = Unit {0}
+EndsSound true (Err ending) = ⊥
+EndsSound false (Ok it) = ⊥
+EndsSound false (Err ending) = ending ≡ Failure

@@ -1,9 +1,29 @@
 -- What steps of commands leave as it was.
-use Rattle.std.specs.Prelude.{◌≡◌, ℕ, Result, List}
+use Rattle.std.specs.Prelude.{◌≡◌, ℕ, Result, List, Bool, true, false, Err}
 use Rattle.hosts.specs.Event.{Event}
 use Rattle.hosts.specs.Place.{about}
 use Rattle.outcome.specs.declared.endings.Ending.{Ending}
+use Rattle.outcome.specs.declared.endings.Ending.TheVariants.{Line, Fault, Failure, Busy, NotWritten, FullOutput, NoReader, Misuse}
 
 -- what the calls so far come to for the file of each path is as it was before the step, in whichever way it ends
 abbrev pub KeepsFiles : {A : Type 0} → (List Event → Result A Ending → List Event → Type 0) → Type 0
 KeepsFiles {A} step = (old : List Event) (result : Result A Ending) (new : List Event) → step old result new → (path : List ℕ) → about path new ≡ about path old
+
+-- A command is refused: by its words, or by what it reads. The other endings come of a file that can't be written, and of standard output.
+abbrev pub is_refusal : Ending → Bool
+is_refusal (Line line) = true
+is_refusal (Fault fault) = true
+is_refusal Failure = true
+is_refusal (Busy content) = true
+is_refusal (NotWritten content left) = false
+is_refusal FullOutput = false
+is_refusal NoReader = false
+is_refusal Misuse = true
+
+-- no call has changed a file, whatever its path
+abbrev pub ChangesNothing : List Event → List Event → Type 0
+ChangesNothing old new = (path : List ℕ) → about path new ≡ about path old
+
+-- a command that is refused has changed no file
+abbrev pub LeavesFiles : {A : Type 0} → (List Event → Result A Ending → List Event → Type 0) → Type 0
+LeavesFiles command = (old : List Event) (ending : Ending) (new : List Event) → command old (Err ending) new → is_refusal ending ≡ true → ChangesNothing old new

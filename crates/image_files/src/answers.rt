@@ -4,7 +4,7 @@ ghost use Rattle.archive_files.specs.Asking.{target_of};
 ghost use Rattle.archive_files.specs.Getting.{Gets};
 ghost use Rattle.archive_many.specs.Opened.{OpensVolume};
 ghost use Rattle.program_reports.specs.Program as report;
-ghost use Rattle.image_files.specs.Answers.{Answers, AreLines, IsTaken};
+ghost use Rattle.image_files.specs.Answers.{Answers, AreLines, IsTaken, named_lines};
 ghost use Rattle.image_files.specs.Stored.{stored_line};
 
 use crate::notes::refuse_image;
@@ -12,7 +12,7 @@ use archive_files::{ArchiveFault, Asked, GetForm, NewImage, get};
 use archive_many::{OpenVolume, open};
 use hosts::Host;
 use outcome::Ending;
-use program_reports::{ProgramLine, put_program};
+use program_reports::{ProgramLine, put_program, with_prefix};
 use std::alloc::Global;
 
 /// What a call on an image of so many bytes answers. Where it or a file of it is refused, what may help is printed.
@@ -36,6 +36,15 @@ pub fn program_line(alloc: Global, line: &ProgramLine) -> Result<Vec<u8>, Ending
     let mut text = Vec::new(alloc);
     put_program(line, &mut text)?;
     Ok(text)
+}
+
+/// Lines with a name before each.
+pub fn named_lines(alloc: Global, name: &str, text: &[u8]) -> Result<Vec<u8>, Ending>
+    ensures { AreLines (named_lines name.now text.now) result }
+{
+    let prefix = format!(in alloc; "{name}: ")?;
+    let lines = with_prefix(alloc, prefix.as_bytes(), text)?;
+    Ok(lines)
 }
 
 /// The volume in an image. Where it is refused, what may help is printed.

@@ -1,5 +1,5 @@
 //! The end of a command: what the table of outcomes has for it is printed.
-ghost use Rattle.image_files.specs.Ending.{EndsSo, PrintsOutcome, TellsLine};
+ghost use Rattle.image_files.specs.Ending.{EndsSo, EndsSound, PrintsOutcome, TellsLine};
 
 use crate::notes::tell;
 use crate::printing::print;
@@ -63,4 +63,14 @@ pub fn tell_line<H: Host>(host: &mut H, line: &[u8])
     if let Ok(text) = str::from_utf8(line) {
         tell(host, text);
     }
+}
+
+/// How a command ends where all is sound, or not.
+pub fn end_sound(is_sound: bool) -> Result<(), Ending>
+    ensures { EndsSound is_sound result }
+{
+    if is_sound {
+        return Ok(());
+    }
+    Err(Ending::Failure)
 }

@@ -4,10 +4,10 @@ ghost use Rattle.index_commands.specs.Columns.{ChoosesColumns, Shows, longest};
 ghost use Rattle.index_commands.specs.Columns as spec;
 
 use hosts::{Host, Stream};
+use image_files::print;
 use outcome::Ending;
 use std::alloc::{AllocError, Global};
 use text_columns::align;
-use image_files::print;
 use volume_index::json_lines;
 
 /// How wide the columns after the image's name are: a volume's number, a block, a length, a name, a date, and what a file holds.

@@ -12,10 +12,10 @@ use archive_many::{ChoiceFault, choose_files};
 use disk_layouts::Layout;
 use host_progress::Progress;
 use hosts::Host;
+use image_files::{ImageReading, image_named, look_image};
 use image_kind::{Form, kind_of};
 use outcome::Ending;
 use std::alloc::Global;
-use image_files::{ImageReading, image_named, look_image};
 use volume_index::{IndexStyle, index_volume};
 
 /// Prints the index of the volumes in image files: a line for each file of each that is wanted, images as they are given and files as they

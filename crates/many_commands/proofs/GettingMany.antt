@@ -18,21 +18,23 @@ use Rattle.program_reports.specs.declared.programs.ProgramLine.TheVariants as li
 use Rattle.outcome.specs.declared.endings.Ending.{Ending}
 use Rattle.outcome.specs.declared.endings.Ending.TheVariants.{Fault}
 use Rattle.program_tasks.specs.declared.forms.GetManyForm.{GetManyForm}
-use Rattle.image_files.specs.Answers.{Answers, AreLines}
+use Rattle.image_files.specs.Answers.{Answers, AreLines, named_lines}
 use Rattle.image_files.specs.Reading.{LooksAt}
 use Rattle.image_files.specs.Saving.{Prints}
 use Rattle.image_files.specs.Work.{Then, Purely}
 use Rattle.many_commands.specs.GettingMany.{AreFilesOn, GetsMany, GivesAsked, GivesEach, GivesFile, GivesWish, HasLaid, IsPath, LaysAndTells, LaysFile, MakesFolder, PrintsAnswer, RefusesWord, ReplacesIf, TakesFile, IsHostName, TellsLaid, count_after, time_of_file}
-use Rattle.many_commands.specs.Laws.{ChangesIn, ChangesNothing, IsIn, NeverChanges, NeverReplaces}
+use Rattle.many_commands.specs.Laws.{ChangesIn, IsIn, NeverReplaces}
 use Rattle.host_progress.specs.Progressing.{TellsProgress, WithProgress}
-use Rattle.many_commands.specs.Reporting.{EndsSound, named_lines}
+use Rattle.image_files.specs.Ending.{EndsSound}
 use Rattle.many_commands.specs.Texts.{TakesLists, get_form}
 use Rattle.many_commands.specs.Wishing.{AreWishes, words_of}
 use Rattle.archive_many.specs.declared.wishes.Wish.{Wish}
 use Rattle.archive_many.specs.declared.wishes.Wish.TheVariants as wish
-use Rattle.many_commands.proofs.Keeping.{answers-never, looks-at-never, prints-never, purely-never, same, then-never}
-use Rattle.many_commands.proofs.Looking.{begins-never, ends-never, progress-never}
 use Rattle.many_commands.proofs.PuttingMany.{lists-never}
+use Rattle.image_files.specs.Laws.{KeepsFiles, ChangesNothing}
+use Rattle.image_files.proofs.KeepLemmas.{then-keeps as then-never, purely-keeps as purely-never, prints-keeps, looks-at-keeps}
+use Rattle.image_files.proofs.LeaveLemmas.{same, answers-never}
+use Rattle.host_progress.proofs.KeepLemmas.{begins-never, ends-never, progress-never}
 
 -- what a command may have done to files that gets some to a folder
 record Stays (form : GetManyForm) (old new : List Event) : Type 0 where
@@ -48,7 +50,7 @@ still form old new p = record { others = λ path out. p path; replaced = λ is p
 both : (form : GetManyForm) (old between new : List Event) → Stays form old between → Stays form between new → Stays form old new
 both form old between new p q = record { others = λ path out. q.others path out ∙ p.others path out; replaced = λ is path. q.replaced is path ∙ p.replaced is path }
 
-keeps-never : {A : Type 0} (form : GetManyForm) (command : List Event → Result A Ending → List Event → Type 0) → NeverChanges command → Keeps form command
+keeps-never : {A : Type 0} (form : GetManyForm) (command : List Event → Result A Ending → List Event → Type 0) → KeepsFiles command → Keeps form command
 keeps-never form command n old result new p = still form old new (n old result new p)
 
 then-keeps : {A B : Type 0} (form : GetManyForm) (first : List Event → Result A Ending → List Event → Type 0) (next : A → List Event → Result B Ending → List Event → Type 0)
@@ -89,12 +91,12 @@ lays-stays : (form : GetManyForm) (path bytes : List ℕ) (seconds : Option ℕ)
 lays-stays form path bytes seconds (Ok it) old new inside p = laid-stays form path bytes seconds (Ok it) old new inside p
 lays-stays form path bytes seconds (Err fault) old new inside p = laid-stays form path bytes seconds (Err fault) old new inside p.0
 
-prints-answer-never : (is_there : Bool) (text : List ℕ) → NeverChanges (PrintsAnswer is_there text)
+prints-answer-never : (is_there : Bool) (text : List ℕ) → KeepsFiles (PrintsAnswer is_there text)
 prints-answer-never is_there text =
     then-never (Purely (AreLines text)) (λ lines. Then (Prints lines.items) (λ it. Purely (λ (result : Result Bool Ending). result ≡ Ok is_there))) (purely-never (AreLines text))
-    (λ lines. then-never (Prints lines.items) (λ it. Purely (λ (result : Result Bool Ending). result ≡ Ok is_there)) (prints-never lines.items) (λ it. purely-never (λ (result : Result Bool Ending). result ≡ Ok is_there)))
+    (λ lines. then-never (Prints lines.items) (λ it. Purely (λ (result : Result Bool Ending). result ≡ Ok is_there)) (prints-keeps lines.items) (λ it. purely-never (λ (result : Result Bool Ending). result ≡ Ok is_there)))
 
-tells-laid-never : (file : VolumeFile) (name : List ℕ) (done : Result (Unit {0}) HostFault) → NeverChanges (TellsLaid file name done)
+tells-laid-never : (file : VolumeFile) (name : List ℕ) (done : Result (Unit {0}) HostFault) → KeepsFiles (TellsLaid file name done)
 tells-laid-never file name (Ok it) = prints-answer-never true (program_line (line.Got file.name file.blocks))
 tells-laid-never file name (Err host.Busy) = prints-answer-never false (named_lines name (program_line line.HostExists))
 tells-laid-never file name (Err host.Memory) = purely-never (λ (result : Result Bool Ending). result ≡ Err (Fault Memory))
@@ -122,7 +124,7 @@ gives-file form blocks file =
     (λ bytes. then-keeps form (Purely (IsHostName file)) (λ name. Then (Purely (IsPath form.folder.bytes.items name.bytes.items)) (λ path. LaysAndTells form file name.bytes.items path.bytes.items bytes.items (time_of_file form.year blocks file))) (purely-keeps form (IsHostName file))
     (λ name. gives-at form file name.bytes.items bytes.items (time_of_file form.year blocks file)))
 
-refuses-never : (word : Option (List ℕ)) (why : FileFault) → NeverChanges (RefusesWord word why)
+refuses-never : (word : Option (List ℕ)) (why : FileFault) → KeepsFiles (RefusesWord word why)
 refuses-never None why = purely-never (λ (result : Result Bool Ending). result ≡ Ok false)
 refuses-never (Some word) why = prints-answer-never false (named_lines word (fault_line (File why)))
 
@@ -142,7 +144,7 @@ gives-each form blocks is_told all done are_there (one ∷ wishes) =
 
 -- ## The command
 
-folder-never : (folder : List ℕ) → NeverChanges (MakesFolder folder)
+folder-never : (folder : List ℕ) → KeepsFiles (MakesFolder folder)
 folder-never folder old (Ok it) new p = λ path. ap (λ (events : List Event). about path events) p
 folder-never folder old (Err ending) new (fault, is, p) = λ path. ap (λ (events : List Event). about path events) p
 
@@ -167,7 +169,7 @@ gives-asked form blocks =
 gets-many : (form : GetManyForm) → Keeps form (GetsMany form)
 gets-many form =
     then-keeps form (TakesLists form.texts) (λ it. Then (LooksAt form.image) (λ image. Then (Answers (OpensVolume image.items) (length image.items)) (GivesAsked form))) (keeps-never form (TakesLists form.texts) (lists-never form.texts))
-    (λ it. then-keeps form (LooksAt form.image) (λ image. Then (Answers (OpensVolume image.items) (length image.items)) (GivesAsked form)) (keeps-never form (LooksAt form.image) (looks-at-never form.image))
+    (λ it. then-keeps form (LooksAt form.image) (λ image. Then (Answers (OpensVolume image.items) (length image.items)) (GivesAsked form)) (keeps-never form (LooksAt form.image) (looks-at-keeps form.image))
     (λ image. then-keeps form (Answers (OpensVolume image.items) (length image.items)) (GivesAsked form) (keeps-never form (Answers (OpensVolume image.items) (length image.items)) (answers-never (OpensVolume image.items) (length image.items))) (gives-asked form)))
 
 pub folder-alone : (form : GetManyForm) → ChangesIn form.folder.bytes.items (GetsMany form)

@@ -1,11 +1,5 @@
 pub mod CountLemmas
-pub mod WorkLemmas
-pub mod VolumeLemmas
 pub mod NameLemmas
 pub mod WordLemmas
-pub mod Keeping
-pub mod Looking
-pub mod Refusing
 pub mod PuttingMany
-pub mod Sounding
 pub mod GettingMany

@@ -14,16 +14,17 @@ use Rattle.image_files.specs.Reading.{Opens}
 use Rattle.image_files.specs.Saving.{Stores}
 use Rattle.image_files.specs.Work.{Then, Purely}
 use Rattle.image_files.specs.declared.images.Image.{Image}
-use Rattle.many_commands.specs.Laws.{ChangesNothing, LeavesFiles, NeverChanges}
 use Rattle.many_commands.specs.PuttingMany.{AreFiles, DatesNext, FindsFiles, IsNewFile, IsNoName, KeepsIf, KeepsWords, LooksWhole, MakesMany, PutsFiles, PutsMany, ReadsEach, ReadsNext, RefusesLoss, RefusesMany, TakesName, TellsEmpty, TellsPath, TellsText, TellsUnread, WantsMemory, has_empty, loss_from, paths_of, stored_lines}
 use Rattle.many_commands.specs.Texts.{TakesLists, TellsBadList, lists_of}
-use Rattle.many_commands.proofs.Keeping.{date-never, looks-never, opens-never, purely-never, refuses-never, same, stores-leaves, then-leaves, then-never, told}
+use Rattle.image_files.specs.Laws.{KeepsFiles, ChangesNothing, LeavesFiles}
+use Rattle.image_files.proofs.KeepLemmas.{date-keeps, then-keeps, purely-keeps, looks-keeps}
+use Rattle.image_files.proofs.LeaveLemmas.{same, told, then-leaves, refuses-never, opens-never, stores-leaves}
 
 tells-list : (list : Option (List ℕ)) (old new : List Event) → TellsBadList list old new → ChangesNothing old new
 tells-list None old new p = same old new p
 tells-list (Some list) old new p = told p.0 _ old new p.1
 
-pub lists-never : (texts : TextsForm) → NeverChanges (TakesLists texts)
+pub lists-never : (texts : TextsForm) → KeepsFiles (TakesLists texts)
 lists-never texts old (Ok it) new p = same old new p.1
 lists-never texts old (Err ending) new (inl (is, place, first, p)) = tells-list (slice_get (lists_of texts) place) old new p
 lists-never texts old (Err ending) new (inr p) = same old new p.1
@@ -33,7 +34,7 @@ no-name files path old ending new (inl (names, (is, ok, other, p))) = same _ new
 no-name files path old ending new (inr (inl (name, names, has, (is, ok, p)))) = same _ new p
 no-name files path old ending new (inr (inr p)) = same old new p.1
 
-name-never : (files : List NewFile) (path : List ℕ) → NeverChanges (TakesName files path)
+name-never : (files : List NewFile) (path : List ℕ) → KeepsFiles (TakesName files path)
 name-never files path old (Ok name) new (names, has, p) = same old new p
 name-never files path old (Err ending) new p = no-name files path old ending new p
 
@@ -41,25 +42,25 @@ tells-unread : (path : List ℕ) (why : Ending) (old : List Event) (ending : End
 tells-unread path why old ending new (inl (is, ok, p)) = same _ new p
 tells-unread path why old ending new (inr p) = same old new p.1
 
-whole-never : (path : List ℕ) → NeverChanges (LooksWhole path)
-whole-never path old (Ok bytes) new p = looks-never path path old (Ok bytes) new p
-whole-never path old (Err ending) new (why, between, looks, p) = λ at. tells-unread path why between ending new p at ∙ looks-never path path old (Err why) between looks at
+whole-never : (path : List ℕ) → KeepsFiles (LooksWhole path)
+whole-never path old (Ok bytes) new p = looks-keeps path path old (Ok bytes) new p
+whole-never path old (Err ending) new (why, between, looks, p) = λ at. tells-unread path why between ending new p at ∙ looks-keeps path path old (Err why) between looks at
 
-dated-never : (is_dated : Bool) (path : List ℕ) → NeverChanges (DatesNext is_dated path)
-dated-never is_dated path old (Ok date) new p = date-never is_dated path old (Ok date) new p
-dated-never is_dated path old (Err ending) new (why, between, dates, p) = λ at. tells-unread path why between ending new p at ∙ date-never is_dated path old (Err why) between dates at
+dated-never : (is_dated : Bool) (path : List ℕ) → KeepsFiles (DatesNext is_dated path)
+dated-never is_dated path old (Ok date) new p = date-keeps is_dated path old (Ok date) new p
+dated-never is_dated path old (Err ending) new (why, between, dates, p) = λ at. tells-unread path why between ending new p at ∙ date-keeps is_dated path old (Err why) between dates at
 
-next-never : (texts : TextsForm) (is_dated : Bool) (files : List NewFile) (path : List ℕ) → NeverChanges (ReadsNext texts is_dated files path)
+next-never : (texts : TextsForm) (is_dated : Bool) (files : List NewFile) (path : List ℕ) → KeepsFiles (ReadsNext texts is_dated files path)
 next-never texts is_dated files path =
-    then-never (TakesName files path) (λ name. Then (LooksWhole path) (λ bytes. Then (DatesNext is_dated path) (λ date. Purely (IsNewFile texts name bytes.items date)))) (name-never files path)
-    (λ name. then-never (LooksWhole path) (λ bytes. Then (DatesNext is_dated path) (λ date. Purely (IsNewFile texts name bytes.items date))) (whole-never path)
-    (λ bytes. then-never (DatesNext is_dated path) (λ date. Purely (IsNewFile texts name bytes.items date)) (dated-never is_dated path) (λ date. purely-never (IsNewFile texts name bytes.items date))))
+    then-keeps (TakesName files path) (λ name. Then (LooksWhole path) (λ bytes. Then (DatesNext is_dated path) (λ date. Purely (IsNewFile texts name bytes.items date)))) (name-never files path)
+    (λ name. then-keeps (LooksWhole path) (λ bytes. Then (DatesNext is_dated path) (λ date. Purely (IsNewFile texts name bytes.items date))) (whole-never path)
+    (λ bytes. then-keeps (DatesNext is_dated path) (λ date. Purely (IsNewFile texts name bytes.items date)) (dated-never is_dated path) (λ date. purely-keeps (IsNewFile texts name bytes.items date))))
 
-each-never : (texts : TextsForm) (is_dated : Bool) (files : List NewFile) (paths : List (List ℕ)) → NeverChanges (ReadsEach texts is_dated files paths)
-each-never texts is_dated files [] = purely-never (AreFiles files)
-each-never texts is_dated files (path ∷ paths) = then-never (ReadsNext texts is_dated files path) (λ file. ReadsEach texts is_dated (files ++ file ∷ []) paths) (next-never texts is_dated files path) (λ file. each-never texts is_dated (files ++ file ∷ []) paths)
+each-never : (texts : TextsForm) (is_dated : Bool) (files : List NewFile) (paths : List (List ℕ)) → KeepsFiles (ReadsEach texts is_dated files paths)
+each-never texts is_dated files [] = purely-keeps (AreFiles files)
+each-never texts is_dated files (path ∷ paths) = then-keeps (ReadsNext texts is_dated files path) (λ file. ReadsEach texts is_dated (files ++ file ∷ []) paths) (next-never texts is_dated files path) (λ file. each-never texts is_dated (files ++ file ∷ []) paths)
 
-finds-never : (image : List ℕ) → NeverChanges (FindsFiles image)
+finds-never : (image : List ℕ) → KeepsFiles (FindsFiles image)
 finds-never image old (Ok files) new (blocks, opens, are, p) = same old new p
 finds-never image old (Err ending) new (inl (why, opens, p)) = refuses-never why (length image) old ending new p
 finds-never image old (Err ending) new (inr p) = same old new p.1
@@ -68,18 +69,18 @@ tells-empty : (path : Option (List ℕ)) (old new : List Event) → TellsEmpty p
 tells-empty None old new p = same old new p
 tells-empty (Some path) old new p = told p.0 _ old new p.1
 
-loss-never : (paths : List (List ℕ)) (loss : Option ℕ) → NeverChanges (RefusesLoss paths loss)
+loss-never : (paths : List (List ℕ)) (loss : Option ℕ) → KeepsFiles (RefusesLoss paths loss)
 loss-never paths None old result new p = same old new p.1
 loss-never paths (Some place) old (Ok it) new p = absurd p
 loss-never paths (Some place) old (Err ending) new (inl p) = tells-empty (slice_get paths place) old new p.1
 loss-never paths (Some place) old (Err ending) new (inr p) = same old new p.1
 
-keeps-if : (is : Bool) (paths : List (List ℕ)) (files : List NewFile) (image : List ℕ) → NeverChanges (KeepsIf is paths files image)
+keeps-if : (is : Bool) (paths : List (List ℕ)) (files : List NewFile) (image : List ℕ) → KeepsFiles (KeepsIf is paths files image)
 keeps-if true paths files image old result new p = same old new p.1
 keeps-if false paths files image old result new p =
-    then-never (FindsFiles image) (λ older. RefusesLoss paths (loss_from older.items 0 files)) (finds-never image) (λ older. loss-never paths (loss_from older.items 0 files)) old result new p
+    then-keeps (FindsFiles image) (λ older. RefusesLoss paths (loss_from older.items 0 files)) (finds-never image) (λ older. loss-never paths (loss_from older.items 0 files)) old result new p
 
-keeps-never : (form : PutManyForm) (files : List NewFile) (image : List ℕ) → NeverChanges (KeepsWords form files image)
+keeps-never : (form : PutManyForm) (files : List NewFile) (image : List ℕ) → KeepsFiles (KeepsWords form files image)
 keeps-never form files image old result new p = keeps-if (form.may_empty || not (has_empty files)) (paths_of form) files image old result new p
 
 tells-path : (path : Option (List ℕ)) (old new : List Event) → TellsPath path old new → ChangesNothing old new
@@ -104,7 +105,7 @@ wants-memory paths (many.Archive fault) old ending new p = same old new p.1
 wants-memory paths (many.File place fault) old ending new (is, inl p) = same old new p
 wants-memory paths (many.File place fault) old ending new (is, inr p) = tells-path (slice_get paths place) old new p
 
-makes-never : (form : PutManyForm) (files : List NewFile) (image : List ℕ) → NeverChanges (MakesMany form files image)
+makes-never : (form : PutManyForm) (files : List NewFile) (image : List ℕ) → KeepsFiles (MakesMany form files image)
 makes-never form files image old (Ok it) new p = same old new p.1
 makes-never form files image old (Err ending) new (fault, puts, inl p) = refuses-many (paths_of form) files fault (length image) old ending new p
 makes-never form files image old (Err ending) new (fault, puts, inr p) = wants-memory (paths_of form) fault old ending new p
@@ -115,7 +116,7 @@ puts-files form image files =
     (keeps-never form files image.bytes.items)
     (λ it. then-leaves (MakesMany form files image.bytes.items) (λ made. Then (Purely (AreLines (stored_lines files made.blocks.items))) (λ lines. Stores image made.bytes.items lines.items))
     (makes-never form files image.bytes.items)
-    (λ made. then-leaves (Purely (AreLines (stored_lines files made.blocks.items))) (λ lines. Stores image made.bytes.items lines.items) (purely-never (AreLines (stored_lines files made.blocks.items)))
+    (λ made. then-leaves (Purely (AreLines (stored_lines files made.blocks.items))) (λ lines. Stores image made.bytes.items lines.items) (purely-keeps (AreLines (stored_lines files made.blocks.items)))
     (λ lines. stores-leaves image made.bytes.items lines.items)))
 
 pub puts-many-leave : (form : PutManyForm) → LeavesFiles (PutsMany form)

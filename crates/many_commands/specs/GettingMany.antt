@@ -27,9 +27,9 @@ use Rattle.outcome.specs.declared.endings.Ending.TheVariants.{Line, Fault}
 use Rattle.program_tasks.specs.declared.forms.GetManyForm.{GetManyForm}
 use Rattle.image_files.specs.Work.{Then, Purely}
 use Rattle.image_files.specs.Reading.{LooksAt}
-use Rattle.image_files.specs.Answers.{Answers, AreLines}
+use Rattle.image_files.specs.Answers.{Answers, AreLines, named_lines}
 use Rattle.image_files.specs.Saving.{Prints, TouchesOnly}
-use Rattle.many_commands.specs.Reporting.{EndsSound, named_lines}
+use Rattle.image_files.specs.Ending.{EndsSound}
 use Rattle.host_progress.specs.Progressing.{TellsProgress, WithProgress}
 use Rattle.many_commands.specs.Texts.{TakesLists, get_form}
 use Rattle.many_commands.specs.Wishing.{AreWishes, words_of}

@@ -1,6 +1,3 @@
-pub mod Reporting
-pub mod Volumes
-pub mod Checking
 pub mod Texts
 pub mod PuttingMany
 pub mod NameSteps

@@ -3,7 +3,7 @@ ghost use Rattle.std.specs.Prelude.{◌≡◌, ◌<◌, ◌&&◌, ◌++◌, code
 ghost use Rattle.script8.specs.Replies.{fault_line};
 ghost use Rattle.os8_dir.specs.declared.file_faults.FileFault.TheVariants.{NotFound};
 ghost use Rattle.script8.specs.declared.faults.SessionFault.TheVariants as session;
-ghost use Rattle.many_commands.specs.Reporting.{named_lines};
+ghost use Rattle.image_files.specs.Answers.{named_lines};
 ghost use Rattle.image_files.specs.Work.{Then};
 ghost use Rattle.host_progress.specs.Progressing.{TellsProgress, WithProgress};
 ghost use Rattle.many_commands.specs.GettingMany as spec;
@@ -11,12 +11,11 @@ ghost use Rattle.many_commands.specs.Wishing.{AreWishes};
 ghost use Rattle.many_commands.specs.GettingMany.{AreFilesOn, GetsMany, GivesAsked, GivesEach, GivesFile, GivesWish, MakesFolder, ending_of_folder, PrintsAnswer, RefusesWord};
 
 use crate::giving::{give_file, refuse};
-use crate::reports::end_sound;
 use crate::texts::take_lists;
 use archive_many::{OpenVolume, VolumeFile, Wish, wishes_of};
 use host_progress::Progress;
 use hosts::{Host, HostFault};
-use image_files::{look_at, open_volume};
+use image_files::{end_sound, look_at, open_volume};
 use os8_dir::FileFault;
 use outcome::Ending;
 use program_reports::ProgramLine;

@@ -5,7 +5,8 @@
 mod programs;
 mod words;
 
-pub use command_table::{TaskFault, plain_words, task};
+pub use command_line::{plain_words, task};
+pub use command_refusals::TaskFault;
 pub use program_reports::{
     ProgramLine, RimTextFault, SourceFault, core_tape, put_program, with_line_feeds, with_prefix,
 };

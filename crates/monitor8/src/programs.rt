@@ -6,6 +6,7 @@ ghost use Rattle.monitor8.specs.Words.{RunsGiven, RunsProgram};
 use crate::words::{texts_of, words_of};
 use byte_reader::{ByteReader, WatchedReader};
 use hosts::{Host, Stream};
+use image_files::{Rooms, end};
 use outcome::{Ending, no_memory_line};
 use std::alloc::Global;
 use std::env::Env;
@@ -15,7 +16,6 @@ use std::process::ExitCode;
 use std::time::Clock;
 use system::System;
 use task_commands::run_words;
-use image_files::{Rooms, end};
 
 /// Does what the words of the command line ask for, over the system, as `run_program` does it. The answer is the exit status.
 pub fn program<R: Env + Files<File = File> + Input + Print + Eprint + Clock + AllocGlobal>(

@@ -4,10 +4,10 @@ ghost use Rattle.monitor8.specs.Steps.{GetsWord, TakesWord};
 ghost use Rattle.monitor8.specs.Words.{GetsWords, RefusesWord, ShowsWord, argument_line};
 
 use hosts::Host;
+use image_files::{tell_line, tell_note};
 use index_line::put_quoted;
 use outcome::{Ending, Note, PlainNote};
 use std::alloc::{AllocError, Global};
-use image_files::{tell_line, tell_note};
 
 /// The words that the program was started with, its own name first. A note is printed of one that is no UTF-8 text, and the command ends then.
 pub(crate) fn words_of<H: Host>(host: &mut H, alloc: Global) -> Result<Vec<String>, Ending>

@@ -223,9 +223,9 @@ dotted_safe codes = by (all_zero codes)
     by true = refl
     by false = codes_safe codes
 
-pub texts_are_safe : (name : ℕ) → name < 281474976710656 → are_safe (text_of name) ≡ true
+pub texts_are_safe : (name : ℕ) → are_safe (text_of name) ≡ true
 unfolding text_of
-texts_are_safe name small =
+texts_are_safe name =
     let stem = name / 68719476736 / 64 ∷ name / 68719476736 % 64 ∷ name / 16777216 % 4096 / 64 ∷ name / 16777216 % 4096 % 64 ∷ name / 4096 % 4096 / 64 ∷ name / 4096 % 4096 % 64 ∷ [] in
     let two = name % 4096 / 64 ∷ name % 4096 % 64 ∷ [] in
     joined_safe (spelled_codes stem) (with_dot two) (codes_safe stem) (dotted_safe two)

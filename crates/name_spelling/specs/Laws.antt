@@ -20,7 +20,7 @@ are_safe (character ∷ characters) = is_safe character && are_safe characters
 
 -- what is shown has such characters alone
 abbrev pub TextsAreSafe : Type 0
-TextsAreSafe = (name : ℕ) → name < 0o10000000000000000 → are_safe (text_of name) ≡ true
+TextsAreSafe = (name : ℕ) → are_safe (text_of name) ≡ true
 
 -- what is shown of a file's name, typed, is that name
 abbrev pub ShownAreTyped : Type 0

@@ -1,5 +1,4 @@
-//! Names of files as they are shown and typed, so that any of them can be: a name of letters and digits as it is, and each other code by an
-//! escape.
+//! Names of files as they are shown and typed. A name of letters and digits is shown as it is, and each other code by an escape.
 //!
 //! In each contract a name is one number, its four words to the base 0o10000, as `os8_dir` has it.
 #![tactic(auto)]

@@ -1,5 +1,5 @@
 -- What may help where an image is refused (this project's profile).
-use Rattle.std.specs.Prelude.{ℕ, ◌%◌, nat_eq, nat_le, nat_lt, Bool, ◌&&◌, if◌then◌else◌, codes, decimal, Option, Some, None, List, ◌++◌}
+use Rattle.std.specs.Prelude.{ℕ, ◌*◌, ◌%◌, nat_eq, nat_le, nat_lt, Bool, ◌&&◌, if◌then◌else◌, codes, decimal, Option, Some, None, List, ◌++◌}
 use Rattle.disk_layouts.specs.Disks.{guess_of}
 use Rattle.disk_layouts.specs.declared.layouts.Layout.{Layout}
 use Rattle.disk_layouts.specs.declared.layouts.Layout.TheVariants.{First, Second, Dectape}
@@ -18,7 +18,7 @@ use Rattle.outcome.specs.declared.notes.PlainNote.TheVariants as plain
 
 -- so many bytes are those of a volume: 8 to 4095 blocks of 512
 abbrev pub is_volume_size : ℕ → Bool
-is_volume_size size = nat_eq (size % 512) 0 && (nat_le 4096 size && nat_le size IMAGE)
+is_volume_size size = nat_eq (size % 512) 0 && (nat_le (8 * 512) size && nat_le size IMAGE)
 
 -- a file that is no image may be that of a DECtape or of a disk; else it may have the length of none
 abbrev pub layout_note : ℕ → Option Layout → Option ImageNote

@@ -59,7 +59,7 @@ fn size_note(size: usize) -> Option<ImageNote>
 fn is_volume_size(size: usize) -> bool
     ensures { result ≡ spec.is_volume_size size }
 {
-    size % 512 == 0 && size >= 4096 && size <= IMAGE
+    size % 512 == 0 && size >= 8 * 512 && size <= IMAGE
 }
 
 /// The text of the note that a file has so many bytes, and no image has, with the end of its line (this project's profile). No memory is taken.

@@ -29,13 +29,13 @@ meaning_append (pair ∷ pairs) later c =
     by_both None b d = refl
     by_both (Some w) b d = refl
 
-meaning_one : (cell c : ℕ) (o : Option ℕ) (before : Option ℕ) → (cell ≡ c → o ≡ o) → if_none (meaning (pair_if cell o) c) before ≡ (if nat_eq cell c then if_none o before else before)
-meaning_one cell c None before e = by_test (nat_eq cell c)
+meaning_one : (cell c : ℕ) (o before : Option ℕ) → if_none (meaning (pair_if cell o) c) before ≡ (if nat_eq cell c then if_none o before else before)
+meaning_one cell c None before = by_test (nat_eq cell c)
   where
     by_test : (b : Bool) → before ≡ (if b then before else before)
     by_test true = refl
     by_test false = refl
-meaning_one cell c (Some w) before e = by_test (nat_eq cell c)
+meaning_one cell c (Some w) before = by_test (nat_eq cell c)
   where
     by_test : (b : Bool) → if_none (if b then Some w else None) before ≡ (if b then Some w else before)
     by_test true = refl
@@ -44,7 +44,7 @@ meaning_one cell c (Some w) before e = by_test (nat_eq cell c)
 next_is : (words : ℕ → Option ℕ) (n c : ℕ) → meaning (pairs_below words (suc n)) c ≡ (if nat_eq n c then if_none (words n) (meaning (pairs_below words n) c) else meaning (pairs_below words n) c)
 unfolding pairs_below
 next_is words n c =
-    meaning_append (pairs_below words n) (pair_if n (words n)) c ∙ meaning_one n c (words n) (meaning (pairs_below words n) c) (λ e. refl)
+    meaning_append (pairs_below words n) (pair_if n (words n)) c ∙ meaning_one n c (words n) (meaning (pairs_below words n) c)
 
 none_above : (words : ℕ → Option ℕ) (n c : ℕ) → n ≤ c → meaning (pairs_below words n) c ≡ None
 unfolding pairs_below

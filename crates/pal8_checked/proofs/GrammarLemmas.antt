@@ -1,5 +1,5 @@
 -- What the three lines of a cell say.
-use Rattle.std.proofs.Common.{◌≡◌, ℕ, ◌<◌, nat_le, nat_lt, true, false, Ok, List, [], ◌∷◌, refl, arith}
+use Rattle.std.proofs.Common.{◌≡◌, ℕ, ◌<◌, nat_le, nat_lt, true, false, Ok, [], ◌∷◌, refl, arith}
 use Rattle.std.proofs.lemmas.Bool.Decides.{nat_tests}
 use Rattle.std.specs.Prelude.{codes}
 use Rattle.word12.specs.Sixbit.{name_number}
@@ -10,12 +10,7 @@ use Rattle.pal8_lex.specs.declared.tokens.Number as number
 use Rattle.pal8_sym.specs.SourceNames.{Vocabulary}
 use Rattle.pal8_grammar.specs.Bodies.{phrase_by_names}
 use Rattle.pal8_grammar.specs.declared.bodies.Body.TheVariants as body
-use Rattle.pal8_grammar.specs.declared.steps.Step.{Step}
-use Rattle.pal8_grammar.specs.declared.steps.Step.TheVariants as step
-
--- the steps of a number (as `number` of pal8_asm)
-abbrev pub number_steps : ℕ → List Step
-number_steps w = step.Number w ∷ []
+use Rattle.pal8_asm.specs.Sources.{number as number_steps}
 
 above : (w : ℕ) → w < 4096 → nat_le 4096 w ≡ false
 above w small = grind (arith, nat_tests)

@@ -10,10 +10,10 @@ use Rattle.pal8_lex.specs.declared.tokens.Number as number
 use Rattle.pal8_sym.specs.SourceNames.{first_names, vocabulary_of}
 use Rattle.pal8_grammar.specs.declared.bodies.Body.TheVariants as body
 use Rattle.pal8_asm.specs.Places.{Standing, location_at, spot_at, value_at, with_statement, with_value_of}
-use Rattle.pal8_asm.specs.Sources.{Entry, Remainder, Statement, entry_at, first_left, place_of, with_next, with_phrase, with_said}
+use Rattle.pal8_asm.specs.Sources.{Entry, Remainder, Statement, entry_at, number as number_steps, place_of, with_next, with_phrase, with_said}
 use Rattle.pal8_asm.specs.declared.places.Position.{Position}
 use Rattle.pal8_checked.specs.Checked.{as_profile}
-use Rattle.pal8_checked.proofs.GrammarLemmas.{field_says, number_steps, origin_says, word_says}
+use Rattle.pal8_checked.proofs.GrammarLemmas.{field_says, origin_says, word_says}
 
 -- what statements leave that define no name, with no bracket open
 abbrev pub left_at : ℕ → ℕ → List Entry → Remainder
@@ -30,9 +30,6 @@ left_at location field entries = record {
 
 abbrev pub position_at : ℕ → ℕ → Position
 position_at location field = (left_at location field []).standing.position
-
-pub first_is : first_left as_profile ≡ left_at 0o200 0 []
-first_is = refl
 
 -- ## Numbers
 

@@ -20,6 +20,7 @@ as_profile = record { is_without_links = false; is_without_zero = false; is_with
 pub record ComesBack (map : ℕ → Option ℕ) (text : List ℕ) : Type 0 where
   pub pairs : List (ℕ × ℕ)
   pub are : IsAssembled (result_of_text as_profile (text_of text)) pairs
+  -- cells of core with words of twelve bits
   pub are_pairs : ArePairs pairs
   pub cells : (cell : ℕ) → cell < CORE → meaning pairs cell ≡ map cell
 

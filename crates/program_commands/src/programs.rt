@@ -11,11 +11,11 @@ ghost use Rattle.program_commands.specs.Programs.{IsAsked, IsCoreProgram, IsTape
 use crate::kinds::{is_tape_fault, refuse_tape};
 use archive_files::{ArchiveFault, Asked, GetForm, get};
 use hosts::Host;
+use image_files::{input_bytes, look_at, look_file, refuse_image, show_file};
 use outcome::Ending;
 use program_reports::core_tape;
 use program_tasks::{ImageForm, TapeForm};
 use std::alloc::Global;
-use image_files::{input_bytes, look_at, look_file, refuse_image, show_file};
 use word12::Cell;
 
 /// A program.

@@ -4,12 +4,12 @@ ghost use Rattle.program_commands.specs.Rims.{GetsMember, GivesRim, ReadsFrames,
 use crate::programs::file_of_name;
 use archive_files::GetForm;
 use hosts::Host;
+use image_files::{input_bytes, look_at, look_file, print, show_file};
 use outcome::Ending;
 use program_reports::RimTextFault;
 use program_tasks::{ImageForm, RimForm, TapeForm};
 use std::alloc::Global;
 use tape_reports::rim_output;
-use image_files::{input_bytes, look_at, look_file, print, show_file};
 
 /// Writes the words of a RIM tape, or a BIN tape of them; where no tape is named those of standard input. No file changes.
 pub fn write_rim<H: Host>(

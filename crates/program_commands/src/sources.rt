@@ -5,13 +5,13 @@ ghost use Rattle.program_commands.specs.Sources.{GivesSource, IsTextOf, ReadsNam
 use crate::kinds::refuse_frames;
 use crate::programs::{Program, given_program};
 use hosts::Host;
+use image_files::{look_file, print};
 use outcome::Ending;
 use pal8_checked::checked_source;
 use program_reports::SourceFault;
 use program_tasks::SourceForm;
 use std::alloc::Global;
 use tape_reports::{list_fault, pal8_fault, source_lines};
-use image_files::{look_file, print};
 use word12::Cell;
 
 /// Writes the source of a tape. The program of a core image starts where that says, unless other cells are given. No file changes.

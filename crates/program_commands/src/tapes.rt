@@ -4,11 +4,11 @@ ghost use Rattle.program_commands.specs.Tapes.{GivesLines, ListsTape};
 use crate::kinds::refuse_frames;
 use crate::programs::given_program;
 use hosts::Host;
+use image_files::print;
 use outcome::Ending;
 use program_tasks::TapeForm;
 use std::alloc::Global;
 use tape_reports::tape_lines;
-use image_files::print;
 
 /// Lists a tape; where none is named that of standard input. No file changes.
 pub fn list_tape<H: Host>(

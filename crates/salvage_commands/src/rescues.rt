@@ -7,11 +7,11 @@ ghost use Rattle.salvage_commands.specs.Rescuing.{Finishes, RescuesFile, Rescues
 
 use disk_layouts::Layout;
 use hosts::Host;
+use image_files::{look_file, make_first, one_volume_in, print, refuse_image};
 use image_volumes::{Margins, margins_in};
 use outcome::Ending;
 use program_tasks::ImageForm;
 use std::alloc::Global;
-use image_files::{look_file, make_first, one_volume_in, print, refuse_image};
 use volume_salvage::{Salvage, salvage_image};
 
 /// Makes the file of a new volume with the files that the volume in an image file still shows, if there is none of its name. The image

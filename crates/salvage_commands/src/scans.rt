@@ -6,12 +6,12 @@ ghost use Rattle.salvage_commands.specs.ScanningBlocks.{GivesPiece, IsPath, Lays
 
 use archive_many::{BlocksFault, blocks_of};
 use hosts::{Host, HostFault, lay};
+use image_files::{look_at, print, refuse_image};
 use outcome::Ending;
 use program_reports::ProgramLine;
 use program_tasks::ImageForm;
 use script8::SessionFault;
 use std::alloc::Global;
-use image_files::{look_at, print, refuse_image};
 use volume_salvage::{Piece, Scan, form_of, piece_name, scan_image};
 
 /// Lists the pieces that the blocks of the volume in an image file hold, whatever its directory says: whole texts, core images, BIN tapes,

@@ -2,10 +2,10 @@
 ghost use Rattle.std.specs.Prelude.{◌≡◌, [], None, false};
 
 use hosts::PrintFault;
+use image_files::Image;
 use outcome::Ending;
 use program_tasks::Saving;
 use std::alloc::Global;
-use image_files::Image;
 
 /// What a run has come to at its host.
 #[derive(Drop)]

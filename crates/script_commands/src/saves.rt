@@ -12,13 +12,13 @@ ghost use Rattle.script_commands.specs.Steps.{is_unknown, once_note, or_else};
 
 use crate::progress::Progress;
 use hosts::{Durability, Host, Unwritten, save_file};
+use image_files::Image;
 use image_volumes::PartedFile;
 use outcome::{Content, Ending, FileNote};
 use program_tasks::Saving;
 use script8::SessionFault;
 use std::alloc::Global;
 use std::mem;
-use image_files::Image;
 use volume_image::MemoryVolume;
 use word12::{BLOCK, FIRST_FILE_BLOCK};
 

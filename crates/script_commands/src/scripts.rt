@@ -19,13 +19,13 @@ use archive_files::ArchiveFault;
 use archive_files::parts::volume_of;
 use byte_reader::ByteReader;
 use hosts::{Host, PrintFault};
+use image_files::{Image, ImagePlace, look_file, refuse_image, script_volume_in, tell_note};
 use os8_dir::DirFault;
 use outcome::{Ending, NameNote, Note};
 use program_tasks::{ImageForm, RunForm, Saving};
 use script8::SessionFault;
 use std::alloc::Global;
 use system_session::Session;
-use image_files::{Image, ImagePlace, look_file, refuse_image, script_volume_in, tell_note};
 use volume_image::{ImageFault, MemoryVolume};
 
 /// Runs the script of a reader over the volume of an image file, and prints its replies. The image is written when it is to be, if it

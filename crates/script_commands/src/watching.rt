@@ -17,13 +17,13 @@ use crate::printing::{add_lines, print_waiting};
 use crate::progress::Progress;
 use crate::saves::keep;
 use hosts::Host;
+use image_files::tell_note;
 use outcome::{NameNote, Note};
 use program_tasks::Saving;
 use script8::{Reply, SessionFault};
 use std::alloc::Global;
 use std::io::{self, ErrorKind};
 use system_session::Watcher;
-use image_files::tell_note;
 use volume_image::MemoryVolume;
 
 /// A run of a script at a host. Its lines are printed, its image is written where each change is to be kept, and a person at a terminal is

@@ -9,6 +9,7 @@ use crate::outputs::{put_tape, write_listing, write_tape};
 use crate::sources::{names_of, read_sources, slices_of};
 use host_sources::{SourceFault, assemble_sources};
 use hosts::Host;
+use image_files::{Image, look_at, tell_line};
 use outcome::Ending;
 use pal8_asm::Options;
 use pal8_notes::notes_text;
@@ -17,7 +18,6 @@ use program_tasks::{AssembleForm, ImageForm};
 use script8::SessionFault;
 use source_listing::{ListingForm, list_sources};
 use std::alloc::Global;
-use image_files::{Image, look_at, tell_line};
 
 /// What sources are assembled to.
 #[derive(Drop)]

@@ -4,10 +4,10 @@ ghost use Rattle.source_commands.specs.Clashes as spec;
 ghost use Rattle.source_commands.specs.Clashes.{RefusesClash};
 
 use hosts::Host;
+use image_files::tell_note;
 use outcome::{Ending, NameNote, Note};
 use program_tasks::{AssembleForm, ImageForm};
 use std::alloc::Global;
-use image_files::tell_note;
 
 /// The name of a standard stream where a file's may stand.
 pub(crate) const STANDARD: &str = "-";

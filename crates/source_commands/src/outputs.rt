@@ -8,9 +8,9 @@ ghost use Rattle.source_commands.specs.Outputs.{PutsTape, WritesListing, WritesT
 use crate::clashes::STANDARD;
 use archive_files::{NewImage, PutForm, put};
 use hosts::Host;
+use image_files::{Image, make_file, print, refuse_image, store, stored_line};
 use outcome::{Content, Ending};
 use std::alloc::Global;
-use image_files::{Image, make_file, print, refuse_image, store, stored_line};
 
 /// Writes a listing, if there is one and a name is given for it.
 pub(crate) fn write_listing<H: Host>(

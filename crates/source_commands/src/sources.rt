@@ -7,10 +7,10 @@ ghost use Rattle.source_commands.specs.Sources.{AreLent, GetsText, IsAsked, IsTe
 use crate::clashes::STANDARD;
 use archive_files::{ArchiveFault, Asked, GetForm, get};
 use hosts::Host;
+use image_files::{input_bytes, look_file, refuse_image, tell_note};
 use outcome::{Ending, NameNote, Note};
 use program_reports::with_line_feeds;
 use std::alloc::{AllocError, Global};
-use image_files::{input_bytes, look_file, refuse_image, tell_note};
 
 /// The texts of sources, of the volume in an image if there is one, which are read in their order. LF ends each line.
 pub(crate) fn read_sources<H: Host>(

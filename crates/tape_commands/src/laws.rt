@@ -9,8 +9,8 @@ ghost use Rattle.tape_commands.specs.Traces.{TracesTape};
 
 use byte_reader::ByteReader;
 use host_output::laws::prints_alone;
-use program_commands::laws::unchanged_files as unchanged_programs;
 use image_files::laws::kept_files;
+use program_commands::laws::unchanged_files as unchanged_programs;
 
 /// A law: none of these commands changes a file of the host, in whichever way it ends.
 pub fn unchanged_files<I: ByteReader>()

@@ -6,10 +6,10 @@ ghost use Rattle.tape_commands.specs.Lines as spec;
 ghost use Rattle.tape_commands.specs.Lines.{TellsProgram};
 
 use hosts::{Host, PrintFault};
+use image_files::tell_line;
 use outcome::Ending;
 use program_reports::{ProgramLine, put_program};
 use std::alloc::Global;
-use image_files::tell_line;
 
 /// Prints a line on standard error that is no fault.
 pub(crate) fn tell_program<H: Host>(

@@ -6,13 +6,13 @@ ghost use Rattle.tape_commands.specs.Profiles.{GivesProfile, ProfilesTape};
 
 use crate::runs::{Run, read_run};
 use hosts::Host;
+use image_files::print;
 use outcome::Ending;
 use profile8::{count_fetches, no_counts, profile_text};
 use program_reports::{ProgramLine, put_program};
 use program_tasks::TraceForm;
 use std::alloc::Global;
 use terminal8::Terminal;
-use image_files::print;
 
 /// How many steps are counted where nothing else is said: some three seconds of the machine.
 const PROFILE_STEPS: u64 = 1_000_000;

@@ -13,6 +13,7 @@ use crate::lines::{ending_of_output, text_of};
 use crate::runs::{Run, read_run};
 use host_output::{Before, Printer};
 use hosts::{Host, PrintFault};
+use image_files::print;
 use outcome::Ending;
 use program_reports::ProgramLine;
 use program_tasks::TraceForm;
@@ -21,7 +22,6 @@ use std::alloc::Global;
 use std::marker::Brand;
 use terminal8::{Ended, Terminal};
 use trace8::{TraceFault, trace};
-use image_files::print;
 
 /// How many steps are printed where nothing else is said.
 const TRACE_STEPS: u64 = 1_000;

@@ -30,11 +30,11 @@ use Rattle.image_files.specs.Reading.{reading_of}
 use Rattle.volume_commands.specs.Showing.{Shows, wanted_file}
 use Rattle.volume_commands.specs.ShowingParts.{ShowsBlocks, ShowsTape}
 use Rattle.image_files.specs.declared.mending.ImageReading.{ImageReading}
-use Rattle.many_commands.specs.Checking.{ChecksImages}
+use Rattle.volume_reports.specs.Checking.{ChecksImages}
 use Rattle.many_commands.specs.GettingMany.{GetsMany}
 use Rattle.many_commands.specs.PuttingMany.{PutsMany}
-use Rattle.many_commands.specs.Volumes.{ReportsOne}
-use Rattle.many_commands.specs.declared.reports.ReportKind.TheVariants as report
+use Rattle.volume_reports.specs.Volumes.{ReportsOne}
+use Rattle.volume_reports.specs.declared.reports.ReportKind.TheVariants as report
 use Rattle.choice_commands.specs.Copying.{CopiesMany}
 use Rattle.choice_commands.specs.Listing.{ListsSome}
 use Rattle.choice_commands.specs.Texts.{ShowsTexts}

@@ -7,9 +7,9 @@ use Rattle.clap.specs.declared.error.kind.ErrorKind.TheVariants.{DisplayHelp, Di
 use Rattle.hosts.specs.Event.{Event, tell_call}
 use Rattle.script8.specs.declared.faults.SessionFault.TheVariants.{Memory as no_memory}
 use Rattle.program_tasks.specs.declared.tasks.Task.{Task}
-use Rattle.command_table.specs.declared.faults.TaskFault.{TaskFault}
-use Rattle.command_table.specs.declared.faults.TaskFault.TheVariants.{Words, Memory, Refused}
-use Rattle.command_table.specs.Tasks.{Answers}
+use Rattle.command_refusals.specs.declared.faults.TaskFault.{TaskFault}
+use Rattle.command_refusals.specs.declared.faults.TaskFault.TheVariants.{Words, Memory, Refused}
+use Rattle.command_line.specs.Tasks.{Answers}
 use Rattle.outcome.specs.declared.endings.Ending.{Ending}
 use Rattle.outcome.specs.declared.endings.Ending.TheVariants.{Fault}
 use Rattle.image_files.specs.Ending.{EndsSo}

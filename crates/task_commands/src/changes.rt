@@ -7,6 +7,7 @@ use archive_commands::{WordPatch, patch_word};
 use archive_files::Asked;
 use choice_commands::copy_files;
 use hosts::Host;
+use image_files::Image;
 use many_commands::put_files;
 use outcome::{Content, Ending};
 use program_tasks::{
@@ -16,8 +17,9 @@ use program_tasks::{
 use script_commands::open_image;
 use source_commands::assemble_files;
 use std::alloc::Global;
-use image_files::Image;
-use volume_commands::{copy_file, create_image, create_tape, delete_files, put_file, rename_file, squeeze_files};
+use volume_commands::{
+    copy_file, create_image, create_tape, delete_files, put_file, rename_file, squeeze_files,
+};
 
 /// How many times a second a command is tried again.
 pub const TRIES: u128 = 20;

@@ -11,8 +11,9 @@ use byte_reader::ByteReader;
 use choice_commands::{list_some, show_texts};
 use command_table::SCRIPT_LINES;
 use hosts::Host;
+use image_files::{ImageReading, Rooms, end};
 use index_commands::{LineShape, index_images};
-use many_commands::{check_images, get_files, list_files, list_places};
+use many_commands::get_files;
 use outcome::{Ending, gives_data};
 use program_commands::{list_tape, write_rim, write_source};
 use program_tasks::{
@@ -22,9 +23,9 @@ use salvage_commands::{rescue_image, scan_blocks, scan_into};
 use script_commands::run_over;
 use std::alloc::{AllocError, Global};
 use tape_commands::{profile_tape, run_teletype, trace_tape};
-use image_files::{ImageReading, Rooms, end};
 use volume_commands::{file_asked, get_bin, get_blocks, get_file};
 use volume_index::IndexStyle;
+use volume_reports::{check_images, list_files, list_places};
 
 /// Does a task, and prints what its end asks for. The answer is the exit status: 0, 1 after a fault, 141 where nobody reads standard output,
 /// and 2 for words that a command refuses (this project's profile). The keys of a Teletype, or a script, are read from the

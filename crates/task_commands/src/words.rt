@@ -8,11 +8,12 @@ use crate::doing::run_task;
 use byte_reader::ByteReader;
 use clap::Error;
 use clap::error::ErrorKind;
-use command_table::{Refusal, TaskFault, task};
+use command_line::task;
+use command_refusals::{Refusal, TaskFault};
 use hosts::Host;
+use image_files::{Rooms, end, print};
 use outcome::Ending;
 use std::alloc::{AllocError, Global};
-use image_files::{Rooms, end, print};
 
 /// The exit status where words are refused.
 const MISUSE: u8 = 2;

@@ -1,1 +1,2 @@
-mod WorkLemmas
+pub mod Looking
+pub mod Refusing

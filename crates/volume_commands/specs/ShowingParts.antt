@@ -19,11 +19,10 @@ use Rattle.program_tasks.specs.declared.forms.FileForm.{FileForm}
 use Rattle.program_tasks.specs.declared.forms.ImageForm.{ImageForm}
 use Rattle.image_files.specs.Work.{Then, Purely}
 use Rattle.image_files.specs.Reading.{LooksAt}
-use Rattle.image_files.specs.Answers.{Answers, AreLines}
+use Rattle.image_files.specs.Answers.{Answers, AreLines, RefusesBlocks}
 use Rattle.image_files.specs.Ending.{TellsLine}
 use Rattle.image_files.specs.Saving.{Prints, IsDone}
 use Rattle.volume_commands.specs.Showing.{wanted_file}
-use Rattle.image_files.specs.Answers.{RefusesBlocks}
 
 -- what blocks of an image give, whatever its directory says, or why nothing
 abbrev pub GivesBlocks : BlocksForm → List ℕ → List Event → Result (Vec ℕ) Ending → List Event → Type 0

@@ -7,6 +7,7 @@ mod choosing;
 mod copying;
 mod creating;
 mod deleting;
+pub mod laws;
 mod putting;
 mod showing;
 mod showing_parts;

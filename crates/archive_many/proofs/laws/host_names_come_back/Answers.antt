@@ -9,7 +9,7 @@ pub returns : goal.returns
 returns c = record {
   back =
       λ blocks before following file folder text name small is shown names.
-      names-back folder text name (subst (λ l. are_safe l ≡ true) (sym shown) (c.safe_names.ensures file.name small)) names
+      names-back folder text name (subst (λ l. are_safe l ≡ true) (sym shown) (c.safe_names.ensures file.name)) names
       ∙ ap typed_name shown
       ∙ c.typed_names.ensures file.name small (each-named c.sound_directory.ensures blocks before following file is);
   differ = names-differ c.shown_names.ensures c.sound_directory.ensures;

@@ -1,6 +1,5 @@
 use Rattle.std.proofs.Common.{refl}
-use Rattle.command_table.specs.Tables.{kind_rule}
-use Rattle.command_table.specs.Steps.{row_of}
+use Rattle.command_table.specs.Tables.{kind_rule, row_of}
 use Rattle.command_table.proofs.CommandLemmas.{helped_too, hidden_as, required_as}
 use Rattle.command_table.proofs.build.argument_of.Goals as goal
 

@@ -1,5 +1,4 @@
-use Rattle.command_table.specs.Steps.{IsDraft}
-use Rattle.command_table.specs.Tables.{app_of_table}
+use Rattle.command_table.specs.Tables.{IsDraft, app_of_table}
 use Rattle.std.proofs.Common.{subst}
 use Rattle.command_table.proofs.build.command_line.Goals as goal
 

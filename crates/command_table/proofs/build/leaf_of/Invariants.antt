@@ -1,6 +1,5 @@
 use Rattle.std.proofs.Common.{map, take}
-use Rattle.command_table.specs.Steps.{IsCommand, row_of}
-use Rattle.command_table.specs.Tables.{leaf_with, rule_for}
+use Rattle.command_table.specs.Tables.{IsCommand, row_of, leaf_with, rule_for}
 use Rattle.command_table.proofs.build.leaf_of.Given as goal
 
 -- the command has the arguments of the rows so far

@@ -1,6 +1,5 @@
 use Rattle.std.proofs.Common.{map, take}
-use Rattle.command_table.specs.Steps.{IsCommand, entry_of}
-use Rattle.command_table.specs.Tables.{app_with, leaf_shape}
+use Rattle.command_table.specs.Tables.{IsCommand, entry_of, app_with, leaf_shape}
 use Rattle.command_table.proofs.build.with_leaves.Given as goal
 
 -- the command has the subcommands of the entries so far

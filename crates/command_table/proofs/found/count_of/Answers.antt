@@ -1,5 +1,5 @@
 use Rattle.command_table.proofs.Names.{◌∙◌, ◌≤◌, ParsesUnsigned, ExplainsUnsignedError, HasUnsignedDigitsIfOk, one_text-rows, found_of, one_of}
-use Rattle.command_table.specs.Steps.{values_in}
+use Rattle.command_table.specs.Values.{values_in}
 use Rattle.command_table.specs.Tables.{most_steps}
 use Rattle.command_table.proofs.NumberLemmas.{limits_given, unsigned_reads}
 use Rattle.command_table.proofs.found.count_of.Goals as goal

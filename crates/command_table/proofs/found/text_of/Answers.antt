@@ -1,5 +1,5 @@
 use Rattle.command_table.proofs.Names.{◌≡◌, ◌∙◌, option_map, sym, Option, None, Some, Bor, first_value-rows, Text, first_of, found_of}
-use Rattle.command_table.specs.Steps.{IsText, values_in}
+use Rattle.command_table.specs.Values.{IsText, values_in}
 use Rattle.command_table.proofs.found.text_of.Goals as goal
 
 text_is : (text : Option (Bor Text)) (given : Option Text) → option_map (λ text. text.now) text ≡ given → IsText text given

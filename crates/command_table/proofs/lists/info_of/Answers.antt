@@ -1,6 +1,6 @@
 use Rattle.command_table.proofs.Names.{◌∙◌, ap, codes, map, option_map, Some, IfOk-weaker, first_of}
-use Rattle.command_table.specs.Steps.{values_in}
-use Rattle.command_table.specs.Tasks.{given_info}
+use Rattle.command_table.specs.Values.{values_in}
+use Rattle.command_table.specs.Found.{given_info}
 use Rattle.command_table.proofs.InfoLemmas.{info-dated, info-given}
 use Rattle.command_table.proofs.lists.info_of.Goals as goal
 

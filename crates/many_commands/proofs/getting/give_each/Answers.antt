@@ -1,7 +1,7 @@
 use Rattle.std.proofs.Common.{◌∙◌, inl, inr, refl, subst, sym, Ok}
 use Rattle.many_commands.specs.GettingMany.{GivesEach, GivesWish}
 use Rattle.many_commands.proofs.CountLemmas.{done-more}
-use Rattle.many_commands.proofs.WorkLemmas.{ends_with, first-and-others, no_item}
+use Rattle.image_files.proofs.WorkLemmas.{ends_with, first-and-others, no_item}
 use Rattle.many_commands.proofs.getting.give_each.Goals as goal
 
 pub returns-in_err-is_there-clause-gives : goal.returns-in_err-is_there-clause-gives

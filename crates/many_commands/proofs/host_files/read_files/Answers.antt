@@ -3,7 +3,7 @@ use Rattle.script8.specs.declared.faults.SessionFault.TheVariants.{Memory}
 use Rattle.outcome.specs.declared.endings.Ending.TheVariants.{Fault}
 use Rattle.many_commands.specs.PuttingMany.{ReadsEach, ReadsNext}
 use Rattle.many_commands.proofs.NameLemmas.{knows-more, unkept}
-use Rattle.many_commands.proofs.WorkLemmas.{ends_with, first-and-others, no_item}
+use Rattle.image_files.proofs.WorkLemmas.{ends_with, first-and-others, no_item}
 use Rattle.many_commands.proofs.host_files.read_files.Goals as goal
 
 pub returns-in_err-file : goal.returns-in_err-file

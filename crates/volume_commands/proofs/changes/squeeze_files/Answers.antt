@@ -1,7 +1,7 @@
 use Rattle.std.proofs.Common.{ℕ, Err, List, length, rules, inl, inr, refl, subst}
 use Rattle.archive_files.specs.Squeezing.{SqueezesFiles}
 use Rattle.image_files.specs.Answers.{Answers}
-use Rattle.volume_commands.proofs.WorkLemmas.{ends_with}
+use Rattle.image_files.proofs.WorkLemmas.{ends_with}
 use Rattle.volume_commands.proofs.changes.squeeze_files.Goals as goal
 
 pub returns-in_err-new : goal.returns-in_err-new

@@ -2,7 +2,7 @@ use Rattle.std.proofs.Common.{rules, inl, inr, refl, subst, Err}
 use Rattle.volume_commands.specs.Copying.{MakesCopy}
 use Rattle.archive_files.specs.Asking.{target_of}
 use Rattle.image_files.specs.Reading.{LooksAt}
-use Rattle.volume_commands.proofs.WorkLemmas.{ends_with}
+use Rattle.image_files.proofs.WorkLemmas.{ends_with}
 use Rattle.volume_commands.proofs.copying.copy_between.Goals as goal
 
 pub returns-in_err-from : goal.returns-in_err-from

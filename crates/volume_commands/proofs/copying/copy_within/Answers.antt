@@ -1,7 +1,7 @@
 use Rattle.std.proofs.Common.{rules, inl, inr, refl, subst, Err}
 use Rattle.volume_commands.specs.Copying.{MakesCopy}
 use Rattle.archive_files.specs.Asking.{target_of}
-use Rattle.volume_commands.proofs.WorkLemmas.{ends_with}
+use Rattle.image_files.proofs.WorkLemmas.{ends_with}
 use Rattle.volume_commands.proofs.copying.copy_within.Goals as goal
 
 pub returns-in_err-line : goal.returns-in_err-line

@@ -1,7 +1,7 @@
 use Rattle.std.proofs.Common.{rules, inl, inr, refl, subst, Err}
 use Rattle.volume_commands.specs.ShowingParts.{GivesTape}
 use Rattle.image_files.specs.Work.{Purely}
-use Rattle.volume_commands.proofs.WorkLemmas.{ends_with}
+use Rattle.image_files.proofs.WorkLemmas.{ends_with}
 use Rattle.volume_commands.proofs.showing_parts.get_bin.Goals as goal
 
 pub returns-in_err-frames : goal.returns-in_err-frames

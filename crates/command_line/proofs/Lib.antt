@@ -1,0 +1,10 @@
+mod WalkLemmas
+mod LeafLemmas
+mod FoundLemmas
+mod RefusalLemmas
+mod SourceLemmas
+mod TableLemmas
+mod TaskLemmas
+mod EnterLemmas
+mod UseLemmas
+mod EnteredLemmas

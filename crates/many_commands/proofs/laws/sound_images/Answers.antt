@@ -1,6 +1,0 @@
-use Rattle.std.proofs.Common.{map}
-use Rattle.many_commands.proofs.Sounding.{files-sound}
-use Rattle.many_commands.proofs.laws.sound_images.Goals as goal
-
-pub returns : goal.returns
-returns c = λ form. files-sound form (map (λ file. file.bytes.items) form.images.items)

@@ -1,0 +1,4 @@
+pub mod CountLemmas
+pub mod VolumeLemmas
+pub mod Looking
+pub mod Sounding

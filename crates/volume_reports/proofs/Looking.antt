@@ -1,0 +1,108 @@
+-- Commands that change no file at all.
+use Rattle.std.proofs.Common.{◌≡◌, ◌∙◌, ◌+◌, ◌&&◌, ℕ, Bool, Option, Some, Result, Ok, Err, List, [], ◌∷◌, length, map, nat_eq}
+use Rattle.std.specs.Global.{Vec}
+use Rattle.disk_layouts.specs.declared.layouts.Layout.{Layout}
+use Rattle.disk_layouts.specs.declared.layouts.Layout.TheVariants.{First, Second}
+use Rattle.image_volumes.specs.Margins.{body_of}
+use Rattle.image_volumes.specs.Volumes.{volumes_in}
+use Rattle.image_volumes.specs.declared.volumes.Volumes.{Volumes}
+use Rattle.image_volumes.specs.declared.volumes.Volumes.TheVariants.{One, Both}
+use Rattle.outcome.specs.declared.endings.Ending.{Ending}
+use Rattle.program_reports.specs.Program.{program_line}
+use Rattle.program_reports.specs.declared.programs.ProgramLine.TheVariants as line
+use Rattle.program_tasks.specs.declared.forms.CheckForm.{CheckForm}
+use Rattle.image_files.specs.Answers.{Answers, AreLines, named_lines}
+use Rattle.image_files.specs.declared.mending.ImageReading.{ImageReading}
+use Rattle.image_files.specs.Reading.{FindsVolume, LooksImage, file_named, reading_named}
+use Rattle.image_files.specs.Saving.{Prints}
+use Rattle.image_files.specs.Work.{Then, Purely}
+use Rattle.volume_reports.specs.declared.reports.Report.{Report}
+use Rattle.volume_reports.specs.declared.reports.ReportKind.{ReportKind}
+use Rattle.volume_reports.specs.Checking.{ChecksEach, ChecksFiles, ChecksImages, ChecksNext, ChecksSeveral, PrintsCount, kind_of_check, reading_of_check, with_refusal}
+use Rattle.image_files.specs.Ending.{EndsSound}
+use Rattle.volume_reports.specs.Reporting.{PrintsNamed, PrintsReport, Reports, TellsRefusal}
+use Rattle.volume_reports.specs.Volumes.{IsVolumeName, ReportsAlone, ReportsAt, ReportsBoth, ReportsFile, ReportsNext, ReportsNumbered, ReportsOne, ReportsRead, ReportsVolume, ReportsVolumes}
+use Rattle.host_progress.specs.Progressing.{TellsProgress, WithProgress}
+use Rattle.image_files.specs.Laws.{KeepsFiles}
+use Rattle.image_files.proofs.KeepLemmas.{then-keeps, purely-keeps, prints-keeps, looks-image-keeps}
+use Rattle.image_files.proofs.LeaveLemmas.{answers-never}
+use Rattle.host_progress.proofs.KeepLemmas.{progress-never, with-progress-never}
+
+prints-report-never : (report : Report) → KeepsFiles (PrintsReport report)
+prints-report-never report = then-keeps (Prints report.text.items) (λ it. Purely (EndsSound report.is_sound)) (prints-keeps report.text.items) (λ it. purely-keeps (EndsSound report.is_sound))
+
+prints-named-never : (file : List ℕ) (report : Report) → KeepsFiles (PrintsNamed file report)
+prints-named-never file report =
+    then-keeps (Purely (AreLines (named_lines file report.text.items))) (λ lines. Then (Prints lines.items) (λ it. Purely (λ (result : Result Bool Ending). result ≡ Ok report.is_sound)))
+    (purely-keeps (AreLines (named_lines file report.text.items)))
+    (λ lines. then-keeps (Prints lines.items) (λ it. Purely (λ (result : Result Bool Ending). result ≡ Ok report.is_sound)) (prints-keeps lines.items) (λ it. purely-keeps (λ (result : Result Bool Ending). result ≡ Ok report.is_sound)))
+
+reports-volume-never : (kind : ReportKind) (name : List ℕ) (layout : Option Layout) (body : List ℕ) → KeepsFiles (ReportsVolume kind name layout body)
+reports-volume-never kind name layout body = then-keeps (Purely (ReportsAt kind layout body)) (PrintsNamed name) (purely-keeps (ReportsAt kind layout body)) (prints-named-never name)
+
+numbered-never : (kind : ReportKind) (file : List ℕ) (number : ℕ) (layout : Layout) (body : List ℕ) → KeepsFiles (ReportsNumbered kind file number layout body)
+numbered-never kind file number layout body =
+    then-keeps (Purely (IsVolumeName file number)) (λ name. Then (Purely (AreLines body)) (λ copy. ReportsVolume kind name.bytes.items (Some layout) copy.items)) (purely-keeps (IsVolumeName file number))
+    (λ name. then-keeps (Purely (AreLines body)) (λ copy. ReportsVolume kind name.bytes.items (Some layout) copy.items) (purely-keeps (AreLines body))
+    (λ copy. reports-volume-never kind name.bytes.items (Some layout) copy.items))
+
+both-never : (kind : ReportKind) (file body : List ℕ) → KeepsFiles (ReportsBoth kind file body)
+both-never kind file body =
+    then-keeps (ReportsNumbered kind file 1 First body) (λ one. Then (ReportsNumbered kind file 2 Second body) (λ other. Purely (λ (result : Result Bool Ending). result ≡ Ok (one && other))))
+    (numbered-never kind file 1 First body)
+    (λ one. then-keeps (ReportsNumbered kind file 2 Second body) (λ other. Purely (λ (result : Result Bool Ending). result ≡ Ok (one && other))) (numbered-never kind file 2 Second body)
+    (λ other. purely-keeps (λ (result : Result Bool Ending). result ≡ Ok (one && other))))
+
+alone-never : (kind : ReportKind) (layout : Option Layout) (body : List ℕ) → KeepsFiles (ReportsAlone kind layout body)
+alone-never kind layout body =
+    then-keeps (Purely (FindsVolume layout body)) (λ image. Then (Answers (Reports kind image.items) (length image.items)) PrintsReport) (purely-keeps (FindsVolume layout body))
+    (λ image. then-keeps (Answers (Reports kind image.items) (length image.items)) PrintsReport (answers-never (Reports kind image.items) (length image.items)) prints-report-never)
+
+file-never : (kind : ReportKind) (file : List ℕ) (volumes : Volumes) (body : List ℕ) → KeepsFiles (ReportsFile kind file volumes body)
+file-never kind file (One layout) body = alone-never kind layout body
+file-never kind file Both body = then-keeps (ReportsBoth kind file body) (λ is_sound. Purely (EndsSound is_sound)) (both-never kind file body) (λ is_sound. purely-keeps (EndsSound is_sound))
+
+pub one-never : (kind : ReportKind) (reading : ImageReading) (file : List ℕ) → KeepsFiles (ReportsOne kind reading file)
+one-never kind reading file =
+    then-keeps (LooksImage reading file) (λ bytes. ReportsFile kind file (volumes_in reading.layout bytes.items) (body_of reading.layout bytes.items)) (looks-image-keeps reading file)
+    (λ bytes. file-never kind file (volumes_in reading.layout bytes.items) (body_of reading.layout bytes.items))
+
+volumes-never : (kind : ReportKind) (file : List ℕ) (volumes : Volumes) (body : List ℕ) → KeepsFiles (ReportsVolumes kind file volumes body)
+volumes-never kind file (One layout) body = reports-volume-never kind file layout body
+volumes-never kind file Both body = both-never kind file body
+
+read-never : (kind : ReportKind) (given : Option Layout) (file : List ℕ) (bytes : Result (Vec ℕ) Ending) → KeepsFiles (ReportsRead kind given file bytes)
+read-never kind given file (Ok bytes) = volumes-never kind file (volumes_in given bytes.items) (body_of given bytes.items)
+read-never kind given file (Err ending) = then-keeps (Purely (TellsRefusal ending)) (PrintsNamed file) (purely-keeps (TellsRefusal ending)) (prints-named-never file)
+
+reports-next-never : (kind : ReportKind) (reading : ImageReading) (file name : List ℕ) → KeepsFiles (ReportsNext kind reading file name)
+reports-next-never kind reading file name old result new (bytes, between, looks, p) = λ path. read-never kind reading.layout name bytes between result new p path ∙ looks-image-keeps reading file old bytes between looks path
+
+next-never : (form : CheckForm) (is_told : Bool) (done all : ℕ) (file : List ℕ) → KeepsFiles (ChecksNext form is_told done all file)
+next-never form is_told done all file =
+    then-keeps (TellsProgress is_told done all) (λ it. ReportsNext (kind_of_check form.is_all) (reading_named (reading_of_check form) file) (file_named (reading_of_check form) file) file) (progress-never is_told done all)
+    (λ it. reports-next-never (kind_of_check form.is_all) (reading_named (reading_of_check form) file) (file_named (reading_of_check form) file) file)
+
+each-never : (form : CheckForm) (is_told : Bool) (done all refused : ℕ) (files : List (List ℕ)) → KeepsFiles (ChecksEach form is_told done all refused files)
+each-never form is_told done all refused [] = purely-keeps (λ (result : Result ℕ Ending). result ≡ Ok refused)
+each-never form is_told done all refused (file ∷ files) =
+    then-keeps (ChecksNext form is_told done all file) (λ is_sound. ChecksEach form is_told (done + 1) all (with_refusal is_sound refused) files) (next-never form is_told done all file)
+    (λ is_sound. each-never form is_told (done + 1) all (with_refusal is_sound refused) files)
+
+count-never : (count refused : ℕ) → KeepsFiles (PrintsCount count refused)
+count-never count refused =
+    then-keeps (Purely (AreLines (program_line (line.Images count refused)))) (λ text. Then (Prints text.items) (λ it. Purely (EndsSound (nat_eq refused 0)))) (purely-keeps (AreLines (program_line (line.Images count refused))))
+    (λ text. then-keeps (Prints text.items) (λ it. Purely (EndsSound (nat_eq refused 0))) (prints-keeps text.items) (λ it. purely-keeps (EndsSound (nat_eq refused 0))))
+
+several-never : (form : CheckForm) (files : List (List ℕ)) → KeepsFiles (ChecksSeveral form files)
+several-never form files =
+    then-keeps (WithProgress (λ is_told. ChecksEach form is_told 0 (length files) 0 files)) (PrintsCount (length files))
+    (with-progress-never (λ is_told. ChecksEach form is_told 0 (length files) 0 files) (λ is_told. each-never form is_told 0 (length files) 0 files)) (count-never (length files))
+
+files-never : (form : CheckForm) (files : List (List ℕ)) → KeepsFiles (ChecksFiles form files)
+files-never form [] = several-never form []
+files-never form (file ∷ []) = one-never (kind_of_check form.is_all) (reading_named (reading_of_check form) file) (file_named (reading_of_check form) file)
+files-never form (file ∷ other ∷ files) = several-never form (file ∷ other ∷ files)
+
+pub checks-never : (form : CheckForm) → KeepsFiles (ChecksImages form)
+checks-never form = files-never form (map (λ file. file.bytes.items) form.images.items)

@@ -1,0 +1,249 @@
+-- A check that ends well has read each image file, and each volume in it is sound.
+use Rattle.std.proofs.Common.{◌≡◌, ◌∙◌, ◌∷◌, ◌+◌, ◌&&◌, ℕ, Bool, true, false, nat_eq, Option, None, Some, Result, Ok, Err, List, [], ap, arith, codes, inl, inr, length, refl, subst, sym}
+use Rattle.std.proofs.lemmas.Bool.Decides.{nat_tests}
+use Rattle.hosts.specs.Event.{Event, look_call, print_call, seconds_call, tell_call, terminal_call}
+use Rattle.hosts.specs.Streams.{read}
+use Rattle.disk_layouts.specs.declared.layouts.Layout.{Layout}
+use Rattle.disk_layouts.specs.declared.layouts.Layout.TheVariants.{First, Second}
+use Rattle.image_volumes.specs.Margins.{body_of}
+use Rattle.image_volumes.specs.Volumes.{volumes_in}
+use Rattle.image_volumes.specs.declared.volumes.Volumes.{Volumes}
+use Rattle.image_volumes.specs.declared.volumes.Volumes.TheVariants.{One, Both}
+use Rattle.outcome.specs.Endings.{ending_of_archive}
+use Rattle.outcome.specs.declared.endings.Ending.{Ending}
+use Rattle.program_reports.specs.declared.programs.ProgramLine.{ProgramLine}
+use Rattle.program_tasks.specs.declared.forms.CheckForm.{CheckForm}
+use Rattle.image_files.specs.Answers.{Answers, AreLines}
+use Rattle.std.specs.Global.{Vec}
+use Rattle.lenient_images.specs.Lines.{mended_lines}
+use Rattle.image_files.specs.Mending.{TellsLines}
+use Rattle.image_files.specs.Reading.{LooksIf, file_named, reading_named}
+use Rattle.image_files.specs.Saving.{Prints}
+use Rattle.image_files.specs.declared.mending.ImageReading.{ImageReading}
+use Rattle.image_files.specs.Work.{Then, Purely}
+use Rattle.volume_reports.specs.declared.reports.Report.{Report}
+use Rattle.volume_reports.specs.Checking.{ChecksEach, ChecksFiles, ChecksNext, ChecksSeveral, PrintsCount, kind_of_check, reading_of_check, with_refusal}
+use Rattle.volume_reports.specs.Laws.{AreSound, AreSoundIn, IsReadAs, IsSoundFile, IsSoundVolume}
+use Rattle.host_progress.specs.Progressing.{BeginsProgress, EndsProgress, TellsDone, progress_text}
+use Rattle.image_files.specs.Ending.{EndsSound}
+use Rattle.volume_reports.specs.Reporting.{PrintsNamed, PrintsReport, Reports, TellsLine, TellsRefusal, line_in}
+use Rattle.volume_reports.specs.Volumes.{ReportsAlone, ReportsAt, ReportsBoth, ReportsFile, ReportsNext, ReportsNumbered, ReportsOne, ReportsVolume, ReportsVolumes}
+
+-- reads after some calls
+reads : (old new : List Event) → new ≡ old → read new ≡ read old
+reads old new is = ap (λ (events : List Event). read events) is
+
+ends-sound : (is_sound : Bool) → EndsSound is_sound (Ok tt) → is_sound ≡ true
+ends-sound true ends = refl
+ends-sound false ends = absurd ends
+
+abbrev given_or : Result Bool Ending → Bool
+given_or (Ok it) = it
+given_or (Err ending) = false
+
+abbrev count_or : Result ℕ Ending → ℕ
+count_or (Ok it) = it
+count_or (Err ending) = 0
+
+never : true ≡ false → ⊥
+never is = cc
+
+both-true : (one other : Bool) → (one && other) ≡ true → (one ≡ true) × (other ≡ true)
+both-true true other is = (refl, is)
+both-true false other is = absurd (never (sym is))
+
+-- ## A volume
+
+unsound-line : (text : Option ProgramLine) (ending : Ending) (report : Report) → TellsLine text ending (Ok report) → report.is_sound ≡ true → ⊥
+unsound-line None ending report told sound = told
+unsound-line (Some text) ending report told sound = never (sym sound ∙ told.1)
+
+abbrev report_or : Report → Result Report Ending → Report
+report_or other (Ok it) = it
+report_or other (Err ending) = other
+
+at-sound : (is_all : Bool) (layout : Option Layout) (body : List ℕ) (report : Report) → ReportsAt (kind_of_check is_all) layout body (Ok report) → report.is_sound ≡ true → IsSoundVolume is_all layout body
+at-sound is_all layout body report (inl (image, found, inl (other, reports, is))) sound =
+    record { image = image; found = found; report = report; reports = subst (λ r. Reports (kind_of_check is_all) image.items (Ok r)) (sym (ap (λ r. report_or report r) is)) reports; sound = sound }
+at-sound is_all layout body report (inl (image, found, inr (fault, reports, told))) sound = absurd (unsound-line (line_in (ending_of_archive fault)) (ending_of_archive fault) report told sound)
+at-sound is_all layout body report (inr (ending, found, told)) sound = absurd (unsound-line (line_in ending) ending report told sound)
+
+named : (name : List ℕ) (report : Report) (old new : List Event) (is_sound : Bool) → PrintsNamed name report old (Ok is_sound) new → (is_sound ≡ report.is_sound) × (read new ≡ read old)
+named name report old new is_sound (inl ends) = absurd ends
+named name report old new is_sound (inr it) = lines it.after
+  where
+    lines : Then (Prints it.given.items) (λ done. Purely (λ (result : Result Bool Ending). result ≡ Ok report.is_sound)) it.between (Ok is_sound) new → (is_sound ≡ report.is_sound) × (read new ≡ read old)
+    lines (inl ends) = absurd ends
+    lines (inr e) = (ap given_or e.after.0, reads e.between new e.after.1 ∙ reads (print_call true 0 it.given.items ∷ it.between) e.between e.done ∙ reads old it.between it.done.1)
+
+volume-sound : (is_all : Bool) (name : List ℕ) (layout : Option Layout) (body : List ℕ) (old new : List Event) (is_sound : Bool) → ReportsVolume (kind_of_check is_all) name layout body old (Ok is_sound) new → is_sound ≡ true
+    → IsSoundVolume is_all layout body × (read new ≡ read old)
+volume-sound is_all name layout body old new is_sound (inl ends) sound = absurd ends
+volume-sound is_all name layout body old new is_sound (inr it) sound =
+    let end = named name it.given it.between new is_sound it.after in
+    (at-sound is_all layout body it.given it.done.0 (sym end.0 ∙ sound), end.1 ∙ reads old it.between it.done.1)
+
+-- ## Both volumes of a disk
+
+copied-sound : (is_all : Bool) (name : List ℕ) (layout : Layout) (body : List ℕ) (old new : List Event) (is_sound : Bool)
+    → Then (Purely (AreLines body)) (λ copy. ReportsVolume (kind_of_check is_all) name (Some layout) copy.items) old (Ok is_sound) new → is_sound ≡ true → IsSoundVolume is_all (Some layout) body × (read new ≡ read old)
+copied-sound is_all name layout body old new is_sound (inl ends) sound = absurd ends
+copied-sound is_all name layout body old new is_sound (inr it) sound =
+    let one = volume-sound is_all name (Some layout) it.given.items it.between new is_sound it.after sound in
+    (subst (λ b. IsSoundVolume is_all (Some layout) b) it.done.0 one.0, one.1 ∙ reads old it.between it.done.1)
+
+numbered-sound : (is_all : Bool) (file : List ℕ) (number : ℕ) (layout : Layout) (body : List ℕ) (old new : List Event) (is_sound : Bool) → ReportsNumbered (kind_of_check is_all) file number layout body old (Ok is_sound) new → is_sound ≡ true
+    → IsSoundVolume is_all (Some layout) body × (read new ≡ read old)
+numbered-sound is_all file number layout body old new is_sound (inl ends) sound = absurd ends
+numbered-sound is_all file number layout body old new is_sound (inr it) sound =
+    let one = copied-sound is_all it.given.bytes.items layout body it.between new is_sound it.after sound in
+    (one.0, one.1 ∙ reads old it.between it.done.1)
+
+second-sound : (is_all : Bool) (file body : List ℕ) (one : Bool) (old new : List Event) (is_sound : Bool)
+    → Then (ReportsNumbered (kind_of_check is_all) file 2 Second body) (λ other. Purely (λ (result : Result Bool Ending). result ≡ Ok (one && other))) old (Ok is_sound) new → is_sound ≡ true
+    → (one ≡ true) × IsSoundVolume is_all (Some Second) body × (read new ≡ read old)
+second-sound is_all file body one old new is_sound (inl ends) sound = absurd ends
+second-sound is_all file body one old new is_sound (inr it) sound =
+    let are = both-true one it.given (sym (ap given_or it.after.0) ∙ sound) in
+    let other = numbered-sound is_all file 2 Second body old it.between it.given it.done are.1 in
+    (are.0, other.0, reads it.between new it.after.1 ∙ other.1)
+
+both-sound : (is_all : Bool) (file body : List ℕ) (old new : List Event) (is_sound : Bool) → ReportsBoth (kind_of_check is_all) file body old (Ok is_sound) new → is_sound ≡ true → AreSoundIn is_all Both body × (read new ≡ read old)
+both-sound is_all file body old new is_sound (inl ends) sound = absurd ends
+both-sound is_all file body old new is_sound (inr it) sound =
+    let second = second-sound is_all file body it.given it.between new is_sound it.after sound in
+    let first = numbered-sound is_all file 1 First body old it.between it.given it.done second.0 in
+    ((first.0, second.1), second.2 ∙ first.1)
+
+-- ## The one file that is asked for
+
+abbrev HasReadSound : Bool → ImageReading → List ℕ → List Event → List Event → Type 0
+HasReadSound is_all reading name old new = (bytes : List ℕ) × IsSoundFile is_all reading bytes × (read new ≡ look_call name bytes ∷ read old)
+
+printed : (report : Report) (old new : List Event) → PrintsReport report old (Ok tt) new → (report.is_sound ≡ true) × (read new ≡ read old)
+printed report old new (inl ends) = absurd ends
+printed report old new (inr it) = (ends-sound report.is_sound it.after.0, reads it.between new it.after.1 ∙ reads (print_call true 0 report.text.items ∷ old) it.between it.done)
+
+answered : (is_all : Bool) (image : List ℕ) (old new : List Event) → Then (Answers (Reports (kind_of_check is_all) image) (length image)) PrintsReport old (Ok tt) new
+    → (report : Report) × Reports (kind_of_check is_all) image (Ok report) × (report.is_sound ≡ true) × (read new ≡ read old)
+answered is_all image old new (inl ends) = absurd ends
+answered is_all image old new (inr it) =
+    let end = printed it.given it.between new it.after in
+    (it.given, it.done.0, end.0, end.1 ∙ reads old it.between it.done.1)
+
+alone-sound : (is_all : Bool) (layout : Option Layout) (body : List ℕ) (old new : List Event) → ReportsAlone (kind_of_check is_all) layout body old (Ok tt) new → IsSoundVolume is_all layout body × (read new ≡ read old)
+alone-sound is_all layout body old new (inl ends) = absurd ends
+alone-sound is_all layout body old new (inr it) =
+    let end = answered is_all it.given.items it.between new it.after in
+    (record { image = it.given; found = it.done.0; report = end.0; reports = end.1; sound = end.2 }, end.3 ∙ reads old it.between it.done.1)
+
+file-sound : (is_all : Bool) (file : List ℕ) (volumes : Volumes) (body : List ℕ) (old new : List Event) → ReportsFile (kind_of_check is_all) file volumes body old (Ok tt) new → AreSoundIn is_all volumes body × (read new ≡ read old)
+file-sound is_all file (One layout) body old new reports = alone-sound is_all layout body old new reports
+file-sound is_all file Both body old new (inl ends) = absurd ends
+file-sound is_all file Both body old new (inr it) =
+    let both = both-sound is_all file body old it.between it.given it.done (ends-sound it.given it.after.0) in
+    (both.0, reads it.between new it.after.1 ∙ both.1)
+
+lines-read : (lines : List ℕ) (old new : List Event) → TellsLines lines old new → read new ≡ read old
+lines-read [] old new p = reads old new p
+lines-read (c ∷ lines) old new p = reads (tell_call p.0 (c ∷ lines) ∷ old) new p.1
+
+-- which bytes a file is read as, and that it was read
+looked : (is_lenient : Bool) (given : Option Layout) (name : List ℕ) (old : List Event) (bytes : Vec ℕ) (new : List Event) → LooksIf is_lenient given name old (Ok bytes) new
+    → (file : List ℕ) × IsReadAs is_lenient given file bytes.items × (read new ≡ look_call name file ∷ read old)
+looked false given name old bytes new p = (bytes.items, refl, reads (look_call name bytes.items ∷ old) new p.1)
+looked true given name old bytes new (inl ends) = absurd ends
+looked true given name old bytes new (inr it) = (
+  it.given.items,
+  (it.after.0, it.after.1, it.after.2),
+  lines-read (mended_lines name it.after.0) it.between new it.after.3 ∙ reads (look_call name it.given.items ∷ old) it.between it.done.1,
+)
+
+one-sound : (is_all : Bool) (reading : ImageReading) (name : List ℕ) (old new : List Event) → ReportsOne (kind_of_check is_all) reading name old (Ok tt) new → HasReadSound is_all reading name old new
+one-sound is_all reading name old new (inl ends) = absurd ends
+one-sound is_all reading name old new (inr it) =
+    let sound = file-sound is_all name (volumes_in reading.layout it.given.items) (body_of reading.layout it.given.items) it.between new it.after in
+    let file = looked reading.is_lenient reading.layout name old it.given it.between it.done in
+    (file.0, (it.given.items, file.1, sound.0), sound.1 ∙ file.2)
+
+-- ## Several files
+
+volumes-sound : (is_all : Bool) (file : List ℕ) (volumes : Volumes) (body : List ℕ) (old new : List Event) (is_sound : Bool) → ReportsVolumes (kind_of_check is_all) file volumes body old (Ok is_sound) new → is_sound ≡ true
+    → AreSoundIn is_all volumes body × (read new ≡ read old)
+volumes-sound is_all file (One layout) body old new is_sound reports sound = volume-sound is_all file layout body old new is_sound reports sound
+volumes-sound is_all file Both body old new is_sound reports sound = both-sound is_all file body old new is_sound reports sound
+
+unread : (file : List ℕ) (ending : Ending) (old new : List Event) (is_sound : Bool) → Then (Purely (TellsRefusal ending)) (PrintsNamed file) old (Ok is_sound) new → is_sound ≡ true → ⊥
+unread file ending old new is_sound (inl ends) sound = ends
+unread file ending old new is_sound (inr it) sound = unsound-line (line_in ending) ending it.given it.done.0 (sym (named file it.given it.between new is_sound it.after).0 ∙ sound)
+
+next-read : (is_all : Bool) (reading : ImageReading) (file name : List ℕ) (old new : List Event) (is_sound : Bool) → ReportsNext (kind_of_check is_all) reading file name old (Ok is_sound) new → is_sound ≡ true → HasReadSound is_all reading file old new
+next-read is_all reading file name old new is_sound (Ok bytes, between, looks, reports) sound =
+    let are = volumes-sound is_all name (volumes_in reading.layout bytes.items) (body_of reading.layout bytes.items) between new is_sound reports sound in
+    let read_as = looked reading.is_lenient reading.layout file old bytes between looks in
+    (read_as.0, (bytes.items, read_as.1, are.0), are.1 ∙ read_as.2)
+next-read is_all reading file name old new is_sound (Err ending, between, looks, reports) sound = absurd (unread name ending between new is_sound reports sound)
+
+with-others : (form : CheckForm) (name : List ℕ) (old new : List Event) → HasReadSound form.is_all (reading_named (reading_of_check form) name) (file_named (reading_of_check form) name) old new
+    → (names : List (List ℕ)) (last : List Event) → AreSound form names (read new) last → AreSound form (name ∷ names) (read old) last
+with-others form name old new (bytes, sound, is) names last others = (bytes, sound, subst (λ r. AreSound form names r last) is others)
+
+done-reads : (is_told : Bool) (done all : ℕ) (old new : List Event) → TellsDone is_told done all old new → read new ≡ read old
+done-reads false done all old new p = reads old new p
+done-reads true done all old new (passed, inl p) = reads (seconds_call passed ∷ old) new p
+done-reads true done all old new (passed, inr p) = reads (tell_call p.0 (progress_text done all) ∷ seconds_call passed ∷ old) new p.2
+
+next-sound : (form : CheckForm) (is_told : Bool) (done all : ℕ) (name : List ℕ) (old new : List Event) (is_sound : Bool) → ChecksNext form is_told done all name old (Ok is_sound) new → is_sound ≡ true
+    → (names : List (List ℕ)) (last : List Event) → AreSound form names (read new) last → AreSound form (name ∷ names) (read old) last
+next-sound form is_told done all name old new is_sound (inl ends) sound names last others = absurd ends
+next-sound form is_told done all name old new is_sound (inr it) sound names last others =
+    subst (λ r. AreSound form (name ∷ names) r last) (done-reads is_told done all old it.between it.done.1)
+    (with-others form name it.between new (next-read form.is_all (reading_named (reading_of_check form) name) (file_named (reading_of_check form) name) name it.between new is_sound it.after sound) names last others)
+
+none-refused : (is_sound : Bool) (refused : ℕ) → with_refusal is_sound refused ≡ 0 → (is_sound ≡ true) × (refused ≡ 0)
+none-refused true refused is = (refl, is)
+none-refused false refused is = absurd (omega (arith, is))
+
+each-sound : (form : CheckForm) (is_told : Bool) (done all refused : ℕ) (names : List (List ℕ)) (count : ℕ) (old new : List Event) → ChecksEach form is_told done all refused names old (Ok count) new → count ≡ 0
+    → (refused ≡ 0) × AreSound form names (read old) (read new)
+each-sound form is_told done all refused [] count old new it none = (sym (ap count_or it.0) ∙ none, reads old new it.1)
+each-sound form is_told done all refused (name ∷ names) count old new (inl ends) none = absurd ends
+each-sound form is_told done all refused (name ∷ names) count old new (inr it) none =
+    let rest = each-sound form is_told (done + 1) all (with_refusal it.given refused) names count it.between new it.after none in
+    let sound = none-refused it.given refused rest.0 in
+    (sound.1, next-sound form is_told done all name old it.between it.given it.done sound.0 names (read new) rest.1)
+
+begun-reads : (is_told : Bool) (old new : List Event) → BeginsProgress is_told old new → read new ≡ read old
+begun-reads true old new p = reads (seconds_call p.0 ∷ terminal_call false 1 ∷ terminal_call true 2 ∷ old) new p.1
+begun-reads false old new (inl p) = reads (terminal_call false 2 ∷ old) new p
+begun-reads false old new (inr p) = reads (terminal_call true 1 ∷ terminal_call true 2 ∷ old) new p
+
+end-reads : (is_told : Bool) (old new : List Event) → EndsProgress is_told old new → read new ≡ read old
+end-reads false old new p = reads old new p
+end-reads true old new (inl p) = reads old new p
+end-reads true old new (inr p) = reads (tell_call p.0 (0o33 ∷ codes "[K") ∷ old) new p.1
+
+is-zero : (n : ℕ) → nat_eq n 0 ≡ true → n ≡ 0
+is-zero n is = grind (arith, nat_tests)
+
+counted : (count refused : ℕ) (old new : List Event) → PrintsCount count refused old (Ok tt) new → (refused ≡ 0) × (read new ≡ read old)
+counted count refused old new (inl ends) = absurd ends
+counted count refused old new (inr it) = lines it.after
+  where
+    lines : Then (Prints it.given.items) (λ done. Purely (EndsSound (nat_eq refused 0))) it.between (Ok tt) new → (refused ≡ 0) × (read new ≡ read old)
+    lines (inl ends) = absurd ends
+    lines (inr e) = (is-zero refused (ends-sound (nat_eq refused 0) e.after.0), reads e.between new e.after.1 ∙ reads (print_call true 0 it.given.items ∷ it.between) e.between e.done ∙ reads old it.between it.done.1)
+
+several-sound : (form : CheckForm) (names : List (List ℕ)) (old new : List Event) → ChecksSeveral form names old (Ok tt) new → AreSound form names (read old) (read new)
+several-sound form names old new (inl ends) = absurd ends
+several-sound form names old new (inr it) =
+    let work = it.done in
+    let end = counted (length names) it.given it.between new it.after in
+    let each = each-sound form work.is_told 0 (length names) 0 names it.given work.begun work.done work.works end.0 in
+    subst (λ r. AreSound form names (read old) r) (sym (end.1 ∙ end-reads work.is_told work.done it.between work.ends))
+    (subst (λ r. AreSound form names r (read work.done)) (begun-reads work.is_told old work.begun work.begins) each.1)
+
+pub files-sound : (form : CheckForm) (names : List (List ℕ)) (old new : List Event) → ChecksFiles form names old (Ok tt) new → AreSound form names (read old) (read new)
+files-sound form [] old new checks = several-sound form [] old new checks
+files-sound form (name ∷ []) old new checks = with-others form name old new (one-sound form.is_all (reading_named (reading_of_check form) name) (file_named (reading_of_check form) name) old new checks) [] (read new) refl
+files-sound form (name ∷ other ∷ names) old new checks = several-sound form (name ∷ other ∷ names) old new checks

@@ -1,0 +1,59 @@
+-- The command that reports on the volumes in image files.
+use Rattle.std.specs.Prelude.{ℕ, ◌+◌, Bool, true, false, nat_eq, ◌≡◌, Result, Ok, List, [], ◌∷◌, length, map}
+use Rattle.hosts.specs.Event.{Event}
+use Rattle.program_reports.specs.Program.{program_line}
+use Rattle.program_reports.specs.declared.programs.ProgramLine.TheVariants as line
+use Rattle.outcome.specs.declared.endings.Ending.{Ending}
+use Rattle.program_tasks.specs.declared.forms.CheckForm.{CheckForm}
+use Rattle.image_files.specs.Work.{Then, Purely}
+use Rattle.image_files.specs.Answers.{AreLines}
+use Rattle.image_files.specs.Saving.{Prints}
+use Rattle.image_files.specs.Reading.{file_named, reading_named}
+use Rattle.image_files.specs.declared.mending.ImageReading.{ImageReading}
+use Rattle.host_progress.specs.Progressing.{TellsProgress, WithProgress}
+use Rattle.image_files.specs.Ending.{EndsSound}
+use Rattle.volume_reports.specs.Volumes.{ReportsNext, ReportsOne}
+use Rattle.volume_reports.specs.declared.reports.ReportKind.{ReportKind}
+use Rattle.volume_reports.specs.declared.reports.ReportKind.TheVariants as kinds
+
+-- what is asked for of each volume: its directory with the first fault, or with each
+abbrev pub kind_of_check : Bool → ReportKind
+kind_of_check true = kinds.Survey
+kind_of_check false = kinds.Directory
+
+-- how the image files of a check are read
+abbrev pub reading_of_check : CheckForm → ImageReading
+reading_of_check form = record { layout = form.layout; is_lenient = form.is_lenient }
+
+-- one of several image files is reported
+abbrev pub ChecksNext : CheckForm → Bool → ℕ → ℕ → List ℕ → List Event → Result Bool Ending → List Event → Type 0
+ChecksNext form is_told done all name =
+    Then (TellsProgress is_told done all) (λ it. ReportsNext (kind_of_check form.is_all) (reading_named (reading_of_check form) name) (file_named (reading_of_check form) name) name)
+
+-- how many images are refused with this one
+abbrev pub with_refusal : Bool → ℕ → ℕ
+with_refusal true refused = refused
+with_refusal false refused = refused + 1
+
+-- the images are reported in their order, and it is counted how many are refused
+abbrev pub ChecksEach : CheckForm → Bool → ℕ → ℕ → ℕ → List (List ℕ) → List Event → Result ℕ Ending → List Event → Type 0
+ChecksEach form is_told done all refused [] = Purely (λ result. result ≡ Ok refused)
+ChecksEach form is_told done all refused (file ∷ files) = Then (ChecksNext form is_told done all file) (λ is_sound. ChecksEach form is_told (done + 1) all (with_refusal is_sound refused) files)
+
+-- the last line counts the images
+abbrev pub PrintsCount : ℕ → ℕ → List Event → Result (Unit {0}) Ending → List Event → Type 0
+PrintsCount count refused = Then (Purely (AreLines (program_line (line.Images count refused)))) (λ line. Then (Prints line.items) (λ it. Purely (EndsSound (nat_eq refused 0))))
+
+abbrev pub ChecksSeveral : CheckForm → List (List ℕ) → List Event → Result (Unit {0}) Ending → List Event → Type 0
+ChecksSeveral form files = Then (WithProgress (λ is_told. ChecksEach form is_told 0 (length files) 0 files)) (PrintsCount (length files))
+
+-- one file is reported as it is, and others with a line that counts them
+abbrev pub ChecksFiles : CheckForm → List (List ℕ) → List Event → Result (Unit {0}) Ending → List Event → Type 0
+ChecksFiles form [] = ChecksSeveral form []
+ChecksFiles form (name ∷ []) = ReportsOne (kind_of_check form.is_all) (reading_named (reading_of_check form) name) (file_named (reading_of_check form) name)
+ChecksFiles form (file ∷ other ∷ files) = ChecksSeveral form (file ∷ other ∷ files)
+
+-- Each image file is looked at in its order, and its lines are printed before the next one is looked at. Of several each line has the name
+-- of the file or volume before it, a refused one has its line among them, and the last line counts the files.
+abbrev pub ChecksImages : CheckForm → List Event → Result (Unit {0}) Ending → List Event → Type 0
+ChecksImages form = ChecksFiles form (map (λ file. file.bytes.items) form.images.items)

@@ -1,0 +1,4 @@
+pub mod Reporting
+pub mod Volumes
+pub mod Checking
+pub mod Laws
