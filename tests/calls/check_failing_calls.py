@@ -145,6 +145,16 @@ def a_file_that_gets_no_number_of_its_own_is_taken_away(room: Room) -> None:
 
 
 @case
+def a_time_that_is_not_set_stops_no_file(room: Room) -> None:
+    room.sh("./pdp8 create V 20; echo A | ./pdp8 put V - --as A --date 1974-03-12")
+    holds(room.pdp8("get", "V", "A", "--into", "F", call="date", error=errno.EPERM), (0, "GOT A 1\n"))
+    holds(room.sh("ls F; find F/A -newermt 2000-01-01"), "A\nF/A\n")
+    holds(room.pdp8("get", "V", "A", "--into", "G"), (0, "GOT A 1\n"))
+    holds(room.calls(), ["dup", "write", "date", "link", "unlink", "print"])
+    holds(room.sh("date -u -r G/A +%F"), "1974-03-12\n")
+
+
+@case
 def a_file_system_without_further_names_gets_new_files(room: Room) -> None:
     said = room.pdp8("create", "V", "20", call="link", before="./pdp8 create V 30", error=errno.EPERM)
     holds((said, room.sh("stat -c %s V")), ((1, BUSY), "15360\n"))

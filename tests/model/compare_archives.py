@@ -10,11 +10,13 @@ volume. Damaged directories are looked at too. The same number is the same case 
 """
 import argparse
 import concurrent.futures
+import datetime
 import os
 import re
 import subprocess
 import sys
 import tempfile
+import time
 from random import Random
 
 sys.dont_write_bytecode = True
@@ -25,7 +27,7 @@ from tests.model.compare import outside
 from tests.model.compare_indexes import random_file
 from tests.model.disks import Held, held_image, with_margins, wrong_size
 from tests.model.index import parts_of, volume_of
-from tests.model.keeper import TEXTS, Asked, Keeper, extension, given_of, has_sign
+from tests.model.keeper import TEXTS, Asked, Keeper, day_of, extension, given_of, has_sign
 from tests.model.survey import damaged, surveyed
 from tests.model.volume import Unsound, Volume, made_image, read_volume, words_of_image
 from tests.model.words import octal, spelled_name
@@ -170,16 +172,22 @@ class Case:
         files = {spelled_name(it): given_of(volume.files[it].words, extension(it) in texts) for it in names}
         there = random.choice(sorted(files)) if files and random.random() < 0.3 else ""
         is_forced = random.random() < 0.3
+        last = random.choice([None, None, random.randrange(1977, 10000)])
+        days = {spelled_name(it): day_of(volume.files[it].info, last or 1977) for it in names}
         if there:
             write(f"{folder}/{there}", b"older")
         lines = {spelled_name(it): f"GOT {spelled_name(it)} {volume.files[it].blocks}" for it in names}
         if there and not is_forced:
             lines[there], files[there] = f"{there}: ? HOST EXISTS", b"older"
-        words += ["--into", folder, *self.where(image), *(["--force"] if is_forced else [])]
-        done = self.done(words, b"")
+        words += ["--into", folder, *self.where(image), *(["--force"] if is_forced else []), *([] if last is None else ["--year", str(last)])]
+        begun, done = int(time.time()), self.done(words, b"")
         status = 1 if refused or there and not is_forced else 0
         if (sorted(done.stdout.decode("latin-1").splitlines()), done.returncode) != (sorted([*lines.values(), *refused]), status):
             return f"{' '.join(words)}\n    wanted {[*lines.values(), *refused]} {status}\n    got    {done.stdout!r} {done.returncode}"
+        for name in files:
+            seconds, day = os.stat(f"{folder}/{name}").st_mtime, "" if name == there and not is_forced else "".join(days[name])
+            if seconds != noon_of(day) if day else seconds < begun - 2:
+                return f"{' '.join(words)}: {name} has the time {seconds}, and the date {day}"
         got = {it: read(f"{folder}/{it}") for it in os.listdir(folder)}
         return "" if got == files else f"{' '.join(words)}: the folder's files differ: {sorted(got)} in place of {sorted(files)}"
 
@@ -205,11 +213,15 @@ class Case:
         texts: list[str] = random.choice([[], TEXTS, ["PA"]])
         options = ["--text"] if texts is TEXTS else ["--text-of", "PA"] if texts else []
         info = [random.randrange(0o10000) for _ in range(random.choice([0, 0, 2]))]
+        is_dated = not info and random.random() < 0.3
+        times = {name: random.choice([0, random.randrange(1 << 31), random.randrange(1 << 33)]) for name, _ in given}
         for name, content in given:
             write(f"{self.folder}/{name.decode()}", content)
+            os.utime(f"{self.folder}/{name.decode()}", (0, times[name]))
         marks: list[str] = random.choice([[], ["--files"]])
         words = ["put", image, *marks, *names, *options, *self.where(image), *(it for word in info for it in ("--info", octal(word, 4)))]
-        return self.differs(words, b"", self.keeper.put_all(image, given, texts, tuple(info) if info else None))
+        words += ["--dates"] if is_dated else []
+        return self.differs(words, b"", self.keeper.put_all(image, given, texts, tuple(info) if info else None, list(times.values()) if is_dated else []))
 
     def others(self) -> str:
         """Looks at blocks, at a damaged directory, or at a file of a wrong size."""
@@ -287,6 +299,11 @@ class Case:
             return fault or "a block that the directory does not cover has changed"
         self.held[image], self.seen[image] = now, wanted
         return "" if got == wanted else f"the files differ\n    wanted {wanted.runs}\n    got    {got.runs}"
+
+
+def noon_of(day: str) -> float:
+    """The time at noon of a day, in UTC, in seconds after the begin of 1970."""
+    return (datetime.date.fromisoformat(day) - datetime.date(1970, 1, 1)).days * 86400 + 43200
 
 
 def read(path: str) -> bytes:

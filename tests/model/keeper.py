@@ -4,7 +4,7 @@ import datetime
 import fnmatch
 import re
 from dataclasses import dataclass, replace
-from typing import Optional, Union
+from typing import Optional, Sequence, Union
 from tests.model.volume import File, Run, Volume
 from tests.model.words import Name, frames_of, octal, packed, read_name, shown_word, spelled_name, stored_host_text, text_of
 
@@ -36,6 +36,12 @@ def day_of(info: tuple[int, ...], last: int) -> list[str]:
         return [datetime.date(year, info[0] >> 8, info[0] >> 3 & 31).isoformat()]
     except ValueError:
         return []
+
+
+def word_of_time(seconds: int) -> int:
+    """The word of the day, in UTC, of a time in seconds after the begin of 1970."""
+    day = datetime.datetime.fromtimestamp(seconds, datetime.timezone.utc)
+    return day.month << 8 | day.day << 3 | (day.year - 1970) % 8
 
 
 def asked_text(asked: Asked) -> str:
@@ -91,8 +97,9 @@ class Keeper:
             return emptying("-") if name in self.volumes[image].files else refused(NOTHING)
         return self.put(image, name, packed(list(frames)), info)
 
-    def put_all(self, image: str, given: list[tuple[bytes, bytes]], texts: list[str], info: Optional[tuple[int, ...]]) -> Answer:
-        """Puts files of the host in, each with its bytes, all or none; those with one of these extensions as texts."""
+    def put_all(self, image: str, given: list[tuple[bytes, bytes]], texts: list[str], info: Optional[tuple[int, ...]], times: Sequence[int] = ()) -> Answer:
+        """Puts files of the host in, each with its bytes, all or none; those with one of these extensions as texts. Where times are given, in seconds
+        after the begin of 1970, each file is dated by its own."""
         before, lines, names = self.volumes[image], [], [typed_name(path) for path, _ in given]
         for at, name in enumerate(names):
             note = f"note: {given[at][0].decode()} is refused, and no file is put"
@@ -103,13 +110,14 @@ class Keeper:
         for (path, content), name in zip(given, names):
             if not content and name in before.files:
                 return emptying(path.decode())
-        for (path, content), name in zip(given, names):
+        for at, ((path, content), name) in enumerate(zip(given, names)):
+            own = (word_of_time(times[at]),) if times else info
             is_text = name is not None and extension(name) in texts
             words = stored_host_text(content) if is_text else packed(list(content))
             if words is None:
                 answer: Answer = refused(BAD_TEXT)
             else:
-                answer = self.put(image, name, words, info) if is_text or content else refused(NOTHING)
+                answer = self.put(image, name, words, own) if is_text or content else refused(NOTHING)
             if answer[1]:
                 self.volumes[image] = before
                 hint = bad_text_hint(content) if answer[0] == [BAD_TEXT] else []

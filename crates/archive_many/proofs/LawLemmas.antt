@@ -24,7 +24,7 @@ use Rattle.archive_files.specs.Opening.{IsOpened}
 use Rattle.archive_files.specs.Getting.{IsGiven}
 use Rattle.archive_files.specs.Putting.{information_for, put_words}
 use Rattle.archive_many.specs.Opened.{GetsFile, LiesOn}
-use Rattle.archive_many.specs.Putting.{ArePut, HasPutAll, words_in}
+use Rattle.archive_many.specs.Putting.{ArePut, HasPutAll, info_or, words_in}
 use Rattle.archive_many.specs.Laws.{HoldsFile, IsNoneOf}
 use Rattle.archive_many.proofs.FileLemmas.{FoundSo}
 use Rattle.archive_many.specs.declared.opened.VolumeFile.{VolumeFile}
@@ -61,7 +61,7 @@ get-there m name h q other = elim (eqb_tells name q) [
 -- ## One file after the other
 
 data-of : MountState → Option (List ℕ) → NewFile → FileData
-data-of m info f = file_with m (information_for m f.name info) (words_in f)
+data-of m info f = file_with m (information_for m f.name (info_or f.date info)) (words_in f)
 
 sound-volume : (name : ℕ) (read : Result DirectoryState DirFault) (extent : ℕ × ℕ) → extent_or name read ≡ Some extent → is_ok read ≡ true
 sound-volume name (Ok d) extent found = refl
@@ -78,15 +78,15 @@ stays : (old new : MountState) (info : Option (List ℕ)) (files : List NewFile)
 stays old new info [] name put none = ap (λ (m : MountState). get (files_of m.blocks) name) put
 stays old new info (f ∷ files) name put none =
     stays put.0 new info files name put.2 none.1 ∙ ap (λ (m : Files). get m name) put.1.put.files
-    ∙ get-there (files_of old.blocks) f.name (file_with old (information_for old f.name info) (words_in f)) name none.0
+    ∙ get-there (files_of old.blocks) f.name (file_with old (information_for old f.name (info_or f.date info)) (words_in f)) name none.0
 
 -- a file that was put is there, where no later one has its name
 there : (old new : MountState) (info : Option (List ℕ)) (before following : List NewFile) (f : NewFile) → ArePut old info (before ++ f ∷ following) new → IsNoneOf f.name following
     → (words : List ℕ) × (get (files_of new.blocks) f.name ≡ Some (words, words_in f))
 there old new info [] following f put none = (
-  (file_with old (information_for old f.name info) (words_in f)).0,
+  (file_with old (information_for old f.name (info_or f.date info)) (words_in f)).0,
   stays put.0 new info following f.name put.2 none ∙ ap (λ (m : Files). get m f.name) put.1.put.files
-      ∙ get-here (files_of old.blocks) f.name (file_with old (information_for old f.name info) (words_in f)),
+      ∙ get-here (files_of old.blocks) f.name (file_with old (information_for old f.name (info_or f.date info)) (words_in f)),
 )
 there old new info (g ∷ before) following f put none = there put.0 new info before following f put.2 none
 

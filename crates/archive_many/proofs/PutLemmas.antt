@@ -20,7 +20,7 @@ use Rattle.os8_dir.specs.declared.file_faults.FileFault.TheVariants as file
 use Rattle.script8.specs.declared.faults.SessionFault.{SessionFault}
 use Rattle.script8.specs.declared.faults.SessionFault.TheVariants.{BadLine, NoJob, TooManyJobs, File, Asm, Tape, BadText, Reader, Writer, Memory, TooManyBreaks}
 use Rattle.archive_files.specs.Putting.{information_for}
-use Rattle.archive_many.specs.Putting.{ArePut, HasPutFile, IsRefusedAt, IsRefusedFile, KeepsUncovered, blocks_in, words_in}
+use Rattle.archive_many.specs.Putting.{ArePut, HasPutFile, IsRefusedAt, IsRefusedFile, KeepsUncovered, blocks_in, info_or, words_in}
 use Rattle.archive_many.specs.PutSteps.{IsRefusedAfter, PutsFile, PutsFiles}
 use Rattle.archive_many.specs.declared.putting.NewFile.{NewFile}
 
@@ -209,7 +209,7 @@ uncovered-all fits covers d old new info [] read put = record {
   outside = λ k high out. ap (λ (m : MountState). block m.blocks k) put;
 }
 uncovered-all fits covers d old new info (f ∷ files) read put =
-    let given = information_for old f.name info in
+    let given = information_for old f.name (info_or f.date info) in
     let one = uncovered-one fits d old put.0 f.name given (words_in f) read put.1.put in
     let again = listed-again covers d old put.0 f.name given (words_in f) read put.1.put in
     let others = uncovered-all fits covers again.directory put.0 new info files again.read put.2 in

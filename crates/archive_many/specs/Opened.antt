@@ -1,5 +1,5 @@
 -- The files of an image that is opened once, and what is got of one of them.
-use Rattle.std.specs.Prelude.{◌≡◌, ◌≢◌, ℕ, Some, Result, Ok, Err, List, [], map}
+use Rattle.std.specs.Prelude.{◌≡◌, ◌≢◌, ℕ, Option, None, Some, Result, Ok, Err, List, [], ◌∷◌, map, take}
 use Rattle.std.specs.Global.{Vec}
 use Rattle.std.specs.FinMap.{get}
 use Rattle.bin_tape.specs.Fault.{IsFault}
@@ -7,7 +7,7 @@ use Rattle.char_pack.specs.Packing.{frames}
 use Rattle.char_pack.specs.declared.forms.GetForm.{GetForm}
 use Rattle.char_pack.specs.declared.forms.GetForm.TheVariants.{Tape}
 use Rattle.os8_dir.specs.Entries.{DirectoryState}
-use Rattle.os8_dir.specs.Found.{FilePlace, files_at}
+use Rattle.os8_dir.specs.Found.{FilePlace, files_at, find}
 use Rattle.os8_dir.specs.Reading.{directory_of}
 use Rattle.os8_dir.specs.Files.{FileData, files_of, run}
 use Rattle.os8_dir.specs.declared.faults.DirFault.{DirFault}
@@ -39,6 +39,23 @@ files_or (Err fault) = []
 -- the files of a volume in order of their blocks
 abbrev pub files_on : List (List ℕ) → List VolumeFile
 files_on blocks = files_or (directory_of blocks)
+
+abbrev pub first_of : List ℕ → Option ℕ
+first_of [] = None
+first_of (word ∷ words) = Some word
+
+-- so many information words of a file, if it is found
+abbrev pub words_of : ℕ → Option FilePlace → List ℕ
+words_of count None = []
+words_of count (Some f) = take count f.info
+
+abbrev pub first_word_or : Result DirectoryState DirFault → ℕ → Option ℕ
+first_word_or (Ok d) name = first_of (words_of d.info (find name (files_at d.first d.entries)))
+first_word_or (Err fault) name = None
+
+-- the first information word of the file of a name, where the volume has such a file and has information words
+abbrev pub first_word : List (List ℕ) → ℕ → Option ℕ
+first_word blocks name = first_word_or (directory_of blocks) name
 
 -- ## What is opened
 

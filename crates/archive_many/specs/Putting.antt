@@ -1,5 +1,5 @@
 -- The result of putting many files into an image at once.
-use Rattle.std.specs.Prelude.{◌≡◌, ◌⊎◌, ℕ, ◌/◌, ◌<◌, ◌≤◌, Option, Result, Ok, Err, List, [], ◌∷◌, ◌++◌, length, map}
+use Rattle.std.specs.Prelude.{◌≡◌, ◌⊎◌, ℕ, ◌/◌, ◌<◌, ◌≤◌, Option, None, Some, Result, Ok, Err, List, [], ◌∷◌, ◌++◌, length, map}
 use Rattle.word12.specs.declared.sizes.TheConstants.{FIRST_FILE_BLOCK}
 use Rattle.volume_image.specs.Image.{IsImageOf}
 use Rattle.os8_dir.specs.Entries.{DirectoryState, IsNamed, end_of}
@@ -24,11 +24,16 @@ words_in file = put_words file.form file.bytes.items
 abbrev pub blocks_in : NewFile → ℕ
 blocks_in file = blocks_filled (words_in file)
 
+-- the information words of a file: the word of a date of its own, or else those that are given for all
+abbrev pub info_or : Option ℕ → Option (List ℕ) → Option (List ℕ)
+info_or None info = info
+info_or (Some date) info = Some (date ∷ [])
+
 -- a volume gets a new file, which has a name and bytes of a file, and the information words that are given, or those of an older file
 pub record HasPutFile (old : MountState) (info : Option (List ℕ)) (file : NewFile) (new : MountState) : Type 0 where
   pub named : IsNamed file.name
   pub fit : IsFit file.form file.bytes.items
-  pub put : HasPutWith old file.name (information_for old file.name info) (words_in file) new
+  pub put : HasPutWith old file.name (information_for old file.name (info_or file.date info)) (words_in file) new
 
 -- a volume gets new files, one after the other
 abbrev pub ArePut : MountState → Option (List ℕ) → List NewFile → MountState → Type 0
@@ -59,8 +64,8 @@ abbrev pub IsRefusedFile : MountState → Option (List ℕ) → NewFile → Sess
 IsRefusedFile m info file (File BadName) = file.name / 0o1000000000000 ≡ 0
 IsRefusedFile m info file (File NothingWritten) = IsNamed file.name × IsUnfit file.form file.bytes.items (File NothingWritten)
 IsRefusedFile m info file BadText = IsNamed file.name × IsUnfit file.form file.bytes.items BadText
-IsRefusedFile m info file (File (NoRoom largest)) = IsNamed file.name × IsFit file.form file.bytes.items × IsFull m file.name info (words_in file) (File (NoRoom largest))
-IsRefusedFile m info file (File DirectoryFull) = IsNamed file.name × IsFit file.form file.bytes.items × IsFull m file.name info (words_in file) (File DirectoryFull)
+IsRefusedFile m info file (File (NoRoom largest)) = IsNamed file.name × IsFit file.form file.bytes.items × IsFull m file.name (info_or file.date info) (words_in file) (File (NoRoom largest))
+IsRefusedFile m info file (File DirectoryFull) = IsNamed file.name × IsFit file.form file.bytes.items × IsFull m file.name (info_or file.date info) (words_in file) (File DirectoryFull)
 IsRefusedFile m info file fault = ⊥
 
 -- the first of some new files that is refused has this place, counted from 0: those before it could be put

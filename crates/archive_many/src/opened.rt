@@ -2,7 +2,8 @@ ghost use Rattle.std.specs.Prelude.{◌≡◌, ◌+◌, ◌≤◌, ◌++◌, len
 ghost use Rattle.word12.specs.declared.sizes.TheConstants.{MOST_BLOCKS};
 ghost use Rattle.os8_dir.specs.Entries.{total};
 ghost use Rattle.os8_dir.specs.Files.{run};
-ghost use Rattle.archive_many.specs.Opened.{GetsFile, OpensVolume, files_on};
+ghost use Rattle.volume_image.specs.Image.{block_word};
+ghost use Rattle.archive_many.specs.Opened.{GetsFile, OpensVolume, files_on, first_of, first_word};
 ghost use Rattle.archive_many.specs.Steps.{file_of_entry, files_of_entries};
 
 use crate::images::volume_of;
@@ -71,6 +72,27 @@ impl OpenVolume {
         Ok(files)
     }
 
+    /// The first information word of the file of a name, where there is one and the volume has information words (OS/8 Software Support
+    /// Manual).
+    pub fn first_word(&self, name: Name) -> Option<Word>
+        ensures { result ≡ first_word self.now name }
+    {
+        let count = self.directory.information_words();
+        match self.directory.information(&name) {
+            Some(words) => first_of(words.split_at(count).0),
+            None => None,
+        }
+    }
+
+    /// The last word of block 0, where a system disk has the word at 07777 of field 0 (OS/8 Software Support Manual).
+    pub fn last_word(&self) -> Word
+        ensures { result ≡ block_word self.now 0 0o377 }
+    {
+        let _blocks = self.volume.blocks();
+        let words = self.volume.block(0);
+        words[0o377]
+    }
+
     /// What one of the volume's files has: its frames, its text, or the tape that it begins with, as `archive_files::get` gives it. One
     /// that does not lie where it is said to is `NotFound` (OS/8 Software Support Manual; the faults are this project's profile).
     pub fn get(
@@ -95,6 +117,16 @@ impl OpenVolume {
                 Ok(bytes)
             }
         }
+    }
+}
+
+/// The first of some words, if there is one.
+fn first_of(words: &[Word]) -> Option<Word>
+    ensures { result ≡ first_of words.now }
+{
+    match words {
+        [] => None,
+        [word, ..] => Some(*word),
     }
 }
 

@@ -21,6 +21,9 @@ pub struct NewFile {
     pub name: Name,
     pub bytes: Vec<u8>,
     pub form: PutForm,
+
+    /// The word of its date, if it has one of its own, which is then its first information word.
+    pub date: Option<Word>,
 }
 
 /// An image with files that were put into it.
@@ -32,7 +35,7 @@ pub struct ManyImage {
 }
 
 /// The image with some files, put one after the other as `archive_files::put` does it, all or none. Each is in place of an older file of
-/// its name, whose information words it keeps where none are given. The image that is handed in stays as it is (OS/8 Software
+/// its name, whose information words it keeps where none are given. A file with a date of its own has that as its information words. The image that is handed in stays as it is (OS/8 Software
 /// Support Manual; the faults and their order are this project's profile). The place of the first file that is refused is given.
 pub fn put_all(
     alloc: Global,
@@ -106,7 +109,10 @@ fn put_file(
     ensures { PutsFile service.old (option_copied info.entry) file.now result service.new }
 {
     let words = stored_words(alloc, &file.bytes, file.form)?;
-    put_informed(alloc, service, file.name, &words, info)?;
+    match file.date {
+        Some(date) => put_informed(alloc, service, file.name, &words, Some(&[date]))?,
+        None => put_informed(alloc, service, file.name, &words, info)?,
+    }
     Ok(words.len() / BLOCK)
 }
 

@@ -192,7 +192,7 @@ AsksFor which values (GetMany form) = (which ≡ verb.Get) × (is_set (codes "bl
     × (names_in (codes "NAME") values ≡ map (λ name. name.bytes.items) form.names.items)
     × ArePlaces values form.places.items × (form.is_all ≡ is_set (codes "all") values)
     × (first_of (codes "into") values ≡ Some form.folder.bytes.items) × AreTexts values form.texts
-    × (form.is_forced ≡ is_set (codes "force") values)
+    × (form.is_forced ≡ is_set (codes "force") values) × (form.year ≡ year_of values)
 AsksFor which values (GetTexts form) = (which ≡ verb.Get) × (is_set (codes "blocks") values ≡ false) × (prints_texts values ≡ true)
     × IsRead values form.image × (names_in (codes "NAME") values ≡ map (λ name. name.bytes.items) form.names.items)
     × ArePlaces values form.places.items × (form.is_all ≡ is_set (codes "all") values)
@@ -203,10 +203,11 @@ AsksFor which values (Put form) = (which ≡ verb.Put) × (puts_many values ≡ 
     × (first_of (codes "FILE") values ≡ Some form.file.bytes.items)
     × (name_in (codes "as") values ≡ Some form.name.bytes.items) × (form.form ≡ put_form values)
     × (form.may_empty ≡ is_set (codes "empty") values) × IsInfo values (option_map (λ words. words.items) form.info)
+    × (form.is_dated ≡ is_set (codes "dates") values)
 AsksFor which values (PutMany form) = (which ≡ verb.Put) × (puts_many values ≡ true) × IsChanged values form.image
     × (values_of (codes "FILE") values ≡ map (λ file. file.bytes.items) form.files.items)
     × AreTexts values form.texts × (form.may_empty ≡ is_set (codes "empty") values)
-    × IsInfo values (option_map (λ words. words.items) form.info)
+    × IsInfo values (option_map (λ words. words.items) form.info) × (form.is_dated ≡ is_set (codes "dates") values)
 AsksFor which values (Delete form) = (which ≡ verb.Delete) × IsChanged values form.image
     × (names_in (codes "NAME") values ≡ map (λ name. name.bytes.items) form.names.items)
     × ArePlaces values form.places.items

@@ -18,7 +18,7 @@ use clap::ArgMatches;
 use command_refusals::{blocks_word, copies_pattern, prints_texts, puts_many};
 use command_table::{
     Read, Verb, block_of, blocks_of, flag, has, info_of, name_if_given, name_of, names_of,
-    number_of, text_of, texts_in, value_of, values_of,
+    number_of, text_of, texts_in, value_of, values_of, year_of,
 };
 use program_tasks::{
     BlocksForm, CopyForm, CopyManyForm, DeleteForm, FileForm, GetManyForm, GetTextsForm, ImageForm,
@@ -91,6 +91,7 @@ fn get_many(alloc: Global, found: &ArgMatches<'_>) -> Read<Task>
         folder,
         texts,
         is_forced: flag(found, Verb::Get, "force"),
+        year: year_of(found, Verb::Get),
     }))
 }
 
@@ -163,6 +164,7 @@ pub fn put(alloc: Global, found: &ArgMatches<'_>) -> Read<Task>
 {
     let image = changed_image(alloc, found, Verb::Put, "IMAGE")?;
     let info = info_of(alloc, found, Verb::Put)?;
+    let is_dated = flag(found, Verb::Put, "dates");
     let may_empty = flag(found, Verb::Put, "empty");
     if puts_many(found) {
         let files = values_of(alloc, found, Verb::Put, "FILE")?;
@@ -172,6 +174,7 @@ pub fn put(alloc: Global, found: &ArgMatches<'_>) -> Read<Task>
             files,
             texts,
             info,
+            is_dated,
             may_empty,
         }));
     }
@@ -183,6 +186,7 @@ pub fn put(alloc: Global, found: &ArgMatches<'_>) -> Read<Task>
         name,
         form: put_form(found),
         info,
+        is_dated,
         may_empty,
     }))
 }

@@ -62,8 +62,24 @@ first_pair [] rows values = None
 first_pair (pair ∷ later) rows values =
     pair_or (both_of (title_in rows pair.0 values) (title_in rows pair.1 values)) (first_pair later rows values)
 
+abbrev pub pair_given : Verb → List Row → Option (Text × Text)
+pair_given which values = first_pair pairs (rows_for which) values
+
+-- how many of the names are that of standard input
+abbrev pub input_count : List Text → ℕ
+input_count [] = 0
+input_count (name ∷ names) = (if bytes_eq name (codes "-") then 1 else 0) + input_count names
+
+-- standard input is among these files
+abbrev pub names_input : List Text → Bool
+names_input names = nat_lt 0 (input_count names)
+
+-- standard input, which has no time of its own, and the option that dates files by theirs
+abbrev pub dated_input : List Row → Option (Text × Text)
+dated_input values = if is_set (codes "dates") values && names_input (values_of (codes "FILE") values) then Some (codes "-", codes "--dates") else None
+
 abbrev pub both_given : Verb → List Row → Option (Text × Text)
-both_given which values = first_pair pairs (rows_for which) values
+both_given which values = pair_or (pair_given which values) (dated_input values)
 
 -- ## Arguments that are missing
 
@@ -78,7 +94,7 @@ names_some values = is_set (codes "all") values || has (codes "NAME") values || 
 -- one file is named, and nothing is said of several
 abbrev pub names_one : List Row → Bool
 names_one values = (is_alone (codes "NAME") (codes "at") values || is_alone (codes "at") (codes "NAME") values)
-    && not (is_set (codes "all") values) && not (is_set (codes "force") values) && not (has (codes "text-of") values)
+    && not (is_set (codes "all") values) && not (is_set (codes "force") values) && not (has (codes "text-of") values) && not (has (codes "year") values)
 
 -- the first block and their number, where blocks are got
 abbrev pub blocks_word : ℕ → List Row → Text
@@ -91,7 +107,7 @@ has_sign (character ∷ text) = nat_eq character 0o52 || nat_eq character 0o77 |
 
 -- something is said of files for a folder
 abbrev pub says_of_folder : List Row → Bool
-says_of_folder values = has (codes "into") values || is_set (codes "force") values || has (codes "text-of") values
+says_of_folder values = has (codes "into") values || is_set (codes "force") values || has (codes "text-of") values || has (codes "year") values
 
 -- texts are asked for, and not a tape
 abbrev pub asks_texts : List Row → Bool
@@ -110,15 +126,6 @@ blocks_missing values =
 -- files of the host are put under their own names
 abbrev pub puts_many : List Row → Bool
 puts_many values = not (has (codes "as") values)
-
--- how many of the names are that of standard input
-abbrev pub input_count : List Text → ℕ
-input_count [] = 0
-input_count (name ∷ names) = (if bytes_eq name (codes "-") then 1 else 0) + input_count names
-
--- standard input is among these files
-abbrev pub names_input : List Text → Bool
-names_input names = nat_lt 0 (input_count names)
 
 -- of a file and the argument after it, which stands in the place of the name where `--at` gives the file
 abbrev pub moved_missing : Text → What → What → List Row → Option What

@@ -8,7 +8,7 @@ ghost use Rattle.command_refusals.specs.Faults.{IsRefusedBy};
 ghost use Rattle.command_table.specs.Values.{values_in};
 
 use crate::TaskFault;
-use crate::missing::{copies_pattern, input_count, missing_of};
+use crate::missing::{copies_pattern, input_count, missing_of, puts_input};
 use crate::refusals::Refusal;
 use clap::ArgMatches;
 use command_table::{
@@ -56,7 +56,27 @@ pub fn judge_arguments(
 fn both_given(found: &ArgMatches<'_>, verb: Verb) -> Option<Pair>
     ensures { option_map pair_of result ≡ spec.both_given verb (values_in found.now) }
 {
+    match pair_given(found, verb) {
+        Some(pair) => Some(pair),
+        None => dated_input(found),
+    }
+}
+
+/// The first pair of the table of which both were given.
+fn pair_given(found: &ArgMatches<'_>, verb: Verb) -> Option<Pair>
+    ensures { option_map pair_of result ≡ spec.pair_given verb (values_in found.now) }
+{
     first_pair(found, pairs(), arguments_of(verb))
+}
+
+/// Standard input, which has no time of its own, and the option that dates files by theirs, if both were given.
+fn dated_input(found: &ArgMatches<'_>) -> Option<Pair>
+    ensures { option_map pair_of result ≡ spec.dated_input (values_in found.now) }
+{
+    if is_set(found, "dates") && puts_input(found) {
+        return Some(("-", "--dates"));
+    }
+    None
 }
 
 /// The first of these pairs of which both were given.

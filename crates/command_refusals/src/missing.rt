@@ -128,7 +128,11 @@ fn names_one(found: &ArgMatches<'_>) -> bool
     ensures { result ≡ spec.names_one (values_in found.now) }
 {
     let is_one = is_alone(found, "NAME", "at") || is_alone(found, "at", "NAME");
-    is_one && !is_set(found, "all") && !is_set(found, "force") && !has(found, "text-of")
+    is_one
+        && !is_set(found, "all")
+        && !is_set(found, "force")
+        && !has(found, "text-of")
+        && !has(found, "year")
 }
 
 /// Whether the texts of several files are to be printed.
@@ -151,7 +155,7 @@ fn asks_texts(found: &ArgMatches<'_>) -> bool
 fn says_of_folder(found: &ArgMatches<'_>) -> bool
     ensures { result ≡ spec.says_of_folder (values_in found.now) }
 {
-    has(found, "into") || is_set(found, "force") || has(found, "text-of")
+    has(found, "into") || is_set(found, "force") || has(found, "text-of") || has(found, "year")
 }
 
 /// Whether the files are to be copied that a pattern in the place of a name fits.
@@ -196,7 +200,7 @@ pub fn puts_many(found: &ArgMatches<'_>) -> bool
 }
 
 /// Whether standard input is among the files that are put.
-fn puts_input(found: &ArgMatches<'_>) -> bool
+pub fn puts_input(found: &ArgMatches<'_>) -> bool
     ensures { result ≡ spec.names_input (values_of (codes "FILE") (values_in found.now)) }
 {
     input_count(texts_in(found, "FILE")) > 0

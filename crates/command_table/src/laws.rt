@@ -22,7 +22,8 @@ pub fn excluded_arguments()
         ∷ (codes "BLOCKS", codes "dectape") ∷ (codes "blocks", codes "at") ∷ (codes "at", codes "to") ∷ (codes "blocks", codes "into")
         ∷ (codes "blocks", codes "all") ∷ (codes "blocks", codes "force") ∷ (codes "blocks", codes "text-of")
         ∷ (codes "blocks", codes "tape") ∷ (codes "blocks", codes "bin") ∷ (codes "tape", codes "into")
-        ∷ (codes "bin", codes "into") ∷ (codes "as", codes "text-of")
+        ∷ (codes "bin", codes "into") ∷ (codes "blocks", codes "year") ∷ (codes "as", codes "text-of")
         ∷ (codes "output", codes "onto") ∷ (codes "look", codes "keep")
-        ∷ (codes "look", codes "wait") ∷ (codes "new", codes "wait") ∷ (codes "info", codes "date") ∷ [] }
+        ∷ (codes "look", codes "wait") ∷ (codes "new", codes "wait") ∷ (codes "info", codes "date")
+        ∷ (codes "info", codes "dates") ∷ (codes "date", codes "dates") ∷ [] }
 {}

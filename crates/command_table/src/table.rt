@@ -216,12 +216,15 @@ pub const PAIRS: &[Pair] = &[
     ("blocks", "bin"),
     ("tape", "into"),
     ("bin", "into"),
+    ("blocks", "year"),
     ("as", "text-of"),
     ("output", "onto"),
     ("look", "keep"),
     ("look", "wait"),
     ("new", "wait"),
     ("info", "date"),
+    ("info", "dates"),
+    ("date", "dates"),
 ];
 
 pub const TAPE: &[Argument] = rows! {
@@ -330,6 +333,7 @@ pub const GET: &[Argument] = rows! {
     "all" 'a' flag Kind::Flag, "", "Get all files of the volume";
     "force" 'f' flag Kind::Flag, "", "Write over older files of the folder";
     "text-of" option Kind::Many(Form::Text), "LIST", "Extensions of files that are texts, as PA,TX; it may be given several times";
+    "year" option Kind::One(Form::Year), "N", "The last of the eight years that dates mean, 1977 to 9999; else the one that block 0 gives";
     "blocks" flag Kind::Flag, "", "Write blocks of the volume: COUNT from block FIRST on";
     "volume" 'v' option Kind::One(Form::Volume), "N", "The volume of an RK05 disk, 1 or 2, where IMAGE is the file of one; IMAGE:1 and IMAGE:2 mean it too";
     "dectape" flag Kind::Flag, "", "IMAGE is the file of a DECtape, of 129 words a block";
@@ -344,6 +348,7 @@ pub const PUT: &[Argument] = rows! {
     "files" flag Kind::Flag, "", "Changes nothing: FILE are files of this system";
     "info" option Kind::Many(Form::Octal), "WWWW", "An information word of the file, in octal; it may be given several times";
     "date" option Kind::One(Form::Date), "DATE", "The date of the file, as 1974-03-12, which is its first information word";
+    "dates" flag Kind::Flag, "", "Date each file by the day, in UTC, on which it was last changed on this system";
     "as" option Kind::One(Form::Text), "NAME", "The name on the volume of the one file that is put";
     "empty" flag Kind::Flag, "", "Let a file of no byte replace one that has words";
     "volume" 'v' option Kind::One(Form::Volume), "N", "The volume of an RK05 disk, 1 or 2, where IMAGE is the file of one; IMAGE:1 and IMAGE:2 mean it too";

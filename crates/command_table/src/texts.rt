@@ -142,12 +142,12 @@ pub fn texts_of(verb: Verb) -> Texts {
         },
         Verb::Get => Texts {
             about: "Write files of a volume to standard output or to a folder",
-            long_about: "Writes the file NAME of the OS/8 volume in the file IMAGE to standard output: its words, three bytes{n}for two. With --text it may be several files; then each text has a line ==> NAME <== before it. With{n}--into the files NAME, or with --all all files, go to files of their names in FOLDER; a pattern, as{n}'*.PA', stands for each name that it fits. With --blocks the arguments after IMAGE are the number of{n}a block and how many are written, whatever the directory says. The line of a fault goes to standard{n}error. The image is not written.",
+            long_about: "Writes the file NAME of the OS/8 volume in the file IMAGE to standard output: its words, three bytes{n}for two. With --text it may be several files; then each text has a line ==> NAME <== before it. With{n}--into the files NAME, or with --all all files, go to files of their names in FOLDER; a pattern, as{n}'*.PA', stands for each name that it fits. The time of such a file is the date that it has on the{n}volume. With --blocks the arguments after IMAGE are the number of a block and how many are written,{n}whatever the directory says. The line of a fault goes to standard error. The image is not written.",
             examples: "Examples:\n  pdp8 get disk.img notes.tx -t\n  pdp8 get disk.img '*.pa' -t --into sources",
         },
         Verb::Put => Texts {
             about: "Make files of this system, or standard input, files of a volume",
-            long_about: "Puts the files FILE of this system, each under its own name, all or none, on the OS/8 volume in the{n}file IMAGE, in place of older ones, and prints STORED, the name and the number of blocks for each.{n}With --as one FILE gets another name; - is standard input, and needs --as. A file keeps the{n}information words of the one that it replaces, where --info gives none. An empty FILE replaces no{n}file unless --empty is given. After a fault the image is as it was.",
+            long_about: "Puts the files FILE of this system, each under its own name, all or none, on the OS/8 volume in the{n}file IMAGE, in place of older ones, and prints STORED, the name and the number of blocks for each.{n}With --as one FILE gets another name; - is standard input, and needs --as. A file keeps the{n}information words of the one that it replaces, where --info, --date and --dates give none. An empty{n}FILE replaces no file unless --empty is given. After a fault the image is as it was.",
             examples: "Examples:\n  pdp8 put disk.img add.pa notes.tx -t --wait 10\n  pdp8 assemble add.pa | pdp8 put disk.img - --as add.bn",
         },
         Verb::Delete => Texts {

@@ -19,6 +19,7 @@ use Rattle.lenient_images.specs.Lines.{mended_lines}
 use Rattle.image_volumes.specs.declared.volumes.Volumes.TheVariants.{One, Both}
 use Rattle.program_tasks.specs.declared.forms.ImageForm.{ImageForm}
 use Rattle.image_files.specs.Answers.{Refuses}
+use Rattle.image_files.specs.Dates.{DatesFile}
 use Rattle.image_files.specs.Laws.{KeepsFiles}
 use Rattle.image_files.specs.Mending.{Mends, TellsLines}
 use Rattle.image_files.specs.Notes.{TellsOfImage}
@@ -41,6 +42,11 @@ then-keeps first next f n old result new (inr it) path = n it.given it.between r
 
 pub purely-keeps : {A : Type 0} (gives : Result A Ending → Type 0) → KeepsFiles (Purely gives)
 purely-keeps gives old result new p path = same path p.1
+
+pub date-keeps : (is_dated : Bool) (name : List ℕ) → KeepsFiles (DatesFile is_dated name)
+date-keeps false name old result new p path = same path p.1
+date-keeps true name old (Ok date) new (seconds, is, p) path = same path p
+date-keeps true name old (Err ending) new (fault, is, p) path = same path p
 
 -- ## What is printed
 

@@ -1,4 +1,5 @@
 pub mod Answers
+pub mod Dates
 pub mod Ending
 pub mod Faults
 pub mod Inputs

@@ -2,6 +2,7 @@
 #![tactic(auto)]
 
 mod answers;
+mod dates;
 mod ending;
 mod faults;
 mod images;
@@ -16,6 +17,7 @@ mod reading;
 mod saving;
 
 pub use answers::{answer_of, named_lines, open_volume, program_line, show_file, stored_line};
+pub use dates::date_of_file;
 pub use ending::{Rooms, end, end_sound, tell_line};
 pub use images::Image;
 pub use inputs::{given_bytes, input_bytes};

@@ -22,7 +22,7 @@ use Rattle.image_files.specs.Answers.{Answers, AreLines, named_lines}
 use Rattle.image_files.specs.Reading.{LooksAt}
 use Rattle.image_files.specs.Saving.{Prints}
 use Rattle.image_files.specs.Work.{Then, Purely}
-use Rattle.many_commands.specs.GettingMany.{AreFilesOn, GetsMany, GivesAsked, GivesEach, GivesFile, GivesWish, HasLaid, IsPath, LaysAndTells, LaysFile, MakesFolder, PrintsAnswer, RefusesWord, ReplacesIf, TakesFile, IsHostName, TellsLaid, count_after}
+use Rattle.many_commands.specs.GettingMany.{AreFilesOn, GetsMany, GivesAsked, GivesEach, GivesFile, GivesWish, HasLaid, IsPath, LaysAndTells, LaysFile, MakesFolder, PrintsAnswer, RefusesWord, ReplacesIf, TakesFile, IsHostName, TellsLaid, count_after, time_of_file}
 use Rattle.many_commands.specs.Laws.{ChangesIn, IsIn, NeverReplaces}
 use Rattle.host_progress.specs.Progressing.{TellsProgress, WithProgress}
 use Rattle.image_files.specs.Ending.{EndsSound}
@@ -67,29 +67,29 @@ purely-keeps form gives = keeps-never form (Purely gives) (purely-never gives)
 same-path : (path other : List ℕ) → bytes_eq path other ≡ true → path ≡ other
 same-path path other is = (bytes_eq-Decides path other).0 is
 
-laid-others : (form : GetManyForm) (path bytes : List ℕ) (done : Result (Unit {0}) HostFault) (old new : List Event) → IsIn form.folder.bytes.items path → HasLaid path bytes form.is_forced done old new
+laid-others : (form : GetManyForm) (path bytes : List ℕ) (seconds : Option ℕ) (done : Result (Unit {0}) HostFault) (old new : List Event) → IsIn form.folder.bytes.items path → HasLaid path bytes seconds form.is_forced done old new
     → (is : Bool) (other : List ℕ) → bytes_eq path other ≡ is → (IsIn form.folder.bytes.items other → ⊥) → about other new ≡ about other old
-laid-others form path bytes done old new inside laid true other is out = absurd (out (subst (λ p. IsIn form.folder.bytes.items p) (same-path path other is) inside))
-laid-others form path bytes done old new inside laid false other is out = laid.only.others other is
+laid-others form path bytes seconds done old new inside laid true other is out = absurd (out (subst (λ p. IsIn form.folder.bytes.items p) (same-path path other is) inside))
+laid-others form path bytes seconds done old new inside laid false other is out = laid.only.others other is
 
 unforced : (is_forced : Bool) (path : List ℕ) (old new : List Event) → is_forced ≡ false → ReplacesIf is_forced path old new → replacements (about path new) ≡ replacements (about path old)
 unforced true path old new is p = absurd cc
 unforced false path old new is p = p
 
-laid-replaced : (form : GetManyForm) (path bytes : List ℕ) (done : Result (Unit {0}) HostFault) (old new : List Event) → HasLaid path bytes form.is_forced done old new → form.is_forced ≡ false
+laid-replaced : (form : GetManyForm) (path bytes : List ℕ) (seconds : Option ℕ) (done : Result (Unit {0}) HostFault) (old new : List Event) → HasLaid path bytes seconds form.is_forced done old new → form.is_forced ≡ false
     → (is : Bool) (other : List ℕ) → bytes_eq path other ≡ is → replacements (about other new) ≡ replacements (about other old)
-laid-replaced form path bytes done old new laid unforced-is true other is = subst (λ p. replacements (about p new) ≡ replacements (about p old)) (same-path path other is) (unforced form.is_forced path old new unforced-is laid.replaces)
-laid-replaced form path bytes done old new laid unforced-is false other is = ap replacements (laid.only.others other is)
+laid-replaced form path bytes seconds done old new laid unforced-is true other is = subst (λ p. replacements (about p new) ≡ replacements (about p old)) (same-path path other is) (unforced form.is_forced path old new unforced-is laid.replaces)
+laid-replaced form path bytes seconds done old new laid unforced-is false other is = ap replacements (laid.only.others other is)
 
-laid-stays : (form : GetManyForm) (path bytes : List ℕ) (done : Result (Unit {0}) HostFault) (old new : List Event) → IsIn form.folder.bytes.items path → HasLaid path bytes form.is_forced done old new → Stays form old new
-laid-stays form path bytes done old new inside laid = record {
-  others = λ other out. laid-others form path bytes done old new inside laid (bytes_eq path other) other refl out;
-  replaced = λ is other. laid-replaced form path bytes done old new laid is (bytes_eq path other) other refl;
+laid-stays : (form : GetManyForm) (path bytes : List ℕ) (seconds : Option ℕ) (done : Result (Unit {0}) HostFault) (old new : List Event) → IsIn form.folder.bytes.items path → HasLaid path bytes seconds form.is_forced done old new → Stays form old new
+laid-stays form path bytes seconds done old new inside laid = record {
+  others = λ other out. laid-others form path bytes seconds done old new inside laid (bytes_eq path other) other refl out;
+  replaced = λ is other. laid-replaced form path bytes seconds done old new laid is (bytes_eq path other) other refl;
 }
 
-lays-stays : (form : GetManyForm) (path bytes : List ℕ) (done : Result (Unit {0}) HostFault) (old new : List Event) → IsIn form.folder.bytes.items path → LaysFile path bytes form.is_forced old done new → Stays form old new
-lays-stays form path bytes (Ok it) old new inside p = laid-stays form path bytes (Ok it) old new inside p
-lays-stays form path bytes (Err fault) old new inside p = laid-stays form path bytes (Err fault) old new inside p.0
+lays-stays : (form : GetManyForm) (path bytes : List ℕ) (seconds : Option ℕ) (done : Result (Unit {0}) HostFault) (old new : List Event) → IsIn form.folder.bytes.items path → LaysFile path bytes seconds form.is_forced old done new → Stays form old new
+lays-stays form path bytes seconds (Ok it) old new inside p = laid-stays form path bytes seconds (Ok it) old new inside p
+lays-stays form path bytes seconds (Err fault) old new inside p = laid-stays form path bytes seconds (Err fault) old new inside p.0
 
 prints-answer-never : (is_there : Bool) (text : List ℕ) → KeepsFiles (PrintsAnswer is_there text)
 prints-answer-never is_there text =
@@ -104,25 +104,25 @@ tells-laid-never file name (Err host.Absent) = prints-answer-never false (named_
 tells-laid-never file name (Err host.Unwritable) = prints-answer-never false (named_lines name (program_line line.HostWrite))
 tells-laid-never file name (Err host.Failed) = prints-answer-never false (named_lines name (program_line line.HostWrite))
 
-lays-and-tells : (form : GetManyForm) (file : VolumeFile) (name path bytes : List ℕ) → IsIn form.folder.bytes.items path → Keeps form (LaysAndTells form file name path bytes)
-lays-and-tells form file name path bytes inside old result new p =
-    both form old p.between new (lays-stays form path bytes p.done old p.between inside p.lays) (still form p.between new (tells-laid-never file name p.done p.between result new p.tells))
+lays-and-tells : (form : GetManyForm) (file : VolumeFile) (name path bytes : List ℕ) (seconds : Option ℕ) → IsIn form.folder.bytes.items path → Keeps form (LaysAndTells form file name path bytes seconds)
+lays-and-tells form file name path bytes seconds inside old result new p =
+    both form old p.between new (lays-stays form path bytes seconds p.done old p.between inside p.lays) (still form p.between new (tells-laid-never file name p.done p.between result new p.tells))
 
 -- ## What is asked for
 
-gives-at : (form : GetManyForm) (file : VolumeFile) (name bytes : List ℕ) → Keeps form (Then (Purely (IsPath form.folder.bytes.items name)) (λ path. LaysAndTells form file name path.bytes.items bytes))
-gives-at form file name bytes old (Ok r) new (inl ends) = absurd ends
-gives-at form file name bytes old (Err e) new (inl ends) = still form old new (same old new ends.1)
-gives-at form file name bytes old result new (inr it) =
+gives-at : (form : GetManyForm) (file : VolumeFile) (name bytes : List ℕ) (seconds : Option ℕ) → Keeps form (Then (Purely (IsPath form.folder.bytes.items name)) (λ path. LaysAndTells form file name path.bytes.items bytes seconds))
+gives-at form file name bytes seconds old (Ok r) new (inl ends) = absurd ends
+gives-at form file name bytes seconds old (Err e) new (inl ends) = still form old new (same old new ends.1)
+gives-at form file name bytes seconds old result new (inr it) =
     both form old it.between new (still form old it.between (same old it.between it.done.1))
-    (lays-and-tells form file name it.given.bytes.items bytes (name, it.done.0) it.between result new it.after)
+    (lays-and-tells form file name it.given.bytes.items bytes seconds (name, it.done.0) it.between result new it.after)
 
 gives-file : (form : GetManyForm) (blocks : List (List ℕ)) (file : VolumeFile) → Keeps form (GivesFile form blocks file)
 gives-file form blocks file =
-    then-keeps form (Purely (TakesFile blocks file (get_form form.texts file.name))) (λ bytes. Then (Purely (IsHostName file)) (λ name. Then (Purely (IsPath form.folder.bytes.items name.bytes.items)) (λ path. LaysAndTells form file name.bytes.items path.bytes.items bytes.items)))
+    then-keeps form (Purely (TakesFile blocks file (get_form form.texts file.name))) (λ bytes. Then (Purely (IsHostName file)) (λ name. Then (Purely (IsPath form.folder.bytes.items name.bytes.items)) (λ path. LaysAndTells form file name.bytes.items path.bytes.items bytes.items (time_of_file form.year blocks file))))
     (purely-keeps form (TakesFile blocks file (get_form form.texts file.name)))
-    (λ bytes. then-keeps form (Purely (IsHostName file)) (λ name. Then (Purely (IsPath form.folder.bytes.items name.bytes.items)) (λ path. LaysAndTells form file name.bytes.items path.bytes.items bytes.items)) (purely-keeps form (IsHostName file))
-    (λ name. gives-at form file name.bytes.items bytes.items))
+    (λ bytes. then-keeps form (Purely (IsHostName file)) (λ name. Then (Purely (IsPath form.folder.bytes.items name.bytes.items)) (λ path. LaysAndTells form file name.bytes.items path.bytes.items bytes.items (time_of_file form.year blocks file))) (purely-keeps form (IsHostName file))
+    (λ name. gives-at form file name.bytes.items bytes.items (time_of_file form.year blocks file)))
 
 refuses-never : (word : Option (List ℕ)) (why : FileFault) → KeepsFiles (RefusesWord word why)
 refuses-never None why = purely-never (λ (result : Result Bool Ending). result ≡ Ok false)

@@ -10,7 +10,7 @@ use Rattle.archive_many.specs.declared.putting.NewFile.{NewFile}
 use Rattle.program_tasks.specs.declared.forms.TextsForm.{TextsForm}
 use Rattle.image_files.specs.Work.{Then, Purely}
 use Rattle.many_commands.specs.NameSteps.{KnowsNames, has_key}
-use Rattle.many_commands.specs.PuttingMany.{IsNewFile, IsNoName, LooksWhole, ReadsNext, RefusesName, RefusesPath, has_name}
+use Rattle.many_commands.specs.PuttingMany.{DatesNext, IsNewFile, IsNoName, LooksWhole, ReadsNext, RefusesName, RefusesPath, has_name}
 
 pub or-assoc : (a b c : Bool) → (a || (b || c)) ≡ ((a || b) || c)
 or-assoc true b c = refl
@@ -29,14 +29,22 @@ pub knows-more : (old new : BTreeSet ℕ) (files : List NewFile) (file : NewFile
 knows-more old new files file more knows = λ q. more q ∙ ap (λ b. b || nat_eq file.name q) (knows q) ∙ sym (name-more files file q)
 
 -- what is wanted to keep a file that was read is wanted for its step
-unkept-bytes : (texts : TextsForm) (path : List ℕ) (name : ℕ) (old : List Event) (file : NewFile) (new : List Event)
-    → Then (LooksWhole path) (λ bytes. Purely (IsNewFile texts name bytes.items)) old (Ok file) new → Then (LooksWhole path) (λ bytes. Purely (IsNewFile texts name bytes.items)) old (Err (Fault Memory)) new
-unkept-bytes texts path name old file new (inl ends) = absurd ends
-unkept-bytes texts path name old file new (inr it) = inr (record { given = it.given; between = it.between; done = it.done; after = (refl, it.after.1) })
+unkept-date : (texts : TextsForm) (is_dated : Bool) (path : List ℕ) (name : ℕ) (bytes : List ℕ) (old : List Event) (file : NewFile) (new : List Event)
+    → Then (DatesNext is_dated path) (λ date. Purely (IsNewFile texts name bytes date)) old (Ok file) new → Then (DatesNext is_dated path) (λ date. Purely (IsNewFile texts name bytes date)) old (Err (Fault Memory)) new
+unkept-date texts is_dated path name bytes old file new (inl ends) = absurd ends
+unkept-date texts is_dated path name bytes old file new (inr it) = inr (record { given = it.given; between = it.between; done = it.done; after = (refl, it.after.1) })
 
-pub unkept : (texts : TextsForm) (files : List NewFile) (path : List ℕ) (old : List Event) (file : NewFile) (new : List Event) → ReadsNext texts files path old (Ok file) new → ReadsNext texts files path old (Err (Fault Memory)) new
-unkept texts files path old file new (inl ends) = absurd ends
-unkept texts files path old file new (inr it) = inr (record { given = it.given; between = it.between; done = it.done; after = unkept-bytes texts path it.given it.between file new it.after })
+unkept-bytes : (texts : TextsForm) (is_dated : Bool) (path : List ℕ) (name : ℕ) (old : List Event) (file : NewFile) (new : List Event)
+    → Then (LooksWhole path) (λ bytes. Then (DatesNext is_dated path) (λ date. Purely (IsNewFile texts name bytes.items date))) old (Ok file) new
+    → Then (LooksWhole path) (λ bytes. Then (DatesNext is_dated path) (λ date. Purely (IsNewFile texts name bytes.items date))) old (Err (Fault Memory)) new
+unkept-bytes texts is_dated path name old file new (inl ends) = absurd ends
+unkept-bytes texts is_dated path name old file new (inr it) =
+    inr (record { given = it.given; between = it.between; done = it.done; after = unkept-date texts is_dated path name it.given.items it.between file new it.after })
+
+pub unkept : (texts : TextsForm) (is_dated : Bool) (files : List NewFile) (path : List ℕ) (old : List Event) (file : NewFile) (new : List Event) → ReadsNext texts is_dated files path old (Ok file) new → ReadsNext texts is_dated files path old (Err (Fault Memory)) new
+unkept texts is_dated files path old file new (inl ends) = absurd ends
+unkept texts is_dated files path old file new (inr it) =
+    inr (record { given = it.given; between = it.between; done = it.done; after = unkept-bytes texts is_dated path it.given it.between file new it.after })
 
 -- a path that spells no name
 pub bad-path : (files : List NewFile) (path : List ℕ) (old : List Event) (ending : Ending) (new : List Event) → NamesVolume path None

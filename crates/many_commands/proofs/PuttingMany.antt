@@ -14,10 +14,10 @@ use Rattle.image_files.specs.Reading.{Opens}
 use Rattle.image_files.specs.Saving.{Stores}
 use Rattle.image_files.specs.Work.{Then, Purely}
 use Rattle.image_files.specs.declared.images.Image.{Image}
-use Rattle.many_commands.specs.PuttingMany.{AreFiles, FindsFiles, IsNewFile, IsNoName, KeepsIf, KeepsWords, LooksWhole, MakesMany, PutsFiles, PutsMany, ReadsEach, ReadsNext, RefusesLoss, RefusesMany, TakesName, TellsEmpty, TellsPath, TellsText, TellsUnread, WantsMemory, has_empty, loss_from, paths_of, stored_lines}
+use Rattle.many_commands.specs.PuttingMany.{AreFiles, DatesNext, FindsFiles, IsNewFile, IsNoName, KeepsIf, KeepsWords, LooksWhole, MakesMany, PutsFiles, PutsMany, ReadsEach, ReadsNext, RefusesLoss, RefusesMany, TakesName, TellsEmpty, TellsPath, TellsText, TellsUnread, WantsMemory, has_empty, loss_from, paths_of, stored_lines}
 use Rattle.many_commands.specs.Texts.{TakesLists, TellsBadList, lists_of}
 use Rattle.image_files.specs.Laws.{KeepsFiles, ChangesNothing, LeavesFiles}
-use Rattle.image_files.proofs.KeepLemmas.{then-keeps, purely-keeps, looks-keeps}
+use Rattle.image_files.proofs.KeepLemmas.{date-keeps, then-keeps, purely-keeps, looks-keeps}
 use Rattle.image_files.proofs.LeaveLemmas.{same, told, then-leaves, refuses-never, opens-never, stores-leaves}
 
 tells-list : (list : Option (List ℕ)) (old new : List Event) → TellsBadList list old new → ChangesNothing old new
@@ -46,14 +46,19 @@ whole-never : (path : List ℕ) → KeepsFiles (LooksWhole path)
 whole-never path old (Ok bytes) new p = looks-keeps path path old (Ok bytes) new p
 whole-never path old (Err ending) new (why, between, looks, p) = λ at. tells-unread path why between ending new p at ∙ looks-keeps path path old (Err why) between looks at
 
-next-never : (texts : TextsForm) (files : List NewFile) (path : List ℕ) → KeepsFiles (ReadsNext texts files path)
-next-never texts files path =
-    then-keeps (TakesName files path) (λ name. Then (LooksWhole path) (λ bytes. Purely (IsNewFile texts name bytes.items))) (name-never files path)
-    (λ name. then-keeps (LooksWhole path) (λ bytes. Purely (IsNewFile texts name bytes.items)) (whole-never path) (λ bytes. purely-keeps (IsNewFile texts name bytes.items)))
+dated-never : (is_dated : Bool) (path : List ℕ) → KeepsFiles (DatesNext is_dated path)
+dated-never is_dated path old (Ok date) new p = date-keeps is_dated path old (Ok date) new p
+dated-never is_dated path old (Err ending) new (why, between, dates, p) = λ at. tells-unread path why between ending new p at ∙ date-keeps is_dated path old (Err why) between dates at
 
-each-never : (texts : TextsForm) (files : List NewFile) (paths : List (List ℕ)) → KeepsFiles (ReadsEach texts files paths)
-each-never texts files [] = purely-keeps (AreFiles files)
-each-never texts files (path ∷ paths) = then-keeps (ReadsNext texts files path) (λ file. ReadsEach texts (files ++ file ∷ []) paths) (next-never texts files path) (λ file. each-never texts (files ++ file ∷ []) paths)
+next-never : (texts : TextsForm) (is_dated : Bool) (files : List NewFile) (path : List ℕ) → KeepsFiles (ReadsNext texts is_dated files path)
+next-never texts is_dated files path =
+    then-keeps (TakesName files path) (λ name. Then (LooksWhole path) (λ bytes. Then (DatesNext is_dated path) (λ date. Purely (IsNewFile texts name bytes.items date)))) (name-never files path)
+    (λ name. then-keeps (LooksWhole path) (λ bytes. Then (DatesNext is_dated path) (λ date. Purely (IsNewFile texts name bytes.items date))) (whole-never path)
+    (λ bytes. then-keeps (DatesNext is_dated path) (λ date. Purely (IsNewFile texts name bytes.items date)) (dated-never is_dated path) (λ date. purely-keeps (IsNewFile texts name bytes.items date))))
+
+each-never : (texts : TextsForm) (is_dated : Bool) (files : List NewFile) (paths : List (List ℕ)) → KeepsFiles (ReadsEach texts is_dated files paths)
+each-never texts is_dated files [] = purely-keeps (AreFiles files)
+each-never texts is_dated files (path ∷ paths) = then-keeps (ReadsNext texts is_dated files path) (λ file. ReadsEach texts is_dated (files ++ file ∷ []) paths) (next-never texts is_dated files path) (λ file. each-never texts is_dated (files ++ file ∷ []) paths)
 
 finds-never : (image : List ℕ) → KeepsFiles (FindsFiles image)
 finds-never image old (Ok files) new (blocks, opens, are, p) = same old new p
@@ -116,6 +121,6 @@ puts-files form image files =
 
 pub puts-many-leave : (form : PutManyForm) → LeavesFiles (PutsMany form)
 puts-many-leave form =
-    then-leaves (TakesLists form.texts) (λ it. Then (Opens form.image) (λ image. Then (ReadsEach form.texts [] (paths_of form)) (λ files. PutsFiles form image files.items))) (lists-never form.texts)
-    (λ it. then-leaves (Opens form.image) (λ image. Then (ReadsEach form.texts [] (paths_of form)) (λ files. PutsFiles form image files.items)) (opens-never form.image)
-    (λ image. then-leaves (ReadsEach form.texts [] (paths_of form)) (λ files. PutsFiles form image files.items) (each-never form.texts [] (paths_of form)) (λ files. puts-files form image files.items)))
+    then-leaves (TakesLists form.texts) (λ it. Then (Opens form.image) (λ image. Then (ReadsEach form.texts form.is_dated [] (paths_of form)) (λ files. PutsFiles form image files.items))) (lists-never form.texts)
+    (λ it. then-leaves (Opens form.image) (λ image. Then (ReadsEach form.texts form.is_dated [] (paths_of form)) (λ files. PutsFiles form image files.items)) (opens-never form.image)
+    (λ image. then-leaves (ReadsEach form.texts form.is_dated [] (paths_of form)) (λ files. PutsFiles form image files.items) (each-never form.texts form.is_dated [] (paths_of form)) (λ files. puts-files form image files.items)))

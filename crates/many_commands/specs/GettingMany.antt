@@ -1,22 +1,25 @@
 -- The command that writes several files of the volume in an image file to a folder of the host.
-use Rattle.std.specs.Prelude.{◌≡◌, ◌⊎◌, ◌<◌, ◌&&◌, ℕ, ◌+◌, Bool, true, false, not, if◌then◌else◌, Option, None, Some, Result, Ok, Err, List, [], ◌∷◌, ◌++◌, codes, decimal, length, slice_get, String}
+use Rattle.std.specs.Prelude.{◌≡◌, ◌⊎◌, ◌<◌, ◌&&◌, ℕ, ◌+◌, Bool, true, false, not, if◌then◌else◌, Option, None, Some, Result, Ok, Err, List, [], ◌∷◌, ◌++◌, codes, decimal, length, slice_get, OnOk, String}
 use Rattle.std.specs.Global.{Vec, Global}
 use Rattle.hosts.specs.Event.{Event, MakeFolder, failed_call, folder_call, there_call}
 use Rattle.hosts.specs.Faults.{fault_number}
 use Rattle.hosts.specs.Place.{about}
 use Rattle.hosts.specs.Saving.{Lays, replacements}
 use Rattle.hosts.specs.Streams.{errors, failures, last_fault}
+use Rattle.hosts.specs.Times.{file_time}
 use Rattle.hosts.specs.declared.faults.HostFault.{HostFault}
 use Rattle.hosts.specs.declared.faults.HostFault.TheVariants as host
 use Rattle.char_pack.specs.declared.forms.GetForm.{GetForm}
+use Rattle.os8_dates.specs.Days.{time_of_word}
 use Rattle.os8_dir.specs.declared.file_faults.FileFault.{FileFault}
 use Rattle.os8_dir.specs.declared.file_faults.FileFault.TheVariants.{BadName, NotFound}
 use Rattle.script8.specs.Replies.{fault_line}
 use Rattle.script8.specs.declared.faults.SessionFault.{SessionFault}
 use Rattle.script8.specs.declared.faults.SessionFault.TheVariants.{File, Memory}
 use Rattle.archive_many.specs.HostNames.{NamesHost, is_slash}
-use Rattle.archive_many.specs.Opened.{GetsFile, OpensVolume, files_on}
+use Rattle.archive_many.specs.Opened.{GetsFile, OpensVolume, files_on, first_word}
 use Rattle.archive_many.specs.declared.opened.VolumeFile.{VolumeFile}
+use Rattle.volume_index.specs.Years.{last_in}
 use Rattle.program_reports.specs.Program.{program_line}
 use Rattle.program_reports.specs.declared.programs.ProgramLine.TheVariants as line
 use Rattle.outcome.specs.declared.endings.Ending.{Ending}
@@ -52,9 +55,11 @@ abbrev pub ReplacesIf : Bool → List ℕ → List Event → List Event → Type
 ReplacesIf true path old new = Unit {0}
 ReplacesIf false path old new = replacements (about path new) ≡ replacements (about path old)
 
--- the file of a path has these bytes whole, or it is as it was; when the disk has them is left to the system
-pub record HasLaid (path bytes : List ℕ) (is_forced : Bool) (result : Result (Unit {0}) HostFault) (old new : List Event) : Type 0 where
+-- The file of a path has these bytes whole, and the time that was asked for it is the one that is given, if one is. Or it is as it was. When the
+-- disk has the bytes is left to the system.
+pub record HasLaid (path bytes : List ℕ) (seconds : Option ℕ) (is_forced : Bool) (result : Result (Unit {0}) HostFault) (old new : List Event) : Type 0 where
   pub lays : Lays result bytes (about path old) (about path new)
+  pub dated : OnOk result (file_time (about path new) ≡ seconds)
   pub replaces : ReplacesIf is_forced path old new
   pub tells : errors new ≡ errors old
   pub only : TouchesOnly path old new
@@ -63,10 +68,10 @@ pub record HasLaid (path bytes : List ℕ) (is_forced : Bool) (result : Result (
 abbrev pub IsRefused : List ℕ → List Event → List Event → Type 0
 IsRefused path old new = (failures old < failures new) ⊎ (new ≡ there_call path true ∷ old)
 
--- the file of a path is to have these bytes
-abbrev pub LaysFile : List ℕ → List ℕ → Bool → List Event → Result (Unit {0}) HostFault → List Event → Type 0
-LaysFile path bytes is_forced old (Ok it) new = HasLaid path bytes is_forced (Ok it) old new
-LaysFile path bytes is_forced old (Err fault) new = HasLaid path bytes is_forced (Err fault) old new × IsRefused path old new × (fault_number fault ≡ last_fault new)
+-- the file of a path is to have these bytes and this time
+abbrev pub LaysFile : List ℕ → List ℕ → Option ℕ → Bool → List Event → Result (Unit {0}) HostFault → List Event → Type 0
+LaysFile path bytes seconds is_forced old (Ok it) new = HasLaid path bytes seconds is_forced (Ok it) old new
+LaysFile path bytes seconds is_forced old (Err fault) new = HasLaid path bytes seconds is_forced (Err fault) old new × IsRefused path old new × (fault_number fault ≡ last_fault new)
 
 -- lines are printed, and it is answered whether a file is there
 abbrev pub PrintsAnswer : Bool → List ℕ → List Event → Result Bool Ending → List Event → Type 0
@@ -82,10 +87,10 @@ TellsLaid file name (Err host.Unwritable) = PrintsAnswer false (named_lines name
 TellsLaid file name (Err host.Failed) = PrintsAnswer false (named_lines name (program_line line.HostWrite))
 
 -- a file is laid, and only then its line is printed
-pub record LaysAndTells (form : GetManyForm) (file : VolumeFile) (name path bytes : List ℕ) (old : List Event) (result : Result Bool Ending) (new : List Event) : Type 0 where
+pub record LaysAndTells (form : GetManyForm) (file : VolumeFile) (name path bytes : List ℕ) (seconds : Option ℕ) (old : List Event) (result : Result Bool Ending) (new : List Event) : Type 0 where
   pub done : Result (Unit {0}) HostFault
   pub between : List Event
-  pub lays : LaysFile path bytes form.is_forced old done between
+  pub lays : LaysFile path bytes seconds form.is_forced old done between
   pub tells : TellsLaid file name done between result new
 
 -- ## A file of the volume
@@ -104,10 +109,18 @@ abbrev pub IsPath : List ℕ → List ℕ → Result (String Global) Ending → 
 IsPath folder name (Ok path) = path.bytes.items ≡ path_in folder name
 IsPath folder name (Err ending) = ending ≡ Fault Memory
 
+abbrev pub time_if : ℕ → Option ℕ → Option ℕ
+time_if last None = None
+time_if last (Some word) = time_of_word last word
+
+-- the time for the file of the host: that of the date which the first information word means, where it means one, as a long list shows it
+abbrev pub time_of_file : Option ℕ → List (List ℕ) → VolumeFile → Option ℕ
+time_of_file year blocks file = time_if (last_in year blocks) (first_word blocks file.name)
+
 -- a file of the volume is written to the folder, and reported; it is answered whether it is there
 abbrev pub GivesFile : GetManyForm → List (List ℕ) → VolumeFile → List Event → Result Bool Ending → List Event → Type 0
 GivesFile form blocks file = Then (Purely (TakesFile blocks file (get_form form.texts file.name))) (λ bytes. Then (Purely (IsHostName file)) (λ name.
-    Then (Purely (IsPath form.folder.bytes.items name.bytes.items)) (λ path. LaysAndTells form file name.bytes.items path.bytes.items bytes.items)))
+    Then (Purely (IsPath form.folder.bytes.items name.bytes.items)) (λ path. LaysAndTells form file name.bytes.items path.bytes.items bytes.items (time_of_file form.year blocks file))))
 
 -- ## What is asked for
 

@@ -24,6 +24,7 @@ use Rattle.outcome.specs.declared.endings.Ending.{Ending}
 use Rattle.outcome.specs.declared.endings.Ending.TheVariants.{Line, Fault}
 use Rattle.program_tasks.specs.declared.forms.PutManyForm.{PutManyForm}
 use Rattle.program_tasks.specs.declared.forms.TextsForm.{TextsForm}
+use Rattle.image_files.specs.Dates.{DatesFile}
 use Rattle.image_files.specs.Work.{Then, Purely}
 use Rattle.image_files.specs.Reading.{Looks, Opens}
 use Rattle.image_files.specs.Answers.{AreLines, Refuses}
@@ -67,23 +68,28 @@ LooksWhole path old (Ok bytes) new = Looks path path old (Ok bytes) new
 LooksWhole path old (Err ending) new = (why : Ending) × (between : List Event) × Looks path path old (Err why) between × TellsUnread path why between ending new
 
 -- a file that is to be put, unless memory is wanted to keep it
-abbrev pub IsNewFile : TextsForm → ℕ → List ℕ → Result NewFile Ending → Type 0
-IsNewFile texts name bytes (Ok file) = (file.name ≡ name) × (file.bytes.items ≡ bytes) × (file.form ≡ put_form texts name)
-IsNewFile texts name bytes (Err ending) = ending ≡ Fault Memory
+abbrev pub IsNewFile : TextsForm → ℕ → List ℕ → Option ℕ → Result NewFile Ending → Type 0
+IsNewFile texts name bytes date (Ok file) = (file.name ≡ name) × (file.bytes.items ≡ bytes) × (file.form ≡ put_form texts name) × (file.date ≡ date)
+IsNewFile texts name bytes date (Err ending) = ending ≡ Fault Memory
+
+-- the date of a file of the host, where that is asked for; one whose time is not known is reported
+abbrev pub DatesNext : Bool → List ℕ → List Event → Result (Option ℕ) Ending → List Event → Type 0
+DatesNext is_dated path old (Ok date) new = DatesFile is_dated path old (Ok date) new
+DatesNext is_dated path old (Err ending) new = (why : Ending) × (between : List Event) × DatesFile is_dated path old (Err why) between × TellsUnread path why between ending new
 
 -- the file of a path, after those of earlier ones
-abbrev pub ReadsNext : TextsForm → List NewFile → List ℕ → List Event → Result NewFile Ending → List Event → Type 0
-ReadsNext texts files path = Then (TakesName files path) (λ name. Then (LooksWhole path) (λ bytes. Purely (IsNewFile texts name bytes.items)))
+abbrev pub ReadsNext : TextsForm → Bool → List NewFile → List ℕ → List Event → Result NewFile Ending → List Event → Type 0
+ReadsNext texts is_dated files path = Then (TakesName files path) (λ name. Then (LooksWhole path) (λ bytes. Then (DatesNext is_dated path) (λ date. Purely (IsNewFile texts name bytes.items date))))
 
 -- these are the files
 abbrev pub AreFiles : List NewFile → Result (Vec NewFile) Ending → Type 0
 AreFiles files (Ok it) = it.items ≡ files
 AreFiles files (Err ending) = ⊥
 
--- the files of some paths are read in their order
-abbrev pub ReadsEach : TextsForm → List NewFile → List (List ℕ) → List Event → Result (Vec NewFile) Ending → List Event → Type 0
-ReadsEach texts files [] = Purely (AreFiles files)
-ReadsEach texts files (path ∷ paths) = Then (ReadsNext texts files path) (λ file. ReadsEach texts (files ++ file ∷ []) paths)
+-- the files of some paths are read in their order, and their dates, where that is asked for
+abbrev pub ReadsEach : TextsForm → Bool → List NewFile → List (List ℕ) → List Event → Result (Vec NewFile) Ending → List Event → Type 0
+ReadsEach texts is_dated files [] = Purely (AreFiles files)
+ReadsEach texts is_dated files (path ∷ paths) = Then (ReadsNext texts is_dated files path) (λ file. ReadsEach texts is_dated (files ++ file ∷ []) paths)
 
 -- ## What is refused
 
@@ -169,4 +175,4 @@ PutsFiles form image files = Then (KeepsWords form files image.bytes.items) (λ 
 -- An image file is held and read, and then each file of the host, in their order. The image with all of them on its volume is saved once,
 -- and only then their lines are printed; where one is refused, none is put.
 abbrev pub PutsMany : PutManyForm → List Event → Result (Unit {0}) Ending → List Event → Type 0
-PutsMany form = Then (TakesLists form.texts) (λ it. Then (Opens form.image) (λ image. Then (ReadsEach form.texts [] (paths_of form)) (λ files. PutsFiles form image files.items)))
+PutsMany form = Then (TakesLists form.texts) (λ it. Then (Opens form.image) (λ image. Then (ReadsEach form.texts form.is_dated [] (paths_of form)) (λ files. PutsFiles form image files.items)))

@@ -13,12 +13,14 @@ use archive_files::GetForm;
 use archive_many::{OpenVolume, VolumeFile, host_name};
 use hosts::{Host, HostFault, lay};
 use image_files::{named_lines, print};
+use os8_dates::time_of_word;
 use os8_dir::FileFault;
 use outcome::Ending;
 use program_reports::{ProgramLine, put_program};
 use program_tasks::GetManyForm;
 use script8::{SessionFault, put_reply};
 use std::alloc::Global;
+use volume_index::last_of;
 
 /// Writes a file of a volume to the folder and reports it, and answers whether it is there.
 pub(crate) fn give_file<H: Host>(
@@ -33,6 +35,7 @@ pub(crate) fn give_file<H: Host>(
     let bytes = take_file(alloc, volume, file, get_form(&form.texts, file.name))?;
     let name = name_of(alloc, file)?;
     let path = path_in(alloc, form.folder.as_str(), name.as_str())?;
+    let seconds = time_of_file(form.year, volume, file);
     lay_and_tell(
         host,
         alloc,
@@ -41,6 +44,7 @@ pub(crate) fn give_file<H: Host>(
         name.as_str(),
         path.as_str(),
         &bytes,
+        seconds,
     )
 }
 
@@ -56,6 +60,17 @@ fn take_file(
     match volume.get(alloc, file, how) {
         Ok(bytes) => Ok(bytes),
         Err(fault) => Err(Ending::Fault(fault)),
+    }
+}
+
+/// The time for the file of the host: that of the date which the first information word means, where it means one, as a long list shows it.
+fn time_of_file(year: Option<usize>, volume: &OpenVolume, file: &VolumeFile) -> Option<u64>
+    ensures { result ≡ spec.time_of_file year volume.now file.now }
+{
+    let last = last_of(year, volume.last_word());
+    match volume.first_word(file.name) {
+        Some(word) => time_of_word(word, last),
+        None => None,
     }
 }
 
@@ -108,24 +123,26 @@ fn lay_and_tell<H: Host>(
     name: &str,
     path: &str,
     bytes: &[u8],
+    seconds: Option<u64>,
 ) -> Result<bool, Ending>
-    ensures { LaysAndTells form.now file.now name.now path.now bytes.now (H.history host.old) result (H.history host.new) }
+    ensures { LaysAndTells form.now file.now name.now path.now bytes.now seconds (H.history host.old) result (H.history host.new) }
 {
-    let done = lay_file(host, alloc, path, bytes, form.is_forced);
+    let done = lay_file(host, alloc, path, bytes, seconds, form.is_forced);
     tell_laid(host, alloc, file, name, done)
 }
 
-/// Has the file of a path hold these bytes.
+/// Has the file of a path hold these bytes, and have this time.
 fn lay_file<H: Host>(
     host: &mut H,
     alloc: Global,
     path: &str,
     bytes: &[u8],
+    seconds: Option<u64>,
     is_forced: bool,
 ) -> Result<(), HostFault>
-    ensures { LaysFile path.now bytes.now is_forced (H.history host.old) result (H.history host.new) }
+    ensures { LaysFile path.now bytes.now seconds is_forced (H.history host.old) result (H.history host.new) }
 {
-    match lay(host, alloc, path, bytes, None, is_forced) {
+    match lay(host, alloc, path, bytes, seconds, is_forced) {
         Ok(()) => Ok(()),
         Err(fault) => Err(fault),
     }

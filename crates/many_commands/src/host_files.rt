@@ -3,13 +3,13 @@ ghost use Rattle.std.specs.Prelude.{◌≡◌, ◌⊎◌, ◌||◌, List, [], �
 ghost use Rattle.script8.specs.declared.faults.SessionFault.TheVariants.{Memory};
 ghost use Rattle.outcome.specs.declared.endings.Ending.TheVariants.{Fault};
 ghost use Rattle.archive_many.specs.declared.putting.NewFile.{NewFile as AsNew};
-ghost use Rattle.many_commands.specs.PuttingMany.{LooksWhole, ReadsEach, ReadsNext, RefusesName, RefusesPath, TakesName, TellsUnread};
+ghost use Rattle.many_commands.specs.PuttingMany.{DatesNext, LooksWhole, ReadsEach, ReadsNext, RefusesName, RefusesPath, TakesName, TellsUnread};
 ghost use Rattle.many_commands.specs.NameSteps.{KnowsNames, has_key};
 
 use crate::texts::put_form;
 use archive_many::{NewFile, volume_name};
 use hosts::Host;
-use image_files::{look_file, tell_note};
+use image_files::{date_of_file, look_file, tell_note};
 use os8_dir::{FileFault, Name};
 use outcome::{Ending, NameNote, Note, PlainNote};
 use program_reports::ProgramLine;
@@ -17,21 +17,23 @@ use program_tasks::TextsForm;
 use script8::SessionFault;
 use std::alloc::{AllocError, Global};
 use std::collections::BTreeSet;
+use word12::Word;
 
 /// The files of these paths, which are read in their order.
 pub(crate) fn read_files<H: Host>(
     host: &mut H,
     alloc: Global,
     texts: &TextsForm,
+    is_dated: bool,
     paths: &[String],
 ) -> Result<Vec<NewFile>, Ending>
-    ensures { ReadsEach texts.now [] (map (λ path. path.bytes.items) paths.now) (H.history host.old) result (H.history host.new) }
+    ensures { ReadsEach texts.now is_dated [] (map (λ path. path.bytes.items) paths.now) (H.history host.old) result (H.history host.new) }
 {
     let mut files = Vec::new(alloc);
     let mut names = BTreeSet::new(alloc);
     let mut rest = paths;
     while let [path, others @ ..] = rest {
-        let file = read_next(host, alloc, texts, path.as_str(), &mut names)?;
+        let file = read_next(host, alloc, texts, is_dated, path.as_str(), &mut names)?;
         add(&mut files, file)?;
         rest = others;
     }
@@ -50,19 +52,22 @@ fn read_next<H: Host>(
     host: &mut H,
     alloc: Global,
     texts: &TextsForm,
+    is_dated: bool,
     path: &str,
     names: &mut BTreeSet<u64>,
 ) -> Result<NewFile, Ending>
     ensures reads { (files : List AsNew) → KnowsNames names.old files
-        → ReadsNext texts.now files path.now (H.history host.old) result (H.history host.new) }
+        → ReadsNext texts.now is_dated files path.now (H.history host.old) result (H.history host.new) }
     ensures names { IfOk result (λ file. (q : ℕ) → has_key names.new q ≡ (has_key names.old q || nat_eq file.name q)) }
 {
     let name = take_name(host, alloc, path, names)?;
     let bytes = look_whole(host, alloc, path)?;
+    let date = date_next(host, alloc, path, is_dated)?;
     Ok(NewFile {
         name,
         bytes,
         form: put_form(texts, name),
+        date,
     })
 }
 
@@ -137,6 +142,21 @@ fn look_whole<H: Host>(host: &mut H, alloc: Global, path: &str) -> Result<Vec<u8
     match look_file(host, alloc, path) {
         Ok(bytes) => Ok(bytes),
         Err(ending) => Err(tell_unread(host, alloc, path, ending)),
+    }
+}
+
+/// The word of the day on which the file of a path was last changed, where that is asked for. Where it is not known, the path is printed.
+fn date_next<H: Host>(
+    host: &mut H,
+    alloc: Global,
+    path: &str,
+    is_dated: bool,
+) -> Result<Option<Word>, Ending>
+    ensures { DatesNext is_dated path.now (H.history host.old) result (H.history host.new) }
+{
+    match date_of_file(host, path, is_dated) {
+        Ok(date) => Ok(date),
+        Err(why) => Err(tell_unread(host, alloc, path, why)),
     }
 }
 

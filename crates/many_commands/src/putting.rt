@@ -31,7 +31,7 @@ pub fn put_files<H: Host>(host: &mut H, alloc: Global, form: &PutManyForm) -> Re
 {
     take_lists(host, alloc, &form.texts)?;
     let image = Image::open(host, alloc, &form.image)?;
-    let files = read_files(host, alloc, &form.texts, &form.files)?;
+    let files = read_files(host, alloc, &form.texts, form.is_dated, &form.files)?;
     put_into(host, alloc, form, image, &files)
 }
 

@@ -81,6 +81,9 @@ pub struct GetManyForm {
 
     /// Whether older files of the folder may go.
     pub is_forced: bool,
+
+    /// The last of the eight years that dates mean, 1977 to 9999, if it is given.
+    pub year: Option<usize>,
 }
 
 /// Which texts are printed, one after another.
@@ -128,6 +131,9 @@ pub struct PutOneForm {
     /// Its information words, if any are given.
     pub info: Option<Vec<Word>>,
 
+    /// Whether it is dated by the day on which the file of the host was last changed.
+    pub is_dated: bool,
+
     /// Whether an empty input may replace a file that has words.
     pub may_empty: bool,
 }
@@ -144,6 +150,9 @@ pub struct PutManyForm {
 
     /// The information words of each, if any are given.
     pub info: Option<Vec<Word>>,
+
+    /// Whether each is dated by the day on which the file of the host was last changed.
+    pub is_dated: bool,
 
     /// Whether an empty file may replace one that has words.
     pub may_empty: bool,

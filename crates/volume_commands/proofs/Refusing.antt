@@ -20,6 +20,7 @@ use Rattle.program_tasks.specs.declared.forms.CopyForm.{CopyForm}
 use Rattle.program_tasks.specs.declared.forms.DeleteForm.{DeleteForm}
 use Rattle.program_tasks.specs.declared.forms.ImageForm.{ImageForm}
 use Rattle.program_tasks.specs.declared.forms.PutOneForm.{PutOneForm}
+use Rattle.image_files.specs.Dates.{DatesFile}
 use Rattle.image_files.specs.Answers.{Answers, AreLines}
 use Rattle.volume_commands.specs.Asking.{AreNamed, MeansFile}
 use Rattle.volume_commands.specs.Changing.{Changes, GivesName, RefusesName, Renames, Squeezes}
@@ -35,7 +36,7 @@ use Rattle.image_files.specs.Saving.{Stores}
 use Rattle.image_files.specs.Work.{Then, Purely}
 use Rattle.image_files.specs.declared.images.Image.{Image}
 use Rattle.image_files.specs.Laws.{KeepsFiles, ChangesNothing, LeavesFiles}
-use Rattle.image_files.proofs.KeepLemmas.{then-keeps, purely-keeps, looks-keeps, looks-at-keeps}
+use Rattle.image_files.proofs.KeepLemmas.{date-keeps, then-keeps, purely-keeps, looks-keeps, looks-at-keeps}
 use Rattle.image_files.proofs.LeaveLemmas.{same, told, then-leaves, refuses-never, answers-never, opens-never, stores-leaves}
 
 -- ## One change of an image
@@ -161,18 +162,20 @@ tells-if : (is : Bool) (fault : ArchiveFault) (bytes : List ℕ) (size : ℕ) (o
 tells-if true fault bytes size old ending new (is, (place, finds, p)) = tells-place place old new p
 tells-if false fault bytes size old ending new p = refuses-never fault size old ending new p
 
-makes-new-never : (form : PutOneForm) (image bytes : List ℕ) → KeepsFiles (MakesNew form image bytes)
-makes-new-never form image bytes old (Ok it) new p = same old new p.1
-makes-new-never form image bytes old (Err ending) new (inl (why, puts, p)) = tells-if (is_bad_text why) why bytes (length image) old ending new p
-makes-new-never form image bytes old (Err ending) new (inr p) = same old new p.1
+makes-new-never : (form : PutOneForm) (image bytes : List ℕ) (date : Option ℕ) → KeepsFiles (MakesNew form image bytes date)
+makes-new-never form image bytes date old (Ok it) new p = same old new p.1
+makes-new-never form image bytes date old (Err ending) new (inl (why, puts, p)) = tells-if (is_bad_text why) why bytes (length image) old ending new p
+makes-new-never form image bytes date old (Err ending) new (inr p) = same old new p.1
 
-puts-into : (form : PutOneForm) (image : Image) (bytes : List ℕ) → LeavesFiles (PutsInto form image bytes)
-puts-into form image bytes =
-    then-leaves (KeepsWords form image.bytes.items bytes) (λ it. Then (MakesNew form image.bytes.items bytes) (λ made. Then (Purely (AreLines (stored_line made))) (λ line. Stores image made.bytes.items line.items)))
+puts-into : (form : PutOneForm) (image : Image) (bytes : List ℕ) (date : Option ℕ) → LeavesFiles (PutsInto form image bytes date)
+puts-into form image bytes date =
+    then-leaves (KeepsWords form image.bytes.items bytes) (λ it. Then (MakesNew form image.bytes.items bytes date) (λ made. Then (Purely (AreLines (stored_line made))) (λ line. Stores image made.bytes.items line.items)))
     (keeps-words-never form image.bytes.items bytes)
-    (λ it. then-leaves (MakesNew form image.bytes.items bytes) (λ made. Then (Purely (AreLines (stored_line made))) (λ line. Stores image made.bytes.items line.items))
-    (makes-new-never form image.bytes.items bytes) (λ made. lines-leave image made.bytes.items (stored_line made)))
+    (λ it. then-leaves (MakesNew form image.bytes.items bytes date) (λ made. Then (Purely (AreLines (stored_line made))) (λ line. Stores image made.bytes.items line.items))
+    (makes-new-never form image.bytes.items bytes date) (λ made. lines-leave image made.bytes.items (stored_line made)))
 
 pub puts-leave : (form : PutOneForm) → LeavesFiles (Puts form)
-puts-leave form = then-leaves (Opens form.image) (λ image. Then (Reads form.file.bytes.items) (λ bytes. PutsInto form image bytes.items)) (opens-never form.image)
-    (λ image. then-leaves (Reads form.file.bytes.items) (λ bytes. PutsInto form image bytes.items) (reads-if (bytes_eq form.file.bytes.items (codes "-")) form.file.bytes.items) (λ bytes. puts-into form image bytes.items))
+puts-leave form =
+    then-leaves (Opens form.image) (λ image. Then (Reads form.file.bytes.items) (λ bytes. Then (DatesFile form.is_dated form.file.bytes.items) (λ date. PutsInto form image bytes.items date))) (opens-never form.image)
+    (λ image. then-leaves (Reads form.file.bytes.items) (λ bytes. Then (DatesFile form.is_dated form.file.bytes.items) (λ date. PutsInto form image bytes.items date)) (reads-if (bytes_eq form.file.bytes.items (codes "-")) form.file.bytes.items)
+    (λ bytes. then-leaves (DatesFile form.is_dated form.file.bytes.items) (λ date. PutsInto form image bytes.items date) (date-keeps form.is_dated form.file.bytes.items) (λ date. puts-into form image bytes.items date)))

@@ -1,5 +1,5 @@
 -- The command that puts a file of the host, or standard input, on the volume in an image file.
-use Rattle.std.specs.Prelude.{◌≡◌, ◌≢◌, ◌⊎◌, ℕ, Bool, true, false, None, Some, Result, Ok, Err, List, [], ◌∷◌, length}
+use Rattle.std.specs.Prelude.{◌≡◌, ◌≢◌, ◌⊎◌, ℕ, Bool, true, false, Option, None, Some, Result, Ok, Err, List, [], ◌∷◌, length}
 use Rattle.hosts.specs.Event.{Event, tell_call}
 use Rattle.name_spelling.specs.Reading.{typed_name}
 use Rattle.os8_dir.specs.declared.file_faults.FileFault.TheVariants.{NothingWritten}
@@ -9,12 +9,14 @@ use Rattle.archive_files.specs.declared.faults.ArchiveFault.{ArchiveFault}
 use Rattle.archive_files.specs.declared.putting.NewImage.{NewImage}
 use Rattle.archive_many.specs.Emptying.{is_among}
 use Rattle.archive_many.specs.Opened.{OpensVolume, files_on}
+use Rattle.archive_many.specs.Putting.{info_or}
 use Rattle.outcome.specs.Endings.{ending_of_archive}
 use Rattle.outcome.specs.Notes.{name_text}
 use Rattle.outcome.specs.declared.notes.NameNote.TheVariants.{Empty}
 use Rattle.outcome.specs.declared.endings.Ending.{Ending}
 use Rattle.outcome.specs.declared.endings.Ending.TheVariants.{Fault}
 use Rattle.program_tasks.specs.declared.forms.PutOneForm.{PutOneForm}
+use Rattle.image_files.specs.Dates.{DatesFile}
 use Rattle.image_files.specs.Work.{Then, Purely}
 use Rattle.image_files.specs.Reading.{Opens}
 use Rattle.image_files.specs.Answers.{AreLines, Refuses}
@@ -58,16 +60,16 @@ abbrev pub TellsRefusal : ArchiveFault → List ℕ → ℕ → List Event → E
 TellsRefusal fault bytes size old ending new = TellsIf (is_bad_text fault) fault bytes size old ending new
 
 -- what the image is with the file, or why it is not put
-abbrev pub MakesNew : PutOneForm → List ℕ → List ℕ → List Event → Result NewImage Ending → List Event → Type 0
-MakesNew form image bytes old (Ok it) new = PutsFile image form.name.bytes.items form.form bytes (words_of form.info) (Ok it) × (new ≡ old)
-MakesNew form image bytes old (Err ending) new =
-    ((fault : ArchiveFault) × PutsFile image form.name.bytes.items form.form bytes (words_of form.info) (Err fault) × TellsRefusal fault bytes (length image) old ending new)
+abbrev pub MakesNew : PutOneForm → List ℕ → List ℕ → Option ℕ → List Event → Result NewImage Ending → List Event → Type 0
+MakesNew form image bytes date old (Ok it) new = PutsFile image form.name.bytes.items form.form bytes (info_or date (words_of form.info)) (Ok it) × (new ≡ old)
+MakesNew form image bytes date old (Err ending) new =
+    ((fault : ArchiveFault) × PutsFile image form.name.bytes.items form.form bytes (info_or date (words_of form.info)) (Err fault) × TellsRefusal fault bytes (length image) old ending new)
     ⊎ ((ending ≡ Fault Memory) × (new ≡ old))
 
-abbrev pub PutsInto : PutOneForm → Image → List ℕ → List Event → Result (Unit {0}) Ending → List Event → Type 0
-PutsInto form image bytes = Then (KeepsWords form image.bytes.items bytes) (λ it. Then (MakesNew form image.bytes.items bytes) (λ made. Then (Purely (AreLines (stored_line made))) (λ line. Stores image made.bytes.items line.items)))
+abbrev pub PutsInto : PutOneForm → Image → List ℕ → Option ℕ → List Event → Result (Unit {0}) Ending → List Event → Type 0
+PutsInto form image bytes date = Then (KeepsWords form image.bytes.items bytes) (λ it. Then (MakesNew form image.bytes.items bytes date) (λ made. Then (Purely (AreLines (stored_line made))) (λ line. Stores image made.bytes.items line.items)))
 
 -- An image file is held and read, and then the file of the host. The image with the file on its volume is saved, and only then its line is
 -- printed.
 abbrev pub Puts : PutOneForm → List Event → Result (Unit {0}) Ending → List Event → Type 0
-Puts form = Then (Opens form.image) (λ image. Then (Reads form.file.bytes.items) (λ bytes. PutsInto form image bytes.items))
+Puts form = Then (Opens form.image) (λ image. Then (Reads form.file.bytes.items) (λ bytes. Then (DatesFile form.is_dated form.file.bytes.items) (λ date. PutsInto form image bytes.items date)))

@@ -1,5 +1,7 @@
 //! The command that puts a file of the host, or standard input, on the volume in an image file.
 ghost use Rattle.std.specs.Prelude.{◌≡◌, option_copied, OnOk, OnErr};
+ghost use Rattle.archive_files.specs.Putting.{PutsFile};
+ghost use Rattle.archive_many.specs.Putting.{info_or};
 ghost use Rattle.image_files.specs.Stored as spec;
 ghost use Rattle.volume_commands.specs.Putting.{Puts, PutsInto, KeepsWords, MakesNew};
 ghost use Rattle.image_files.specs.Stored.{TellsBad, stored_line, words_of};
@@ -8,7 +10,7 @@ ghost use Rattle.volume_commands.specs.PutSteps.{RefusesLoss, FindsFiles, IsNotP
 use archive_files::{ArchiveFault, NewImage, bad_text_at, put};
 use archive_many::{VolumeFile, empties, open};
 use hosts::Host;
-use image_files::{Image, given_bytes, refuse_image, store, stored_line, tell_note};
+use image_files::{Image, date_of_file, given_bytes, refuse_image, store, stored_line, tell_note};
 use name_spelling::typed_name;
 use os8_dir::{FileFault, Name};
 use outcome::{Ending, NameNote, Note};
@@ -23,7 +25,8 @@ pub fn put_file<H: Host>(host: &mut H, alloc: Global, form: &PutOneForm) -> Resu
 {
     let image = Image::open(host, alloc, &form.image)?;
     let bytes = given_bytes(host, alloc, form.file.as_str())?;
-    put_into(host, alloc, form, image, &bytes)
+    let date = date_of_file(host, form.file.as_str(), form.is_dated)?;
+    put_into(host, alloc, form, image, &bytes, date)
 }
 
 /// Puts bytes of the host on the volume in an image, and reports it.
@@ -33,11 +36,12 @@ fn put_into<H: Host>(
     form: &PutOneForm,
     image: Image,
     bytes: &[u8],
+    date: Option<Word>,
 ) -> Result<(), Ending>
-    ensures { PutsInto form.now image bytes.now (H.history host.old) result (H.history host.new) }
+    ensures { PutsInto form.now image bytes.now date (H.history host.old) result (H.history host.new) }
 {
     keep_words(host, alloc, form, &image.bytes, bytes)?;
-    let new = new_image(host, alloc, form, &image.bytes, bytes)?;
+    let new = new_image(host, alloc, form, &image.bytes, bytes, date)?;
     let line = stored_line(alloc, &new)?;
     store(host, alloc, image, &new.bytes, &line)
 }
@@ -99,13 +103,37 @@ fn new_image<H: Host>(
     form: &PutOneForm,
     image: &[u8],
     bytes: &[u8],
+    date: Option<Word>,
 ) -> Result<NewImage, Ending>
-    ensures { MakesNew form.now image.now bytes.now (H.history host.old) result (H.history host.new) }
+    ensures { MakesNew form.now image.now bytes.now date (H.history host.old) result (H.history host.new) }
 {
-    let info = given_words(&form.info);
-    match put(alloc, image, form.name.as_bytes(), bytes, form.form, info) {
+    match put_dated(alloc, form, image, bytes, date) {
         Ok(new) => Ok(new),
         Err(fault) => Err(refuse_put(host, alloc, image.len(), bytes, fault)),
+    }
+}
+
+/// The image with the file, whose information word is that of its date, or else those that are given.
+fn put_dated(
+    alloc: Global,
+    form: &PutOneForm,
+    image: &[u8],
+    bytes: &[u8],
+    date: Option<Word>,
+) -> Result<NewImage, ArchiveFault>
+    ensures { PutsFile image.now form.now.name.bytes.items form.now.form bytes.now (info_or date (words_of form.now.info)) result }
+{
+    let name = form.name.as_bytes();
+    match date {
+        Some(word) => put(alloc, image, name, bytes, form.form, Some(&[word])),
+        None => put(
+            alloc,
+            image,
+            name,
+            bytes,
+            form.form,
+            given_words(&form.info),
+        ),
     }
 }
 

@@ -16,4 +16,4 @@ mod years;
 pub use indexing::index_volume;
 pub use json::json_lines;
 pub use styles::IndexStyle;
-pub use years::last_in;
+pub use years::{last_in, last_of};

@@ -20,7 +20,7 @@ pub fn last_in(year: Option<usize>, volume: &MemoryVolume) -> u16
 }
 
 /// The year that is given, or else that of a word.
-fn last_of(year: Option<usize>, word: Word) -> u16
+pub fn last_of(year: Option<usize>, word: Word) -> u16
     ensures value { result ≡ spec.last_of year word }
     ensures least { LEAST_LAST ≤ result }
     ensures most { result ≤ LAST_YEAR }

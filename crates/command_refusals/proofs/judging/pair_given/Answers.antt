@@ -1,7 +1,7 @@
 use Rattle.std.proofs.Common.{◌∙◌, ap₂}
 use Rattle.command_table.specs.Values.{values_in}
 use Rattle.command_refusals.specs.Refusals.{first_pair}
-use Rattle.command_refusals.proofs.judging.both_given.Goals as goal
+use Rattle.command_refusals.proofs.judging.pair_given.Goals as goal
 
 pub returns : goal.returns
 returns c =
