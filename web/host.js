@@ -12,6 +12,9 @@ export class Held {
         this.size = bytes.length;
         this.names = 1;
         this.number = ++Held.last;
+        // when it was last changed, in seconds after the begin of 1970, where that was set
+        /** @type {number | null} */
+        this.time = null;
     }
 
     get bytes() { return this.room.subarray(0, this.size); }
@@ -128,6 +131,7 @@ function imports(memory, files, words, host) {
             }
             const own = own_of(number);
             own.file.put(own.at, part);
+            own.file.time = null;
             own.at += part.length;
             files.changed?.(own.file);
             return count;
@@ -140,7 +144,15 @@ function imports(memory, files, words, host) {
         },
         ftruncate(number, size) {
             own_of(number).file.cut(Number(size));
+            own_of(number).file.time = null;
             files.changed?.(own_of(number).file);
+            return 0;
+        },
+        // the second of two times is that of the last change
+        futimens(number, at) {
+            const times = memory(at, 32), file = own_of(number).file;
+            file.time = Number(new DataView(times.buffer, times.byteOffset, 32).getBigInt64(16, true));
+            files.changed?.(file);
             return 0;
         },
         statx(folder, at, flags, mask, to) {
@@ -201,4 +213,5 @@ function put_stat(bytes, file) {
     at.setUint16(28, 0o100644, true);
     at.setBigUint64(32, BigInt(file.number), true);
     at.setBigUint64(40, BigInt(file.size), true);
+    at.setBigInt64(112, BigInt(file.time ?? Math.floor(Date.now() / 1000)), true);
 }

@@ -1,7 +1,7 @@
 // The types of what worker.js and host.js hand each other. Numbers of C's `long`, sizes and addresses are bigint, those of `int` are number.
 type Soon<T> = T | Promise<T>;
 
-interface HeldFile { bytes: Uint8Array; size: number; names: number; number: number; put(at: number, part: Uint8Array): void; cut(size: number): void }
+interface HeldFile { bytes: Uint8Array; size: number; names: number; number: number; time: number | null; put(at: number, part: Uint8Array): void; cut(size: number): void }
 
 // The files that the program sees: the page's are in a Map, those of the tests in a folder, which may have folders in it.
 interface HostFiles {
@@ -28,7 +28,7 @@ interface Calls {
     rattle_set_errno(why: number): void; isatty(number: number): number; open(at: bigint, flags: number): number; close(number: number): number;
     dup(number: number): number; fcntl(number: number, what: number, least: bigint): number; read(number: number, at: bigint, most: bigint): Soon<bigint>;
     write(number: number, at: bigint, count: bigint): Soon<bigint>; lseek(number: number, by: bigint, from: number): bigint;
-    ftruncate(number: number, size: bigint): number; statx(folder: number, at: bigint, flags: number, mask: number, to: bigint): number;
+    ftruncate(number: number, size: bigint): number; futimens(number: number, at: bigint): number; statx(folder: number, at: bigint, flags: number, mask: number, to: bigint): number;
     realpath(at: bigint, to: bigint): bigint; readlink(): bigint; unlink(at: bigint): number; link(from: bigint, to: bigint): number;
     rename(from: bigint, to: bigint): number; mkdir(at: bigint): number; clock_gettime(): number; flock(number: number): number; fchmod(): number;
     chown(): number; fsync(): number; fdatasync(): number; __sysv_signal(): bigint;

@@ -1,5 +1,5 @@
 // A thread of server.mjs: runs the page's module as the page's worker does, over the files of a client's folder and the client's streams.
-import { closeSync, constants, existsSync, fstatSync, linkSync, mkdirSync, openSync, readFileSync, readSync, statSync, unlinkSync, writeFileSync, writeSync } from 'node:fs';
+import { closeSync, constants, existsSync, fstatSync, linkSync, mkdirSync, openSync, readFileSync, readSync, statSync, unlinkSync, utimesSync, writeFileSync, writeSync } from 'node:fs';
 import { resolve } from 'node:path';
 import { parentPort, workerData } from 'node:worker_threads';
 import { command, Held } from '../../web/host.js';
@@ -25,6 +25,7 @@ class Folder {
         if (!stat.isFile()) return undefined;
         if (found?.time === stat.mtimeNs) return found.file;
         const file = new Held(contents(path, Number(stat.size)));
+        file.time = Number(stat.mtimeNs / 1_000_000_000n);
         this.kept.set(path, { file, time: stat.mtimeNs });
         return file;
     }
@@ -35,7 +36,7 @@ class Folder {
         this.write_back();
         const [older] = [...this.kept].filter(([, it]) => it.file === file);
         if (older && existsSync(older[0])) linkSync(older[0], path);
-        else writeFileSync(path, file.bytes);
+        else write_file(path, file);
         this.kept.set(path, { file, time: statSync(path, { bigint: true }).mtimeNs });
     }
 
@@ -66,11 +67,17 @@ class Folder {
     write_back() {
         for (const [path, it] of this.kept)
             if (this.stale.has(it.file)) {
-                writeFileSync(path, it.file.bytes);
+                write_file(path, it.file);
                 it.time = statSync(path, { bigint: true }).mtimeNs;
             }
         this.stale.clear();
     }
+}
+
+// Writes a file with its bytes, and its time where that was set.
+function write_file(path, file) {
+    writeFileSync(path, file.bytes);
+    if (file.time !== null) utimesSync(path, file.time, file.time);
 }
 
 // What a file has, as the page hands it on: no more than one byte beyond what the program takes.
