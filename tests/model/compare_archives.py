@@ -172,7 +172,8 @@ class Case:
         files = {spelled_name(it): given_of(volume.files[it].words, extension(it) in texts) for it in names}
         there = random.choice(sorted(files)) if files and random.random() < 0.3 else ""
         is_forced = random.random() < 0.3
-        last = random.choice([None, None, random.randrange(1977, 10000)])
+        # common file systems have no time after 2446
+        last = random.choice([None, None, random.randrange(1977, 2440)])
         days = {spelled_name(it): day_of(volume.files[it].info, last or 1977) for it in names}
         if there:
             write(f"{folder}/{there}", b"older")
