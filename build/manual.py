@@ -55,6 +55,7 @@ SHARED = {
     "--switches": "The word that the switches are set to, in octal; else 0000.",
     "--at": "The first block of a file, 0 to 4095, in place of its name or beside names.",
     "--text\\-of": "Extensions of files that are texts, as PA,TX.",
+    "--year": "The last of the eight years that dates mean, 1977 to 9999; else the one that block 0 gives.",
 }
 
 EXAMPLES = [
