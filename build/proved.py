@@ -30,10 +30,10 @@ LOGS = f"{TOP}/target/proving"
 SECONDS = {
     "word12": 40, "bin_tape": 85, "rim_tape": 45, "core_image": 50, "core_load": 30, "tty8": 25, "cpu8": 250, "flow8": 50, "debug8": 55,
     "char_pack": 70, "pal_lex": 150, "pal_sym": 65, "pal_asm": 160, "pal_blocks": 55, "source_notes": 60, "source_names": 60, "tape_source": 140,
-    "trace8": 65, "profile8": 70, "host_sources": 240, "source_listing": 120, "pal8_join": 70, "terminal8": 90, "disk_layouts": 60, "volume_image": 85,
-    "os8_dir": 160, "os8_files": 180, "script8": 170, "archive_files": 220, "archive_many": 130, "archive_survey": 100, "volume_jobs": 150, "system_session": 300,
+    "trace8": 65, "profile8": 70, "host_sources": 190, "source_listing": 120, "pal8_join": 70, "terminal8": 90, "disk_layouts": 60, "volume_image": 85,
+    "os8_dir": 160, "os8_files": 180, "script8": 170, "archive_files": 220, "archive_many": 110, "archive_survey": 100, "volume_jobs": 150, "system_session": 300,
     "program_tasks": 40, "command_table": 150, "command_refusals": 100, "command_line": 350, "program_reports": 170, "outcome": 100, "image_files": 120, "volume_commands": 120, "host_progress": 20, "program_commands": 60, "choice_commands": 120, "source_commands": 120,
-    "host_output": 25, "script_commands": 120, "tape_commands": 90,
+    "host_output": 25, "script_commands": 120, "tape_commands": 90, "source_places": 55, "statement_runs": 30,
     "monitor8": 150, "pdp8": 140,
 }  # fmt: skip
 # What compiles the program: the toolchain's compiler, which lays direct jumps so that none crosses or ends at 32 bytes. There some processors are

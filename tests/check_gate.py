@@ -2,7 +2,7 @@
 """check_gate.py: the gate runs every check of tests/, and fails where a part of it does. Each executable file of tests/ and of its folders is a part
 of `./check` and of `./check quick`, except those that are listed here with their reasons. The parts that run the program do so with every build of
 it. docs/CONTRIBUTING.md names each part. A part fails the gate where it can't start, ends with no count, counts nothing, or ends with another status
-than its last line says. The last line is 'N passed, M failed'.
+than its last line says. Each fault of tests/calls/faults can be planted. The last line is 'N passed, M failed'.
 """
 import contextlib
 import glob
@@ -97,10 +97,22 @@ def strict() -> Iterator[tuple[str, bool]]:
     ]
 
 
+def fault_texts() -> Iterator[tuple[str, bool]]:
+    """Whether each text that a fault of the system calls changes stands in its file once."""
+    for path in sorted(glob.glob(f"{TOP}/tests/calls/faults/*.fault")):
+        file = ""
+        with open(path, encoding="utf-8") as lines:
+            for word, _, rest in (line.rstrip("\n").partition(": ") for line in lines):
+                file = rest if word == "file" else file
+                if word == "old":
+                    with open(f"{TOP}/{file}", encoding="utf-8") as source:
+                        yield f"{file} has what {os.path.basename(path)} changes", source.read().count(rest) == 1
+
+
 def main() -> int:
     passed = failed = 0
     with contextlib.redirect_stdout(io.StringIO()):
-        found = [*listed(), *by_builds(), *strict()]
+        found = [*listed(), *by_builds(), *strict(), *fault_texts()]
     for what, is_so in found:
         passed, failed = passed + is_so, failed + (not is_so)
         if not is_so:

@@ -40,10 +40,7 @@ PLACES: dict[str, dict[str, tuple[int, str]]] = {
     "choice_commands/src/listing.rt": {
         "fault_text": (1, "`put_reply`'s own, in the arm of its pattern"),
     },
-    "choice_commands/src/copying.rt": {
-        "put_stored": (1, "`put_program` can fail for nothing else"),
-    },
-    "many_commands/src/putting.rt": {
+    "image_files/src/answers.rt": {
         "put_stored": (1, "`put_program` can fail for nothing else"),
     },
     "volume_commands/src/deleting.rt": {

@@ -190,6 +190,20 @@ def a_read_that_fails_is_no_end(room: Room) -> None:
 
 
 @case
+def a_file_that_is_written_while_it_is_read_is_refused(room: Room) -> None:
+    room.sh("./pdp8 create V 20; ./pdp8 create W 20; echo A | ./pdp8 put V - --as A --text; printf '1;2\n$\n' > s.pa; sleep 0.1")
+    write = "printf B | dd of={} bs=1 seek=7000 conv=notrunc"
+    for words, number in {("list", "V"): 1, ("get", "V", "A"): 1, ("put", "V", "-", "--as", "B"): 1, ("copy", "V", "A", "W"): 8}.items():
+        status, said = room.pdp8(*words, call="read", number=number, after=write.format("V"), given="B\n")
+        holds((words, status, said.split("\n")[-2]), (words, 1, "? HOST READ"))
+        room.sh("sleep 0.1")
+    holds(room.pdp8("check", "V", "W", call="read", after=write.format("V")), (1, "V: ? HOST READ\nW: BLOCKS 20\nW: SEGMENT 1 1\nW: EMPTY 7 13\nIMAGES 2 REFUSED 1\n"))
+    status, said = room.pdp8("assemble", "s.pa", call="read", number=2, after="echo >> s.pa")
+    holds((status, said.split("\n")[-2]), (1, "? HOST READ"))
+    holds(room.sh("./pdp8 list V; ./pdp8 list W"), "A 1\nFREE 12\nFREE 13\n")
+
+
+@case
 def a_read_that_is_interrupted_is_made_again(room: Room) -> None:
     room.sh("./pdp8 create V 20; echo A | ./pdp8 put V - --as A --text")
     holds(room.pdp8("get", "V", "A", "--text", call="read", number=2, error=errno.EINTR), (0, "A\n"))
@@ -230,10 +244,10 @@ def a_new_image_and_its_name_are_on_the_disk_before_that_is_said(room: Room) -> 
     room.pdp8("create", "V", "20")
     holds(room.calls(), ["realpath", "dup", "write", "fsync", "link", "unlink", "fsync folder", "print"])
     room.pdp8("put", "V", "-", "--as", "A", given="A")
-    holds(room.calls(), ["realpath", "dup", "dup", "dup", "write", "fsync", "rename", "fsync folder", "print"])
+    holds(room.calls(), ["realpath", "dup", "dup", "write", "fsync", "rename", "fsync folder", "print"])
     room.pdp8("run", "--keep", "V", given="STORE B 0\nSTORE C 0\n")
     saved = ["dup", "write", "fsync", "rename", "fsync folder"]
-    holds(room.calls(), ["realpath", "dup", "dup", *saved, *saved, "print"])
+    holds(room.calls(), ["realpath", "dup", *saved, *saved, "print"])
     room.pdp8("assemble", "-", "--output", "T", given="1\n$")
     holds(room.calls(), ["realpath", "dup", "write", "fsync", "link", "unlink", "fsync folder"])
 

@@ -10,6 +10,7 @@ use Rattle.os8_dir.specs.Names.{with_end_zeros}
 use Rattle.os8_dir.specs.Found.{FilePlace, files_at, find}
 use Rattle.os8_dir.specs.Files.{FileData, Files, files_of}
 use Rattle.os8_dir.specs.Reading.{directory_of}
+use Rattle.name_patterns.specs.Patterns.{is_like_one}
 use Rattle.os8_files.specs.Calls.{info_of}
 use Rattle.archive_files.specs.Opening.{IsOpened}
 use Rattle.archive_files.specs.Asking.{AtBlock, AreAsked, asked_name}
@@ -20,7 +21,6 @@ use Rattle.archive_many.specs.Copying.{AreCopied, CopiesAll, IsNotCopied, KeepsO
 use Rattle.archive_many.specs.CopySteps.{CopiesEach, CopiesNext}
 use Rattle.archive_many.specs.Laws.{copy_or, copy_with}
 use Rattle.archive_many.specs.Opened.{files_in, files_on, files_or}
-use Rattle.archive_many.specs.Patterns.{is_like_one}
 use Rattle.archive_many.specs.Wishing.{asked_by_words, by_place, first_unfound, found_files, once, wishes_of}
 use Rattle.archive_many.specs.declared.faults.CopyAllFault.{CopyAllFault}
 use Rattle.archive_many.specs.declared.faults.CopyAllFault.TheVariants as copying

@@ -11,12 +11,13 @@ use Rattle.os8_dir.specs.Found.{AreApart, FilePlace, files_at, find}
 use Rattle.os8_dir.specs.Files.{FileData, Files, files_of, data_if_there}
 use Rattle.os8_dir.specs.Reading.{directory_of}
 use Rattle.os8_dir.specs.declared.faults.DirFault.{DirFault}
+use Rattle.name_patterns.specs.Patterns.{is_choice, is_like_one, matches}
 use Rattle.archive_files.specs.Opening.{IsOpened}
 use Rattle.archive_files.specs.Asking.{AtBlock, AreAsked, asked_name, name_at, name_beginning}
 use Rattle.archive_files.specs.Deleting.{DeletesFiles, without}
 use Rattle.archive_files.specs.declared.deleting.DeletedImage.{DeletedImage}
+use Rattle.archive_many.specs.Choosing.{files_like}
 use Rattle.archive_many.specs.Opened.{file_at, files_in, files_on, files_or}
-use Rattle.archive_many.specs.Patterns.{files_like, is_choice, is_like_one, matches}
 use Rattle.archive_many.specs.Wishing.{asked_by_words, by_place, first_unfound, found_files, has_place, once, wishes_of, wishes_for, wishes_of_word, with_wish}
 use Rattle.archive_many.specs.declared.opened.VolumeFile.{VolumeFile}
 use Rattle.archive_many.specs.declared.wishes.Wish.{Wish}

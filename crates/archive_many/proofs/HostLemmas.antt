@@ -1,10 +1,9 @@
 -- Paths of the host, and names as they are typed.
-use Rattle.std.proofs.Common.{◌≡◌, ◌≢◌, ◌∙◌, ◌≤◌, ◌<◌, ◌+◌, ◌-◌, ℕ, zero, suc, Bool, true, false, cond, if◌then◌else◌, subst, Option, Some, None, List, [], ◌∷◌, ◌++◌, get_or, map, take, drop, length, append_assoc, refl, sym, ap, arith, inl, inr}
-use Rattle.std.specs.Prelude.{◌==◌, ◌&&◌, nat_le}
+use Rattle.std.proofs.Common.{◌≡◌, ◌≢◌, ◌∙◌, ◌≤◌, ◌<◌, ◌-◌, ℕ, zero, suc, Bool, true, false, cond, if◌then◌else◌, subst, Option, Some, None, List, [], ◌∷◌, ◌++◌, get_or, map, take, drop, length, append_assoc, refl, sym, ap, arith, inl, inr}
+use Rattle.std.specs.Prelude.{◌&&◌, nat_le}
 use Rattle.std.specs.Str.{IsAscii}
 use Rattle.std.proofs.lemmas.List.{length-map, take_all}
 use Rattle.std.proofs.lemmas.Bool.Decides.{nat_tests}
-use Rattle.os8_dir.specs.Names.{after_dot, before_dot}
 use Rattle.name_spelling.specs.Laws.{TypedAreShort, are_safe, is_safe}
 use Rattle.name_spelling.specs.Reading.{typed_name}
 use Rattle.archive_many.specs.HostNames.{IsFolder, IsLastPart, NamesVolume, capital_of, has_no_slash, is_slash}
@@ -50,24 +49,9 @@ at-other path part (c ∷ rest) some is so =
     rw (tail-is c rest)
     (so.0, so.1 ++ c ∷ [], so.2, so.3, so.4 ∙ sym (append_assoc so.1 (c ∷ []) rest), no-slash-more so.1 c (no-slash-here c is) so.5)
 
--- ## A text and its parts
-
-abbrev pub following-dot : Option (List ℕ) → ℕ
-following-dot None = 0
-following-dot (Some text) = suc (length text)
-
-dot-length : (dot : Bool) (c : ℕ) (cs : List ℕ) → length cs ≡ length (before_dot cs) + following-dot (after_dot cs)
-    → length (c ∷ cs) ≡ length (cond dot [] (c ∷ before_dot cs)) + following-dot (cond dot (Some cs) (after_dot cs))
-dot-length true c cs is = omega arith
-dot-length false c cs is = omega (arith, is)
-
-pub length-parts : (text : List ℕ) → length text ≡ length (before_dot text) + following-dot (after_dot text)
-length-parts [] = omega arith
-length-parts (c ∷ cs) = dot-length (c == 0o56) c cs (length-parts cs)
-
 -- ## Typed names are short
 
-pub none-if : TypedAreShort → (text : List ℕ) (o : Option ℕ) → typed_name text ≡ o → 25 < length text → None ≡ typed_name text
+none-if : TypedAreShort → (text : List ℕ) (o : Option ℕ) → typed_name text ≡ o → 25 < length text → None ≡ typed_name text
 none-if law text None is long = sym is
 none-if law text (Some name) is long = absurd (omega (arith, long, law text name is))
 

@@ -1,11 +1,8 @@
 pub mod FileLemmas
-pub mod PatternLemmas
 pub mod ExtensionLemmas
 pub mod PutLemmas
 pub mod HostLemmas
-pub mod ChoiceLemmas
 pub mod LawLemmas
-pub mod SpelledLemmas
 pub mod VolumeLemmas
 pub mod WishLemmas
 pub mod GoneLemmas

@@ -1,5 +1,5 @@
--- What holds of files that were put into an image at once, of words that choose files, and of the files of a volume.
-use Rattle.std.specs.Prelude.{◌≡◌, ◌≢◌, ℕ, ◌<◌, true, false, if◌then◌else◌, codes, Option, Some, None, Ok, List, [], ◌∷◌, ◌++◌, All, map}
+-- What holds of files that were put into an image at once, of those that words choose, and of the files of a volume.
+use Rattle.std.specs.Prelude.{◌≡◌, ◌≢◌, ℕ, ◌<◌, false, if◌then◌else◌, Option, Some, None, Ok, List, [], ◌∷◌, ◌++◌, All, map}
 use Rattle.std.specs.Global.{Vec}
 use Rattle.std.specs.FinMap.{get}
 use Rattle.volume_image.specs.Image.{IsImageOf}
@@ -7,8 +7,8 @@ use Rattle.char_pack.specs.declared.forms.GetForm.{GetForm}
 use Rattle.char_pack.specs.declared.forms.GetForm.TheVariants as get_as
 use Rattle.char_pack.specs.declared.forms.PutForm.TheVariants as put_as
 use Rattle.os8_dir.specs.Names.{with_end_zeros}
-use Rattle.name_spelling.specs.Reading.{typed_name}
 use Rattle.os8_dir.specs.Files.{FileData, files_of}
+use Rattle.name_patterns.specs.Patterns.{is_like_one}
 use Rattle.os8_files.specs.Calls.{info_of}
 use Rattle.archive_files.specs.Opening.{IsOpened}
 use Rattle.archive_files.specs.Deleting.{DeletesFiles}
@@ -18,7 +18,6 @@ use Rattle.archive_files.specs.Laws.{whole_blocks}
 use Rattle.archive_many.specs.Copying.{AreCopied}
 use Rattle.archive_many.specs.Opened.{GetsFile, LiesOn, OpensVolume, files_on}
 use Rattle.archive_many.specs.Putting.{PutsAll, words_in}
-use Rattle.archive_many.specs.Patterns.{has_sign, is_choice, is_like_one, matches}
 use Rattle.archive_many.specs.Wishing.{by_place, first_unfound, found_files, wishes_of}
 use Rattle.archive_many.specs.HostNames.{NamesHost, NamesVolume}
 use Rattle.archive_many.specs.declared.opened.VolumeFile.{VolumeFile}
@@ -64,17 +63,6 @@ OthersStay = (image : List ℕ) (files : List NewFile) (info : Option (List ℕ)
 abbrev pub OthersLie : Type 0
 OthersLie = (image : List ℕ) (files : List NewFile) (info : Option (List ℕ)) (new : ManyImage) (old blocks : List (List ℕ)) (file : VolumeFile) (held : FileData) → PutsAll image files info (Ok new)
     → IsNoneOf file.name files → OpensVolume image (Ok old) → OpensVolume new.bytes.items (Ok blocks) → LiesOn old file held → LiesOn blocks file held
-
--- ## Words that choose
-
--- `*.*` is a pattern, which each name is like
-pub record AllAreLike : Type 0 where
-  pub choice : is_choice (codes "*.*") ≡ true
-  pub like : (name : ℕ) → matches (codes "*.*") name ≡ true
-
--- only the name that a word with no sign spells is like that word
-abbrev pub SpelledAlone : Type 0
-SpelledAlone = (word : List ℕ) (spelled name : ℕ) → has_sign word ≡ false → typed_name word ≡ Some spelled → matches word name ≡ true → name ≡ spelled
 
 -- ## Files that are taken out
 

@@ -1,13 +1,12 @@
 pub mod Opened
 pub mod Raw
 pub mod Putting
-pub mod Patterns
+pub mod Choosing
 pub mod Emptying
 pub mod Extensions
 pub mod HostNames
 pub mod Steps
 pub mod PutSteps
-pub mod PatternSteps
 pub mod ExtensionSteps
 pub mod Laws
 pub mod Wishing

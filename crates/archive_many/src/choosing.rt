@@ -1,8 +1,8 @@
 ghost use Rattle.std.specs.Prelude.{◌≡◌, ◌<◌, length, MatchResult};
-ghost use Rattle.archive_many.specs.Patterns.{Chooses, beginning_at, files_like};
+ghost use Rattle.archive_many.specs.Choosing.{Chooses, beginning_at, files_like};
 
-use crate::patterns::{is_choice, matches};
 use crate::{ChoiceFault, VolumeFile};
+use name_patterns::{is_choice, matches};
 use std::alloc::{AllocError, Global};
 
 /// The files that a word chooses, in their order: that of a typed name, or all that are like a pattern. A pattern is 1 to 12 capital

@@ -1,8 +1,8 @@
 ghost use Rattle.std.specs.Prelude.{◌≡◌, ◌<◌, ◌≤◌, length, map, IfSome, MatchOption};
+ghost use Rattle.name_patterns.specs.Patterns.{is_code};
 ghost use Rattle.archive_many.specs.Extensions as spec;
 ghost use Rattle.archive_many.specs.Extensions.{AreLists, IsFirstBad};
 ghost use Rattle.archive_many.specs.ExtensionSteps.{before_comma, items_after};
-ghost use Rattle.archive_many.specs.Patterns.{is_code};
 
 use os8_dir::Name;
 use word12::{Word, sixbit};

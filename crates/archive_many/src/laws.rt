@@ -1,5 +1,5 @@
 //! What holds of many files that are got and put. Each function does nothing: its contract is the law.
-ghost use Rattle.archive_many.specs.Laws.{AllAreLike, EachLies, HostNamesComeBack, LikeAreCopied, LikeAreGone, NamesDiffer, OthersLie, OthersStay, PutAreGot, PutAreThere, PutFramesAreGot, SpelledAlone};
+ghost use Rattle.archive_many.specs.Laws.{EachLies, HostNamesComeBack, LikeAreCopied, LikeAreGone, NamesDiffer, OthersLie, OthersStay, PutAreGot, PutAreThere, PutFramesAreGot};
 
 use char_pack::laws::packed_bytes;
 use name_spelling::laws::{safe_names, shown_names, typed_names};
@@ -20,12 +20,6 @@ pub fn put_many_is_got()
     files_found();
     packed_bytes();
 }
-
-/// A law: `*.*` chooses all files, and a word that spells a name, with no sign in it, no file of another name.
-pub fn words_choose()
-    ensures all { AllAreLike }
-    ensures one { SpelledAlone }
-{}
 
 /// A law: after the files that words choose are taken out, the volume has just those whose names are like no word, each as it was.
 pub fn chosen_are_gone()

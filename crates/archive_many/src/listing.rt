@@ -3,9 +3,9 @@ ghost use Rattle.std.specs.Prelude.{◌≡◌, ◌++◌, [], if◌then◌else◌
 ghost use Rattle.archive_files.specs.Listing.{listed_line};
 ghost use Rattle.archive_many.specs.Listing.{ListsLike, like_lines};
 
-use crate::patterns::is_chosen_by;
 use archive_files::ArchiveFault;
 use archive_files::parts::{open_image, put_file, put_free};
+use name_patterns::is_chosen_by;
 use os8_dir::Name;
 use os8_files::FileFault;
 use script8::SessionFault;

@@ -35,8 +35,9 @@ pub struct ManyImage {
 }
 
 /// The image with some files, put one after the other as `archive_files::put` does it, all or none. Each is in place of an older file of
-/// its name, whose information words it keeps where none are given. A file with a date of its own has that as its information words. The image that is handed in stays as it is (OS/8 Software
-/// Support Manual; the faults and their order are this project's profile). The place of the first file that is refused is given.
+/// its name, whose information words it keeps where none are given. A file with a date of its own has that as its information words. The
+/// image that is handed in stays as it is (OS/8 Software Support Manual; the faults and their order are this project's profile). The place
+/// of the first file that is refused is given.
 pub fn put_all(
     alloc: Global,
     image: &[u8],

@@ -1,8 +1,6 @@
 //! The command that copies those files of the volume in an image file that words choose to the volume in another, all or none.
 ghost use Rattle.std.specs.Prelude.{◌≡◌, ◌++◌, false, IfOk, OnOk, map};
 ghost use Rattle.archive_many.specs.Wishing.{file_of, found_files};
-ghost use Rattle.program_reports.specs.Program.{program_line};
-ghost use Rattle.program_reports.specs.declared.programs.ProgramLine.TheVariants.{Stored};
 ghost use Rattle.outcome.specs.declared.endings.Ending.TheVariants.{Fault};
 ghost use Rattle.image_files.specs.Answers.{AreLines};
 ghost use Rattle.image_files.specs.Pairs as one;
@@ -13,10 +11,8 @@ use crate::refusing::{refuse_copies, refuse_wish};
 use crate::wishing::wishes_on;
 use archive_many::{OpenVolume, VolumeFile, Wish, copy_all, first_unfound, open};
 use hosts::Host;
-use image_files::{Image, is_one_image, look_at, refuse_one, store};
-use os8_dir::Name;
+use image_files::{Image, is_one_image, look_at, put_stored, refuse_one, store};
 use outcome::Ending;
-use program_reports::{ProgramLine, put_program};
 use program_tasks::CopyManyForm;
 use std::alloc::{AllocError, Global};
 
@@ -195,14 +191,4 @@ fn put_lines(files: &[VolumeFile], lines: &mut Vec<u8>) -> Result<(), AllocError
         rest = others;
     }
     Ok(())
-}
-
-/// Appends the line of a file of so many blocks that was put.
-fn put_stored(name: Name, blocks: usize, lines: &mut Vec<u8>) -> Result<(), AllocError>
-    ensures { OnOk result (lines.new.items ≡ lines.old.items ++ program_line (Stored name blocks)) }
-{
-    match put_program(&ProgramLine::Stored(name, blocks), lines) {
-        Ok(()) => Ok(()),
-        Err(_) => Err(AllocError),
-    }
 }

@@ -7,7 +7,7 @@ use Rattle.char_pack.specs.declared.forms.GetForm.{GetForm}
 use Rattle.char_pack.specs.declared.forms.GetForm.TheVariants as get_as
 use Rattle.char_pack.specs.declared.forms.PutForm.{PutForm}
 use Rattle.char_pack.specs.declared.forms.PutForm.TheVariants as put_as
-use Rattle.word12.specs.declared.sizes.TheConstants.{MOST_BLOCKS}
+use Rattle.word12.specs.declared.sizes.TheConstants.{MOST_BLOCKS, MOST_SOURCES}
 use Rattle.disk_layouts.specs.declared.layouts.Layout.{Layout}
 use Rattle.program_tasks.specs.Names.{volume_named}
 use Rattle.program_tasks.specs.declared.archives.LineForm.{LineForm}
@@ -281,7 +281,7 @@ HasFitBlocks (Delete form) = 1 ≤ length form.names.items + length form.places.
 HasFitBlocks (Patch form) = form.number < 0o400
 HasFitBlocks (Check form) = (1 ≤ length form.images.items) × (length form.images.items ≤ MOST_IMAGES)
 HasFitBlocks (Index form) = (1 ≤ length form.images.items) × (length form.images.items ≤ MOST_IMAGES)
-HasFitBlocks (Assemble form) = (1 ≤ length form.sources.items) × (length form.sources.items ≤ 8)
+HasFitBlocks (Assemble form) = (1 ≤ length form.sources.items) × (length form.sources.items ≤ MOST_SOURCES)
     × (form.from ≡ None → input_count (map (λ file. file.bytes.items) form.sources.items) ≤ 1)
     × (form.is_cross ≡ true → is_some form.list ≡ true) × (is_some form.onto ≡ true → is_some form.from ≡ true)
 HasFitBlocks (Teletype form) = IfSome form.steps (λ steps. 1 ≤ steps)

@@ -4,7 +4,7 @@ ghost use Rattle.std.specs.Prelude.{◌≡◌, map};
 ghost use Rattle.command_table.specs.Tables.{rows_for, entry_of, pair_of, row_of};
 ghost use Rattle.command_table.specs.Tables as spec;
 
-use word12::MOST_BLOCKS;
+use word12::{MOST_BLOCKS, MOST_SOURCES};
 
 /// What a value is.
 #[derive(Clone, Copy)]
@@ -253,7 +253,7 @@ pub const SOURCE: &[Argument] = rows! {
 };
 
 pub const ASSEMBLE: &[Argument] = rows! {
-    "FILE" must Kind::Words(8), "", "The 1 to 8 sources, which stand together; - is standard input, once at most; with --from names of files on the volume";
+    "FILE" must Kind::Words(MOST_SOURCES), "", "The 1 to 8 sources, which stand together; - is standard input, once at most; with --from names of files on the volume";
     "output" 'o' option Kind::One(Form::Text), "TAPE", "The file that gets the tape, in place of standard output";
     "list" 'l' option Kind::One(Form::Text), "LISTING", "Write a listing to the file LISTING too";
     "cross" flag Kind::Flag, "", "Put a table of cross references after the listing; it needs --list";

@@ -15,4 +15,4 @@ mod sizes;
 pub use faults::DiskFault;
 pub use files::{DiskFile, blank_tape};
 pub use layouts::Layout;
-pub use sizes::{guess, image_size};
+pub use sizes::{DISK, DISK_VOLUME, TAPE, guess, image_size};

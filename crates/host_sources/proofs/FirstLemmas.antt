@@ -12,6 +12,7 @@ use Rattle.pal_asm.specs.Expressions.{Meanings}
 use Rattle.pal_asm.specs.Places.{Source, place_at, values}
 use Rattle.pal_asm.specs.Words.{word_values}
 use Rattle.pal_asm.specs.Faults.{first_of, at_line, word_fault, words_fault, no_end, no_word}
+use Rattle.source_places.specs.declared.places.Place.{Place}
 use Rattle.host_sources.specs.Sources.{newest_first}
 use Rattle.host_sources.specs.Places.{shortest, is_settled, place_at_byte}
 use Rattle.host_sources.specs.Marks.{at_mark, mark_of, ended_mark}
@@ -19,7 +20,6 @@ use Rattle.host_sources.specs.Answers.{mark_in}
 use Rattle.host_sources.specs.Unknowns.{unknown_in, newest_unknown, unknown_ended, unknown_name, about}
 use Rattle.host_sources.specs.Further.{with_line, newest_fault, byte_fault, with_place, word_faults}
 use Rattle.host_sources.specs.Laws.{FirstIsTold}
-use Rattle.host_sources.specs.declared.faults.Place.{Place}
 use Rattle.host_sources.specs.declared.faults.Fault.{Fault}
 use Rattle.host_sources.proofs.PauseLemmas.{ends_parts}
 use Rattle.host_sources.proofs.LocateLemmas.{newest, one_more, nothing_read, words_stay}

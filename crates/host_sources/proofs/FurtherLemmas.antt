@@ -15,15 +15,16 @@ use Rattle.pal_asm.specs.Expressions.{Meanings}
 use Rattle.pal_asm.specs.Places.{Source, with_tags as tag_values, values, place_at}
 use Rattle.pal_asm.specs.Words.{word_values}
 use Rattle.pal_asm.specs.Faults.{word_fault}
+use Rattle.source_places.specs.Places.{place_in, place_by}
+use Rattle.source_places.specs.declared.places.Place.{Place}
 use Rattle.host_sources.specs.Sources.{texts_of, newest_first, counts_of}
-use Rattle.host_sources.specs.Places.{is_refused, place_in, place_by, place_at_byte}
+use Rattle.host_sources.specs.Places.{is_refused, place_at_byte}
 use Rattle.host_sources.specs.Marks.{at_mark, mark_of}
 use Rattle.host_sources.specs.Unknowns.{unknown_in}
 use Rattle.host_sources.specs.Symbols.{meaning_in, Follows}
 use Rattle.host_sources.specs.JudgeSteps.{known_last, faults_of_words}
 use Rattle.host_sources.specs.Further.{with_line, newest_fault, byte_fault, with_place, word_faults, further_faults}
 use Rattle.host_sources.specs.Lexical.{lexical_further}
-use Rattle.host_sources.specs.declared.faults.Place.{Place}
 use Rattle.host_sources.specs.declared.further.Found.{Found}
 use Rattle.host_sources.proofs.PauseLemmas.{next_byte}
 use Rattle.host_sources.proofs.NameLemmas.{tagged_names}

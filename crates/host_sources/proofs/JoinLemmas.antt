@@ -9,7 +9,7 @@ use Rattle.host_sources.specs.Sources.{texts_of, newest_first, counts_by, counts
 use Rattle.host_sources.specs.Steps.{Puts}
 use Rattle.host_sources.proofs.NameLemmas.{following_one, first_of_rest}
 use Rattle.host_sources.proofs.PauseLemmas.{text_joined, true_false}
-use Rattle.host_sources.proofs.StartLemmas.{length_taken}
+use Rattle.host_sources.proofs.TextLemmas.{length_taken}
 
 -- What stands in the join of sources and of those before them, and how many bytes of each, when one more was put there.
 pub record HasPut (source : Bor (List ℕ)) (others : List (Bor (List ℕ))) (old new counts counts_then : List ℕ) : Type 0 where

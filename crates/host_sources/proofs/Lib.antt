@@ -2,11 +2,10 @@ pub mod ShapeLemmas
 pub mod PauseLemmas
 pub mod LocateLemmas
 pub mod ReadingLemmas
-pub mod StartLemmas
-pub mod RunLemmas
+pub mod TextLemmas
+pub mod RadixLemmas
 pub mod MarkLemmas
 pub mod MendLemmas
-pub mod PlaceLemmas
 pub mod JoinLemmas
 pub mod NameLemmas
 pub mod FurtherLemmas

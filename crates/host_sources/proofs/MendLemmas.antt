@@ -3,6 +3,7 @@ use Rattle.std.proofs.Common.{◌≡◌, ℕ, ◌+◌, ◌-◌, ◌<◌, nat_eq,
 use Rattle.std.specs.Option.{option_or}
 use Rattle.pal_asm.specs.Faults.{fault_of}
 use Rattle.pal_lex.specs.Text.{is_ignored, in_comment, is_dead, is_end, text_from, text_of}
+use Rattle.source_places.specs.declared.places.Place.{Place}
 use Rattle.host_sources.specs.Places.{shortest, is_refused}
 use Rattle.host_sources.specs.Mending.{up_to_comma, body_place, end_place, with_erasure, turns, harmless}
 use Rattle.host_sources.specs.MendSteps.{comma_by, erased_byte, Mends, GoesOn, Advances}
@@ -12,10 +13,9 @@ use Rattle.std.specs.Global.{Vec}
 use Rattle.host_sources.specs.Lexical.{lexical_code, lexical_by, lexical_fault, lexical_further, lexical_with}
 use Rattle.host_sources.specs.Steps.{IsMetAt}
 use Rattle.host_sources.specs.declared.faults.Fault.{Fault}
-use Rattle.host_sources.specs.declared.faults.Place.{Place}
 use Rattle.host_sources.specs.declared.locating.Passed.TheVariants as passed
 use Rattle.host_sources.proofs.PauseLemmas.{next_byte}
-use Rattle.host_sources.proofs.StartLemmas.{length_taken}
+use Rattle.host_sources.proofs.TextLemmas.{length_taken}
 use Rattle.host_sources.proofs.LocateLemmas.{shortest_is, refused_stays}
 
 -- the text up to the byte that ends the statement with the fault

@@ -8,12 +8,12 @@ use Rattle.pal_asm.specs.Expressions.{Meanings}
 use Rattle.pal_asm.specs.Places.{Source, place_at, values}
 use Rattle.pal_asm.specs.Words.{word_values}
 use Rattle.pal_asm.specs.Faults.{word_fault}
+use Rattle.source_places.specs.declared.places.Place.{Place}
 use Rattle.host_sources.specs.Sources.{newest_first}
 use Rattle.host_sources.specs.Places.{is_refused, place_at_byte}
 use Rattle.host_sources.specs.Marks.{at_mark, mark_of}
 use Rattle.host_sources.specs.Lexical.{lexical_further}
 use Rattle.host_sources.specs.Unknowns.{unknown_in, about}
-use Rattle.host_sources.specs.declared.faults.Place.{Place}
 use Rattle.host_sources.specs.declared.faults.Fault.{Fault}
 
 -- a fault with its line and the name that it is about

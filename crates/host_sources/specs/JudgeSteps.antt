@@ -9,11 +9,11 @@ use Rattle.pal_lex.specs.Text.{text_of}
 use Rattle.pal_lex.specs.Statements.{statements}
 use Rattle.pal_lex.specs.Reading.{HasRead}
 use Rattle.pal_lex.specs.Progress.{Progress}
+use Rattle.source_places.specs.declared.places.Place.{Place}
 use Rattle.host_sources.specs.Symbols.{meaning_in, Follows}
 use Rattle.host_sources.specs.Unknowns.{Standing}
 use Rattle.host_sources.specs.Further.{byte_fault}
 use Rattle.host_sources.specs.Marks.{at_mark, mark_of}
-use Rattle.host_sources.specs.declared.faults.Place.{Place}
 use Rattle.host_sources.specs.declared.faults.Fault.{Fault}
 use Rattle.host_sources.specs.declared.further.Found.{Found}
 

@@ -5,10 +5,10 @@ use Rattle.pal_asm.specs.declared.faults.AsmFault.TheVariants.{At, Memory}
 use Rattle.pal_asm.specs.declared.faults.Code.{Code}
 use Rattle.pal_asm.specs.declared.faults.Code.TheVariants.{IC, SY, NU, UA, DT, RD, IR, FD, PF, NE, NW}
 use Rattle.pal_asm.specs.Faults.{fault_of}
+use Rattle.source_places.specs.declared.places.Place.{Place}
 use Rattle.host_sources.specs.Places.{shortest, is_refused}
 use Rattle.host_sources.specs.Marks.{fault_mark, at_mark}
 use Rattle.host_sources.specs.Mending.{turns, harmless}
-use Rattle.host_sources.specs.declared.faults.Place.{Place}
 use Rattle.host_sources.specs.declared.faults.Fault.{Fault}
 
 -- those of a statement that is read alone

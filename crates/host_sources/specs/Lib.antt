@@ -4,7 +4,6 @@ pub mod Marks
 pub mod Unknowns
 pub mod Answers
 pub mod Reading
-pub mod Spelling
 pub mod FaultLines
 pub mod Symbols
 pub mod Mending
@@ -13,6 +12,6 @@ pub mod Further
 pub mod NameSteps
 pub mod JudgeSteps
 pub mod Laws
-pub mod RunSteps
+pub mod RadixSteps
 pub mod MendSteps
 pub mod Steps

@@ -1,43 +1,20 @@
 -- Where in its statement a fault is: at a character, at a name or at a number (this project's profile of PAL III).
-use Rattle.std.specs.Prelude.{ℕ, Bool, false, ◌&&◌, not, nat_lt, if◌then◌else◌, Option, Some, None, unwrap_or, length, List, [], ◌∷◌}
-use Rattle.std.specs.Option.{option_or}
-use Rattle.word12.specs.Sixbit.{is_letter}
-use Rattle.pal_sym.specs.Names.{name_of}
+use Rattle.std.specs.Prelude.{ℕ, Bool, if◌then◌else◌, Option, Some, None, unwrap_or, length, List, [], ◌∷◌}
 use Rattle.pal_lex.specs.Text.{stretch, is_over}
-use Rattle.pal_lex.specs.Cutting.{Piece, Run, Mark as Sign, pieces, is_legal}
-use Rattle.pal_lex.specs.Runs.{base, are_digits, number}
-use Rattle.pal_lex.specs.Language.{is_this}
+use Rattle.pal_lex.specs.Cutting.{pieces}
+use Rattle.pal_lex.specs.Runs.{base}
 use Rattle.pal_lex.specs.Statements.{statements, radix_after}
 use Rattle.pal_asm.specs.declared.faults.Code.{Code}
 use Rattle.pal_asm.specs.declared.faults.Code.TheVariants.{IC, SY, NU, UA, DT, RD, IR, FD, PF, NE, NW}
 use Rattle.pal_asm.specs.Places.{values}
-use Rattle.host_sources.specs.Places.{shortest, is_refused, is_settled, start_of}
-use Rattle.host_sources.specs.declared.faults.About.{About}
-use Rattle.host_sources.specs.declared.faults.About.TheVariants.{Nothing, Name, Character}
+use Rattle.source_places.specs.declared.places.Place.{Place}
+use Rattle.source_places.specs.declared.subjects.About.{About}
+use Rattle.source_places.specs.declared.subjects.About.TheVariants.{Nothing, Name, Character}
+use Rattle.statement_runs.specs.Starts.{start_of}
+use Rattle.statement_runs.specs.Runs.{first_illegal, first_run, is_name, is_bad_number}
+use Rattle.host_sources.specs.Places.{shortest, is_refused, is_settled}
 use Rattle.host_sources.specs.declared.faults.Fault.{Fault}
-use Rattle.host_sources.specs.declared.faults.Place.{Place}
 use Rattle.host_sources.specs.declared.marks.Mark.{Mark}
-
--- the oldest of live bytes that is no character of PAL III, with its place
-abbrev pub first_illegal : List (ℕ × ℕ) → Option (ℕ × ℕ)
-first_illegal [] = None
-first_illegal (live ∷ older) = option_or (first_illegal older) (if is_legal live.0 then None else Some live)
-
--- where the oldest run of letters and digits begins of which this holds
-abbrev pub first_run : (List ℕ → Bool) → List Piece → Option ℕ
-first_run holds [] = None
-first_run holds (Run first others start end ∷ before) = option_or (first_run holds before) (if holds (first ∷ others) then Some start else None)
-first_run holds (Sign kind place ∷ before) = first_run holds before
-
--- a run spells this name
-abbrev pub is_name : ℕ → List ℕ → Bool
-is_name name run = is_this name (name_of run)
-
--- a run begins with a digit, and is no number of twelve bits by this base
-abbrev pub is_bad_number : ℕ → List ℕ → Bool
-is_bad_number base [] = false
-is_bad_number base (first ∷ others) =
-    not (is_letter first) && not (are_digits base (first ∷ others) && nat_lt (number base (first ∷ others)) 0o10000)
 
 -- a fault of the statement that begins there
 abbrev pub at_start : List ℕ → Mark

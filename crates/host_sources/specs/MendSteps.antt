@@ -3,11 +3,11 @@ use Rattle.std.specs.Prelude.{◌≡◌, ℕ, nat_eq, nat_lt, nat_le, Bool, true
 use Rattle.std.specs.Option.{option_or}
 use Rattle.std.specs.Global.{Vec}
 use Rattle.pal_lex.specs.Text.{text_of}
+use Rattle.source_places.specs.declared.places.Place.{Place}
 use Rattle.host_sources.specs.Places.{shortest, is_refused}
 use Rattle.host_sources.specs.Mending.{turns, harmless}
 use Rattle.host_sources.specs.Lexical.{goes_on, lexical_further}
 use Rattle.host_sources.specs.declared.faults.Fault.{Fault}
-use Rattle.host_sources.specs.declared.faults.Place.{Place}
 
 abbrev pub comma_by : Option ℕ → Bool → Bool → Bool → ℕ → Option ℕ
 comma_by comma dead end is_comma place = if dead then comma else (if end then None else option_or comma (if is_comma then Some place else None))

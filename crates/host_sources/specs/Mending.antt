@@ -1,17 +1,13 @@
 -- The text whose statement with the fault is made harmless (this project's profile of PAL III).
-use Rattle.std.specs.Prelude.{ℕ, nat_eq, nat_lt, nat_le, Bool, false, ◌||◌, if◌then◌else◌, Option, Some, None, is_some, length, List, [], ◌∷◌, codes}
+use Rattle.std.specs.Prelude.{ℕ, nat_eq, nat_lt, nat_le, Bool, false, ◌||◌, if◌then◌else◌, Option, Some, None, is_some, length, List, [], ◌∷◌}
 use Rattle.std.specs.Option.{option_or}
-use Rattle.word12.specs.Sixbit.{name_number}
 use Rattle.pal_lex.specs.Text.{is_dead, is_end, stretch}
 use Rattle.pal_lex.specs.Cutting.{pieces}
-use Rattle.host_sources.specs.Places.{shortest, is_refused, start_of}
-use Rattle.host_sources.specs.Marks.{first_run, is_name}
+use Rattle.statement_runs.specs.Starts.{start_of}
+use Rattle.statement_runs.specs.Runs.{first_run, sets_reading}
+use Rattle.host_sources.specs.Places.{shortest, is_refused}
 
--- a run is a word that says how what follows is read
-abbrev pub sets_reading : List ℕ → Bool
-sets_reading run = is_name (name_number (codes "DECIMA")) run || is_name (name_number (codes "OCTAL")) run || is_name (name_number (codes "PAUSE")) run
-
--- the statement that the newest byte of a text ends has such a word
+-- the statement that the newest byte of a text ends has a word that says how what follows is read
 abbrev pub turns : List ℕ → Bool
 turns [] = false
 turns (b ∷ older) = is_some (first_run sets_reading (pieces (stretch older)))

@@ -1,8 +1,6 @@
 -- What the small steps do, for private clauses.
 use Rattle.std.specs.Prelude.{◌≡◌, ◌⊎◌, ℕ, ◌+◌, ◌≤◌, ◌<◌, nat_eq, Bool, true, false, if◌then◌else◌, Option, Some, None, is_some, Ok, take, length, List, [], ◌∷◌, ◌++◌}
-use Rattle.std.specs.Option.{option_or}
-use Rattle.pal_lex.specs.Text.{text_of, is_end, is_over, ends_statement}
-use Rattle.pal_lex.specs.Cutting.{is_space}
+use Rattle.pal_lex.specs.Text.{text_of, is_over, ends_statement}
 use Rattle.pal_lex.specs.Statements.{statements, first_fault}
 use Rattle.pal_lex.specs.Joins.{pauses, before_pause}
 use Rattle.pal_lex.specs.Reading.{HasRead, is_pause_body, with_tokens}
@@ -118,12 +116,3 @@ IsMetAt bytes (passed.Refused end) =
     (end < length bytes) × (is_refused (text_of (take (end + 1) bytes)) ≡ true) × (is_refused (text_of (take end bytes)) ≡ false)
 IsMetAt bytes (passed.Over end) = IsSettledAt bytes end × (is_refused (text_of bytes) ≡ false) × (is_over (text_of bytes) ≡ true)
 IsMetAt bytes passed.Open = (is_refused (text_of bytes) ≡ false) × (is_over (text_of bytes) ≡ false)
-
--- ## Where a statement begins
-
-abbrev pub comment_by : ℕ → Bool → Bool
-comment_by b comment = if nat_eq b 0o15 then false else (if nat_eq b 0o57 then true else comment)
-
--- the first byte of a statement that is no blank, with one byte more, which is dead or not
-abbrev pub start_by : Option ℕ → Bool → ℕ → ℕ → Option ℕ
-start_by start dead b place = if dead then start else (if is_end b then None else option_or start (if is_space b then None else Some place))

@@ -9,12 +9,12 @@ ghost use Rattle.host_sources.specs.declared.faults.SourceFault.TheVariants.{Mem
 use crate::joins::{Join, join_all};
 use crate::locating::fault_end;
 use crate::marks::fault_mark;
-use crate::places::place_of;
 use crate::unknowns::name_of_fault;
-use crate::{About, Fault, Place, SourceFault};
+use crate::{Fault, SourceFault};
 use bin_tape::tape_of;
 use pal_asm::laws::has_words;
 use pal_asm::{AsmFault, Code, assemble};
+use source_places::{About, Place, place_of};
 use std::alloc::Global;
 use word12::{Cell, Word};
 

@@ -4,29 +4,9 @@ ghost use Rattle.host_sources.specs.declared.faults.SourceFault.TheVariants.{Mem
 
 use pal_asm::Code;
 use pal_lex::LexFault;
+use source_places::{About, Place};
 use std::alloc::AllocError;
 use thiserror::Error;
-
-/// A place in one of several sources.
-#[derive(Clone, Copy, PartialEq, Eq, Debug)]
-pub struct Place {
-    /// The source, from 0.
-    pub source: usize,
-    /// Its line, from 1. LF ends a line, with a CR before it or not.
-    pub line: usize,
-    /// The byte of the line, from 1. A CR counts for nothing.
-    pub column: usize,
-}
-
-/// What a fault is about.
-#[derive(Clone, Copy, PartialEq, Eq, Debug)]
-pub enum About {
-    Nothing,
-    /// A name, as the number that the sixbit codes of its six characters make.
-    Name(u64),
-    /// A byte.
-    Character(u8),
-}
 
 /// A fault of sources.
 #[derive(Clone, Copy, PartialEq, Eq, Debug)]

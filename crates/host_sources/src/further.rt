@@ -4,12 +4,12 @@ ghost use Rattle.pal_lex.specs.Text.{text_of};
 ghost use Rattle.pal_lex.specs.Statements.{statements};
 ghost use Rattle.pal_lex.specs.Reading.{HasRead};
 ghost use Rattle.pal_asm.specs.Faults.{first_order};
-ghost use Rattle.host_sources.specs.Places.{place_in, place_by};
+ghost use Rattle.source_places.specs.Places.{place_in, place_by};
+ghost use Rattle.source_places.specs.declared.places.Place.{Place};
 ghost use Rattle.host_sources.specs.Symbols.{meaning_in, Follows};
 ghost use Rattle.host_sources.specs.JudgeSteps.{faults_of_words, IsJudged};
 ghost use Rattle.host_sources.specs.Further.{with_place, word_faults, further_faults};
 ghost use Rattle.host_sources.specs.Marks.{at_mark, mark_of};
-ghost use Rattle.host_sources.specs.declared.faults.Place.{Place};
 ghost use Rattle.host_sources.specs.declared.faults.SourceFault.TheVariants.{Memory};
 
 use crate::joins::{Join, join_all};
@@ -18,12 +18,12 @@ use crate::lexical::{lexical_further, put};
 use crate::locating::is_passed;
 use crate::marks::mark_of;
 use crate::names::{Definitions, names_of, no_names};
-use crate::places::{first_bytes, place_of};
 use crate::reading::statement_ended;
 use crate::{Fault, SourceFault};
 use pal_asm::Code;
 use pal_asm::laws::{no_fault_before, statements_stay};
 use pal_lex::Lexer;
+use source_places::{first_bytes, place_of};
 use std::alloc::{AllocError, Global};
 use std::collections::BTreeMap;
 

@@ -7,7 +7,7 @@ ghost use Rattle.host_sources.specs.declared.faults.SourceFault.TheVariants.{Mem
 
 use crate::SourceFault;
 use crate::pauses::prefix_of;
-use crate::texts::host_text;
+use source_places::host_text;
 use std::alloc::{AllocError, Global};
 
 /// Sources that are one.

@@ -2,7 +2,7 @@
 ghost use Rattle.std.specs.Prelude.{◌≡◌, ◌++◌, ◌∷◌, [], ℕ, None, IfOk, IfErr, OnOk};
 ghost use Rattle.pal_lex.specs.Text.{text_of};
 ghost use Rattle.pal_asm.specs.Faults.{fault_of};
-ghost use Rattle.host_sources.specs.Places.{place_in, place_by};
+ghost use Rattle.source_places.specs.Places.{place_in, place_by};
 ghost use Rattle.host_sources.specs.Lexical as spec;
 ghost use Rattle.host_sources.specs.MendSteps.{Advances, GoesOn, PutsFault};
 ghost use Rattle.host_sources.specs.Marks.{at_mark};
@@ -15,9 +15,9 @@ use crate::joins::Join;
 use crate::locating::{Passed, fault_end};
 use crate::marks::fault_mark;
 use crate::mending::mend_text;
-use crate::places::place_of;
 use crate::{Fault, SourceFault};
 use pal_asm::{AsmFault, Code, assemble};
+use source_places::place_of;
 use std::alloc::{AllocError, Global};
 
 /// So many faults of a join of sources after the first, if this is IC, SY or NU. Each is the first of the text in which the statements of

@@ -5,8 +5,8 @@
 //! of a volume (PAL III Symbolic Assembler manual, and this project's profile of it). In each contract a text has its newest byte
 //! first.
 //!
-//! A crate that stands on it reads an [`Assembly`]: the text that sources join to, its words, its statements and its names. It writes
-//! numbers as faults have them.
+//! A crate that stands on it reads an [`Assembly`]: the text that sources join to, its words, its statements and its names. What shows a
+//! place of a source stands below it, in `source_places`.
 #![tactic(auto)]
 
 mod assembling;
@@ -22,23 +22,14 @@ mod marks;
 mod mending;
 mod names;
 mod pauses;
-mod places;
 mod radixes;
 mod reading;
-mod runs;
-mod showing;
-mod spelling;
-mod starts;
-mod texts;
 mod unknowns;
 
 pub use assembling::{Assembly, assemble_sources, assembly_of};
-pub use fault_lines::{fault_text, put_character, put_marked_line, put_number, put_place};
-pub use faults::{About, Fault, Place, SourceFault};
+pub use fault_lines::fault_text;
+pub use faults::{Fault, SourceFault};
 pub use further::further_faults;
 pub use joins::Join;
 pub use names::{Definitions, names_of, value_by_number};
-pub use places::{first_bytes, next_line};
 pub use reading::statement_ended;
-pub use showing::shown_line;
-pub use spelling::{name_text, put_spelling};

@@ -9,14 +9,13 @@ ghost use Rattle.host_sources.specs.Marks as spec;
 ghost use Rattle.host_sources.specs.Steps.{IsMetAt};
 ghost use Rattle.host_sources.specs.declared.faults.SourceFault.TheVariants.{Memory};
 
+use crate::SourceFault;
 use crate::locating::Passed;
-use crate::places::first_bytes;
 use crate::radixes::is_decimal;
-use crate::runs::{Wanted, first_illegal, first_run};
-use crate::starts::statement_place;
-use crate::{About, SourceFault};
 use pal_asm::Code;
 use pal_asm::laws::{no_fault_before, statements_stay};
+use source_places::{About, first_bytes};
+use statement_runs::{Wanted, first_illegal, first_run, statement_place};
 use std::alloc::{AllocError, Global};
 
 /// Where a fault is in a text, and what stands there.

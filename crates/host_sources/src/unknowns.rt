@@ -16,10 +16,10 @@ use crate::faults::unless_memory;
 use crate::judging::word_value;
 use crate::locating::Passed;
 use crate::names::{Definitions, names_of, no_names, reading_of, set_tags};
-use crate::places::first_bytes;
 use pal_asm::Code;
 use pal_asm::laws::{no_fault_before, no_lexical_fault, statements_stay};
 use pal_lex::{Body, Lexer, Part, Statement, Term};
+use source_places::first_bytes;
 use std::alloc::{AllocError, Global};
 use std::collections::BTreeMap;
 

@@ -1,9 +1,10 @@
 //! What calls on the bytes of an image answer, as a command takes it.
-ghost use Rattle.std.specs.Prelude.{length};
+ghost use Rattle.std.specs.Prelude.{◌≡◌, ◌++◌, OnOk, length};
 ghost use Rattle.archive_files.specs.Asking.{target_of};
 ghost use Rattle.archive_files.specs.Getting.{Gets};
 ghost use Rattle.archive_many.specs.Opened.{OpensVolume};
 ghost use Rattle.program_reports.specs.Program as report;
+ghost use Rattle.program_reports.specs.declared.programs.ProgramLine.TheVariants.{Stored};
 ghost use Rattle.image_files.specs.Answers.{Answers, AreLines, IsTaken, named_lines};
 ghost use Rattle.image_files.specs.Stored.{stored_line};
 
@@ -11,9 +12,10 @@ use crate::notes::refuse_image;
 use archive_files::{ArchiveFault, Asked, GetForm, NewImage, get};
 use archive_many::{OpenVolume, open};
 use hosts::Host;
+use os8_dir::Name;
 use outcome::Ending;
 use program_reports::{ProgramLine, put_program, with_prefix};
-use std::alloc::Global;
+use std::alloc::{AllocError, Global};
 
 /// What a call on an image of so many bytes answers. Where it or a file of it is refused, what may help is printed.
 pub fn answer_of<H: Host, T: Drop>(
@@ -36,6 +38,16 @@ pub fn program_line(alloc: Global, line: &ProgramLine) -> Result<Vec<u8>, Ending
     let mut text = Vec::new(alloc);
     put_program(line, &mut text)?;
     Ok(text)
+}
+
+/// Appends the line of a file of so many blocks that was put. The one fault is want of memory.
+pub fn put_stored(name: Name, blocks: usize, lines: &mut Vec<u8>) -> Result<(), AllocError>
+    ensures { OnOk result (lines.new.items ≡ lines.old.items ++ report.program_line (Stored name blocks)) }
+{
+    match put_program(&ProgramLine::Stored(name, blocks), lines) {
+        Ok(()) => Ok(()),
+        Err(_) => Err(AllocError),
+    }
 }
 
 /// Lines with a name before each.

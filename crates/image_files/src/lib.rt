@@ -16,7 +16,9 @@ mod printing;
 mod reading;
 mod saving;
 
-pub use answers::{answer_of, named_lines, open_volume, program_line, show_file, stored_line};
+pub use answers::{
+    answer_of, named_lines, open_volume, program_line, put_stored, show_file, stored_line,
+};
 pub use dates::date_of_file;
 pub use ending::{Rooms, end, end_sound, tell_line};
 pub use images::Image;

@@ -1,9 +1,10 @@
 -- What a file of unknown origin holds (OS/8's use of the RK05 disk and of the DECtape; SIMH's files of both).
 use Rattle.std.specs.Prelude.{ℕ, ◌+◌, ◌-◌, ◌*◌, ◌/◌, ◌%◌, nat_le, nat_lt, min, Bool, true, ◌&&◌, ◌||◌, if◌then◌else◌, Option, Some, None, List, length}
+use Rattle.disk_layouts.specs.declared.sizes.TheConstants.{DISK, DISK_VOLUME, TAPE}
 use Rattle.image_kind.specs.declared.kinds.Form.{Form}
 use Rattle.image_kind.specs.declared.kinds.Form.TheVariants.{Volume, Disk, Dectape}
 use Rattle.image_kind.specs.declared.kinds.ImageKind.{ImageKind}
-use Rattle.image_kind.specs.declared.kinds.TheConstants.{DISK_VOLUME, DISK, TAPE, LARGEST, BLOCK_BYTES}
+use Rattle.image_kind.specs.declared.kinds.TheConstants.{LARGEST, BLOCK_BYTES}
 use Rattle.image_kind.specs.Heads.{is_head}
 
 -- How many bytes a file of so many has beyond its form's, if it may be of the form. A DECtape is whole, a disk may end early but not in its

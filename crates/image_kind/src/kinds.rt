@@ -2,6 +2,7 @@ ghost use Rattle.std.specs.Prelude.{◌≡◌, ◌+◌, ◌≤◌, ◌<◌, leng
 ghost use Rattle.image_kind.specs.Kinds.{excess, fits, kind_in, kind_of, volume_blocks};
 
 use crate::heads::is_head;
+use disk_layouts::{DISK, DISK_VOLUME, TAPE};
 
 /// How the blocks of volumes lie in a file.
 #[derive(Clone, Copy, PartialEq, Eq, Debug)]
@@ -23,15 +24,6 @@ pub struct ImageKind {
     pub before: usize,
     pub after: usize,
 }
-
-/// The bytes of one volume of a disk.
-const DISK_VOLUME: usize = 1662976;
-
-/// The bytes of a whole disk.
-const DISK: usize = 3325952;
-
-/// The bytes of a whole DECtape.
-const TAPE: usize = 380292;
 
 /// The bytes of the largest volume.
 const LARGEST: usize = 2096640;

@@ -2,19 +2,13 @@
 ghost use Rattle.std.specs.Prelude.{◌≡◌, ◌<◌};
 ghost use Rattle.lenient_images.specs.Sizes as spec;
 
-use disk_layouts::Layout;
+use disk_layouts::{DISK, Layout, TAPE};
 use image_kind::ImageKind;
 use image_volumes::{Margins, Volumes, may_be};
 use word12::{BLOCK, MOST_BLOCKS};
 
 /// The fewest blocks of a volume.
 const LEAST_BLOCKS: usize = 8;
-
-/// The bytes of a whole disk.
-const DISK: usize = 3325952;
-
-/// The bytes of a whole DECtape.
-const TAPE: usize = 380292;
 
 /// The words of a block of a DECtape.
 const TAPE_BLOCK: usize = 129;

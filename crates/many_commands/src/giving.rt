@@ -12,11 +12,11 @@ use crate::texts::get_form;
 use archive_files::GetForm;
 use archive_many::{OpenVolume, VolumeFile, host_name};
 use hosts::{Host, HostFault, lay};
-use image_files::{named_lines, print};
+use image_files::{named_lines, print, program_line};
 use os8_dates::time_of_word;
 use os8_dir::FileFault;
 use outcome::Ending;
-use program_reports::{ProgramLine, put_program};
+use program_reports::ProgramLine;
 use program_tasks::GetManyForm;
 use script8::{SessionFault, put_reply};
 use std::alloc::Global;
@@ -174,7 +174,7 @@ fn tell_laid<H: Host>(
 fn print_got<H: Host>(host: &mut H, alloc: Global, file: &VolumeFile) -> Result<bool, Ending>
     ensures { PrintsAnswer true (program_line (Got file.now.name file.now.blocks)) (H.history host.old) result (H.history host.new) }
 {
-    let text = line_text(alloc, &ProgramLine::Got(file.name, file.blocks))?;
+    let text = program_line(alloc, &ProgramLine::Got(file.name, file.blocks))?;
     print(host, &text)?;
     Ok(true)
 }
@@ -188,16 +188,8 @@ fn print_line_of<H: Host>(
 ) -> Result<bool, Ending>
     ensures { PrintsAnswer false (named_lines name.now (program_line line.now)) (H.history host.old) result (H.history host.new) }
 {
-    let text = line_text(alloc, line)?;
+    let text = program_line(alloc, line)?;
     print_refused(host, alloc, name, &text)
-}
-
-fn line_text(alloc: Global, line: &ProgramLine) -> Result<Vec<u8>, Ending>
-    ensures { AreLines (program_line line.now) result }
-{
-    let mut text = Vec::new(alloc);
-    put_program(line, &mut text)?;
-    Ok(text)
 }
 
 /// Prints that a word is refused.

@@ -1,8 +1,6 @@
 //! The command that puts several files of the host on the volume in an image file, which is written once, and only once the whole new image
 //! stands in memory.
 ghost use Rattle.std.specs.Prelude.{◌≡◌, ◌++◌, false, true, map, option_copied, slice_get, OnOk, OnErr};
-ghost use Rattle.program_reports.specs.Program.{program_line};
-ghost use Rattle.program_reports.specs.declared.programs.ProgramLine.TheVariants.{Stored};
 ghost use Rattle.outcome.specs.declared.endings.Ending.TheVariants.{Fault};
 ghost use Rattle.image_files.specs.Answers.{AreLines};
 ghost use Rattle.image_files.specs.Stored as put_spec;
@@ -16,10 +14,9 @@ use crate::texts::take_lists;
 use archive_files::bad_text_at;
 use archive_many::{ManyFault, ManyImage, NewFile, VolumeFile, empties, open, put_all};
 use hosts::Host;
-use image_files::{Image, refuse_image, store, tell_note};
-use os8_dir::{FileFault, Name};
+use image_files::{Image, put_stored, refuse_image, store, tell_note};
+use os8_dir::FileFault;
 use outcome::{Ending, NameNote, Note};
-use program_reports::{ProgramLine, put_program};
 use program_tasks::PutManyForm;
 use script8::SessionFault;
 use std::alloc::{AllocError, Global};
@@ -304,16 +301,6 @@ fn put_lines(files: &[NewFile], blocks: &[usize], lines: &mut Vec<u8>) -> Result
         counts = later;
     }
     Ok(())
-}
-
-/// Appends the line of a file of so many blocks that was put.
-fn put_stored(name: Name, blocks: usize, lines: &mut Vec<u8>) -> Result<(), AllocError>
-    ensures { OnOk result (lines.new.items ≡ lines.old.items ++ program_line (Stored name blocks)) }
-{
-    match put_program(&ProgramLine::Stored(name, blocks), lines) {
-        Ok(()) => Ok(()),
-        Err(_) => Err(AllocError),
-    }
 }
 
 /// The information words that are given, if any are.

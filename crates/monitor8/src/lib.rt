@@ -8,12 +8,10 @@ mod words;
 pub use command_line::{plain_words, task};
 pub use command_refusals::TaskFault;
 pub use program_reports::{
-    ProgramLine, RimTextFault, SourceFault, core_tape, put_program, with_line_feeds, with_prefix,
+    ProgramLine, SourceFault, core_tape, put_program, with_line_feeds, with_prefix,
 };
 pub use program_tasks::Task;
 pub use programs::{program, run_program};
 pub use script8::SessionFault;
 pub use system_session::{Ran, Session, laws};
-pub use tape_reports::{
-    first_cell, given_cells, put_source, put_tape_text, rim_text, source_text, tape_text,
-};
+pub use tape_reports::{first_cell, given_cells, rim_output, source_lines, tape_lines};

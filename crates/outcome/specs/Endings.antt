@@ -9,8 +9,6 @@ use Rattle.archive_files.specs.declared.faults.ArchiveFault.TheVariants as archi
 use Rattle.program_reports.specs.declared.programs.ProgramLine.TheVariants as line
 use Rattle.program_reports.specs.declared.faults.SourceFault.{SourceFault}
 use Rattle.program_reports.specs.declared.faults.SourceFault.TheVariants as source
-use Rattle.program_reports.specs.declared.faults.RimTextFault.{RimTextFault}
-use Rattle.program_reports.specs.declared.faults.RimTextFault.TheVariants as rim
 use Rattle.outcome.specs.declared.endings.Ending.{Ending}
 use Rattle.outcome.specs.declared.endings.Ending.TheVariants.{Line, Fault}
 
@@ -28,10 +26,6 @@ ending_of_source (source.NoStart start) = Line (line.NoStart start)
 ending_of_source (source.Reserved cell) = Line (line.Reserved cell)
 ending_of_source (source.Names number why) = Line (line.Names number why)
 ending_of_source (source.Session fault) = Fault fault
-
-abbrev pub ending_of_rim : RimTextFault → Ending
-ending_of_rim (rim.Rim fault) = Line (line.Rim fault)
-ending_of_rim (rim.Session fault) = Fault fault
 
 -- a call for what is read failed
 abbrev pub ending_of_input : ErrorKind → Ending

@@ -1,7 +1,7 @@
 //! How a command ends before its work is done, by the faults of what it calls.
 ghost use Rattle.std.specs.Prelude.{◌≡◌};
 ghost use Rattle.std.specs.IoError.{error_kind};
-ghost use Rattle.outcome.specs.Endings.{ending_of_archive, ending_of_input, ending_of_rim, ending_of_source, ending_of_tape};
+ghost use Rattle.outcome.specs.Endings.{ending_of_archive, ending_of_input, ending_of_source, ending_of_tape};
 ghost use Rattle.outcome.specs.declared.endings.Ending.TheVariants as ending;
 ghost use Rattle.program_reports.specs.declared.programs.ProgramLine.TheVariants as line;
 ghost use Rattle.script8.specs.declared.faults.SessionFault.TheVariants.{Memory};
@@ -12,7 +12,7 @@ use bin_tape::TapeFault;
 use core_image::CoreFault;
 use disk_layouts::DiskFault;
 use hosts::Unwritten;
-use program_reports::{ProgramLine, RimTextFault, SourceFault};
+use program_reports::{ProgramLine, SourceFault};
 use script8::SessionFault;
 use std::alloc::AllocError;
 use std::io::{self, ErrorKind};
@@ -84,17 +84,6 @@ impl From<SourceFault> for Ending {
             SourceFault::Reserved(cell) => Ending::Line(ProgramLine::Reserved(cell)),
             SourceFault::Names(line, why) => Ending::Line(ProgramLine::Names(line, why)),
             SourceFault::Session(fault) => Ending::Fault(fault),
-        }
-    }
-}
-
-impl From<RimTextFault> for Ending {
-    ghost from_gives = { λ fault ended. ended ≡ ending_of_rim fault };
-
-    fn from(fault: RimTextFault) -> Ending {
-        match fault {
-            RimTextFault::Rim(fault) => Ending::Line(ProgramLine::Rim(fault)),
-            RimTextFault::Session(fault) => Ending::Fault(fault),
         }
     }
 }

@@ -11,7 +11,7 @@ use Rattle.pal8_asm.specs.Sources.{Statement, statement_at, pass_over, statement
 use Rattle.pal8_asm.specs.Steps.{HasTaken, Pushes, TakesByte}
 use Rattle.pal8_asm.specs.Assembling.{Progress, Takes, remainder_of}
 use Rattle.pal8_asm.specs.declared.faults.AsmFault.{AsmFault}
-use Rattle.pal8_asm.specs.declared.options.Options.{Options}
+use Rattle.pal8_places.specs.declared.options.Options.{Options}
 use Rattle.pal8_asm.specs.declared.faults.AsmFault.TheVariants.{At, Memory}
 
 -- the statement that a lexer shows, with the byte that ends it

@@ -14,15 +14,16 @@ use Rattle.pal8_grammar.specs.Bodies.{Phrase}
 use Rattle.pal8_grammar.specs.declared.bodies.Body.TheVariants as body
 use Rattle.pal8_grammar.specs.declared.faults.GrammarFault.{GrammarFault}
 use Rattle.pal8_grammar.specs.declared.steps.Step.{Step}
-use Rattle.pal8_asm.specs.Places.{Standing, spot_at, truth_of, with_body_if, with_statement, with_tags}
-use Rattle.pal8_asm.specs.Sources.{Entry, Remainder, PassResult, Statement, brackets_with, is_selected, remainder_of_text, number, pass_over, place_of, phrase_of, with_brackets, open_value, with_entries as with_entries_of, with_late_entry, with_next, with_values, with_phrase, with_said, with_selected, with_skipped, words_in}
+use Rattle.pal8_places.specs.Places.{Standing, spot_at, truth_of, with_body_if, with_statement, with_tags}
+use Rattle.pal8_asm.specs.Sources.{Entry, Remainder, PassResult, Statement, brackets_with, remainder_of_text, number, pass_over, place_of, phrase_of, with_brackets, open_value, with_entries as with_entries_of, with_late_entry, with_next, with_values, with_phrase, with_said, with_selected, with_skipped, words_in}
+use Rattle.pal8_places.specs.Brackets.{is_selected}
 use Rattle.pal8_asm.specs.Tapes.{TapeWords, late_after, late_fault, late_value, late_values, unless_fault, without_clash, unless_clash, words_of_entries, spot_of, with_entries, with_entry, with_entry_by, with_made, with_word_entry}
 use Rattle.pal8_asm.specs.declared.entries.Late.{Late}
 use Rattle.pal8_asm.specs.Assembled.{dollar_in, has_words, result_if_any_word, result_with_words, result_of_source}
 use Rattle.pal8_asm.specs.Laws.{Apart, NoPoolNoChange, PlacesStay, ValueIsFound, meaning, passed_zero, read_zero, without_words, zero_phrase, zero_said}
 use Rattle.pal8_asm.specs.declared.faults.Fault.{Fault}
 use Rattle.pal8_asm.specs.declared.faults.Place.{Place}
-use Rattle.pal8_asm.specs.declared.faults.Code.{Code}
+use Rattle.pal8_places.specs.declared.faults.Code.{Code}
 use Rattle.pal8_asm.proofs.MakingLemmas.{free_by}
 
 -- ## No clash

@@ -5,7 +5,6 @@ pub mod MarkLemmas
 pub mod ReachLemmas
 pub mod SkippingLemmas
 pub mod SourceLemmas
-pub mod TagLemmas
 pub mod TakingLemmas
 pub mod WholeLemmas
 pub mod WorkedSources

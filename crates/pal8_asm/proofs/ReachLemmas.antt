@@ -21,15 +21,16 @@ use Rattle.pal8_values.specs.declared.sums.Spot.{Spot}
 use Rattle.pal8_asm.specs.Assembled.{dollar_in, has_words, result_if_any_word, result_of_source, result_of_text, result_with_words}
 use Rattle.pal8_asm.specs.Assembling.{IsAssembled}
 use Rattle.pal8_asm.specs.Laws.{ValueIsFound}
-use Rattle.pal8_asm.specs.Places.{Standing, has_later, spot_at, truth_of, with_statement}
+use Rattle.pal8_places.specs.Places.{Standing, has_later, spot_at, truth_of, with_statement}
 use Rattle.pal8_asm.specs.Reaching.{FindsValue, HasWord, IsMadeAfter, LinkIsFound, LiteralIsFound}
-use Rattle.pal8_asm.specs.Sources.{Entry, PassResult, Remainder, Source, Statement, brackets_with, defined_name, end_of_pass, entry_at, is_selected, late_entry, next_spot, open_value, pass_over, phrase_of, place_of, remainder_of_text, statements, with_brackets, with_end, with_late_by, with_late_entry, with_next, with_phrase, with_said, with_selected, with_skipped, with_values, words_in}
+use Rattle.pal8_asm.specs.Sources.{Entry, PassResult, Remainder, Source, Statement, brackets_with, defined_name, end_of_pass, entry_at, late_entry, next_spot, open_value, pass_over, phrase_of, place_of, remainder_of_text, statements, with_brackets, with_end, with_late_by, with_late_entry, with_next, with_phrase, with_said, with_selected, with_skipped, with_values, words_in}
+use Rattle.pal8_places.specs.Brackets.{is_selected}
 use Rattle.pal8_asm.specs.Sources as sources
 use Rattle.pal8_asm.specs.Tapes.{TapeWords, late_after, late_fault, late_value, late_values, nothing_made, spot_of, unless_clash, unless_fault, with_entries, with_entry, with_entry_by, with_made, without_clash, words_of_entries}
 use Rattle.pal8_asm.specs.declared.entries.Late.{Late}
-use Rattle.pal8_asm.specs.declared.faults.Code.{Code}
+use Rattle.pal8_places.specs.declared.faults.Code.{Code}
 use Rattle.pal8_asm.specs.declared.faults.Fault.{Fault}
-use Rattle.pal8_asm.specs.declared.options.Options.{Options}
+use Rattle.pal8_places.specs.declared.options.Options.{Options}
 use Rattle.pal8_asm.specs.declared.faults.Place.{Place}
 use Rattle.pal8_asm.proofs.MakingLemmas.{entries_stay}
 

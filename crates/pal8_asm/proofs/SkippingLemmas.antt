@@ -13,13 +13,14 @@ use Rattle.pal8_grammar.specs.declared.bodies.Body.TheVariants as body
 use Rattle.pal8_grammar.specs.declared.steps.Step.{Step}
 use Rattle.pal8_grammar.specs.declared.faults.GrammarFault.{GrammarFault}
 use Rattle.pal8_grammar.specs.declared.faults.GrammarFault.TheVariants.{IC, NU, SY}
-use Rattle.pal8_asm.specs.Places.{Standing, spot_at, truth_of, with_body, with_body_if, with_statement, with_tag_if, with_tags}
-use Rattle.pal8_asm.specs.Sources.{Entry, Remainder, PassResult, Source, Statement, brackets_with, defined_name, end_of_pass, is_selected, open_value, pass_over, place_of, phrase_of, statements, with_brackets, with_end, with_entries, with_late_by, with_late_entry, with_next, with_phrase, with_said, with_selected, with_skipped, words_in}
+use Rattle.pal8_places.specs.Places.{Standing, spot_at, truth_of, with_body, with_body_if, with_statement, with_tag_if, with_tags}
+use Rattle.pal8_asm.specs.Sources.{Entry, Remainder, PassResult, Source, Statement, brackets_with, defined_name, end_of_pass, open_value, pass_over, place_of, phrase_of, statements, with_brackets, with_end, with_entries, with_late_by, with_late_entry, with_next, with_phrase, with_said, with_selected, with_skipped, words_in}
+use Rattle.pal8_places.specs.Brackets.{is_selected}
 use Rattle.pal8_values.specs.Sums.{Meanings}
 use Rattle.pal8_asm.specs.Laws.{SkippedIsNothing, plain, plain_by, plain_end, plain_statement}
 use Rattle.pal8_asm.specs.declared.faults.Place.{Place}
-use Rattle.pal8_asm.specs.declared.faults.Code.{Code}
-use Rattle.pal8_asm.specs.declared.options.Options.{Options}
+use Rattle.pal8_places.specs.declared.faults.Code.{Code}
+use Rattle.pal8_places.specs.declared.options.Options.{Options}
 
 -- ## Tags
 

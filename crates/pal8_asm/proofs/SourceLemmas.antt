@@ -11,7 +11,8 @@ use Rattle.pal8_lex.specs.Pieces.{ends, pieces}
 use Rattle.pal8_lex.specs.Statements as lex_statements
 use Rattle.pal8_lex.specs.Statements.{statement_of}
 use Rattle.pal8_asm.specs.Laws.{FaultStays}
-use Rattle.pal8_asm.specs.Sources.{Remainder, Source, at_place, end_of_pass, statement_at, first_left, has_none, is_selected, pass_over, place_after, statements, statements_of, with_end, with_next, with_selected, with_skipped}
+use Rattle.pal8_asm.specs.Sources.{Remainder, Source, at_place, end_of_pass, statement_at, first_left, pass_over, place_after, statements, statements_of, with_end, with_next, with_selected, with_skipped}
+use Rattle.pal8_places.specs.Brackets.{has_none, is_selected}
 use Rattle.pal8_asm.specs.declared.faults.Fault.{Fault}
 use Rattle.pal8_asm.specs.declared.faults.Place.{Place}
 use Rattle.pal8_asm.specs.Steps.{Closes, HasReadAll, HasTaken, IsMaking, IsOnTheWay, Makes, Pushes, ReadsOn, TakesByte}
@@ -20,9 +21,9 @@ use Rattle.pal8_asm.specs.Tapes.{TapeWords, without_clash, unless_clash, nothing
 use Rattle.pal8_pools.specs.Pooled.{Holds, PoolTable}
 use Rattle.pal8_clash.specs.Clashes.{AreMarks}
 use Rattle.pal8_asm.specs.declared.faults.AsmFault.{AsmFault}
-use Rattle.pal8_asm.specs.declared.options.Options.{Options}
+use Rattle.pal8_places.specs.declared.options.Options.{Options}
 use Rattle.pal8_asm.specs.declared.faults.AsmFault.TheVariants.{At, Memory}
-use Rattle.pal8_asm.specs.declared.faults.Code.TheVariants as code
+use Rattle.pal8_places.specs.declared.faults.Code.TheVariants as code
 
 -- the statements of a text stay whatever follows it
 pub statements_stay : (text later : List ℕ) → (more : Source) × (statements (later ++ text) ≡ more ++ statements text)

@@ -1,19 +1,21 @@
 -- Statements, one at a time.
 use Rattle.std.proofs.Common.{◌≡◌, ℕ, Bool, true, false, if◌then◌else◌, is_some, Option, None, Result, Ok, Err, length, List, [], sym, ap, ◌∙◌}
-use Rattle.pal8_asm.specs.declared.names.KnownNames.{KnownNames}
+use Rattle.pal8_places.specs.declared.names.KnownNames.{KnownNames}
 use Rattle.pal8_sym.specs.SourceNames.{first_names, names_of}
 use mathlib.Core.Path.{fun_ext}
 use Rattle.pal8_grammar.specs.Bodies.{Phrase}
-use Rattle.pal8_asm.specs.Places.{truth_of, with_statement}
-use Rattle.pal8_asm.specs.Sources.{Entry, Remainder, Statement, brackets_with, end_of, first_left, is_selected, place_of, phrase_of, with_brackets, with_phrase, with_next, with_said, with_selected, with_skipped}
+use Rattle.pal8_places.specs.Places.{truth_of, with_statement}
+use Rattle.pal8_asm.specs.Sources.{Entry, Remainder, Statement, brackets_with, end_of, first_left, place_of, phrase_of, with_brackets, with_phrase, with_next, with_said, with_selected, with_skipped}
+use Rattle.pal8_places.specs.Brackets.{is_selected}
 use Rattle.pal8_asm.specs.Steps.{IsTaken, PassesEnd, TakesStatement}
-use Rattle.pal8_asm.specs.Assembling.{Progress, Takes, is_late, standing}
+use Rattle.pal8_asm.specs.Assembling.{Progress, Takes}
+use Rattle.pal8_places.specs.Passing.{is_late, standing}
 use Rattle.pal8_asm.specs.declared.faults.AsmFault.{AsmFault}
 use Rattle.pal8_asm.specs.declared.faults.AsmFault.TheVariants.{At, Memory}
 use Rattle.pal8_asm.specs.declared.faults.Fault.{Fault}
 use Rattle.pal8_asm.specs.declared.faults.Place.{Place}
-use Rattle.pal8_asm.specs.declared.options.Options.{Options}
-use Rattle.pal8_asm.specs.declared.places.Position.{Position}
+use Rattle.pal8_places.specs.declared.options.Options.{Options}
+use Rattle.pal8_places.specs.declared.places.Position.{Position}
 
 abbrev pub left_at : KnownNames → Position → List Entry → List Bool → Option Place → Remainder
 left_at table position entries brackets end = record { standing = standing table position; entries = entries; brackets = brackets; end = end }

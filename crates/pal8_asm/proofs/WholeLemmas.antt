@@ -6,7 +6,8 @@ use Rattle.pal8_pools.specs.Pooled.{PoolTable}
 use Rattle.pal8_asm.specs.Sources.{at_place}
 use Rattle.pal8_asm.specs.Tapes.{TapeWords, without_clash, words_of_entries}
 use Rattle.pal8_asm.specs.Assembled.{result_of_text, dollar_in, has_words, result_if_any_word, result_with_words, result_of_source}
-use Rattle.pal8_asm.specs.Assembling.{Assembles, IsAssembled, IsMade, MakesWords, Progress, ReadsText, is_late, remainder_of}
+use Rattle.pal8_asm.specs.Assembling.{Assembles, IsAssembled, IsMade, MakesWords, Progress, ReadsText, remainder_of}
+use Rattle.pal8_places.specs.Passing.{is_late}
 use Rattle.pal8_asm.specs.Marks.{HasParts}
 use Rattle.pal8_asm.specs.MarkSteps.{HasWhole, TakesParts}
 use Rattle.pal8_asm.specs.declared.assembling.Parts.{Parts}
@@ -14,11 +15,11 @@ use Rattle.pal8_asm.specs.declared.assembling.Whole.{Whole}
 use Rattle.pal8_asm.specs.Steps.{AddsPool}
 use Rattle.pal8_asm.specs.declared.faults.AsmFault.{AsmFault}
 use Rattle.pal8_asm.specs.declared.faults.AsmFault.TheVariants.{At, Memory}
-use Rattle.pal8_asm.specs.declared.faults.Code.TheVariants as code
+use Rattle.pal8_places.specs.declared.faults.Code.TheVariants as code
 use Rattle.pal8_asm.specs.declared.faults.Fault.{Fault}
 use Rattle.pal8_asm.specs.declared.faults.Place.{Place}
-use Rattle.pal8_asm.specs.declared.faults.Code.{Code}
-use Rattle.pal8_asm.specs.declared.options.Options.{Options}
+use Rattle.pal8_places.specs.declared.faults.Code.{Code}
+use Rattle.pal8_places.specs.declared.options.Options.{Options}
 
 -- a list that isn't empty has words
 pub has_some : (pairs : List (ℕ × ℕ)) → false ≡ nat_eq (length pairs) 0 → has_words pairs ≡ true

@@ -9,9 +9,9 @@ use Rattle.pal8_pools.specs.Asks.{Ask, cell_in}
 use Rattle.pal8_asm.specs.declared.faults.Fault.{Fault}
 use Rattle.pal8_asm.specs.Tapes.{TapeWords}
 use Rattle.pal8_asm.specs.Assembled.{result_of_text}
-use Rattle.pal8_asm.specs.declared.faults.Code.{Code}
-use Rattle.pal8_asm.specs.declared.options.Options.{Options}
-use Rattle.pal8_asm.specs.declared.faults.Code.TheVariants.{IC, SY, NU, UA, DT, RD, IR, II, FD, PG, PF, DZ, RL, PageClash, ZeroClash, PH, NE, NW}
+use Rattle.pal8_places.specs.declared.faults.Code.{Code}
+use Rattle.pal8_places.specs.declared.options.Options.{Options}
+use Rattle.pal8_places.specs.declared.faults.Code.TheVariants.{IC, SY, NU, UA, DT, RD, IR, II, FD, PG, PF, DZ, RL, PageClash, ZeroClash, PH, NE, NW}
 
 -- each ask with its cell, the oldest first
 abbrev cells : List Ask → List Ask → List (ℕ × ℕ)

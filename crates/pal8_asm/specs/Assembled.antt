@@ -3,8 +3,8 @@ use Rattle.std.specs.Prelude.{ℕ, Bool, true, false, Option, Some, None, Result
 use Rattle.pal8_asm.specs.Sources.{PassResult, at_place, remainder_of_text}
 use Rattle.pal8_asm.specs.declared.faults.Place.{Place}
 use Rattle.pal8_asm.specs.declared.faults.Fault.{Fault}
-use Rattle.pal8_asm.specs.declared.faults.Code.TheVariants as code
-use Rattle.pal8_asm.specs.declared.options.Options.{Options}
+use Rattle.pal8_places.specs.declared.faults.Code.TheVariants as code
+use Rattle.pal8_places.specs.declared.options.Options.{Options}
 use Rattle.pal8_asm.specs.Tapes.{TapeWords, without_clash, words_of_entries}
 
 abbrev pub has_words : List (ℕ × ℕ) → Bool

@@ -1,13 +1,10 @@
 -- The answers of an assembler.
 use Rattle.std.specs.Prelude.{◌≡◌, ℕ, Bool, Option, Some, Result, Ok, Err, List, ◌++◌}
 use Rattle.std.specs.Global.{Vec}
-use Rattle.std.specs.Ordering.{nat_cmp}
-use Rattle.std.specs.BTreeSet.{contains}
-use Rattle.pal8_sym.specs.SourceNames.{names_of}
-use Rattle.pal8_asm.specs.declared.names.KnownNames.{KnownNames}
+use Rattle.pal8_places.specs.declared.names.KnownNames.{KnownNames}
 use Rattle.pal8_pools.specs.Cells.{ArePairs}
 use Rattle.pal8_pools.specs.Pooled.{Holds, PoolTable}
-use Rattle.pal8_asm.specs.Places.{Standing}
+use Rattle.pal8_places.specs.Passing.{standing}
 use Rattle.pal8_asm.specs.Tapes.{TapeWords}
 use Rattle.pal8_asm.specs.Assembled.{result_of_text}
 use Rattle.pal8_asm.specs.Sources.{Entry, Remainder, PassResult, at_place, remainder_of_text}
@@ -15,31 +12,8 @@ use Rattle.pal8_asm.specs.declared.faults.Fault.{Fault}
 use Rattle.pal8_asm.specs.declared.faults.Place.{Place}
 use Rattle.pal8_asm.specs.declared.faults.AsmFault.{AsmFault}
 use Rattle.pal8_asm.specs.declared.faults.AsmFault.TheVariants as asm
-use Rattle.pal8_asm.specs.declared.faults.Code.{Code}
-use Rattle.pal8_asm.specs.declared.faults.Stop.{Stop}
-use Rattle.pal8_asm.specs.declared.faults.Stop.TheVariants.{At, Memory}
-use Rattle.pal8_asm.specs.declared.options.Options.{Options}
-use Rattle.pal8_asm.specs.declared.places.Position.{Position}
-
--- the last definition of a name is late
-abbrev pub is_late : KnownNames → ℕ → Bool
-is_late names n = contains nat_cmp names.late n
-
--- what names and a position are
-abbrev pub standing : KnownNames → Position → Standing
-standing names position = record { names = names_of names.table; late = is_late names; position = position }
-
--- a statement is taken, or its fault is answered; or memory ran out
-abbrev pub Passes : Result Standing Code → Result Position Stop → KnownNames → Type 0
-Passes whole (Ok next) new = whole ≡ Ok (standing new next)
-Passes whole (Err (At code)) new = whole ≡ Err code
-Passes whole (Err Memory) new = Unit {0}
-
--- whether a condition is true is answered, or the fault of its value; or memory ran out
-abbrev pub IsJudged : Result Bool Code → Result Bool Stop → Type 0
-IsJudged whole (Ok holds) = whole ≡ Ok holds
-IsJudged whole (Err (At code)) = whole ≡ Err code
-IsJudged whole (Err Memory) = Unit {0}
+use Rattle.pal8_places.specs.declared.options.Options.{Options}
+use Rattle.pal8_places.specs.declared.places.Position.{Position}
 
 -- How far an assembler is.
 pub record Progress : Type 0 where

@@ -12,9 +12,10 @@ use Rattle.pal8_lex.specs.declared.rules.End.TheVariants as end
 use Rattle.pal8_grammar.specs.Bodies.{Phrase, opens, tags_in}
 use Rattle.pal8_grammar.specs.declared.bodies.Body.TheVariants as body
 use Rattle.pal8_grammar.specs.declared.faults.GrammarFault.{GrammarFault}
-use Rattle.pal8_asm.specs.Sources.{Remainder, PassResult, Source, Statement, first_left, is_selected, remainder_of_text, number, pass_over, phrase_of, statements, with_said, with_skipped}
+use Rattle.pal8_asm.specs.Sources.{Remainder, PassResult, Source, Statement, first_left, remainder_of_text, number, pass_over, phrase_of, statements, with_said, with_skipped}
+use Rattle.pal8_places.specs.Brackets.{is_selected}
 use Rattle.pal8_asm.specs.declared.faults.Fault.{Fault}
-use Rattle.pal8_asm.specs.declared.options.Options.{Options}
+use Rattle.pal8_places.specs.declared.options.Options.{Options}
 
 -- the first fault of the statements of a text is that of the text, whatever follows
 abbrev pub FaultStays : Type 0

@@ -7,7 +7,7 @@ use Rattle.pal8_asm.specs.Assembling.{Assembles, IsAssembled, remainder_of}
 use Rattle.pal8_asm.specs.Marks.{last_values, marks_of}
 use Rattle.pal8_asm.specs.Sources.{Remainder, remainder_of_text}
 use Rattle.pal8_asm.specs.declared.faults.AsmFault.{AsmFault}
-use Rattle.pal8_asm.specs.declared.options.Options.{Options}
+use Rattle.pal8_places.specs.declared.options.Options.{Options}
 use Rattle.pal8_asm.specs.declared.assembling.Parts.{Parts}
 use Rattle.pal8_asm.specs.declared.assembling.Whole.{Whole}
 

@@ -13,7 +13,7 @@ use Rattle.pal8_asm.specs.Sources.{Entry, Remainder, remainder_of_text}
 use Rattle.pal8_asm.specs.Tapes.{late_values}
 use Rattle.pal8_asm.specs.declared.faults.AsmFault.{AsmFault}
 use Rattle.pal8_asm.specs.declared.marks.Mark.{Mark}
-use Rattle.pal8_asm.specs.declared.options.Options.{Options}
+use Rattle.pal8_places.specs.declared.options.Options.{Options}
 use Rattle.pal8_asm.specs.declared.assembling.Parts.{Parts}
 
 -- the word of an operation has the bit of `I`

@@ -15,7 +15,7 @@ use Rattle.pal8_asm.specs.Laws.{meaning}
 use Rattle.pal8_asm.specs.Sources.{Entry, Remainder, remainder_of_text, with_values}
 use Rattle.pal8_asm.specs.Tapes.{TapeWords, late_after, late_values, nothing_made, spot_of, with_entry}
 use Rattle.pal8_asm.specs.declared.faults.Fault.{Fault}
-use Rattle.pal8_asm.specs.declared.options.Options.{Options}
+use Rattle.pal8_places.specs.declared.options.Options.{Options}
 
 -- the word of an entry is made of these steps, after what others have made
 abbrev pub IsMadeAfter : Meanings → Meanings → List Entry → Result TapeWords Fault → Entry → List Step → TapeWords → Type 0

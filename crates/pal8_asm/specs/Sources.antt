@@ -21,14 +21,15 @@ use Rattle.pal8_grammar.specs.declared.faults.GrammarFault.{GrammarFault}
 use Rattle.pal8_grammar.specs.declared.faults.GrammarFault.TheVariants as grammar
 use Rattle.pal8_values.specs.Sums.{Meanings, here_of}
 use Rattle.pal8_values.specs.declared.sums.Spot.{Spot}
-use Rattle.pal8_asm.specs.Places.{Standing, has_later, spot_at, truth_of, with_statement}
+use Rattle.pal8_places.specs.Brackets.{brackets_after, closes_none, is_selected}
+use Rattle.pal8_places.specs.Places.{Standing, has_later, spot_at, truth_of, with_statement}
 use Rattle.pal8_asm.specs.declared.entries.Late.{Late}
 use Rattle.pal8_asm.specs.declared.faults.Place.{Place}
 use Rattle.pal8_asm.specs.declared.faults.Fault.{Fault}
-use Rattle.pal8_asm.specs.declared.faults.Code.{Code}
-use Rattle.pal8_asm.specs.declared.faults.Code.TheVariants as code
-use Rattle.pal8_asm.specs.declared.options.Options.{Options}
-use Rattle.pal8_asm.specs.declared.places.TheConstants.{FIRST_PLACE}
+use Rattle.pal8_places.specs.declared.faults.Code.{Code}
+use Rattle.pal8_places.specs.declared.faults.Code.TheVariants as code
+use Rattle.pal8_places.specs.declared.options.Options.{Options}
+use Rattle.pal8_places.specs.declared.places.TheConstants.{FIRST_PLACE}
 
 -- A statement of a text, with the byte that ends it.
 pub record Statement : Type 0 where
@@ -252,35 +253,6 @@ abbrev pub at_place : Place → Code → Fault
 at_place place code = record { code = code; place = place }
 
 -- ## Brackets
-
--- A bracket that is opened in a false one is false, so the newest speaks for all that are open: statements are selected where it is true.
-abbrev pub is_selected : List Bool → Bool
-is_selected [] = true
-is_selected (holds ∷ outer) = holds
-
-abbrev pub outer_of : List Bool → List Bool
-outer_of [] = []
-outer_of (newest ∷ outer) = outer
-
--- the brackets after a statement: `<` opens one that is true or not, `>` closes the newest
-abbrev pub brackets_after : End → Bool → List Bool → List Bool
-brackets_after end.Semicolon holds brackets = brackets
-brackets_after end.Line holds brackets = brackets
-brackets_after end.Open holds brackets = holds ∷ brackets
-brackets_after end.Close holds brackets = outer_of brackets
-brackets_after end.Dollar holds brackets = brackets
-
-abbrev pub has_none : List Bool → Bool
-has_none [] = true
-has_none (newest ∷ outer) = false
-
--- a `>` ends a statement where no bracket is open
-abbrev pub closes_none : End → List Bool → Bool
-closes_none end.Semicolon brackets = false
-closes_none end.Line brackets = false
-closes_none end.Open brackets = false
-closes_none end.Close brackets = has_none brackets
-closes_none end.Dollar brackets = false
 
 -- the `$` that ends the source, if a statement that is selected ends in it
 abbrev pub dollar_at : End → Place → Option Place

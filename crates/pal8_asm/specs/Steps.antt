@@ -1,7 +1,8 @@
 -- What the small steps of a pass give, for private clauses.
-use Rattle.pal8_asm.specs.Assembling.{Progress, is_late, remainder_of, standing}
-use Rattle.std.specs.Prelude.{◌≡◌, ℕ, ◌-◌, Bool, true, false, length, if◌then◌else◌, Option, Some, None, Result, Ok, Err, List, ◌∷◌, ◌++◌}
-use Rattle.pal8_asm.specs.declared.names.KnownNames.{KnownNames}
+use Rattle.pal8_asm.specs.Assembling.{Progress, remainder_of}
+use Rattle.pal8_places.specs.Passing.{open_of, standing}
+use Rattle.std.specs.Prelude.{◌≡◌, ℕ, ◌-◌, Bool, true, false, length, Option, Some, None, Result, Ok, Err, List, ◌∷◌, ◌++◌}
+use Rattle.pal8_places.specs.declared.names.KnownNames.{KnownNames}
 use Rattle.pal_lex.specs.Text.{limit, text_from}
 use Rattle.pal8_lex.specs.Reading.{HasRead, last_statement}
 use Rattle.pal8_lex.specs.Text.{as_read, live}
@@ -19,7 +20,7 @@ use Rattle.pal8_pools.specs.Cells.{ArePairs}
 use Rattle.pal8_pools.specs.Pooled.{Holds, PoolTable}
 use Rattle.pal8_values.specs.Answering.{IsAsked}
 use Rattle.pal8_values.specs.Words.{AskResult}
-use Rattle.pal8_asm.specs.Places.{Standing, code_of, spot_at}
+use Rattle.pal8_places.specs.Places.{Standing, code_of, spot_at}
 use Rattle.pal8_asm.specs.Tapes.{TapeWords}
 use Rattle.pal8_clash.specs.Clashes.{AreMarks, lowest_clash}
 use Rattle.pal8_asm.specs.Sources.{Entry, PassResult, at_place, statement_at, pass_over, statements, with_entries, with_late_entry, words_in}
@@ -27,17 +28,11 @@ use Rattle.pal8_asm.specs.declared.faults.Fault.{Fault}
 use Rattle.pal8_asm.specs.declared.faults.Place.{Place}
 use Rattle.pal8_asm.specs.declared.faults.AsmFault.{AsmFault}
 use Rattle.pal8_asm.specs.declared.faults.AsmFault.TheVariants as asm
-use Rattle.pal8_asm.specs.declared.faults.Code.{Code}
-use Rattle.pal8_asm.specs.declared.faults.Stop.{Stop}
-use Rattle.pal8_asm.specs.declared.faults.Stop.TheVariants.{At, Memory}
-use Rattle.pal8_asm.specs.declared.options.Options.{Options}
-use Rattle.pal8_asm.specs.declared.places.Position.{Position}
+use Rattle.pal8_places.specs.declared.faults.Code.{Code}
+use Rattle.pal8_places.specs.declared.options.Options.{Options}
+use Rattle.pal8_places.specs.declared.places.Position.{Position}
 
 -- ## Names
-
--- what a name stands for in a word by now
-abbrev pub open_of : KnownNames → Meanings
-open_of names n = if is_late names n then None else own_value names.table n
 
 -- what names in the steps of a word stand for by now, or in those of a late definition
 abbrev pub entry_meaning : KnownNames → Bool → Meanings
@@ -45,24 +40,6 @@ entry_meaning names false = open_of names
 entry_meaning names true = own_value names.table
 
 -- ## Statements
-
--- a position is answered, or the fault that refuses it
-abbrev pub Moves : Result Position Code → Result Position Stop → Type 0
-Moves whole (Ok next) = whole ≡ Ok next
-Moves whole (Err (At code)) = whole ≡ Err code
-Moves whole (Err Memory) = Unit {0}
-
--- names are defined, or the fault is answered that refuses them; or memory ran out
-abbrev pub Defines : Result Standing Code → Position → Result (Unit {0}) Stop → KnownNames → Type 0
-Defines whole position (Ok nothing) new = whole ≡ Ok (standing new position)
-Defines whole position (Err (At code)) new = whole ≡ Err code
-Defines whole position (Err Memory) new = Unit {0}
-
--- a value is answered, or the fault that refuses it; or memory ran out
-abbrev pub Values : Result ℕ Code → Result ℕ Stop → Type 0
-Values whole (Ok found) = whole ≡ Ok found
-Values whole (Err (At code)) = whole ≡ Err code
-Values whole (Err Memory) = Unit {0}
 
 -- the end of a statement is passed, and these brackets are open then, or its fault is answered; or memory ran out
 abbrev pub PassesEnd : Result (List Bool) Fault → Result (Unit {0}) AsmFault → List Bool → Type 0

@@ -9,13 +9,13 @@ use Rattle.pal8_values.specs.Words.{AskResult, word_value}
 use Rattle.pal8_grammar.specs.declared.steps.Step.{Step}
 use Rattle.pal8_values.specs.declared.sums.Spot.{Spot}
 use Rattle.pal8_values.specs.declared.faults.ValueFault.{ValueFault}
-use Rattle.pal8_asm.specs.Places.{code_of}
+use Rattle.pal8_places.specs.Places.{code_of}
 use Rattle.pal8_asm.specs.Sources.{Entry, at_place, with_values}
 use Rattle.pal8_asm.specs.declared.entries.Late.{Late}
 use Rattle.pal8_asm.specs.declared.faults.Place.{Place}
 use Rattle.pal8_asm.specs.declared.faults.Fault.{Fault}
-use Rattle.pal8_asm.specs.declared.faults.Code.{Code}
-use Rattle.pal8_asm.specs.declared.faults.Code.TheVariants as code
+use Rattle.pal8_places.specs.declared.faults.Code.{Code}
+use Rattle.pal8_places.specs.declared.faults.Code.TheVariants as code
 
 -- What entries make: the punched words with their cells, in the order of the source, and the first fault of a punched word on a pool's cell. Also
 -- what all words asked, and what the punched ones asked of that, the newest first.

@@ -1,16 +1,18 @@
 ghost use Rattle.std.specs.Prelude.{◌≡◌, ◌<◌, IfOk, Ok, None, length};
-ghost use Rattle.pal8_asm.specs.Places.{truth_of, with_statement};
+ghost use Rattle.pal8_places.specs.Places.{truth_of, with_statement};
 ghost use Rattle.pal8_asm.specs.Sources.{brackets_with, dollar_at, first_left, start_of, with_next, with_selected};
 ghost use Rattle.pal8_asm.specs.Steps.{PassesEnd, TakesBody, TakesStatement};
-ghost use Rattle.pal8_asm.specs.Assembling.{Takes, remainder_of, standing};
+ghost use Rattle.pal8_asm.specs.Assembling.{Takes, remainder_of};
+ghost use Rattle.pal8_places.specs.Passing.{standing};
 
-use crate::brackets::Brackets;
 use crate::entries::Entries;
-use crate::places::{Position, first_position, spot_at};
-use crate::tags::{pass_statement, truth_of};
-use crate::{AsmFault, Code, KnownNames, Options, Place, Stop};
+use crate::{AsmFault, Place};
 use pal8_grammar::{Body, GrammarFault, Reader, Step};
 use pal8_lex::{End, Token};
+use pal8_places::{
+    Brackets, Code, KnownNames, Options, Position, Stop, first_position, pass_statement, spot_at,
+    truth_of,
+};
 use std::alloc::Global;
 use std::marker::Model;
 
@@ -29,7 +31,7 @@ pub struct Assembler {
 impl Model for Assembler {
     ghost use Rattle.std.specs.Prelude.{◌<◌};
     ghost use Rattle.std.specs.Coded.{codes};
-    ghost use Rattle.pal8_asm.specs.contracts.names.KnownNames as known_names;
+    ghost use Rattle.pal8_places.specs.contracts.names.KnownNames as known_names;
     ghost use Rattle.pal8_sym.specs.contracts.source_names.SourceNames as source_names;
     ghost use Rattle.pal8_asm.specs.Assembling.{Progress};
 

@@ -8,7 +8,8 @@ ghost use Rattle.pal8_asm.specs.Marks.{AssemblesParts};
 ghost use Rattle.pal8_asm.specs.MarkSteps.{ReadsWhole, TakesParts};
 ghost use Rattle.pal8_asm.specs.Steps.{AddsPool};
 
-use crate::{AsmFault, Assembler, Code, Mark, Options};
+use crate::{AsmFault, Assembler, Mark};
+use pal8_places::{Code, Options};
 use pal8_pools::Pools;
 use std::alloc::{AllocError, Global};
 use std::collections::BTreeMap;

@@ -4,16 +4,16 @@ ghost use Rattle.std.specs.BTreeMap.{get};
 ghost use Rattle.pal_sym.specs.Values.{if_none};
 ghost use Rattle.pal8_sym.specs.SourceNames.{own_value, with_own};
 ghost use Rattle.pal8_values.specs.Answering.{Answers};
-ghost use Rattle.pal8_asm.specs.Assembling.{is_late};
+ghost use Rattle.pal8_places.specs.Passing.{is_late};
 ghost use Rattle.pal8_asm.specs.Kept.{cut, entry_of, total};
 ghost use Rattle.pal8_asm.specs.Steps.{late_of};
 ghost use Rattle.pal8_asm.specs.Sources.{number_or, resolved_step, with_values};
 ghost use Rattle.pal8_asm.specs.Tapes.{is_last_late, late_after, late_spot, late_value, late_values, with_known};
 
-use crate::KnownNames;
 use crate::entries::{Head, Late, number_or};
 use pal8_grammar::Step;
 use pal8_lex::Name;
+use pal8_places::KnownNames;
 use pal8_values::{Spot, ValueFault, early_value};
 use std::alloc::{AllocError, Global};
 use std::collections::BTreeMap;

@@ -5,26 +5,16 @@
 
 mod assemblers;
 mod assembling;
-mod brackets;
 mod entries;
 mod faults;
 mod late;
 pub mod laws;
 mod marks;
-mod names;
-mod options;
-mod places;
-mod tags;
 mod texts;
 mod words;
 
 pub use assemblers::Assembler;
 pub use assembling::{Parts, assemble, assemble_parts};
-pub use brackets::Brackets;
 pub use entries::{Entries, Head, Late};
-pub use faults::{AsmFault, Code, Fault, Place, Stop};
+pub use faults::{AsmFault, Fault, Place};
 pub use marks::{Mark, has_indirect_bit};
-pub use names::KnownNames;
-pub use options::Options;
-pub use places::{FIRST_PLACE, Position, first_position};
-pub use tags::{pass_statement, truth_of};

@@ -10,12 +10,14 @@ ghost use Rattle.std.specs.BTreeMap.{get};
 ghost use Rattle.pal8_asm.specs.Marks.{last_values, marks_of};
 ghost use Rattle.pal8_asm.specs.Tapes.{without_clash, words_of_entries};
 ghost use Rattle.pal8_asm.specs.Steps.{Closes, HasTaken, IsOnTheWay, Pushes, ReadsOn, TakesByte};
-ghost use Rattle.pal8_asm.specs.Assembling.{MakesWords, ReadsText, is_late, remainder_of};
-ghost use Rattle.pal8_asm.specs.declared.options.Options.{Options};
+ghost use Rattle.pal8_asm.specs.Assembling.{MakesWords, ReadsText, remainder_of};
+ghost use Rattle.pal8_places.specs.Passing.{is_late};
+ghost use Rattle.pal8_places.specs.declared.options.Options.{Options};
 
-use crate::{AsmFault, Assembler, Code, Fault, Mark, Place};
+use crate::{AsmFault, Assembler, Fault, Mark, Place};
 use pal8_clash::WordCells;
 use pal8_lex::{End, Lexer};
+use pal8_places::Code;
 use pal8_pools::Pools;
 use pal8_values::Frames;
 use std::alloc::{AllocError, Global};

@@ -15,9 +15,10 @@ ghost use Rattle.pal8_asm.specs.declared.faults.Fault.{Fault};
 
 use crate::entries::{Head, Late};
 use crate::late::{LateValues, late_value, put_known};
-use crate::{AsmFault, Code, Fault, KnownNames, Place};
+use crate::{AsmFault, Fault, Place};
 use pal8_clash::WordCells;
 use pal8_grammar::Step;
+use pal8_places::{Code, KnownNames};
 use pal8_pools::Pools;
 use pal8_values::laws::words_ask_near;
 use pal8_values::{Frames, Spot, ValueFault, word_value};

@@ -4,7 +4,8 @@
 //! or the cell that the fault is about follows, by its number in octal.
 #![tactic(auto)]
 
-use pal8_asm::{AsmFault, Code, Options, Place, assemble};
+use pal8_asm::{AsmFault, Place, assemble};
+use pal8_places::{Code, Options};
 use std::alloc::{AllocError, Global};
 use std::io::Read;
 use std::process::ExitCode;

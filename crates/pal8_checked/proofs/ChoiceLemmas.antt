@@ -11,9 +11,9 @@ use Rattle.pal8_asm.specs.Assembling.{Assembles}
 use Rattle.pal8_asm.specs.Sources.{at_place}
 use Rattle.pal8_asm.specs.declared.faults.AsmFault.{AsmFault}
 use Rattle.pal8_asm.specs.declared.faults.AsmFault.TheVariants.{At}
-use Rattle.pal8_asm.specs.declared.faults.Code.{Code}
+use Rattle.pal8_places.specs.declared.faults.Code.{Code}
 use Rattle.pal8_asm.specs.declared.faults.Place.{Place}
-use Rattle.pal8_asm.specs.declared.options.Options.{Options}
+use Rattle.pal8_places.specs.declared.options.Options.{Options}
 use Rattle.pal8_source.specs.Sources.{IsPal8Source}
 use Rattle.pal8_checked.specs.Plain.{plain_source}
 use Rattle.pal8_checked.specs.Checked.{ComesBack, GivesOther, HasFault, IsCheckedSource, as_profile}

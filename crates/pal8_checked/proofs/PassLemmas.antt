@@ -9,9 +9,9 @@ use Rattle.pal8_lex.specs.declared.tokens.Kind.TheVariants as kind
 use Rattle.pal8_lex.specs.declared.tokens.Number as number
 use Rattle.pal8_sym.specs.SourceNames.{first_names, vocabulary_of}
 use Rattle.pal8_grammar.specs.declared.bodies.Body.TheVariants as body
-use Rattle.pal8_asm.specs.Places.{Standing, location_at, spot_at, value_at, with_statement, with_value_of}
+use Rattle.pal8_places.specs.Places.{Standing, location_at, spot_at, value_at, with_statement, with_value_of}
 use Rattle.pal8_asm.specs.Sources.{Entry, Remainder, Statement, entry_at, number as number_steps, place_of, with_next, with_phrase, with_said}
-use Rattle.pal8_asm.specs.declared.places.Position.{Position}
+use Rattle.pal8_places.specs.declared.places.Position.{Position}
 use Rattle.pal8_checked.specs.Checked.{as_profile}
 use Rattle.pal8_checked.proofs.GrammarLemmas.{field_says, origin_says, word_says}
 

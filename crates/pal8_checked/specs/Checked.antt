@@ -8,7 +8,7 @@ use Rattle.pal8_asm.specs.Assembled.{result_of_text}
 use Rattle.pal8_asm.specs.Assembling.{IsAssembled}
 use Rattle.pal8_asm.specs.Laws.{meaning}
 use Rattle.pal8_asm.specs.declared.faults.Fault.{Fault}
-use Rattle.pal8_asm.specs.declared.options.Options.{Options}
+use Rattle.pal8_places.specs.declared.options.Options.{Options}
 use Rattle.pal8_source.specs.Sources.{IsPal8Source}
 use Rattle.pal8_checked.specs.Plain.{plain_source}
 

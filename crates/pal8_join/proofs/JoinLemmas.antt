@@ -8,7 +8,7 @@ use Rattle.pal8_lex.specs.Text.{live}
 use Rattle.pal8_lex.specs.declared.rules.End.{End}
 use Rattle.pal8_lex.specs.declared.rules.End.TheVariants as end
 use Rattle.pal8_asm.specs.Sources.{PassResult, first_left}
-use Rattle.pal8_asm.specs.declared.options.Options.{Options}
+use Rattle.pal8_places.specs.declared.options.Options.{Options}
 use Rattle.pal8_join.specs.Joins.{bytes_in, closing_bytes, counts_from, counts_of, is_line_open, join_from, join_of, joined_bytes, remainder_after, part, texts_of}
 use Rattle.pal8_join.specs.Passing.{Follows, PassState}
 use Rattle.pal8_join.specs.Steps.{Finds, Puts, part_bytes, part_with}

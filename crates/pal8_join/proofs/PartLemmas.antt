@@ -16,9 +16,10 @@ use Rattle.pal8_lex.specs.declared.rules.Shape.{Shape}
 use Rattle.pal8_lex.specs.declared.rules.Shape.TheVariants as shape
 use Rattle.pal8_lex.specs.declared.tokens.Token.{Token}
 use Rattle.pal8_asm.specs.Sources as asm
-use Rattle.pal8_asm.specs.Places.{Standing}
+use Rattle.pal8_places.specs.Places.{Standing}
 use Rattle.pal8_asm.specs.declared.faults.Place.{Place}
-use Rattle.pal8_asm.specs.Sources.{Entry, PassResult, Remainder, Statement, is_selected, statement_at, statements, with_next, with_selected, with_skipped}
+use Rattle.pal8_asm.specs.Sources.{Entry, PassResult, Remainder, Statement, statement_at, statements, with_next, with_selected, with_skipped}
+use Rattle.pal8_places.specs.Brackets.{is_selected}
 use Rattle.pal8_join.specs.Laws.{PartIsRead, if_fine}
 use Rattle.pal8_join.specs.Joins.{before_tokens, closing_bytes, empty_statement, first_pause, has_none, is_pause, part_by, pass_on, pauses, remainder_by, tokens_after, whole_lines}
 use Rattle.pal8_join.proofs.ByteLemmas.{ended_one, ends_one}

@@ -3,17 +3,18 @@ use Rattle.std.proofs.Common.{◌≡◌, ◌-◌, Bool, true, false, if◌then�
 use Rattle.pal8_lex.specs.declared.rules.End.{End}
 use Rattle.pal8_lex.specs.declared.rules.End.TheVariants as end
 use Rattle.pal8_grammar.specs.Bodies.{Phrase}
-use Rattle.pal8_asm.specs.Places.{spot_at, truth_of, with_statement}
-use Rattle.pal8_asm.specs.Assembling.{standing}
-use Rattle.pal8_asm.specs.Sources.{Entry, PassResult, Remainder, Statement, brackets_after, brackets_with, closes_none, at_place, is_selected, open_value, phrase_of, place_of, with_brackets, with_entries, with_late_entry, with_phrase, with_next, with_said, with_selected, with_skipped, words_in}
+use Rattle.pal8_places.specs.Places.{spot_at, truth_of, with_statement}
+use Rattle.pal8_places.specs.Passing.{standing}
+use Rattle.pal8_asm.specs.Sources.{Entry, PassResult, Remainder, Statement, brackets_with, at_place, open_value, phrase_of, place_of, with_brackets, with_entries, with_late_entry, with_phrase, with_next, with_said, with_selected, with_skipped, words_in}
+use Rattle.pal8_places.specs.Brackets.{brackets_after, closes_none, is_selected}
 use Rattle.pal8_asm.specs.Sources as asm
-use Rattle.pal8_asm.specs.declared.faults.Code.{Code}
-use Rattle.pal8_asm.specs.declared.faults.Code.TheVariants as code
-use Rattle.pal8_asm.specs.declared.faults.Stop.{Stop}
-use Rattle.pal8_asm.specs.declared.faults.Stop.TheVariants.{At}
+use Rattle.pal8_places.specs.declared.faults.Code.{Code}
+use Rattle.pal8_places.specs.declared.faults.Code.TheVariants as code
+use Rattle.pal8_places.specs.declared.faults.Stop.{Stop}
+use Rattle.pal8_places.specs.declared.faults.Stop.TheVariants.{At}
 use Rattle.pal8_asm.specs.declared.faults.Fault.{Fault}
-use Rattle.pal8_asm.specs.declared.names.KnownNames.{KnownNames}
-use Rattle.pal8_asm.specs.declared.places.Position.{Position}
+use Rattle.pal8_places.specs.declared.names.KnownNames.{KnownNames}
+use Rattle.pal8_places.specs.declared.places.Position.{Position}
 use Rattle.pal8_join.specs.Passing.{Follows, FollowsBy, PassState, is_settled, remainder_at}
 use Rattle.pal8_join.specs.Steps.{Leaves, is_dollar}
 

@@ -1,7 +1,7 @@
 -- What holds of joins.
 use Rattle.std.specs.Prelude.{◌≡◌, ℕ, Option, Some, None, Ok, Err, List, [], ◌∷◌, ◌++◌}
 use Rattle.pal8_lex.specs.declared.rules.End.{End}
-use Rattle.pal8_asm.specs.declared.options.Options.{Options}
+use Rattle.pal8_places.specs.declared.options.Options.{Options}
 use Rattle.pal8_asm.specs.Sources.{PassResult, Remainder, statements}
 use Rattle.pal8_join.specs.Joins.{counts_of, first_pause, joined_bytes, part, pass_on, remainder_after}
 

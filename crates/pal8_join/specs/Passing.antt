@@ -1,10 +1,10 @@
 -- What the statements of sources leave, but for words.
 use Rattle.std.specs.Prelude.{◌≡◌, Bool, true, false, is_some, Option, None, Ok, Err, List}
-use Rattle.pal8_asm.specs.Assembling.{standing}
+use Rattle.pal8_places.specs.Passing.{standing}
 use Rattle.pal8_asm.specs.Sources.{Entry, PassResult, Remainder}
 use Rattle.pal8_asm.specs.declared.faults.Place.{Place}
-use Rattle.pal8_asm.specs.declared.names.KnownNames.{KnownNames}
-use Rattle.pal8_asm.specs.declared.places.Position.{Position}
+use Rattle.pal8_places.specs.declared.names.KnownNames.{KnownNames}
+use Rattle.pal8_places.specs.declared.places.Position.{Position}
 
 -- How far a pass is.
 pub record PassState : Type 0 where

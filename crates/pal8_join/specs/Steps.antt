@@ -9,10 +9,10 @@ use Rattle.pal8_lex.specs.declared.rules.End.{End}
 use Rattle.pal8_lex.specs.declared.rules.End.TheVariants as end
 use Rattle.pal8_asm.specs.Sources as asm
 use Rattle.pal8_asm.specs.Sources.{Entry, PassResult, Statement, statements, with_next}
-use Rattle.pal8_asm.specs.declared.faults.Stop.{Stop}
-use Rattle.pal8_asm.specs.declared.faults.Stop.TheVariants.{At, Memory}
-use Rattle.pal8_asm.specs.declared.names.KnownNames.{KnownNames}
-use Rattle.pal8_asm.specs.declared.places.Position.{Position}
+use Rattle.pal8_places.specs.declared.faults.Stop.{Stop}
+use Rattle.pal8_places.specs.declared.faults.Stop.TheVariants.{At, Memory}
+use Rattle.pal8_places.specs.declared.names.KnownNames.{KnownNames}
+use Rattle.pal8_places.specs.declared.places.Position.{Position}
 use Rattle.pal8_join.specs.declared.pauses.Pause.{Pause}
 use Rattle.pal8_join.specs.Joins.{before_tokens, closing_bytes, empty_statement, first_pause, is_line_open, is_pause, is_read, remainder_after, part, pass_on, pauses, whole_lines}
 use Rattle.pal8_join.specs.Passing.{PassState, remainder_at, is_settled, Follows}

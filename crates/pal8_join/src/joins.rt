@@ -9,8 +9,8 @@ ghost use Rattle.pal8_join.specs.Steps.{Puts, part_bytes};
 use crate::JoinFault;
 use crate::passes::Pass;
 use crate::pauses::{Pause, find_pause, is_line_open};
-use pal8_asm::Options;
 use pal8_lex::End;
+use pal8_places::Options;
 use std::alloc::{AllocError, Global};
 
 /// Sources that are one.

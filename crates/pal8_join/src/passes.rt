@@ -7,11 +7,11 @@ ghost use Rattle.pal8_join.specs.Passing.{Follows, remainder_at};
 ghost use Rattle.pal8_join.specs.Steps.{Leaves, Meets, is_dollar};
 
 use crate::JoinFault;
-use pal8_asm::{
-    Brackets, Code, KnownNames, Options, Position, Stop, first_position, pass_statement, truth_of,
-};
 use pal8_grammar::{GrammarFault, Reader};
 use pal8_lex::{End, Kind, Name, Token};
+use pal8_places::{
+    Brackets, Code, KnownNames, Options, Position, Stop, first_position, pass_statement, truth_of,
+};
 use std::alloc::Global;
 use std::marker::Model;
 
@@ -31,7 +31,7 @@ pub struct Pass {
 impl Model for Pass {
     ghost use Rattle.std.specs.Prelude.{◌<◌};
     ghost use Rattle.std.specs.Coded.{codes};
-    ghost use Rattle.pal8_asm.specs.contracts.names.KnownNames as known_names;
+    ghost use Rattle.pal8_places.specs.contracts.names.KnownNames as known_names;
     ghost use Rattle.pal8_sym.specs.contracts.source_names.SourceNames as source_names;
     ghost use Rattle.pal8_join.specs.Passing.{PassState};
 

@@ -10,13 +10,14 @@ use Rattle.pal8_grammar.specs.declared.steps.Step.{Step}
 use Rattle.pal8_grammar.specs.declared.faults.GrammarFault.{GrammarFault}
 use Rattle.pal8_values.specs.declared.sums.Spot.{Spot}
 use Rattle.pal8_asm.specs.Marks.{marks_of}
-use Rattle.pal8_asm.specs.Places.{Standing, has_later, spot_at, truth_of}
-use Rattle.pal8_asm.specs.Sources.{Entry, PassResult, Remainder, Statement, brackets_with, defined_name, end_of_pass, entry_at, first_left, is_selected, late_entry, next_spot, open_value, pass_over, place_of, remainder_of_text, statement_at, statements, statements_of, with_brackets, with_end, with_entries, with_late_by, with_next, with_phrase, with_said, with_selected, with_skipped, words_in}
-use Rattle.pal8_asm.specs.declared.faults.Code.{Code}
+use Rattle.pal8_places.specs.Places.{Standing, has_later, spot_at, truth_of}
+use Rattle.pal8_asm.specs.Sources.{Entry, PassResult, Remainder, Statement, brackets_with, defined_name, end_of_pass, entry_at, first_left, late_entry, next_spot, open_value, pass_over, place_of, remainder_of_text, statement_at, statements, statements_of, with_brackets, with_end, with_entries, with_late_by, with_next, with_phrase, with_said, with_selected, with_skipped, words_in}
+use Rattle.pal8_places.specs.Brackets.{is_selected}
+use Rattle.pal8_places.specs.declared.faults.Code.{Code}
 use Rattle.pal8_asm.specs.declared.faults.Fault.{Fault}
 use Rattle.pal8_asm.specs.declared.faults.Place.{Place}
 use Rattle.pal8_asm.specs.declared.marks.Mark.{Mark}
-use Rattle.pal8_asm.specs.declared.options.Options.{Options}
+use Rattle.pal8_places.specs.declared.options.Options.{Options}
 
 -- ## Numbers that rise
 

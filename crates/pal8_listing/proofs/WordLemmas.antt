@@ -13,7 +13,7 @@ use Rattle.pal8_asm.specs.declared.entries.Late.{Late}
 use Rattle.pal8_asm.specs.declared.faults.Fault.{Fault}
 use Rattle.pal8_asm.specs.declared.faults.Place.{Place}
 use Rattle.pal8_asm.specs.declared.marks.Mark.{Mark}
-use Rattle.pal8_asm.specs.declared.options.Options.{Options}
+use Rattle.pal8_places.specs.declared.options.Options.{Options}
 
 abbrev pub MadeResult : Type 0
 MadeResult = Result TapeWords Fault

@@ -2,7 +2,7 @@
 use Rattle.std.specs.Prelude.{◌≡◌, ℕ, List, [], ◌∷◌, ◌++◌}
 use Rattle.std.specs.Borrow.{Bor}
 use Rattle.pal8_asm.specs.Marks.{marks_of}
-use Rattle.pal8_asm.specs.declared.options.Options.{Options}
+use Rattle.pal8_places.specs.declared.options.Options.{Options}
 use Rattle.pal8_tape.specs.Answers.{IsTape}
 use Rattle.pal8_listing.specs.Listings.{IsListed, rows_in}
 use Rattle.pal8_listing.specs.Rows.{Row, listed_words, pair_of}

@@ -2,7 +2,7 @@
 use Rattle.std.specs.Prelude.{ℕ, ◌+◌, ◌-◌, nat_eq, Bool, true, false, ◌&&◌, if◌then◌else◌, take, drop, codes, Option, Some, None, List, [], ◌∷◌, ◌++◌}
 use Rattle.std.specs.Borrow.{Bor}
 use Rattle.pal_lex.specs.Text.{limit, text_of}
-use Rattle.host_sources.specs.Places.{next_line}
+use Rattle.source_places.specs.Places.{next_line}
 use Rattle.source_listing.specs.Rows.{margin, word_text}
 use Rattle.pal8_asm.specs.Marks.{has_indirect_bit}
 use Rattle.pal8_asm.specs.declared.marks.Mark.{Mark}

@@ -5,7 +5,7 @@ use Rattle.pal8_lex.specs.Kinds.{is_comma}
 use Rattle.pal8_lex.specs.declared.tokens.Token.{Token}
 use Rattle.pal8_grammar.specs.Bodies.{free_name, is_equals, names_file}
 use Rattle.pal8_asm.specs.Sources.{Source, PassResult, first_left, statements}
-use Rattle.pal8_asm.specs.declared.options.Options.{Options}
+use Rattle.pal8_places.specs.declared.options.Options.{Options}
 use Rattle.pal8_join.specs.Joins.{is_read, pass_on}
 use Rattle.source_listing.specs.Symbols.{symbol_text}
 use Rattle.pal8_listing.specs.Rows.{join_after, lines_read, number_after}

@@ -1,7 +1,7 @@
 //! The cross reference of a listing: names with their values and the lines that use them.
 ghost use Rattle.std.specs.Prelude.{◌≡◌, ◌++◌, ◌∷◌, [], ℕ, List, IfOk, OnOk};
 ghost use Rattle.pal_lex.specs.Text.{limit};
-ghost use Rattle.pal8_asm.specs.declared.options.Options as options;
+ghost use Rattle.pal8_places.specs.declared.options.Options as options;
 ghost use Rattle.pal8_listing.specs.Steps.{AreByName};
 ghost use Rattle.pal8_listing.specs.Uses.{cross_text, further_text, is_of, one_use, later_starts, sign_text, spot_from, spot_text, use_text, uses_text};
 ghost use Rattle.std.specs.Prelude.{filter, ◌+◌, ◌-◌};
@@ -10,8 +10,8 @@ ghost use Rattle.pal8_listing.specs.declared.mentions.Mention as mention;
 use crate::mentions::Mention;
 use crate::rows::{join_after, lines_read, number_after};
 use crate::uses::uses_of;
-use host_sources::put_number;
 use source_listing::{put_symbol, split};
+use source_places::put_number;
 use std::alloc::{AllocError, Global};
 use std::collections::BTreeMap;
 use word12::Word;

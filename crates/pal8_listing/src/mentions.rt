@@ -11,10 +11,10 @@ ghost use Rattle.pal8_join.specs.Passing.{Follows};
 ghost use Rattle.pal8_listing.specs.Uses.{is_defining, mention_by, mentions, names_in};
 ghost use Rattle.pal8_listing.specs.Steps.{MeetsByte, NamesStatement};
 
-use pal8_asm::Options;
 use pal8_grammar::free_name;
 use pal8_join::{JoinFault, Pass};
 use pal8_lex::{End, Kind, Lexer, Name, Token};
+use pal8_places::Options;
 use std::alloc::{AllocError, Global};
 
 /// The numbers of the names FILENAME and DEVICE, which their sixbit codes make.

@@ -4,8 +4,8 @@ ghost use Rattle.pal8_listing.specs.Rows.{Line, all_lines, join_after, last_text
 
 use crate::lines::{put_last, put_line};
 use crate::words::{ListedWord, split_words};
-use host_sources::{first_bytes, next_line};
 use source_listing::split;
+use source_places::{first_bytes, next_line};
 use std::alloc::{AllocError, Global};
 
 /// Puts the lines of sources that have so many bytes each in this join, with these words.

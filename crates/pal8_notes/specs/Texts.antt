@@ -2,8 +2,8 @@
 use Rattle.std.specs.Prelude.{ℕ, ◌-◌, codes, decimal, List, [], ◌∷◌, ◌++◌}
 use Rattle.std.specs.Borrow.{Bor}
 use Rattle.pal_lex.specs.Text.{text_of}
-use Rattle.host_sources.specs.Places.{bytes_of}
-use Rattle.pal8_asm.specs.declared.options.Options.{Options}
+use Rattle.source_places.specs.Places.{bytes_of}
+use Rattle.pal8_places.specs.declared.options.Options.{Options}
 use Rattle.pal8_join.specs.Joins.{bytes_in, counts_of, joined_bytes}
 use Rattle.pal8_listing.specs.Uses.{later_starts, spot_from}
 use Rattle.pal8_notes.specs.Notes.{notes}

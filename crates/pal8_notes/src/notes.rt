@@ -10,9 +10,9 @@ ghost use Rattle.pal8_notes.specs.Steps.{NotesByte, NotesStatement};
 
 use crate::Difference;
 use crate::differences::{has_apart, has_closer, has_tab};
-use pal8_asm::Options;
 use pal8_join::{JoinFault, Pass};
 use pal8_lex::{End, Lexer, Token};
+use pal8_places::Options;
 use std::alloc::{AllocError, Global};
 
 /// A note on a statement, with the line of the join in which that begins.

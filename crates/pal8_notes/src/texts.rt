@@ -1,15 +1,14 @@
 //! The lines of notes.
 ghost use Rattle.std.specs.Prelude.{◌≡◌, ◌++◌, ◌-◌, IfOk, OnOk};
-ghost use Rattle.host_sources.specs.Places as hosts;
 ghost use Rattle.pal8_notes.specs.Texts.{note_text, note_texts, notes_text, spot_note_text};
 
 use crate::differences::words_of;
 use crate::notes::notes_of;
 use crate::{Difference, Note};
-use host_sources::put_number;
-use pal8_asm::Options;
 use pal8_join::join_all;
 use pal8_listing::{later_starts, spot_of};
+use pal8_places::Options;
+use source_places::{name_of, put_number};
 use std::alloc::{AllocError, Global};
 
 /// The notes on sources of the host with these names, where these are assembled as one by these options. Each is a line that LF ends. It has the name of
@@ -35,22 +34,6 @@ pub fn notes_text(
     Ok(text)
 }
 
-/// The name of a source; an empty one where there is none of this number.
-fn name_of<'a>(names: &[&'a str], number: u64) -> &'a str
-    ensures { result.now ≡ hosts.bytes_of names.now number }
-{
-    let mut left = number;
-    let mut rest = names;
-    while let [name, others @ ..] = rest {
-        if left == 0 {
-            return name;
-        }
-        left -= 1;
-        rest = others;
-    }
-    ""
-}
-
 /// Puts a note on the line of a source.
 fn put_at(
     text: &mut Vec<u8>,
@@ -61,7 +44,7 @@ fn put_at(
     ensures { OnOk result (text.new.items ≡ text.old.items ++ spot_note_text names.now spot difference) }
 {
     let (source, line) = spot;
-    text.extend_from_slice(name_of(names, source.saturating_sub(1)).as_bytes())?;
+    text.extend_from_slice(name_of(names, source.saturating_sub(1) as usize).as_bytes())?;
     text.extend_from_slice(b":")?;
     put_number(text, line)?;
     text.extend_from_slice(b": note: ")?;

@@ -3,7 +3,7 @@ use Rattle.std.proofs.Common.{◌≡◌, ℕ, ◌-◌, ◌≤◌, ◌<◌, Bool,
 use Rattle.std.proofs.lemmas.List.{take_all}
 use Rattle.pal8_tape.specs.Further.{faults_after, faults_from, further_fault, items_of, next_texts}
 use Rattle.std.specs.Borrow.{Bor}
-use Rattle.pal8_asm.specs.declared.options.Options.{Options}
+use Rattle.pal8_places.specs.declared.options.Options.{Options}
 use Rattle.pal8_tape.specs.declared.faults.Fault.{Fault}
 
 module _ (options : Options) (passed : Bool) (sources : List (Bor (List ℕ))) (texts : List (List ℕ)) where

@@ -5,7 +5,7 @@ use Rattle.pal8_lex.specs.Statements.{Statement, statements}
 use Rattle.pal8_lex.specs.declared.rules.End.{End}
 use Rattle.pal8_lex.specs.declared.tokens.Token.{Token}
 use Rattle.pal8_lex.specs.declared.judging.Radix.{Radix}
-use Rattle.pal8_asm.specs.declared.faults.Code.{Code}
+use Rattle.pal8_places.specs.declared.faults.Code.{Code}
 use Rattle.pal8_tape.specs.Marks.{begins, mark_in, mark_of}
 use Rattle.pal8_lex.specs.Text.{as_read, live}
 use Rattle.pal8_lex.specs.Statements.{statement_of}

@@ -1,12 +1,12 @@
 -- The text of a fault, as a compiler reports it (this project's profile of PAL8).
 use Rattle.std.specs.Prelude.{ℕ, codes, decimal, List, [], ◌++◌}
 use Rattle.word12.specs.Octal.{octal5}
-use Rattle.pal8_asm.specs.declared.faults.Code.{Code}
-use Rattle.pal8_asm.specs.declared.faults.Code.TheVariants.{IC, SY, NU, UA, DT, RD, IR, II, FD, PG, PF, DZ, PE, ZE, PageClash, ZeroClash, RL, PH, NE, NW}
+use Rattle.pal8_places.specs.declared.faults.Code.{Code}
+use Rattle.pal8_places.specs.declared.faults.Code.TheVariants.{IC, SY, NU, UA, DT, RD, IR, II, FD, PG, PF, DZ, PE, ZE, PageClash, ZeroClash, RL, PH, NE, NW}
 use Rattle.std.specs.Borrow.{Bor}
-use Rattle.host_sources.specs.Places.{bytes_of}
-use Rattle.host_sources.specs.Spelling.{spelling}
-use Rattle.host_sources.specs.FaultLines.{character_text, place_text, marked_line}
+use Rattle.source_places.specs.Places.{bytes_of}
+use Rattle.source_places.specs.Showing.{character_text, place_text, marked_line}
+use Rattle.source_places.specs.Spelling.{spelling}
 use Rattle.pal8_tape.specs.declared.faults.Fault.{Fault}
 
 -- the two letters of a fault

@@ -5,10 +5,10 @@ use Rattle.pal_lex.specs.Text.{text_of}
 use Rattle.pal8_asm.specs.Sources.{PassResult, remainder_of_text}
 use Rattle.pal8_asm.specs.Tapes.{TapeWords}
 use Rattle.pal8_asm.specs.declared.faults.Fault as asm
-use Rattle.pal8_asm.specs.declared.options.Options.{Options}
-use Rattle.pal8_asm.specs.declared.faults.Code.{Code}
-use Rattle.pal8_asm.specs.declared.faults.Code.TheVariants.{IC, SY, NU, UA, DT, RD, IR, II, FD, PG, PF, DZ, PE, ZE, PageClash, ZeroClash, RL, PH, NE, NW}
-use Rattle.host_sources.specs.Places.{place_in}
+use Rattle.pal8_places.specs.declared.options.Options.{Options}
+use Rattle.pal8_places.specs.declared.faults.Code.{Code}
+use Rattle.pal8_places.specs.declared.faults.Code.TheVariants.{IC, SY, NU, UA, DT, RD, IR, II, FD, PG, PF, DZ, PE, ZE, PageClash, ZeroClash, RL, PH, NE, NW}
+use Rattle.source_places.specs.Places.{place_in}
 use Rattle.pal8_lex.specs.Text.{live}
 use Rattle.pal8_join.specs.Joins.{bytes_in, counts_of, is_line_open, joined_bytes}
 use Rattle.pal8_tape.specs.Mending.{harmless}

@@ -7,7 +7,7 @@ use Rattle.pal8_lex.specs.declared.rules.End.{End}
 use Rattle.pal8_sym.specs.Permanent.{is_reserved}
 use Rattle.pal8_grammar.specs.Bodies.{body_in, free_name, is_equals, name_of, opens}
 use Rattle.pal8_asm.specs.Sources.{Source, statements}
-use Rattle.host_sources.specs.Spelling.{spelling}
+use Rattle.source_places.specs.Spelling.{spelling}
 use Rattle.pal8_tape.specs.Marks.{begins}
 
 abbrev pub tag_text : Option ℕ → List ℕ

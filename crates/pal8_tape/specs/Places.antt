@@ -2,8 +2,8 @@
 use Rattle.std.specs.Prelude.{ℕ, ◌+◌, nat_eq, if◌then◌else◌, take, List, [], ◌∷◌}
 use Rattle.pal_lex.specs.Text.{text_of}
 use Rattle.std.specs.Borrow.{Bor}
-use Rattle.host_sources.specs.Places.{bytes_of, next_line}
-use Rattle.host_sources.specs.declared.faults.Place.{Place}
+use Rattle.source_places.specs.Places.{bytes_of, next_line}
+use Rattle.source_places.specs.declared.places.Place.{Place}
 
 -- the column after one more byte: LF ends a line, and CR counts for nothing
 abbrev pub column_with : ℕ → ℕ → ℕ

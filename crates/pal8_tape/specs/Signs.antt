@@ -1,9 +1,9 @@
 -- Which signs of a PAL III source are PAL8's (this project's profile of the two).
 use Rattle.std.specs.Prelude.{ℕ, nat_eq, Bool, ◌||◌, if◌then◌else◌, List, [], ◌∷◌}
 use Rattle.pal8_sym.specs.Permanent.{is_reserved}
-use Rattle.host_sources.specs.Spelling.{spelling}
-use Rattle.host_sources.specs.declared.faults.About.{About}
-use Rattle.host_sources.specs.declared.faults.About.TheVariants.{Nothing, Name, Character}
+use Rattle.source_places.specs.Spelling.{spelling}
+use Rattle.source_places.specs.declared.subjects.About.{About}
+use Rattle.source_places.specs.declared.subjects.About.TheVariants.{Nothing, Name, Character}
 
 -- the characters that PAL8 has beside those of PAL III: ( ) [ ] < > " ! & ^ and %
 abbrev pub is_of_pal8 : ℕ → Bool

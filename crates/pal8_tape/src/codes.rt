@@ -2,7 +2,7 @@
 ghost use Rattle.std.specs.Prelude.{◌≡◌};
 ghost use Rattle.pal8_tape.specs.FaultLines.{letters_of, words_of};
 
-use pal8_asm::Code;
+use pal8_places::Code;
 
 /// The two letters of a fault.
 pub(crate) fn letters_of(code: Code) -> &'static [u8]

@@ -6,9 +6,10 @@ ghost use Rattle.std.specs.Prelude.{codes};
 
 use crate::Fault;
 use crate::codes::{letters_of, words_of};
-use crate::places::{bytes_of, name_of};
-use host_sources::{put_character, put_marked_line, put_number, put_place, put_spelling};
-use pal8_asm::Code;
+use pal8_places::Code;
+use source_places::{
+    bytes_of, name_of, put_character, put_marked_line, put_number, put_place, put_spelling,
+};
 use std::alloc::{AllocError, Global};
 use word12::Cell;
 

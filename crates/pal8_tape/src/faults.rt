@@ -1,9 +1,9 @@
 ghost use Rattle.std.specs.Prelude.{◌≡◌};
 ghost use Rattle.pal8_tape.specs.declared.faults.SourceFault.TheVariants.{Memory};
 
-use host_sources::Place;
-use pal8_asm::Code;
 use pal8_join::JoinFault;
+use pal8_places::Code;
+use source_places::Place;
 use std::alloc::AllocError;
 use thiserror::Error;
 

@@ -12,8 +12,9 @@ use crate::places::place_in;
 use crate::tapes::at_token;
 use crate::texts::{ended_texts, join_texts, mend};
 use crate::{Fault, SourceFault};
-use pal8_asm::{AsmFault, Assembler, Code, Options, Place, assemble};
+use pal8_asm::{AsmFault, Assembler, Place, assemble};
 use pal8_join::Join;
+use pal8_places::{Code, Options};
 use std::alloc::{AllocError, Global};
 
 /// How many statements at most are made harmless to find further faults.

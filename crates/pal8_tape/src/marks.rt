@@ -5,9 +5,10 @@ ghost use Rattle.pal8_lex.specs.Reading.{HasRead};
 ghost use Rattle.pal8_lex.specs.Statements.{statements};
 ghost use Rattle.pal8_tape.specs.Marks.{begins, fault_mark, first_start, is_meant, is_name, is_number_fault, is_redefinition, mark_in, mark_of, meant_mark, radix_at, radix_for};
 
-use host_sources::first_bytes;
-use pal8_asm::{AsmFault, Code, Options, assemble};
+use pal8_asm::{AsmFault, assemble};
 use pal8_lex::{Kind, Lexer, Radix, Token, tag_count};
+use pal8_places::{Code, Options};
+use source_places::first_bytes;
 use std::alloc::{AllocError, Global};
 
 /// Where the fault of a source is whose statement begins at a place.

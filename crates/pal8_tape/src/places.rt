@@ -1,10 +1,10 @@
 //! Where a byte of sources stands.
 ghost use Rattle.std.specs.Prelude.{◌≡◌, ◌<◌, take};
 ghost use Rattle.pal_lex.specs.Text.{text_of};
-ghost use Rattle.host_sources.specs.Places as hosts;
+ghost use Rattle.source_places.specs.Places as hosts;
 ghost use Rattle.pal8_tape.specs.Places.{column_after, column_with, place_by, place_of};
 
-use host_sources::{Place, first_bytes, next_line};
+use source_places::{Place, bytes_of, first_bytes, next_line};
 
 /// The place of a byte of a source with this number, by the byte's number from 0. Where there is none of this number, it is the place after the
 /// last one.
@@ -41,38 +41,6 @@ pub(crate) fn place_in(counts: &[usize], place: usize) -> (usize, usize)
         source += 1;
     }
     (source, left)
-}
-
-/// The bytes of a source, of which the first is number 0; none where there is none of this number.
-pub(crate) fn bytes_of<'a>(sources: &[&'a [u8]], number: usize) -> &'a [u8]
-    ensures { result.now ≡ hosts.bytes_of sources.now number }
-{
-    let mut left = number;
-    let mut rest = sources;
-    while let [source, others @ ..] = rest {
-        if left == 0 {
-            return source;
-        }
-        left -= 1;
-        rest = others;
-    }
-    &[]
-}
-
-/// The name of a source; an empty one where there is none of this number.
-pub(crate) fn name_of<'a>(names: &[&'a str], number: usize) -> &'a str
-    ensures { result.now ≡ hosts.bytes_of names.now number }
-{
-    let mut left = number;
-    let mut rest = names;
-    while let [name, others @ ..] = rest {
-        if left == 0 {
-            return name;
-        }
-        left -= 1;
-        rest = others;
-    }
-    ""
 }
 
 /// The column after a text, from 1.

@@ -2,9 +2,9 @@
 ghost use Rattle.std.specs.Prelude.{◌≡◌, IfOk};
 ghost use Rattle.pal8_tape.specs.Signs.{character_sign, is_of_pal8, name_sign, sign_text};
 
-use host_sources::{About, put_spelling};
 use pal8_lex::Name;
 use pal8_sym::is_reserved;
+use source_places::{About, put_spelling};
 use std::alloc::{AllocError, Global};
 
 /// The name or the character of PAL8 that the first fault of a PAL III source is about, as text. Of UA it is the undefined name, where PAL8 reserves

@@ -1,7 +1,7 @@
 //! Sources to a tape.
 ghost use Rattle.std.specs.Prelude.{◌≡◌, get_or, IfOk, IfErr};
 ghost use Rattle.pal_lex.specs.Text.{text_of};
-ghost use Rattle.host_sources.specs.Places.{place_in};
+ghost use Rattle.source_places.specs.Places.{place_in};
 ghost use Rattle.pal8_asm.specs.Assembling.{Assembles, IsAssembled};
 ghost use Rattle.pal8_join.specs.Joins.{bytes_in, counts_of, joined_bytes};
 ghost use Rattle.pal8_tape.specs.Answers.{IsTape, IsTold, result_of};
@@ -13,8 +13,9 @@ use crate::laws::has_words;
 use crate::marks::fault_mark;
 use crate::places::place_by;
 use crate::{Fault, SourceFault};
-use pal8_asm::{AsmFault, Code, Options, Place, assemble};
+use pal8_asm::{AsmFault, Place, assemble};
 use pal8_join::{Join, join_all};
+use pal8_places::{Code, Options};
 use std::alloc::{AllocError, Global};
 use word12::{Cell, Word};
 

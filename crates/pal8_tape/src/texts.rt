@@ -7,8 +7,8 @@ ghost use Rattle.pal8_tape.specs.declared.faults.SourceFault.TheVariants.{Memory
 
 use crate::SourceFault;
 use crate::mending::harmless;
-use pal8_asm::Options;
 use pal8_join::{Join, is_line_open, join_all};
+use pal8_places::Options;
 use std::alloc::{AllocError, Global};
 
 /// The texts of sources. Each but the last has its last line ended.

@@ -6,7 +6,7 @@ use archive_files::GetForm;
 use hosts::Host;
 use image_files::{input_bytes, look_at, look_file, print, show_file};
 use outcome::Ending;
-use program_reports::RimTextFault;
+use program_reports::ProgramLine;
 use program_tasks::{ImageForm, RimForm, TapeForm};
 use std::alloc::Global;
 use tape_reports::rim_output;
@@ -68,6 +68,6 @@ fn rim_bytes(alloc: Global, frames: &[u8], form: RimForm) -> Result<Vec<u8>, End
 {
     match rim_output(alloc, frames, form) {
         Ok(bytes) => Ok(bytes),
-        Err(fault) => Err(Ending::from(RimTextFault::Rim(fault))),
+        Err(fault) => Err(Ending::Line(ProgramLine::Rim(fault))),
     }
 }

@@ -8,7 +8,7 @@ mod prefixes;
 mod programs;
 
 pub use cores::core_tape;
-pub use faults::{RimTextFault, SourceFault};
+pub use faults::SourceFault;
 pub use line_ends::with_line_feeds;
 pub use prefixes::with_prefix;
 pub use programs::{ProgramLine, put_program};

@@ -3,6 +3,7 @@ use Rattle.std.specs.Prelude.{◌≡◌, ◌⊎◌, ℕ, ◌+◌, ◌-◌, ◌*�
 use Rattle.std.specs.List.{list_all}
 use Rattle.std.specs.Str.{bytes_eq}
 use Rattle.word12.specs.Octal.{octal_of}
+use Rattle.word12.specs.declared.sizes.TheConstants.{MOST_SOURCES}
 use Rattle.script8.specs.declared.entries.Entry.{Entry}
 use Rattle.script8.specs.declared.entries.Entry.TheVariants as entry
 use Rattle.script8.specs.declared.entries.FileEntry.{FileEntry}
@@ -162,7 +163,7 @@ lists_names most list = list_all is_name (parts_of_list list) && nat_le (length 
 -- `ASSEMBLE` of one target and of 1 to 8 sources, which are between commas
 abbrev pub target_and_sources : List ℕ → List ℕ → Option Entry
 target_and_sources to from =
-    if lists_names 1 to && lists_names 8 from then Some (entry.Jobs (job.Assemble to (parts_of_list from))) else None
+    if lists_names 1 to && lists_names MOST_SOURCES from then Some (entry.Jobs (job.Assemble to (parts_of_list from))) else None
 
 -- the parts of an `ASSEMBLE`: a target and its sources
 abbrev pub assemble_entry : List (List ℕ) → Option Entry

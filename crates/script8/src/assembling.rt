@@ -10,6 +10,7 @@ ghost use Rattle.script8.specs.declared.lines.Line.TheVariants.{Whole};
 use crate::parts::first_part;
 use crate::{Bytes, Entry, JobEntry, Line, Names, SessionFault};
 use std::alloc::{AllocError, Global};
+use word12::MOST_SOURCES;
 
 /// What `ASSEMBLE` of a word says: a target, `<`, and 1 to 8 sources with commas between.
 pub(crate) fn assemble(alloc: Global, word: &[u8]) -> Result<Line, SessionFault>
@@ -23,7 +24,7 @@ pub(crate) fn assemble(alloc: Global, word: &[u8]) -> Result<Line, SessionFault>
     if !is_last {
         return Err(SessionFault::BadLine);
     }
-    if !are_names(to, 1) || !are_names(from, 8) {
+    if !are_names(to, 1) || !are_names(from, MOST_SOURCES) {
         return Err(SessionFault::BadLine);
     }
     target_and_sources(alloc, to, from)

@@ -23,7 +23,7 @@ use Rattle.outcome.specs.declared.notes.NameNote.{NameNote}
 use Rattle.outcome.specs.declared.notes.NameNote.TheVariants.{NoSource}
 use Rattle.host_sources.specs.declared.faults.SourceFault as pal3_fault
 use Rattle.host_sources.specs.declared.faults.SourceFault.TheVariants as pal3_is
-use Rattle.pal8_asm.specs.declared.options.Options.{Options}
+use Rattle.pal8_places.specs.declared.options.Options.{Options}
 use Rattle.pal8_tape.specs.declared.faults.SourceFault as pal8_fault
 use Rattle.pal8_tape.specs.declared.faults.SourceFault.TheVariants as pal8_is
 use Rattle.pal8_notes.specs.Texts.{notes_text}

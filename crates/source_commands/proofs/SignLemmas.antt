@@ -3,9 +3,9 @@ use Rattle.std.proofs.Common.{◌≡◌, ◌<◌, ◌+◌, ◌/◌, ◌%◌, ℕ
 use Rattle.std.specs.Prelude.{nat_eq, nat_lt}
 use Rattle.std.specs.Str.{IsAscii}
 use Rattle.std.proofs.lemmas.Bool.Decides.{nat_tests}
-use Rattle.host_sources.specs.Spelling.{character_of, codes_of, spelt}
-use Rattle.host_sources.specs.declared.faults.About.{About}
-use Rattle.host_sources.specs.declared.faults.About.TheVariants.{Nothing, Name, Character}
+use Rattle.source_places.specs.Spelling.{character_of, codes_of, spelt}
+use Rattle.source_places.specs.declared.subjects.About.{About}
+use Rattle.source_places.specs.declared.subjects.About.TheVariants.{Nothing, Name, Character}
 use Rattle.pal8_tape.specs.Signs.{is_of_pal8, sign_text}
 
 ascii-nil : IsAscii []

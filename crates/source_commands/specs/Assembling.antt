@@ -9,7 +9,7 @@ use Rattle.host_sources.specs.declared.faults.SourceFault.TheVariants as pal3_is
 use Rattle.source_listing.specs.Listings.{IsListed}
 use Rattle.source_listing.specs.declared.listing.ListingForm.{ListingForm}
 use Rattle.source_listing.specs.declared.listing.ListingForm.TheVariants.{Symbols, Cross}
-use Rattle.pal8_asm.specs.declared.options.Options.{Options}
+use Rattle.pal8_places.specs.declared.options.Options.{Options}
 use Rattle.pal8_listing.specs.Listings as pal8_listing
 use Rattle.pal8_notes.specs.Texts.{notes_text}
 use Rattle.pal8_tape.specs.Answers as pal8

@@ -5,7 +5,7 @@ use Rattle.file_kind.specs.Texts.{are_marked, is_text}
 use Rattle.host_sources.specs.FaultLines as pal3
 use Rattle.host_sources.specs.Further.{further_faults}
 use Rattle.host_sources.specs.declared.faults.Fault as pal3_fault
-use Rattle.pal8_asm.specs.declared.options.Options.{Options}
+use Rattle.pal8_places.specs.declared.options.Options.{Options}
 use Rattle.pal8_tape.specs.FaultLines as pal8
 use Rattle.pal8_tape.specs.Further as pal8_further
 use Rattle.pal8_tape.specs.Signs.{sign_text}

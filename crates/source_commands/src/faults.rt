@@ -11,11 +11,12 @@ ghost use Rattle.source_commands.specs.Faults as spec;
 ghost use Rattle.source_commands.specs.FaultSteps.{AreFurther};
 
 use file_kind::{are_marked, is_text};
-use host_sources::{About, Fault};
+use host_sources::Fault;
 use outcome::{Ending, NameNote, Note, PlainNote};
-use pal8_asm::Options;
+use pal8_places::Options;
 use pal8_tape::sign_text;
 use script8::SessionFault;
+use source_places::About;
 use std::alloc::{AllocError, Global};
 
 /// How many further faults are printed at most.

@@ -6,8 +6,8 @@ use Rattle.std.specs.Borrow.{Bor}
 use Rattle.char_pack.specs.Texts.{host_text}
 use Rattle.pal_lex.specs.Text.{text_from, text_of}
 use Rattle.pal_lex.specs.Joins.{before_pause, text_with_next, join_of}
+use Rattle.source_places.specs.Places.{further, place_in, bytes_of, next_line, before_place}
 use Rattle.host_sources.specs.Sources.{texts_of, newest_first, counts_by, counts_of}
-use Rattle.host_sources.specs.Places.{further, place_in, bytes_of, next_line, before_place}
 use Rattle.source_listing.specs.Rows.{Row, ends_word, word_ends, first_end, two_ends, rows, own_ends, later_ends, all_rows}
 use Rattle.source_listing.specs.References.{spot_by, mentions}
 use Rattle.source_listing.specs.SpotSteps.{byte_spots, all_spots, no_spot}

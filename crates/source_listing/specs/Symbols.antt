@@ -2,7 +2,7 @@
 use Rattle.std.specs.Prelude.{ℕ, ◌%◌, is_some, if◌then◌else◌, codes, List, [], ◌∷◌, ◌++◌}
 use Rattle.word12.specs.Octal.{octal4}
 use Rattle.pal_sym.specs.Permanent.{permanent}
-use Rattle.host_sources.specs.Spelling.{name_text}
+use Rattle.source_places.specs.Spelling.{name_text}
 use Rattle.host_sources.specs.Symbols.{Entries}
 
 -- a name with its value in four octal digits

@@ -6,7 +6,8 @@ ghost use Rattle.source_listing.specs.References.{spot_text, opening_text, is_sa
 use crate::references::Mention;
 use crate::spots::Spot;
 use crate::tables::put_symbol;
-use host_sources::{put_number, value_by_number};
+use host_sources::value_by_number;
+use source_places::put_number;
 use std::alloc::AllocError;
 use std::collections::BTreeMap;
 

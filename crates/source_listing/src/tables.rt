@@ -3,8 +3,8 @@ ghost use Rattle.std.specs.Prelude.{◌≡◌, ◌++◌, is_some, OnOk};
 ghost use Rattle.pal_sym.specs.Permanent.{permanent};
 ghost use Rattle.source_listing.specs.Symbols.{symbol_text, entry_text, table_text};
 
-use host_sources::name_text;
 use pal_sym::{SymbolName, Symbols};
+use source_places::name_text;
 use std::alloc::AllocError;
 use std::collections::BTreeMap;
 use word12::Word;

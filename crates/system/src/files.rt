@@ -165,19 +165,31 @@ pub(crate) fn file_bytes<R: Files<File = File>>(
     ensures { IfOk result (λ bytes. length bytes.items ≤ most + 1) }
 {
     match fs::open(rt, name) {
-        Ok(file) => bytes_of(alloc, file, most),
+        Ok(file) => still_bytes(alloc, &file, most),
         Err(error) => Err(fault_of(&error)),
     }
 }
 
-/// The bytes that are left in an open file, which stays open.
-pub(crate) fn held_bytes(alloc: Global, file: &File, most: usize) -> Result<Vec<u8>, HostFault>
+/// The bytes that are left in an open file, which stays open. It is a fault where another program changed the file as it was read.
+pub(crate) fn still_bytes(alloc: Global, file: &File, most: usize) -> Result<Vec<u8>, HostFault>
     ensures { IfOk result (λ bytes. length bytes.items ≤ most + 1) }
 {
-    match file.try_clone() {
-        Ok(same) => bytes_of(alloc, same, most),
-        Err(error) => Err(fault_of(&error)),
+    let before = answer(file.metadata())?;
+    let bytes = bytes_of(alloc, file, most)?;
+    let after = answer(file.metadata())?;
+    if is_changed(&before, &after) {
+        return Err(HostFault::Failed);
     }
+    Ok(bytes)
+}
+
+/// Whether a plain file has another length or another time of its last change than before. A device or a pipe may have another time since
+/// it was read.
+fn is_changed(before: &Metadata, after: &Metadata) -> bool {
+    before.is_file()
+        && (before.len() != after.len()
+            || before.mtime() != after.mtime()
+            || before.mtime_nsec() != after.mtime_nsec())
 }
 
 /// Whether a new file may take the place of an open one with nothing lost.

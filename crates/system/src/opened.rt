@@ -4,8 +4,8 @@ ghost use Rattle.std.specs.Prelude.{◌≤◌, ◌+◌, length, IfOk};
 
 use crate::besides::Besides;
 use crate::files::{
-    answer, claim_path, cut_at, has_taken_lock, held_bytes, hold_path, leads_to, link_fault,
-    made_beside, put_at, remove_besides, rename_fault, set_time, stands_alone, take_owner,
+    answer, claim_path, cut_at, has_taken_lock, hold_path, leads_to, link_fault, made_beside,
+    put_at, remove_besides, rename_fault, set_time, stands_alone, still_bytes, take_owner,
 };
 use hosts::{HostFault, LinkFault, RenameFault};
 use std::alloc::{AllocError, Global};
@@ -96,7 +96,7 @@ impl Opened {
         ensures { IfOk result (λ bytes. length bytes.items ≤ most + 1) }
     {
         match file_of(&self.files, path) {
-            Some(file) => held_bytes(alloc, file, most),
+            Some(file) => still_bytes(alloc, file, most),
             None => Err(HostFault::Absent),
         }
     }

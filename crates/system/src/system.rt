@@ -7,8 +7,10 @@
 //!   where the path leads to another file by then. While the lock is held no other program that asks for it gets it; so no other program
 //!   that holds what it writes changes the file.
 //! - `drop_seconds`: `lstat` and `unlink` of the names beside the path that have the held file's number. No path's bytes change.
-//! - `look_held`, `look`, `take_input`: `read` until the end, or one byte past the most that is wanted. What it gives is what the file had
-//!   while it was read: a file that others replace is read whole, and one that is held is changed by nobody.
+//! - `look_held`, `look`, `take_input`: `read` until the end, or one byte past the most that is wanted. It gives what the file had as it was
+//!   read. A file that others replace is read whole, and one that is held is changed by nobody who asks for its lock. Others may write a
+//!   plain file in place. `fstat` before and after the read finds that, and the call fails: the length is another, or the time of the last
+//!   change. Two changes within one tick of the file system's clock have one time.
 //! - `is_alone`, `leads_to_held`, `is_there`, `is_terminal`, `time_of`: `fstat`, `stat`, `lstat`, `isatty`, `stat`, and nothing changes.
 //! - `make_beside`: `open` with `O_CREAT` and `O_EXCL` of `.NAME.pdp8-000` and so on, and a second number for it. No path that a person
 //!   names changes.

@@ -17,6 +17,7 @@ use Rattle.script8.specs.declared.entries.FileEntry.{FileEntry}
 use Rattle.script8.specs.declared.entries.FileEntry.TheVariants as files
 use Rattle.script8.specs.declared.entries.JobEntry.{JobEntry}
 use Rattle.script8.specs.declared.entries.JobEntry.TheVariants as job
+use Rattle.word12.specs.declared.sizes.TheConstants.{MOST_SOURCES}
 use Rattle.script8.specs.declared.entries.ConsoleEntry.{ConsoleEntry}
 use Rattle.script8.specs.declared.faults.SessionFault.{SessionFault}
 use Rattle.script8.specs.declared.faults.SessionFault.TheVariants.{BadLine, File, BadText, TooManyJobs, TooManyBreaks}
@@ -27,7 +28,7 @@ use Rattle.system_session.specs.Work.{job_state, fault_of_job}
 
 -- an ASSEMBLE has 1 to 8 sources; one of fewer or more is none of the forms
 abbrev pub IsOfNoForm : List (List ℕ) → Type 0
-IsOfNoForm from = (length from ≡ 0) ⊎ (8 < length from)
+IsOfNoForm from = (length from ≡ 0) ⊎ (MOST_SOURCES < length from)
 
 -- a target and its sources are names, of which this holds
 abbrev pub NamesFiles : List ℕ → List (List ℕ) → (ℕ → List ℕ → Type 0) → Type 0

@@ -1,6 +1,7 @@
 -- Commands that have changed no file where they are refused.
 use Rattle.std.proofs.Common.{ℕ, Bool, true, false, Option, None, Some, Result, Ok, Err, List, inl, inr, length, map, bytes_eq, codes}
 use Rattle.hosts.specs.Event.{Event}
+use Rattle.name_patterns.specs.Patterns.{has_pattern}
 use Rattle.outcome.specs.declared.endings.Ending.{Ending}
 use Rattle.archive_files.specs.Asking.{Target, AtBlock, target_of}
 use Rattle.archive_files.specs.declared.faults.ArchiveFault.{ArchiveFault}
@@ -13,7 +14,6 @@ use Rattle.archive_files.specs.declared.faults.RenameFault.TheVariants as rename
 use Rattle.archive_files.specs.declared.places.TextPlace.{TextPlace}
 use Rattle.archive_files.specs.Squeezing.{SqueezesFiles}
 use Rattle.archive_many.specs.Opened.{OpensVolume}
-use Rattle.archive_many.specs.Patterns.{has_pattern}
 use Rattle.archive_many.specs.declared.wishes.Wish.{Wish}
 use Rattle.archive_many.specs.declared.wishes.Wish.TheVariants as wish
 use Rattle.program_tasks.specs.declared.forms.CopyForm.{CopyForm}

@@ -3,11 +3,11 @@ use Rattle.std.specs.Prelude.{◌≡◌, ◌⊎◌, ℕ, Bool, true, false, nat_
 use Rattle.std.specs.Global.{Vec}
 use Rattle.hosts.specs.Event.{Event, tell_call}
 use Rattle.os8_dir.specs.declared.file_faults.FileFault.TheVariants.{BadName, NotFound}
+use Rattle.name_patterns.specs.Patterns.{has_pattern}
 use Rattle.script8.specs.declared.faults.SessionFault.TheVariants.{File, Memory}
 use Rattle.archive_files.specs.Asking.{Target, OfName, AtBlock, target_of}
 use Rattle.archive_files.specs.declared.asking.Asked.{Asked}
 use Rattle.archive_many.specs.Opened.{OpensVolume, files_on}
-use Rattle.archive_many.specs.Patterns.{has_pattern}
 use Rattle.archive_many.specs.Wishing.{by_place, first_unfound, found_files, wishes_of}
 use Rattle.archive_many.specs.declared.wishes.Wish.{Wish}
 use Rattle.archive_many.specs.declared.wishes.Wish.TheVariants as wish

@@ -9,9 +9,10 @@ ghost use Rattle.volume_commands.specs.ChoiceSteps.{IsRefused, IsToldOf};
 
 use crate::asking::{add_place, files_named};
 use archive_files::Asked;
-use archive_many::{OpenVolume, Wish, first_unfound, has_pattern, wishes_of};
+use archive_many::{OpenVolume, Wish, first_unfound, wishes_of};
 use hosts::Host;
 use image_files::{open_volume, tell_note};
+use name_patterns::has_pattern;
 use os8_files::FileFault;
 use outcome::{Ending, NameNote, Note};
 use program_tasks::DeleteForm;

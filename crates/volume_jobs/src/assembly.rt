@@ -1,5 +1,6 @@
 //! What a job that assembles keeps, from its start to its end.
 ghost use Rattle.std.specs.Prelude.{◌≡◌, ◌≤◌, ◌<◌, length, None, false, IsErrOf};
+ghost use Rattle.word12.specs.declared.sizes.TheConstants.{MOST_SOURCES};
 ghost use Rattle.os8_dir.specs.Entries.{IsNamed};
 ghost use Rattle.os8_dir.specs.Files.{files_of};
 ghost use Rattle.volume_jobs.specs.Sources.{names_of, AssemblyFits, AssemblyStands};
@@ -38,7 +39,7 @@ impl Assembly {
         requires running { files.old.stopped ≡ false }
         requires named { IsNamed to }
         requires some { 0 < length from.now }
-        requires few { length from.now ≤ 8 }
+        requires few { length from.now ≤ MOST_SOURCES }
         ensures { BeginsAssembly files.old to from.now result files.new }
     {
         counted_holds();

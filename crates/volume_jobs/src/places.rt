@@ -1,5 +1,6 @@
 //! Files that are held at places, in their order.
 ghost use Rattle.std.specs.Prelude.{◌≡◌, ◌≤◌, ◌<◌, ℕ, Option, Some, None, [], ◌∷◌, length, get_or, slice_set, false};
+ghost use Rattle.word12.specs.declared.sizes.TheConstants.{MOST_SOURCES};
 ghost use Rattle.os8_dir.specs.Files.{files_of};
 ghost use Rattle.os8_files.specs.Mounted.{MountState};
 ghost use Rattle.volume_jobs.specs.Sources.{names_of, AreFirst};
@@ -11,12 +12,10 @@ use os8_files::laws::counted_holds;
 use os8_files::{FileService, Hold};
 use std::mem;
 use volume_image::BlockStore;
-
-/// How many files a job may assemble.
-pub(crate) const SOURCES: usize = 8;
+use word12::MOST_SOURCES;
 
 /// The places of the sources of a job.
-pub(crate) type Places = [Option<Hold>; SOURCES];
+pub(crate) type Places = [Option<Hold>; MOST_SOURCES];
 
 /// Holds files, in their order at the first places, and counts the blocks of each, and all. Where it is refused, what was
 /// held by then stays at its places.
@@ -29,7 +28,7 @@ pub(crate) fn hold_all<S: BlockStore>(
     requires running { files.old.stopped ≡ false }
     requires size { length places.old ≡ 8 }
     requires free { (place : ℕ) → get_or places.old place None ≡ None }
-    requires few { length names.now ≤ 8 }
+    requires few { length names.now ≤ MOST_SOURCES }
     requires none { blocks.old.items ≡ [] }
     ensures all { TakesAll (files_of files.old.blocks) names.now result places.new blocks.new.items }
     ensures held { HasHeld files.old places.new files.new }

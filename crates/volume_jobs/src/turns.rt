@@ -1,5 +1,6 @@
 //! What the entries of a session do with the table of jobs.
 ghost use Rattle.std.specs.Prelude.{◌≡◌, ◌≤◌, ◌<◌, ℕ, false, None, Some, length};
+ghost use Rattle.word12.specs.declared.sizes.TheConstants.{MOST_SOURCES};
 ghost use Rattle.os8_dir.specs.Entries.{IsNamed};
 ghost use Rattle.os8_files.specs.Holds.{times};
 ghost use Rattle.volume_jobs.specs.Calls.{StartsAssembling, StartsLoading, StartsSqueezing, TakesTurn};
@@ -43,7 +44,7 @@ impl Jobs {
         requires settled { IsSettled files.old self.old }
         requires named { IsNamed to }
         requires some { 0 < length from.now }
-        requires few { length from.now ≤ 8 }
+        requires few { length from.now ≤ MOST_SOURCES }
         ensures { StartsAssembling files.old self.old to from.now result files.new self.new }
     {
         counted_holds();

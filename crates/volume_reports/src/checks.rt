@@ -1,8 +1,5 @@
 //! The command that reports on the volumes in image files. No file changes.
 ghost use Rattle.std.specs.Prelude.{◌≡◌, ◌<◌, length, map};
-ghost use Rattle.program_reports.specs.Program.{program_line};
-ghost use Rattle.program_reports.specs.declared.programs.ProgramLine.TheVariants as line;
-ghost use Rattle.image_files.specs.Answers.{AreLines};
 ghost use Rattle.image_files.specs.Reading.{file_named, reading_named};
 ghost use Rattle.volume_reports.specs.Checking as spec;
 ghost use Rattle.volume_reports.specs.Checking.{ChecksEach, ChecksFiles, ChecksImages, ChecksNext, ChecksSeveral, PrintsCount};
@@ -13,9 +10,9 @@ use crate::reports::ReportKind;
 use crate::volumes::{report_next, report_one};
 use host_progress::Progress;
 use hosts::Host;
-use image_files::{ImageReading, end_sound, image_named, print};
+use image_files::{ImageReading, end_sound, image_named, print, program_line};
 use outcome::Ending;
-use program_reports::{ProgramLine, put_program};
+use program_reports::ProgramLine;
 use program_tasks::CheckForm;
 use std::alloc::Global;
 
@@ -165,15 +162,7 @@ fn print_count<H: Host>(
 ) -> Result<(), Ending>
     ensures { PrintsCount count refused (H.history host.old) result (H.history host.new) }
 {
-    let line = count_line(alloc, count, refused)?;
+    let line = program_line(alloc, &ProgramLine::Images { count, refused })?;
     print(host, &line)?;
     end_sound(refused == 0)
-}
-
-fn count_line(alloc: Global, count: usize, refused: usize) -> Result<Vec<u8>, Ending>
-    ensures { AreLines (program_line (line.Images count refused)) result }
-{
-    let mut line = Vec::new(alloc);
-    put_program(&ProgramLine::Images { count, refused }, &mut line)?;
-    Ok(line)
 }

@@ -14,5 +14,5 @@ mod words;
 pub use cells::Cell;
 pub use codes::sixbit;
 pub use digits::{octal, octal_cell, octal_word};
-pub use sizes::{BLOCK, CORE, FIELD, FIRST_FILE_BLOCK, MOST_BLOCKS, PAGE};
+pub use sizes::{BLOCK, CORE, FIELD, FIRST_FILE_BLOCK, MOST_BLOCKS, MOST_SOURCES, PAGE};
 pub use words::Word;

@@ -1,4 +1,4 @@
-//! How large core and its parts are, and the blocks of a disk.
+//! How large core and its parts are, the blocks of a disk, and the sources of a tape.
 
 /// The cells of core: eight fields (Small Computer Handbook, MC8 extended memory).
 pub const CORE: usize = 0o100000;
@@ -17,3 +17,6 @@ pub const MOST_BLOCKS: usize = 4095;
 
 /// The first block after the directory's, where files may lie (OS/8 Software Support Manual).
 pub const FIRST_FILE_BLOCK: usize = 7;
+
+/// The most sources that are assembled to one tape (this project's profile).
+pub const MOST_SOURCES: usize = 8;

@@ -1,5 +1,6 @@
 //! The entries of jobs.
 ghost use Rattle.std.specs.Prelude.{◌≡◌, ◌<◌, ◌≤◌, Some, None, IfSome, IsErrOf, length, take};
+ghost use Rattle.word12.specs.declared.sizes.TheConstants.{MOST_SOURCES};
 ghost use Rattle.volume_jobs.specs.Jobs.{lowest_job, turns_left};
 ghost use Rattle.script8.specs.declared.entries.Entry.TheVariants as entry;
 ghost use Rattle.script8.specs.declared.entries.JobEntry.TheVariants as job;
@@ -17,9 +18,7 @@ use std::alloc::Global;
 use volume_image::BlockStore;
 use volume_jobs::laws::{job_calls, job_numbers};
 use volume_jobs::{JobFault, Turned};
-
-/// How many sources an `ASSEMBLE` has at most.
-const SOURCES: usize = 8;
+use word12::MOST_SOURCES;
 
 impl<S: BlockStore> Session<S> {
     /// Does an entry of jobs.
@@ -45,7 +44,7 @@ impl<S: BlockStore> Session<S> {
         ensures does { DoesEntry (entry.Jobs (job.Assemble to.now from.now)) self.old result self.new }
         ensures leaves { LeavesAlone (entry.Jobs (job.Assemble to.now from.now)) self.old self.new }
     {
-        if from.is_empty() || from.len() > SOURCES {
+        if from.is_empty() || from.len() > MOST_SOURCES {
             return Err(SessionFault::BadLine);
         }
         let Some(target) = Name::parse(to) else {
@@ -108,12 +107,12 @@ fn job_reply(begun: Result<u32, JobFault>) -> Result<Reply, SessionFault>
 }
 
 /// The names that several are, where each is one. Another name stands after them.
-fn parse_names(from: &[Bytes], following: Name) -> Option<[Name; SOURCES]>
-    requires { length from.now ≤ 8 }
+fn parse_names(from: &[Bytes], following: Name) -> Option<[Name; MOST_SOURCES]>
+    requires { length from.now ≤ MOST_SOURCES }
     ensures names { IfSome result (λ names. parsed_names from.now ≡ Some (take (length from.now) names)) }
     ensures none { result ≡ None → parsed_names from.now ≡ None }
 {
-    let mut names = [following; SOURCES];
+    let mut names = [following; MOST_SOURCES];
     for place in 0..from.len() {
         match Name::parse(from[place].as_slice()) {
             None => return None,

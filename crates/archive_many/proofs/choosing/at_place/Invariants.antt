@@ -1,5 +1,5 @@
 use Rattle.std.proofs.Common.{◌≡◌, length}
-use Rattle.archive_many.specs.Patterns.{beginning_at}
+use Rattle.archive_many.specs.Choosing.{beginning_at}
 use Rattle.archive_many.proofs.choosing.at_place.Given as goal
 
 abbrev pub invariant-loop-rest : goal.invariant-loop-rest

@@ -1,5 +1,5 @@
 use Rattle.std.proofs.Common.{◌≡◌, ◌++◌, length}
-use Rattle.archive_many.specs.Patterns.{files_like}
+use Rattle.archive_many.specs.Choosing.{files_like}
 use Rattle.archive_many.proofs.choosing.matching.Given as goal
 
 abbrev pub invariant-loop-rest : goal.invariant-loop-rest

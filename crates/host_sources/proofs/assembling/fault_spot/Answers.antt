@@ -1,7 +1,8 @@
 use Rattle.std.proofs.Common.{ap, ◌∙◌}
 use Rattle.pal_lex.specs.Text.{text_of}
+use Rattle.source_places.specs.Places.{place_in, place_by}
 use Rattle.host_sources.specs.Sources.{newest_first}
-use Rattle.host_sources.specs.Places.{place_in, place_by, place_at_byte}
+use Rattle.host_sources.specs.Places.{place_at_byte}
 use Rattle.host_sources.specs.Marks.{fault_mark}
 use Rattle.host_sources.specs.Unknowns.{unknown_name, about}
 use Rattle.host_sources.proofs.assembling.fault_spot.Goals as goal

@@ -1,5 +1,5 @@
 use Rattle.std.proofs.Common.{◌≡◌, ◌++◌, length}
-use Rattle.host_sources.specs.Places.{place_in, place_by}
+use Rattle.source_places.specs.Places.{place_in, place_by}
 use Rattle.host_sources.specs.JudgeSteps as spec
 use Rattle.host_sources.proofs.further.faults_of_sources.Given as goal
 

@@ -3,7 +3,8 @@ use Rattle.std.proofs.Math.Path.{fun_ext}
 use Rattle.pal_lex.specs.Text.{text_of, is_over}
 use Rattle.pal_lex.specs.Statements.{statements}
 use Rattle.pal_asm.specs.Places.{values}
-use Rattle.host_sources.specs.Places.{is_refused, place_in, place_by}
+use Rattle.source_places.specs.Places.{place_in, place_by}
+use Rattle.host_sources.specs.Places.{is_refused}
 use Rattle.host_sources.specs.Symbols.{meaning_in}
 use Rattle.host_sources.specs.JudgeSteps.{faults_of_words}
 use Rattle.host_sources.specs.Further.{word_faults}

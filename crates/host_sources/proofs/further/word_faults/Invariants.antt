@@ -2,10 +2,10 @@ use Rattle.std.proofs.Common.{◌≡◌, ◌-◌, ℕ, false, take, length}
 use Rattle.pal_lex.specs.Text.{text_of}
 use Rattle.pal_lex.specs.Statements.{statements}
 use Rattle.pal_lex.specs.Reading.{HasRead}
+use Rattle.source_places.specs.declared.places.Place.{Place}
 use Rattle.host_sources.specs.Symbols.{meaning_in, Follows}
 use Rattle.host_sources.specs.JudgeSteps.{faults_of_words}
 use Rattle.host_sources.specs.Further as spec
-use Rattle.host_sources.specs.declared.faults.Place.{Place}
 use Rattle.host_sources.proofs.further.word_faults.Given as goal
 
 abbrev pub invariant-loop-taken : goal.invariant-loop-taken

@@ -1,6 +1,6 @@
 use Rattle.std.proofs.Common.{subst}
 use Rattle.pal_lex.specs.Text.{text_of}
-use Rattle.host_sources.specs.Places.{place_in, place_by}
+use Rattle.source_places.specs.Places.{place_in, place_by}
 use Rattle.host_sources.specs.Steps.{IsMetAt}
 use Rattle.host_sources.proofs.LocateLemmas.{refused_whole}
 use Rattle.host_sources.proofs.MendLemmas.{lexical_found}

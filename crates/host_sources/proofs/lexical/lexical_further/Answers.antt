@@ -1,6 +1,6 @@
 use Rattle.std.proofs.Common.{subst, ◌∙◌}
 use Rattle.pal_lex.specs.Text.{text_of}
-use Rattle.host_sources.specs.Places.{place_in, place_by}
+use Rattle.source_places.specs.Places.{place_in, place_by}
 use Rattle.host_sources.specs.MendSteps.{Advances}
 use Rattle.host_sources.proofs.MendLemmas.{advance_on, advance_end}
 use Rattle.host_sources.proofs.lexical.lexical_further.Goals as goal

@@ -1,6 +1,6 @@
 use Rattle.std.proofs.Common.{Bool, if◌then◌else◌, length, ap, sym, ◌∙◌}
 use Rattle.pal_lex.specs.Text.{text_of}
-use Rattle.host_sources.proofs.StartLemmas.{length_whole}
+use Rattle.host_sources.proofs.TextLemmas.{length_whole}
 use Rattle.host_sources.proofs.MendLemmas.{tag_refused}
 use Rattle.host_sources.proofs.mending.after_tag.Goals as goal
 

@@ -2,7 +2,7 @@ use Rattle.std.proofs.Common.{◌+◌, nat_eq, get_or, refl, ap, ◌∙◌, arit
 use Rattle.pal_lex.specs.Text.{is_end}
 use Rattle.host_sources.specs.Mending.{up_to_comma}
 use Rattle.host_sources.specs.MendSteps.{comma_by}
-use Rattle.host_sources.proofs.StartLemmas.{comment_more, all_taken}
+use Rattle.host_sources.proofs.TextLemmas.{comment_more, all_taken}
 use Rattle.host_sources.proofs.MendLemmas.{first_part, comma_more}
 use Rattle.host_sources.proofs.mending.comma_end.Goals as goal
 

@@ -2,7 +2,7 @@ use Rattle.std.proofs.Common.{◌≡◌, ◌-◌, false, take, length}
 use Rattle.pal_lex.specs.Text.{text_of}
 use Rattle.pal_lex.specs.Statements.{radix_after, statements}
 use Rattle.pal_lex.specs.Reading.{HasRead}
-use Rattle.host_sources.specs.RunSteps as spec
+use Rattle.host_sources.specs.RadixSteps as spec
 use Rattle.host_sources.proofs.radixes.is_decimal.Given as goal
 
 abbrev pub invariant-loop-taken : goal.invariant-loop-taken

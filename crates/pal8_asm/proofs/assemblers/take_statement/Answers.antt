@@ -1,8 +1,8 @@
 use Rattle.std.proofs.Common.{◌∙◌, Ok, ap, length, subst, sym}
-use Rattle.pal8_asm.specs.Places.{truth_of, with_statement}
+use Rattle.pal8_places.specs.Places.{truth_of, with_statement}
 use Rattle.pal8_asm.specs.Sources.{brackets_with}
 use Rattle.pal8_asm.specs.Steps.{IsTaken}
-use Rattle.pal8_asm.specs.Assembling.{standing}
+use Rattle.pal8_places.specs.Passing.{standing}
 use Rattle.pal8_asm.proofs.TakingLemmas.{goes_on}
 use Rattle.pal8_asm.proofs.assemblers.take_statement.Goals as goal
 

@@ -1,5 +1,5 @@
 use Rattle.std.proofs.Common.{◌≡◌, ◌+◌, ◌≤◌, drop}
-use Rattle.host_sources.specs.Places.{place_in}
+use Rattle.source_places.specs.Places.{place_in}
 use Rattle.pal8_tape.proofs.places.place_in.Given as goal
 
 abbrev pub invariant-loop-count : goal.invariant-loop-count

@@ -1,6 +1,6 @@
 use Rattle.std.proofs.Common.{◌≡◌, ℕ, Err, get_or, List, ap, subst, sym, ◌∙◌}
 use Rattle.pal_lex.specs.Text.{text_of}
-use Rattle.host_sources.specs.Places.{place_in}
+use Rattle.source_places.specs.Places.{place_in}
 use Rattle.pal8_asm.specs.Assembled.{result_of_text}
 use Rattle.pal8_asm.specs.Assembling.{Assembles}
 use Rattle.pal8_asm.specs.declared.faults.AsmFault.{AsmFault}

@@ -1,6 +1,6 @@
 use Rattle.std.proofs.Common.{ℕ, List, length}
 use Rattle.pal8_asm.specs.Steps.{IsOnTheWay}
-use Rattle.pal8_asm.specs.declared.options.Options.{Options}
+use Rattle.pal8_places.specs.declared.options.Options.{Options}
 use Rattle.pal8_asm.proofs.assemblers.Assembler.read_on.Given as goal
 
 -- what the bytes leave that were read is taken

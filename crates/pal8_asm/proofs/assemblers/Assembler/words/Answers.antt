@@ -1,7 +1,8 @@
 use Rattle.std.proofs.Common.{◌≡◌, None, Ok, Err, refl, subst}
 use Rattle.pal8_sym.specs.SourceNames.{own_value}
 use Rattle.pal8_asm.specs.Sources.{at_place}
-use Rattle.pal8_asm.specs.Assembling.{IsMade, MakesWords, is_late}
+use Rattle.pal8_asm.specs.Assembling.{IsMade, MakesWords}
+use Rattle.pal8_places.specs.Passing.{is_late}
 use Rattle.pal8_asm.specs.Tapes.{without_clash, words_of_entries, nothing_made}
 use Rattle.pal8_asm.proofs.SourceLemmas.{starts_making, words_clash, words_clear, words_fail}
 use Rattle.pal8_asm.proofs.assemblers.Assembler.words.Goals as goal

@@ -1,5 +1,5 @@
 use Rattle.std.proofs.Common.{◌≡◌, ◌<◌, length}
-use Rattle.pal8_asm.specs.Steps.{open_of}
+use Rattle.pal8_places.specs.Passing.{open_of}
 use Rattle.pal8_asm.specs.Sources.{with_values, with_entries, word_each}
 use Rattle.pal8_asm.proofs.entries.Entries.push_each.Given as goal
 

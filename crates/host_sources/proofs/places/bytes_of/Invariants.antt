@@ -1,9 +1,0 @@
-use Rattle.std.proofs.Common.{◌≡◌, length}
-use Rattle.host_sources.specs.Places.{bytes_of}
-use Rattle.host_sources.proofs.places.bytes_of.Given as goal
-
-abbrev pub invariant-loop-rest : goal.invariant-loop-rest
-invariant-loop-rest l = bytes_of l.sources l.number ≡ bytes_of l.rest l.left
-
-abbrev pub decreases-loop-rest : goal.decreases-loop-rest
-decreases-loop-rest l = length l.rest

@@ -1,0 +1,4 @@
+pub mod Places
+pub mod Brackets
+pub mod Passing
+pub mod Steps

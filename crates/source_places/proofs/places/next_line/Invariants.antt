@@ -1,0 +1,10 @@
+use Rattle.std.proofs.Common.{◌≡◌, ◌+◌, ◌≤◌, take}
+use Rattle.pal_lex.specs.Text.{text_of}
+use Rattle.source_places.specs.Places.{next_line}
+use Rattle.source_places.proofs.places.next_line.Given as goal
+
+abbrev pub invariant-loop-byte : goal.invariant-loop-byte
+invariant-loop-byte l = record {
+  same : l.line ≡ next_line (text_of (take l.byte-index l.text));
+  bound : l.line ≤ l.byte-index + 1;
+}

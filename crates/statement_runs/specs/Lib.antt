@@ -1,0 +1,4 @@
+pub mod Starts
+pub mod Runs
+pub mod StartSteps
+pub mod RunSteps
