@@ -3,6 +3,8 @@ const utf8 = new TextEncoder(), text = new TextDecoder();
 const ENOENT = 2, EAGAIN = 11, EACCES = 13, EEXIST = 17, EISDIR = 21, EINVAL = 22, ESPIPE = 29;
 const O_CREAT = 0o100, O_EXCL = 0o200, O_TRUNC = 0o1000;
 
+const seconds = () => Math.floor(Date.now() / 1000);
+
 // A file: bytes that may grow. Each has a number, as a name may lead to another file meanwhile.
 export class Held {
     static last = 0;
@@ -12,7 +14,8 @@ export class Held {
         this.size = bytes.length;
         this.names = 1;
         this.number = ++Held.last;
-        // when it was last changed, in seconds after the begin of 1970, where that was set
+        // when its bytes last changed, and the time that was set since, in seconds after the begin of 1970
+        this.changed = seconds();
         /** @type {number | null} */
         this.time = null;
     }
@@ -29,6 +32,8 @@ export class Held {
         }
         this.room.set(part, at);
         this.size = Math.max(this.size, end);
+        this.changed = seconds();
+        this.time = null;
     }
 
     /** @param {number} size */
@@ -131,7 +136,6 @@ function imports(memory, files, words, host) {
             }
             const own = own_of(number);
             own.file.put(own.at, part);
-            own.file.time = null;
             own.at += part.length;
             files.changed?.(own.file);
             return count;
@@ -144,7 +148,6 @@ function imports(memory, files, words, host) {
         },
         ftruncate(number, size) {
             own_of(number).file.cut(Number(size));
-            own_of(number).file.time = null;
             files.changed?.(own_of(number).file);
             return 0;
         },
@@ -213,5 +216,5 @@ function put_stat(bytes, file) {
     at.setUint16(28, 0o100644, true);
     at.setBigUint64(32, BigInt(file.number), true);
     at.setBigUint64(40, BigInt(file.size), true);
-    at.setBigInt64(112, BigInt(file.time ?? Math.floor(Date.now() / 1000)), true);
+    at.setBigInt64(112, BigInt(file.time ?? file.changed), true);
 }

@@ -1,7 +1,7 @@
 // The types of what worker.js and host.js hand each other. Numbers of C's `long`, sizes and addresses are bigint, those of `int` are number.
 type Soon<T> = T | Promise<T>;
 
-interface HeldFile { bytes: Uint8Array; size: number; names: number; number: number; time: number | null; put(at: number, part: Uint8Array): void; cut(size: number): void }
+interface HeldFile { bytes: Uint8Array; size: number; names: number; number: number; changed: number; time: number | null; put(at: number, part: Uint8Array): void; cut(size: number): void }
 
 // The files that the program sees: the page's are in a Map, those of the tests in a folder, which may have folders in it.
 interface HostFiles {

@@ -80,6 +80,20 @@ await run('whole', {
         await isTold(page, 'files-status', 'none.txt: ? IMAGE 1 NOT WHOLE');
         same('', await page.look(volumes), 'the volumes');
     },
+    'a file that nobody changes keeps its time, however long the program reads it': async (page, url) => {
+        await page.go(url);
+        const commands = ['create DISK 90', 'list DISK', 'check DISK'].map(it => it.split(' '));
+        // each look at the clock is a second after the one before
+        const printed = await page.look(`(async () => {
+            const { command } = await import('./host.js'), files = new Map(), text = new TextDecoder();
+            let now = 0, all = '';
+            Date.now = () => now += 1000;
+            const host = { read: () => new Uint8Array(0), write: bytes => { all += text.decode(bytes); } };
+            for (const words of ${JSON.stringify(commands)}) await command(geivottu.programs.module, files, ['pdp8', ...words], host);
+            return all;
+        })()`);
+        same(Buffer.concat(commands.map(it => native(it))).toString(), printed, 'what is printed');
+    },
     'two reads of a directory at once show each file once': async (page, url) => {
         await page.go(url);
         await create(page, 'DISK');
