@@ -78,7 +78,7 @@ right_true false y is off = is
 pub one_named : (values : List Row) → missing_of verb.Get values ≡ None → is_set (codes "blocks") values ≡ false → has (codes "into") values ≡ false
     → prints_texts values ≡ false → has (codes "at") values ≡ false → Has (codes "NAME") values
 one_named values none no_blocks one no_texts free =
-    named (is_alone (codes "NAME") (codes "at") values) refl (both _ _ (both _ _ (both _ _ (both _ _ (middle_true _ _ _ (met _ _ (passed _ _ _ (got _ no_blocks none)).1) one no_texts)).0).0).0).0
+    named (is_alone (codes "NAME") (codes "at") values) refl (both _ _ (both _ _ (both _ _ (both _ _ (both _ _ (middle_true _ _ _ (met _ _ (passed _ _ _ (got _ no_blocks none)).1) one no_texts)).0).0).0).0).0
   where
     got : (blocks : Bool) → blocks ≡ false → (if blocks then blocks_missing values
         else if not (names_some values) then Some what.Name else if has (codes "into") values || names_one values || prints_texts values then None else Some what.Into) ≡ None

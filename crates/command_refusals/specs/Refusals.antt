@@ -91,11 +91,6 @@ is_alone id other values = has id values && not (is_some (word_at id 1 values)) 
 abbrev pub names_some : List Row → Bool
 names_some values = is_set (codes "all") values || has (codes "NAME") values || has (codes "at") values
 
--- one file is named, and nothing is said of several
-abbrev pub names_one : List Row → Bool
-names_one values = (is_alone (codes "NAME") (codes "at") values || is_alone (codes "at") (codes "NAME") values)
-    && not (is_set (codes "all") values) && not (is_set (codes "force") values) && not (has (codes "text-of") values) && not (has (codes "year") values)
-
 -- the first block and their number, where blocks are got
 abbrev pub blocks_word : ℕ → List Row → Text
 blocks_word index values = unwrap_or (word_at (codes "NAME") index values) []
@@ -104,6 +99,12 @@ blocks_word index values = unwrap_or (word_at (codes "NAME") index values) []
 abbrev pub has_sign : Text → Bool
 has_sign [] = false
 has_sign (character ∷ text) = nat_eq character 0o52 || nat_eq character 0o77 || has_sign text
+
+-- one file is named, by no pattern, and nothing is said of several
+abbrev pub names_one : List Row → Bool
+names_one values = (is_alone (codes "NAME") (codes "at") values || is_alone (codes "at") (codes "NAME") values)
+    && not (has_sign (blocks_word 0 values)) && not (is_set (codes "all") values) && not (is_set (codes "force") values)
+    && not (has (codes "text-of") values) && not (has (codes "year") values)
 
 -- something is said of files for a folder
 abbrev pub says_of_folder : List Row → Bool
@@ -115,7 +116,7 @@ asks_texts values = is_set (codes "text") values && not (is_set (codes "tape") v
 
 -- the texts of several files are to be printed: of all, of those that are named, or of those that a pattern fits
 abbrev pub prints_texts : List Row → Bool
-prints_texts values = asks_texts values && not (says_of_folder values) && (not (names_one values) || has_sign (blocks_word 0 values))
+prints_texts values = asks_texts values && not (says_of_folder values) && not (names_one values)
 
 abbrev pub blocks_missing : List Row → Option What
 blocks_missing values =

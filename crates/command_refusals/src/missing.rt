@@ -123,12 +123,13 @@ fn names_some(found: &ArgMatches<'_>) -> bool
     is_set(found, "all") || has(found, "NAME") || has(found, "at")
 }
 
-/// Whether one file is named, and nothing is said of several.
+/// Whether one file is named, by no pattern, and nothing is said of several.
 fn names_one(found: &ArgMatches<'_>) -> bool
     ensures { result ≡ spec.names_one (values_in found.now) }
 {
     let is_one = is_alone(found, "NAME", "at") || is_alone(found, "at", "NAME");
     is_one
+        && !has_sign(blocks_word(found, 0).as_bytes())
         && !is_set(found, "all")
         && !is_set(found, "force")
         && !has(found, "text-of")
@@ -139,9 +140,7 @@ fn names_one(found: &ArgMatches<'_>) -> bool
 pub fn prints_texts(found: &ArgMatches<'_>) -> bool
     ensures { result ≡ spec.prints_texts (values_in found.now) }
 {
-    asks_texts(found)
-        && !says_of_folder(found)
-        && (!names_one(found) || has_sign(blocks_word(found, 0).as_bytes()))
+    asks_texts(found) && !says_of_folder(found) && !names_one(found)
 }
 
 /// Whether texts are asked for, and not a tape.
