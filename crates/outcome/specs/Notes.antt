@@ -59,6 +59,11 @@ bad_text line byte = codes "note: line " ++ decimal line ++ codes ", byte " ++ d
 abbrev pub block_text : ℕ → List ℕ
 block_text block = codes "note: --at " ++ decimal block ++ codes " is refused, and no file is taken out\n"
 
+-- so many bytes of a file before the blocks of its volumes, and after them
+abbrev pub margins_text : List ℕ → ℕ → ℕ → List ℕ
+margins_text name before after =
+    codes "note: " ++ name ++ codes " has " ++ decimal before ++ codes " bytes before its blocks and " ++ decimal after ++ codes " after them, which are left alone\n"
+
 -- a note, with the end of its line
 abbrev pub note_text : Note → List ℕ
 note_text (note.Plain it) = plain_text it
@@ -66,6 +71,7 @@ note_text (note.OnFile it content) = file_text it (content_name content)
 note_text (note.OnName it name) = name_text it name.now
 note_text (note.OnBlock block) = block_text block
 note_text (note.OnText place) = bad_text place.line place.byte
+note_text (note.OnMargins name before after) = margins_text name.now before after
 
 -- that of a note on a file of the host, if there is one
 abbrev pub text_on_file : Option (FileNote × Content) → List ℕ

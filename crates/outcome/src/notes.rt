@@ -128,6 +128,9 @@ pub enum Note<'a> {
 
     /// Here a text has a byte that may not stand in one.
     OnText(TextPlace),
+
+    /// The file of this name has so many bytes before the blocks of its volumes, and so many after them.
+    OnMargins(&'a str, usize, usize),
 }
 
 /// The text of a note (this project's profile).
@@ -141,6 +144,7 @@ impl<'a> fmt::Display for Note<'a> {
             Note::OnName(note, name) => write_on_name(*note, *name, f),
             Note::OnBlock(block) => write_on_block(*block, f),
             Note::OnText(place) => write_on_text(place.line, place.byte, f),
+            Note::OnMargins(name, before, after) => write_on_margins(*name, *before, *after, f),
         }
     }
 }
@@ -299,5 +303,20 @@ fn write_on_block<W: fmt::Write>(block: usize, f: &mut fmt::Formatter<W>) -> fmt
     write!(
         f,
         "note: --at {block} is refused, and no file is taken out\n"
+    )
+}
+
+/// Writes how many bytes of a file are none of its volumes'.
+fn write_on_margins<W: fmt::Write>(
+    name: &str,
+    before: usize,
+    after: usize,
+    f: &mut fmt::Formatter<W>,
+) -> fmt::Result
+    ensures { DisplaysOnOk W.write_str_gives f.old result (Some (spec.margins_text name.now before after)) f.new }
+{
+    write!(
+        f,
+        "note: {name} has {before} bytes before its blocks and {after} after them, which are left alone\n"
     )
 }

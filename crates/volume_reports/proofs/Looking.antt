@@ -1,12 +1,15 @@
 -- Commands that change no file at all.
-use Rattle.std.proofs.Common.{◌≡◌, ◌∙◌, ◌+◌, ◌&&◌, ℕ, Bool, Option, Some, Result, Ok, Err, List, [], ◌∷◌, length, map, nat_eq}
+use Rattle.std.proofs.Common.{◌≡◌, ◌∙◌, ◌+◌, ◌&&◌, ℕ, Bool, true, false, ap, Option, Some, Result, Ok, Err, List, [], ◌∷◌, length, map, nat_eq}
 use Rattle.std.specs.Global.{Vec}
 use Rattle.disk_layouts.specs.declared.layouts.Layout.{Layout}
 use Rattle.disk_layouts.specs.declared.layouts.Layout.TheVariants.{First, Second}
-use Rattle.image_volumes.specs.Margins.{body_of}
+use Rattle.image_volumes.specs.Margins.{body_of, margins_in}
 use Rattle.image_volumes.specs.Volumes.{volumes_in}
+use Rattle.image_volumes.specs.declared.margins.Margins.{Margins}
 use Rattle.image_volumes.specs.declared.volumes.Volumes.{Volumes}
 use Rattle.image_volumes.specs.declared.volumes.Volumes.TheVariants.{One, Both}
+use Rattle.hosts.specs.Event.{Event}
+use Rattle.hosts.specs.Place.{about}
 use Rattle.outcome.specs.declared.endings.Ending.{Ending}
 use Rattle.program_reports.specs.Program.{program_line}
 use Rattle.program_reports.specs.declared.programs.ProgramLine.TheVariants as line
@@ -21,7 +24,7 @@ use Rattle.volume_reports.specs.declared.reports.ReportKind.{ReportKind}
 use Rattle.volume_reports.specs.Checking.{ChecksEach, ChecksFiles, ChecksImages, ChecksNext, ChecksSeveral, PrintsCount, kind_of_check, reading_of_check, with_refusal}
 use Rattle.image_files.specs.Ending.{EndsSound}
 use Rattle.volume_reports.specs.Reporting.{PrintsNamed, PrintsReport, Reports, TellsRefusal}
-use Rattle.volume_reports.specs.Volumes.{IsVolumeName, ReportsAlone, ReportsAt, ReportsBoth, ReportsFile, ReportsNext, ReportsNumbered, ReportsOne, ReportsRead, ReportsVolume, ReportsVolumes}
+use Rattle.volume_reports.specs.Volumes.{IsVolumeName, ReportsAlone, ReportsAt, ReportsBoth, ReportsBytes, ReportsFile, ReportsNext, ReportsNumbered, ReportsOne, ReportsRead, ReportsVolume, ReportsVolumes, TellsMargins, TellsMarginsIf, has_margins, is_check}
 use Rattle.host_progress.specs.Progressing.{TellsProgress, WithProgress}
 use Rattle.image_files.specs.Laws.{KeepsFiles}
 use Rattle.image_files.proofs.KeepLemmas.{then-keeps, purely-keeps, prints-keeps, looks-image-keeps}
@@ -62,17 +65,32 @@ file-never : (kind : ReportKind) (file : List ℕ) (volumes : Volumes) (body : L
 file-never kind file (One layout) body = alone-never kind layout body
 file-never kind file Both body = then-keeps (ReportsBoth kind file body) (λ is_sound. Purely (EndsSound is_sound)) (both-never kind file body) (λ is_sound. purely-keeps (EndsSound is_sound))
 
+note-never : (is_noted : Bool) (name : List ℕ) (margins : Margins) → KeepsFiles (TellsMarginsIf is_noted name margins)
+note-never false name margins old result new p path = ap (λ (events : List Event). about path events) p.1
+note-never true name margins old (Ok it) new p path = ap (λ (events : List Event). about path events) p.1
+note-never true name margins old (Err ending) new p path = ap (λ (events : List Event). about path events) p.1
+
+margins-never : (kind : ReportKind) (name : List ℕ) (margins : Margins) → KeepsFiles (TellsMargins kind name margins)
+margins-never kind name margins = note-never (is_check kind && has_margins margins) name margins
+
+bytes-never : (kind : ReportKind) (given : Option Layout) (file bytes : List ℕ) → KeepsFiles (ReportsBytes kind given file bytes)
+bytes-never kind given file bytes =
+    then-keeps (TellsMargins kind file (margins_in given bytes)) (λ it. ReportsFile kind file (volumes_in given bytes) (body_of given bytes)) (margins-never kind file (margins_in given bytes))
+    (λ it. file-never kind file (volumes_in given bytes) (body_of given bytes))
+
 pub one-never : (kind : ReportKind) (reading : ImageReading) (file : List ℕ) → KeepsFiles (ReportsOne kind reading file)
 one-never kind reading file =
-    then-keeps (LooksImage reading file) (λ bytes. ReportsFile kind file (volumes_in reading.layout bytes.items) (body_of reading.layout bytes.items)) (looks-image-keeps reading file)
-    (λ bytes. file-never kind file (volumes_in reading.layout bytes.items) (body_of reading.layout bytes.items))
+    then-keeps (LooksImage reading file) (λ bytes. ReportsBytes kind reading.layout file bytes.items) (looks-image-keeps reading file)
+    (λ bytes. bytes-never kind reading.layout file bytes.items)
 
 volumes-never : (kind : ReportKind) (file : List ℕ) (volumes : Volumes) (body : List ℕ) → KeepsFiles (ReportsVolumes kind file volumes body)
 volumes-never kind file (One layout) body = reports-volume-never kind file layout body
 volumes-never kind file Both body = both-never kind file body
 
 read-never : (kind : ReportKind) (given : Option Layout) (file : List ℕ) (bytes : Result (Vec ℕ) Ending) → KeepsFiles (ReportsRead kind given file bytes)
-read-never kind given file (Ok bytes) = volumes-never kind file (volumes_in given bytes.items) (body_of given bytes.items)
+read-never kind given file (Ok bytes) =
+    then-keeps (TellsMargins kind file (margins_in given bytes.items)) (λ it. ReportsVolumes kind file (volumes_in given bytes.items) (body_of given bytes.items)) (margins-never kind file (margins_in given bytes.items))
+    (λ it. volumes-never kind file (volumes_in given bytes.items) (body_of given bytes.items))
 read-never kind given file (Err ending) = then-keeps (Purely (TellsRefusal ending)) (PrintsNamed file) (purely-keeps (TellsRefusal ending)) (prints-named-never file)
 
 reports-next-never : (kind : ReportKind) (reading : ImageReading) (file name : List ℕ) → KeepsFiles (ReportsNext kind reading file name)

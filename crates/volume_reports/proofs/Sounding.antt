@@ -5,11 +5,13 @@ use Rattle.hosts.specs.Event.{Event, look_call, print_call, seconds_call, tell_c
 use Rattle.hosts.specs.Streams.{read}
 use Rattle.disk_layouts.specs.declared.layouts.Layout.{Layout}
 use Rattle.disk_layouts.specs.declared.layouts.Layout.TheVariants.{First, Second}
-use Rattle.image_volumes.specs.Margins.{body_of}
+use Rattle.image_volumes.specs.Margins.{body_of, margins_in}
 use Rattle.image_volumes.specs.Volumes.{volumes_in}
+use Rattle.image_volumes.specs.declared.margins.Margins.{Margins}
 use Rattle.image_volumes.specs.declared.volumes.Volumes.{Volumes}
 use Rattle.image_volumes.specs.declared.volumes.Volumes.TheVariants.{One, Both}
 use Rattle.outcome.specs.Endings.{ending_of_archive}
+use Rattle.outcome.specs.Notes.{margins_text}
 use Rattle.outcome.specs.declared.endings.Ending.{Ending}
 use Rattle.program_reports.specs.declared.programs.ProgramLine.{ProgramLine}
 use Rattle.program_tasks.specs.declared.forms.CheckForm.{CheckForm}
@@ -27,7 +29,7 @@ use Rattle.volume_reports.specs.Laws.{AreSound, AreSoundIn, IsReadAs, IsSoundFil
 use Rattle.host_progress.specs.Progressing.{BeginsProgress, EndsProgress, TellsDone, progress_text}
 use Rattle.image_files.specs.Ending.{EndsSound}
 use Rattle.volume_reports.specs.Reporting.{PrintsNamed, PrintsReport, Reports, TellsLine, TellsRefusal, line_in}
-use Rattle.volume_reports.specs.Volumes.{ReportsAlone, ReportsAt, ReportsBoth, ReportsFile, ReportsNext, ReportsNumbered, ReportsOne, ReportsVolume, ReportsVolumes}
+use Rattle.volume_reports.specs.Volumes.{ReportsAlone, ReportsAt, ReportsBoth, ReportsBytes, ReportsBytesAmong, ReportsFile, ReportsNext, ReportsNumbered, ReportsOne, ReportsVolume, ReportsVolumes, TellsMarginsIf, has_margins, is_check}
 
 -- reads after some calls
 reads : (old new : List Event) → new ≡ old → read new ≡ read old
@@ -159,10 +161,21 @@ looked true given name old bytes new (inr it) = (
   lines-read (mended_lines name it.after.0) it.between new it.after.3 ∙ reads (look_call name it.given.items ∷ old) it.between it.done.1,
 )
 
+note-read : (is_noted : Bool) (name : List ℕ) (margins : Margins) (old new : List Event) → TellsMarginsIf is_noted name margins old (Ok tt) new → read new ≡ read old
+note-read false name margins old new p = reads old new p.1
+note-read true name margins old new p = reads (tell_call p.0 (margins_text name margins.before margins.after) ∷ old) new p.1
+
+bytes-sound : (is_all : Bool) (given : Option Layout) (file bytes : List ℕ) (old new : List Event) → ReportsBytes (kind_of_check is_all) given file bytes old (Ok tt) new
+    → AreSoundIn is_all (volumes_in given bytes) (body_of given bytes) × (read new ≡ read old)
+bytes-sound is_all given file bytes old new (inl ends) = absurd ends
+bytes-sound is_all given file bytes old new (inr it) =
+    let sound = file-sound is_all file (volumes_in given bytes) (body_of given bytes) it.between new it.after in
+    (sound.0, sound.1 ∙ note-read (is_check (kind_of_check is_all) && has_margins (margins_in given bytes)) file (margins_in given bytes) old it.between it.done)
+
 one-sound : (is_all : Bool) (reading : ImageReading) (name : List ℕ) (old new : List Event) → ReportsOne (kind_of_check is_all) reading name old (Ok tt) new → HasReadSound is_all reading name old new
 one-sound is_all reading name old new (inl ends) = absurd ends
 one-sound is_all reading name old new (inr it) =
-    let sound = file-sound is_all name (volumes_in reading.layout it.given.items) (body_of reading.layout it.given.items) it.between new it.after in
+    let sound = bytes-sound is_all reading.layout name it.given.items it.between new it.after in
     let file = looked reading.is_lenient reading.layout name old it.given it.between it.done in
     (file.0, (it.given.items, file.1, sound.0), sound.1 ∙ file.2)
 
@@ -173,13 +186,20 @@ volumes-sound : (is_all : Bool) (file : List ℕ) (volumes : Volumes) (body : Li
 volumes-sound is_all file (One layout) body old new is_sound reports sound = volume-sound is_all file layout body old new is_sound reports sound
 volumes-sound is_all file Both body old new is_sound reports sound = both-sound is_all file body old new is_sound reports sound
 
+among-sound : (is_all : Bool) (given : Option Layout) (file bytes : List ℕ) (old new : List Event) (is_sound : Bool) → ReportsBytesAmong (kind_of_check is_all) given file bytes old (Ok is_sound) new → is_sound ≡ true
+    → AreSoundIn is_all (volumes_in given bytes) (body_of given bytes) × (read new ≡ read old)
+among-sound is_all given file bytes old new is_sound (inl ends) sound = absurd ends
+among-sound is_all given file bytes old new is_sound (inr it) sound =
+    let are = volumes-sound is_all file (volumes_in given bytes) (body_of given bytes) it.between new is_sound it.after sound in
+    (are.0, are.1 ∙ note-read (is_check (kind_of_check is_all) && has_margins (margins_in given bytes)) file (margins_in given bytes) old it.between it.done)
+
 unread : (file : List ℕ) (ending : Ending) (old new : List Event) (is_sound : Bool) → Then (Purely (TellsRefusal ending)) (PrintsNamed file) old (Ok is_sound) new → is_sound ≡ true → ⊥
 unread file ending old new is_sound (inl ends) sound = ends
 unread file ending old new is_sound (inr it) sound = unsound-line (line_in ending) ending it.given it.done.0 (sym (named file it.given it.between new is_sound it.after).0 ∙ sound)
 
 next-read : (is_all : Bool) (reading : ImageReading) (file name : List ℕ) (old new : List Event) (is_sound : Bool) → ReportsNext (kind_of_check is_all) reading file name old (Ok is_sound) new → is_sound ≡ true → HasReadSound is_all reading file old new
 next-read is_all reading file name old new is_sound (Ok bytes, between, looks, reports) sound =
-    let are = volumes-sound is_all name (volumes_in reading.layout bytes.items) (body_of reading.layout bytes.items) between new is_sound reports sound in
+    let are = among-sound is_all reading.layout name bytes.items between new is_sound reports sound in
     let read_as = looked reading.is_lenient reading.layout file old bytes between looks in
     (read_as.0, (bytes.items, read_as.1, are.0), are.1 ∙ read_as.2)
 next-read is_all reading file name old new is_sound (Err ending, between, looks, reports) sound = absurd (unread name ending between new is_sound reports sound)

@@ -1,14 +1,16 @@
 -- The reports of the volumes in an image file: of the one that is asked for, or else of each that the file has by its kind.
-use Rattle.std.specs.Prelude.{◌≡◌, ◌⊎◌, ℕ, Bool, ◌&&◌, decimal, Option, Some, Result, Ok, Err, List, ◌∷◌, ◌++◌, length, String}
+use Rattle.std.specs.Prelude.{◌≡◌, ◌⊎◌, ℕ, Bool, true, false, ◌&&◌, ◌||◌, not, nat_eq, decimal, Option, Some, Result, Ok, Err, List, ◌∷◌, ◌++◌, length, String}
 use Rattle.std.specs.Global.{Vec, Global}
-use Rattle.hosts.specs.Event.{Event}
+use Rattle.hosts.specs.Event.{Event, tell_call}
 use Rattle.disk_layouts.specs.declared.layouts.Layout.{Layout}
 use Rattle.disk_layouts.specs.declared.layouts.Layout.TheVariants.{First, Second}
-use Rattle.image_volumes.specs.Margins.{body_of}
+use Rattle.image_volumes.specs.Margins.{body_of, margins_in}
 use Rattle.image_volumes.specs.Volumes.{volumes_in}
+use Rattle.image_volumes.specs.declared.margins.Margins.{Margins}
 use Rattle.image_volumes.specs.declared.volumes.Volumes.{Volumes}
 use Rattle.image_volumes.specs.declared.volumes.Volumes.TheVariants.{One, Both}
 use Rattle.script8.specs.declared.faults.SessionFault.TheVariants.{Memory}
+use Rattle.outcome.specs.Notes.{margins_text}
 use Rattle.outcome.specs.declared.endings.Ending.{Ending}
 use Rattle.outcome.specs.declared.endings.Ending.TheVariants.{Fault}
 use Rattle.image_files.specs.Answers.{Answers, AreLines}
@@ -19,6 +21,7 @@ use Rattle.image_files.specs.Ending.{EndsSound}
 use Rattle.volume_reports.specs.Reporting.{PrintsNamed, PrintsReport, Reports, ReportsAmong, TellsRefusal}
 use Rattle.volume_reports.specs.declared.reports.Report.{Report}
 use Rattle.volume_reports.specs.declared.reports.ReportKind.{ReportKind}
+use Rattle.volume_reports.specs.declared.reports.ReportKind.TheVariants as kinds
 
 -- ## A volume
 
@@ -49,6 +52,29 @@ abbrev pub ReportsBoth : ReportKind → List ℕ → List ℕ → List Event →
 ReportsBoth kind file body =
     Then (ReportsNumbered kind file 1 First body) (λ one. Then (ReportsNumbered kind file 2 Second body) (λ other. Purely (λ result. result ≡ Ok (one && other))))
 
+-- ## Bytes that are none of the volumes'
+
+-- an image is checked, and not listed
+abbrev pub is_check : ReportKind → Bool
+is_check kinds.Directory = true
+is_check kinds.Survey = true
+is_check kinds.Files = false
+is_check (kinds.Places year) = false
+
+-- a file has bytes before or after the blocks of its volumes
+abbrev pub has_margins : Margins → Bool
+has_margins margins = not (nat_eq margins.before 0) || not (nat_eq margins.after 0)
+
+-- a note on them is printed, for which memory may be wanted
+abbrev pub TellsMarginsIf : Bool → List ℕ → Margins → List Event → Result (Unit {0}) Ending → List Event → Type 0
+TellsMarginsIf false name margins old result new = (result ≡ Ok tt) × (new ≡ old)
+TellsMarginsIf true name margins old (Ok it) new = (ok : Bool) × (new ≡ tell_call ok (margins_text name margins.before margins.after) ∷ old)
+TellsMarginsIf true name margins old (Err ending) new = (ending ≡ Fault Memory) × (new ≡ old)
+
+-- where an image is checked
+abbrev pub TellsMargins : ReportKind → List ℕ → Margins → List Event → Result (Unit {0}) Ending → List Event → Type 0
+TellsMargins kind name margins = TellsMarginsIf (is_check kind && has_margins margins) name margins
+
 -- ## The one image file that is asked for
 
 -- Its volume alone: the report is printed as it is. Where it is refused the command ends with that, and what may help is printed.
@@ -60,10 +86,14 @@ abbrev pub ReportsFile : ReportKind → List ℕ → Volumes → List ℕ → Li
 ReportsFile kind file (One layout) body = ReportsAlone kind layout body
 ReportsFile kind file Both body = Then (ReportsBoth kind file body) (λ is_sound. Purely (EndsSound is_sound))
 
--- the image file is read, and then its volumes are reported
+-- its bytes beside the volumes are noted, and then these are reported
+abbrev pub ReportsBytes : ReportKind → Option Layout → List ℕ → List ℕ → List Event → Result (Unit {0}) Ending → List Event → Type 0
+ReportsBytes kind given file bytes =
+    Then (TellsMargins kind file (margins_in given bytes)) (λ it. ReportsFile kind file (volumes_in given bytes) (body_of given bytes))
+
+-- the image file is read first
 abbrev pub ReportsOne : ReportKind → ImageReading → List ℕ → List Event → Result (Unit {0}) Ending → List Event → Type 0
-ReportsOne kind reading file =
-    Then (LooksImage reading file) (λ bytes. ReportsFile kind file (volumes_in reading.layout bytes.items) (body_of reading.layout bytes.items))
+ReportsOne kind reading file = Then (LooksImage reading file) (λ bytes. ReportsBytes kind reading.layout file bytes.items)
 
 -- ## One of several
 
@@ -71,9 +101,14 @@ abbrev pub ReportsVolumes : ReportKind → List ℕ → Volumes → List ℕ →
 ReportsVolumes kind file (One layout) body = ReportsVolume kind file layout body
 ReportsVolumes kind file Both body = ReportsBoth kind file body
 
+-- its bytes beside the volumes are noted before
+abbrev pub ReportsBytesAmong : ReportKind → Option Layout → List ℕ → List ℕ → List Event → Result Bool Ending → List Event → Type 0
+ReportsBytesAmong kind given file bytes =
+    Then (TellsMargins kind file (margins_in given bytes)) (λ it. ReportsVolumes kind file (volumes_in given bytes) (body_of given bytes))
+
 -- the volumes of a file that was read are reported; one that can't be read is reported by its line
 abbrev pub ReportsRead : ReportKind → Option Layout → List ℕ → Result (Vec ℕ) Ending → List Event → Result Bool Ending → List Event → Type 0
-ReportsRead kind given file (Ok bytes) = ReportsVolumes kind file (volumes_in given bytes.items) (body_of given bytes.items)
+ReportsRead kind given file (Ok bytes) = ReportsBytesAmong kind given file bytes.items
 ReportsRead kind given file (Err ending) = Then (Purely (TellsRefusal ending)) (PrintsNamed file)
 
 -- each line has the name before it by which the file is asked for

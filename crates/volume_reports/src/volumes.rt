@@ -7,7 +7,8 @@ ghost use Rattle.image_files.specs.Reading.{reading_of};
 ghost use Rattle.image_files.specs.Work.{Then, Purely};
 ghost use Rattle.image_files.specs.Ending.{EndsSound};
 ghost use Rattle.volume_reports.specs.Reporting.{PrintsNamed, TellsRefusal};
-ghost use Rattle.volume_reports.specs.Volumes.{IsVolumeName, ReportsAlone, ReportsAt, ReportsBoth, ReportsFile, ReportsNext, ReportsNumbered, ReportsOne, ReportsVolume, ReportsVolumes};
+ghost use Rattle.volume_reports.specs.Volumes as spec;
+ghost use Rattle.volume_reports.specs.Volumes.{IsVolumeName, ReportsAlone, ReportsAt, ReportsBoth, ReportsBytes, ReportsBytesAmong, ReportsFile, ReportsNext, ReportsNumbered, ReportsOne, ReportsVolume, ReportsVolumes, TellsMargins};
 ghost use Rattle.volume_reports.specs.declared.reports.ReportKind.TheVariants as kinds;
 
 use crate::reports::{
@@ -15,9 +16,9 @@ use crate::reports::{
 };
 use disk_layouts::Layout;
 use hosts::Host;
-use image_files::{ImageReading, end_sound, look_image, volume_in};
-use image_volumes::{Volumes, body_of, volumes_in};
-use outcome::Ending;
+use image_files::{ImageReading, end_sound, look_image, tell_note, volume_in};
+use image_volumes::{Margins, Volumes, body_of, margins_in, volumes_in};
+use outcome::{Ending, Note};
 use program_tasks::ImageForm;
 use std::alloc::Global;
 
@@ -56,7 +57,59 @@ pub(crate) fn report_one<H: Host>(
     ensures { ReportsOne kind reading file.now (H.history host.old) result (H.history host.new) }
 {
     let bytes = look_image(host, alloc, file, reading)?;
-    report_file(host, alloc, kind, reading.layout, file, bytes)
+    report_bytes(host, alloc, kind, reading.layout, file, bytes)
+}
+
+/// Reports on the volumes in a file of these bytes, after the note on those that are none of theirs.
+fn report_bytes<H: Host>(
+    host: &mut H,
+    alloc: Global,
+    kind: ReportKind,
+    given: Option<Layout>,
+    file: &str,
+    bytes: Vec<u8>,
+) -> Result<(), Ending>
+    ensures { ReportsBytes kind given file.now bytes.items (H.history host.old) result (H.history host.new) }
+{
+    tell_margins(host, alloc, kind, file, margins_in(given, &bytes))?;
+    report_file(host, alloc, kind, given, file, bytes)
+}
+
+/// Prints a note on the bytes of a file that are none of its volumes', where it is checked and has such bytes.
+fn tell_margins<H: Host>(
+    host: &mut H,
+    alloc: Global,
+    kind: ReportKind,
+    file: &str,
+    margins: Margins,
+) -> Result<(), Ending>
+    ensures { TellsMargins kind file.now margins (H.history host.old) result (H.history host.new) }
+{
+    if is_check(kind) && has_margins(margins) {
+        tell_note(
+            host,
+            alloc,
+            Note::OnMargins(file, margins.before, margins.after),
+        )?;
+    }
+    Ok(())
+}
+
+/// Whether an image is checked, and not listed.
+fn is_check(kind: ReportKind) -> bool
+    ensures { result ≡ spec.is_check kind }
+{
+    match kind {
+        ReportKind::Directory | ReportKind::Survey => true,
+        ReportKind::Files | ReportKind::Places(_) => false,
+    }
+}
+
+/// Whether a file has bytes before or after the blocks of its volumes.
+fn has_margins(margins: Margins) -> bool
+    ensures { result ≡ spec.has_margins margins }
+{
+    margins.before != 0 || margins.after != 0
 }
 
 /// Reports on the volumes in a file of these bytes.
@@ -202,9 +255,25 @@ pub(crate) fn report_next<H: Host>(
     ensures { ReportsNext kind reading file.now name.now (H.history host.old) result (H.history host.new) }
 {
     match look_image(host, alloc, file, reading) {
-        Ok(bytes) => report_volumes(host, alloc, kind, reading.layout, name, bytes),
+        Ok(bytes) => report_among(host, alloc, kind, reading.layout, name, bytes),
         Err(ending) => report_refusal(host, alloc, name, ending),
     }
+}
+
+/// Reports on the volumes in one of several files, of these bytes, after the note on those that are none of theirs. Answers whether all are
+/// sound.
+fn report_among<H: Host>(
+    host: &mut H,
+    alloc: Global,
+    kind: ReportKind,
+    given: Option<Layout>,
+    file: &str,
+    bytes: Vec<u8>,
+) -> Result<bool, Ending>
+    ensures { ReportsBytesAmong kind given file.now bytes.items (H.history host.old) result (H.history host.new) }
+{
+    tell_margins(host, alloc, kind, file, margins_in(given, &bytes))?;
+    report_volumes(host, alloc, kind, given, file, bytes)
 }
 
 /// Reports on the volumes in one of several files, of these bytes, and answers whether all are sound.
