@@ -29,7 +29,7 @@ use Rattle.volume_salvage.specs.Scanning.{Scans, piece_line, piece_name}
 use Rattle.volume_salvage.specs.declared.pieces.Piece.{Piece}
 use Rattle.volume_salvage.specs.declared.scans.Scan.{Scan}
 use Rattle.salvage_commands.specs.Laws.{ChangesPiecesAlone, IsOfNone}
-use Rattle.salvage_commands.specs.ScanningBlocks.{GivesPiece, IsPath, LaysFirst, WritesEach, WritesPiece}
+use Rattle.salvage_commands.specs.ScanningBlocks.{GivesPiece, IsPath, LaysFirst, MakesFolder, WritesAll, WritesEach, WritesPiece}
 
 -- a step leaves a path as it was
 abbrev Stays : {A : Type 0} → List ℕ → (List Event → Result A Ending → List Event → Type 0) → Type 0
@@ -142,12 +142,21 @@ each-stays path folder image scan (piece ∷ pieces) none =
     then-stays path (WritesPiece folder image scan piece) (λ it. WritesEach folder image scan pieces) (piece-stays path folder image scan piece none.0)
     (λ it old between done. each-stays path folder image scan pieces none.1 between)
 
+folder-stays : (path folder : List ℕ) → Stays path (MakesFolder folder)
+folder-stays path folder old (Ok it) new p = same path p
+folder-stays path folder old (Err ending) new (fault, is, p) = same path p
+
+all-stays : (path folder image : List ℕ) (scan : Scan) → IsOfNone folder path scan.pieces.items → Stays path (WritesAll folder image scan)
+all-stays path folder image scan none =
+    then-stays path (MakesFolder folder) (λ it. WritesEach folder image scan scan.pieces.items) (folder-stays path folder)
+    (λ it old between done. each-stays path folder image scan scan.pieces.items none between)
+
 pub pieces-alone : ChangesPiecesAlone
 pieces-alone folder form old (Ok it) new (inl ends) path none = absurd ends
 pieces-alone folder form old (Err ending) new (inl ends) path none = looks-at-stays path form old (Err ending) new ends
 pieces-alone folder form old result new (inr looked) path none =
-    then-stays path (Answers (Scans looked.given.items) (length looked.given.items)) (λ scan. WritesEach folder looked.given.items scan scan.pieces.items)
+    then-stays path (Answers (Scans looked.given.items) (length looked.given.items)) (λ scan. WritesAll folder looked.given.items scan)
     (answers-stays path (Scans looked.given.items) (length looked.given.items))
-    (λ scan from to scanned. each-stays path folder looked.given.items scan scan.pieces.items (none looked.given looked.between scan looked.done scanned.0) to)
+    (λ scan from to scanned. all-stays path folder looked.given.items scan (none looked.given looked.between scan looked.done scanned.0) to)
     looked.between result new looked.after
     ∙ looks-at-stays path form old (Ok looked.given) looked.between looked.done

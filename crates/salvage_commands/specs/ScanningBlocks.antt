@@ -1,7 +1,7 @@
 -- The command that finds what the blocks of a volume hold by their content alone (this project's profile).
 use Rattle.std.specs.Prelude.{◌≡◌, ◌⊎◌, ◌<◌, ℕ, Result, Ok, Err, codes, String, List, [], ◌∷◌, ◌++◌, length, true}
 use Rattle.std.specs.Global.{Global, Vec}
-use Rattle.hosts.specs.Event.{Event, there_call}
+use Rattle.hosts.specs.Event.{Event, MakeFolder, failed_call, folder_call, there_call}
 use Rattle.hosts.specs.Faults.{fault_number}
 use Rattle.hosts.specs.Place.{about}
 use Rattle.hosts.specs.Saving.{Lays, replacements}
@@ -42,7 +42,7 @@ abbrev pub IsPath : List ℕ → Piece → Result (String Global) Ending → Typ
 IsPath folder piece (Ok path) = path.bytes.items ≡ folder ++ codes "/" ++ piece_name piece
 IsPath folder piece (Err ending) = ending ≡ Fault Memory
 
--- a file can't be laid: there is one of its name, or a call failed
+-- the folder can't be made, or a file can't be laid: there is one of its name, or a call failed
 abbrev pub ending_of_laid : HostFault → Ending
 ending_of_laid host.Busy = Line HostExists
 ending_of_laid host.Memory = Fault Memory
@@ -78,7 +78,16 @@ abbrev pub WritesEach : List ℕ → List ℕ → Scan → List Piece → List E
 WritesEach folder image scan [] = Purely (λ result. result ≡ Ok tt)
 WritesEach folder image scan (piece ∷ pieces) = Then (WritesPiece folder image scan piece) (λ it. WritesEach folder image scan pieces)
 
+-- the folder is made, unless there is one of its name
+abbrev pub MakesFolder : List ℕ → List Event → Result (Unit {0}) Ending → List Event → Type 0
+MakesFolder folder old (Ok it) new = new ≡ folder_call folder ∷ old
+MakesFolder folder old (Err ending) new = (fault : HostFault) × (ending ≡ ending_of_laid fault) × (new ≡ failed_call MakeFolder folder fault ∷ old)
+
+-- before any piece is written
+abbrev pub WritesAll : List ℕ → List ℕ → Scan → List Event → Result (Unit {0}) Ending → List Event → Type 0
+WritesAll folder image scan = Then (MakesFolder folder) (λ it. WritesEach folder image scan scan.pieces.items)
+
 -- An image file is only looked at, and each of its pieces is written out to a folder.
 abbrev pub WritesPieces : List ℕ → ImageForm → List Event → Result (Unit {0}) Ending → List Event → Type 0
 WritesPieces folder form =
-    Then (LooksAt form) (λ image. Then (Answers (Scans image.items) (length image.items)) (λ scan. WritesEach folder image.items scan scan.pieces.items))
+    Then (LooksAt form) (λ image. Then (Answers (Scans image.items) (length image.items)) (λ scan. WritesAll folder image.items scan))

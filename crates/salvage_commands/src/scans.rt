@@ -2,7 +2,7 @@
 ghost use Rattle.std.specs.Prelude.{◌≡◌, length};
 ghost use Rattle.volume_salvage.specs.Scanning.{Scans, piece_line, scan_text};
 ghost use Rattle.image_files.specs.Answers.{Answers, AreLines};
-ghost use Rattle.salvage_commands.specs.ScanningBlocks.{GivesPiece, IsPath, LaysFirst, ShowsPieces, WritesEach, WritesPiece, WritesPieces, ending_of_laid};
+ghost use Rattle.salvage_commands.specs.ScanningBlocks.{GivesPiece, IsPath, LaysFirst, MakesFolder, ShowsPieces, WritesAll, WritesEach, WritesPiece, WritesPieces, ending_of_laid};
 
 use archive_many::{BlocksFault, blocks_of};
 use hosts::{Host, HostFault, lay};
@@ -25,8 +25,8 @@ pub fn scan_blocks<H: Host>(host: &mut H, alloc: Global, form: &ImageForm) -> Re
     print(host, &lines)
 }
 
-/// Writes each of these pieces to a file of its own in a folder of the host, and then prints its line. Up to the first that is refused, as one
-/// is whose file is there: none is replaced. The image file is only looked at.
+/// Writes each of these pieces to a file of its own in a folder of the host, which is made unless it is there, and then prints its line. Up to
+/// the first that is refused, as one is whose file is there: none is replaced. The image file is only looked at.
 pub fn scan_into<H: Host>(
     host: &mut H,
     alloc: Global,
@@ -37,7 +37,7 @@ pub fn scan_into<H: Host>(
 {
     let image = look_at(host, alloc, form)?;
     let scan = scan_of(host, alloc, &image)?;
-    write_each(host, alloc, folder, &image, &scan)
+    write_all(host, alloc, folder, &image, &scan)
 }
 
 /// What the blocks of an image hold, which is refused as other commands refuse it.
@@ -56,6 +56,30 @@ fn lines_of(alloc: Global, scan: &Scan) -> Result<Vec<u8>, Ending>
 {
     let lines = scan.lines(alloc)?;
     Ok(lines)
+}
+
+/// Makes the folder, unless it is there, and writes the pieces.
+fn write_all<H: Host>(
+    host: &mut H,
+    alloc: Global,
+    folder: &str,
+    image: &[u8],
+    scan: &Scan,
+) -> Result<(), Ending>
+    ensures { WritesAll folder.now image.now scan.now (H.history host.old) result (H.history host.new) }
+{
+    make_folder(host, folder)?;
+    write_each(host, alloc, folder, image, scan)
+}
+
+/// Makes a folder, unless there is one of its name.
+fn make_folder<H: Host>(host: &mut H, folder: &str) -> Result<(), Ending>
+    ensures { MakesFolder folder.now (H.history host.old) result (H.history host.new) }
+{
+    match host.make_folder(folder) {
+        Ok(()) => Ok(()),
+        Err(fault) => Err(ending_of(fault)),
+    }
 }
 
 /// Writes the pieces, one after another.
@@ -140,7 +164,7 @@ fn lay_first<H: Host>(host: &mut H, alloc: Global, path: &str, bytes: &[u8]) -> 
     }
 }
 
-/// How the command ends where a file can't be laid.
+/// How the command ends where the folder can't be made, or a file can't be laid.
 fn ending_of(fault: HostFault) -> Ending
     ensures { result ≡ ending_of_laid fault }
 {
