@@ -65,7 +65,7 @@ export async function kindOf({ programs, store }, bytes) {
     /** @param {...string} words @returns {Promise<Asked>} */
     const asked = async (...words) => {
         const { status, out, said } = await programs.ask(['check', name, ...words]);
-        return { refusal: status === 0 ? null : textOf(out).trim(), said };
+        return { refusal: status === 0 ? null : textOf(out).trim(), said: said.replaceAll(name, 'the file') };
     };
     const kind = bytes.length === TAPE ? 'DECtape' : bytes.length > DISK_BLOCKS * BLOCK && bytes.length <= 2 * DISK_BLOCKS * BLOCK ? 'disk' : '';
     store.put(name, bytes);

@@ -78,6 +78,12 @@ await run('whole', {
         writeFileSync(file('none.txt'), 'This is no image.\n');
         await page.give('#image', file('none.txt'));
         await isTold(page, 'files-status', 'none.txt: ? IMAGE 1 NOT WHOLE');
+        native(['create', 'V', '20']);
+        const bytes = Buffer.concat([Buffer.alloc(100), readFileSync(file('V'))]);
+        bytes[100 + 4001] = 0o377;
+        writeFileSync(file('head.img'), bytes);
+        await page.give('#image', file('head.img'));
+        await isTold(page, 'files-status', 'head.img: ? IMAGE 4 BAD WORD 2000\nnote: the file has 100 bytes before its blocks and 0 after them');
         same('', await page.look(volumes), 'the volumes');
     },
     'a file that nobody changes keeps its time, however long the program reads it': async (page, url) => {
