@@ -52,14 +52,17 @@ def fault_of(program: str, random: Random) -> str:
     layout = random.choice(["", "", "", "", "1", "2", "tape"])
     words = [*random.choice(COMMANDS), *LAYOUTS[layout]]
     mended_data, lines = mended(NAME, layout, data)
-    notes = "".join(f"{line}\n" for line in lines) * words.count(NAME)
+    notes = "".join(f"{line}\n" for line in lines)
     with tempfile.TemporaryDirectory() as folder:
         output, errors, status, is_same = run(program, folder, [*words, "--lenient"], data)
         wanted, others, ends, _ = run(program, folder, words, mended_data)
+    # of a file that is named twice the notes come twice, those on what was mended before its others
+    times = words.count(NAME)
+    notes = (notes + others[: len(others) // times]) * times
     if not is_same:
         return f"{words}: the file has changed"
-    if (output, errors, status) != (wanted, notes + others, ends):
-        return f"{words}: {output[:80]!r} {errors[:200]!r} {status} in place of {wanted[:80]!r} {(notes + others)[:200]!r} {ends}"
+    if (output, errors, status) != (wanted, notes, ends):
+        return f"{words}: {output[:80]!r} {errors[-400:]!r} {status} in place of {wanted[:80]!r} {notes[-400:]!r} {ends}"
     return ""
 
 

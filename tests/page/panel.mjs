@@ -199,7 +199,7 @@ await run('panel', {
         await page.go(url);
         await toCore(page, '*200\n\tHLT\n*400\n\tCLA IAC\n\tHLT\n$\n');
         const pc = () => page.look(`document.querySelector('[data-row=pc] .word').textContent`);
-        same('0200', await pc(), 'PC where a tape was laid');
+        await page.until(`document.querySelector('[data-row=pc] .word').textContent === '0200'`);
         await page.fill('#switches-shown', '0400');
         await page.key('Tab');
         await page.click('[aria-label="field switch 0"]');
