@@ -364,7 +364,7 @@ test('a machine that goes for ever is stopped by its key, at 60 pictures a secon
     await isTold(page, 'machine-status', 'words are in core');
     await page.choose('#speed', 'full');
     await page.click('#key-start');
-    // how many they are figures.mjs measures, which has the processors for itself
+    // figures.mjs measures how many they are, since it has the processors for itself
     await page.until(`document.getElementById('rate').textContent.includes('steps a second')`);
     const pictures = await page.look(`new Promise(go => { let count = 0; const end = performance.now() + 1000;
         const next = now => { count++; now < end ? requestAnimationFrame(next) : go(count); }; requestAnimationFrame(next); })`);
