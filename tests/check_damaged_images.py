@@ -14,11 +14,11 @@ import sys
 import tempfile
 
 TOP = os.path.dirname(os.path.dirname(os.path.abspath(__file__)))
+sys.dont_write_bytecode = True
+sys.path.insert(0, TOP)
+from tests.options import option
+
 BLOCK = 512
-
-
-def option(name: str, value: str) -> str:
-    return sys.argv[sys.argv.index(name) + 1] if name in sys.argv else value
 
 
 PROGRAM = os.path.abspath(option("--program", f"{TOP}/crates/pdp8/out/pdp8"))

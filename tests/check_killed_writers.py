@@ -2,7 +2,8 @@
 """check_killed_writers.py: what killed writers leave. Several programs at once put files on one image and run scripts that store and delete. Some are
 killed at random moments, among them runs that keep. Then the image must be sound. It must have just the files that were reported as stored and not as
 deleted, with their words. What a program that keeps has reported counts also where it was killed then. The image may also have the one that a killed
-program was at. The next writer must come in at once. The last line is 'N passed, M failed'; each killed program counts.
+program was at. The next writer must come in at once, and leave no file beside the image that killed ones made. The last line is 'N passed, M failed';
+each killed program counts.
 
 usage: check_killed_writers.py [--program FILE] [--kills N] [--seed N]
 """
@@ -17,11 +18,9 @@ import time
 from typing import Iterator
 
 TOP = os.path.dirname(os.path.dirname(os.path.abspath(__file__)))
-
-
-def option(name: str, value: str) -> str:
-    return sys.argv[sys.argv.index(name) + 1] if name in sys.argv else value
-
+sys.dont_write_bytecode = True
+sys.path.insert(0, TOP)
+from tests.options import option
 
 PROGRAM = os.path.abspath(option("--program", f"{TOP}/crates/pdp8/out/pdp8"))
 KILLS = int(option("--kills", "60"))
@@ -162,6 +161,9 @@ class Image:
         begun = time.monotonic()
         if self.write("LAST", b"last\n", None)[0] or time.monotonic() - begun > 5:
             yield "the next writer doesn't come in"
+        left = [name for name in os.listdir(os.path.dirname(self.name)) if name.startswith(".V.pdp8-")]
+        if left:
+            yield f"the next writer leaves {len(left)} files beside the image that killed ones made"
 
 
 def main() -> int:

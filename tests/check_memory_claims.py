@@ -40,8 +40,14 @@ PLACES: dict[str, dict[str, tuple[int, str]]] = {
     "choice_commands/src/listing.rt": {
         "fault_text": (1, "`put_reply`'s own, in the arm of its pattern"),
     },
+    "task_commands/src/refused_words.rt": {
+        "text_of": (1, "`task`'s own, in the arm of its pattern"),
+    },
     "image_files/src/answers.rt": {
         "put_stored": (1, "`put_program` can fail for nothing else"),
+    },
+    "many_commands/src/giving.rt": {
+        "tell_laid": (1, "`lay`'s own, which `line_of_laid` tells from the others"),
     },
     "volume_commands/src/deleting.rt": {
         "put_deleted": (1, "`put_program` can fail for nothing else"),

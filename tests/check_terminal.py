@@ -1,7 +1,7 @@
 #!/usr/bin/env python3
 """check_terminal.py [--program FILE]: runs programs at the Teletype through a pseudo-terminal, as a person would, with what ./pdp8 and an installed
 pdp8 do around the program. It tries keys one by one and in bursts, the game, each end, and each way in which the program or the shell around it can
-be ended. Each time it looks that the terminal is as it was, and that no process is left. It looks at an index as a terminal shows it. The last line is 'N passed, M failed'.
+be ended. Each time it looks that the terminal is as it was, and that no process is left. It looks at an index as a terminal shows it, and answers what `create` asks there. The last line is 'N passed, M failed'.
 """
 import argparse
 import os
@@ -242,8 +242,50 @@ def index(folder: str) -> list[str]:
     os.mkfifo(f"{folder}/slow")
     with subprocess.Popen(["sh", "-c", "sleep 4; cat V >slow"], cwd=folder):
         said = shown(folder, "index", "slow", "missing", "V", is_output=False)
-    told += [] if re.fullmatch(rb"1 of 3\rmissing: \? HOST READ\r\n(2 of 3\r)?\x1b\[K", said) else [f"progress of the index: {said!r}"]
+    told += [] if re.fullmatch(rb"1 of 3\rnote: missing: no such file\r\nmissing: \? HOST READ\r\n(2 of 3\r)?\x1b\[K", said) else [f"progress of the index: {said!r}"]
     return told + ([] if open(f"{folder}/lines", "rb").read().count(b"\t") == 28 else ["lines of the index with progress"])
+
+
+def answered(folder: str, answer: bytes, *words: str) -> tuple[bytes, int]:
+    """What a call prints at a terminal where it is answered so, and its status."""
+    child, terminal = pty.fork()
+    if child == 0:
+        os.chdir(folder)
+        os.execv("./pdp8", ["./pdp8", *words])
+    said, is_answered = b"", False
+    try:
+        while more := os.read(terminal, 4096):
+            said += more
+            if b"leaves it\r\n" in said and not is_answered:
+                is_answered = True
+                os.write(terminal, answer)
+    except OSError:  # the terminal of a process that has ended
+        pass
+    os.close(terminal)
+    return said, os.waitstatus_to_exitcode(os.waitpid(child, 0)[1])
+
+
+def creation(folder: str) -> list[str]:
+    """A new volume in place of a file that isn't empty: only `y` lets it go. Nothing is asked of a new or an empty file."""
+    told = []
+    for name, words in (("W", ("create", "W", "20")), ("E", ("create", "E", "20")), ("T", ("create", "T", "--dectape"))):
+        if name == "E":
+            open(f"{folder}/E", "wb").close()
+        said, status = answered(folder, b"", *words)
+        told += [] if (said.startswith(b"CREATED "), status) == (True, 0) else [f"a volume in no file's place: {said!r} {status}"]
+    subprocess.run(["./pdp8", "put", "W", "echo.bin", "--as", "ECHO"], cwd=folder, stdout=subprocess.DEVNULL, check=True)
+    old = open(f"{folder}/W", "rb").read()
+    note = b"note: W is there, and is not empty: y replaces it, and anything else leaves it\r\n"
+    for words in (("create", "W", "20"), ("create", "W", "--dectape"), ("create", "W", "--rk05"), ("create", "W:2")):
+        for answer in (b"n\n", b"\n", b"yes\n", b"Y\n", b" y\n", b"\x04"):
+            said, status = answered(folder, answer, *words)
+            kept = open(f"{folder}/W", "rb").read() == old
+            told += [] if said.startswith(note) and said.endswith(b"? HOST EXISTS\r\n") and (status, kept) == (1, True) else [f"{words} answered {answer!r}: {said!r} {status}"]
+    said, status = answered(folder, b"y\n", "create", "W", "20")
+    told += [] if said.startswith(note) and said.endswith(b"CREATED 20\r\n") and status == 0 else [f"a volume that replaces: {said!r} {status}"]
+    told += [] if open(f"{folder}/W", "rb").read() != old else ["a file that may go has stayed"]
+    said, status = answered(folder, b"", "create", "W", "20", "--new")
+    return told + ([] if (said, status) == (b"note: W: a file of that name is there\r\n? HOST EXISTS\r\n", 1) else [f"a first volume: {said!r} {status}"])
 
 
 def main() -> int:
@@ -259,7 +301,7 @@ def main() -> int:
         for name, it in (("echo", ECHO), ("dots", DOTS)):
             with open(f"{folder}/{name}.bin", "wb") as file:
                 file.write(bytes(tape_of([(0o200 + k, word) for k, word in enumerate(it)])))
-        for case in (game, keys, waiting, killed, streams, index):
+        for case in (game, keys, waiting, killed, streams, index, creation):
             told = case(folder)
             print(*(f"check_terminal: {line}" for line in told), sep="\n", end="\n" if told else "")
             passed, failed = passed + (not told), failed + bool(told)

@@ -42,12 +42,16 @@ TEXTS += [("tests/page/check_types.py",), ("tests/check_tools.py",), ("tests/che
 TEXTS += [("tests/check_try_edits.py",), ("tests/try_defects.py",)]
 RUNS: list[Words] = [("tests/run_sessions.py",), ("tests/model/compare_scripts.py",), ("tests/model/compare_host_commands.py",), ("tests/model/compare_archives.py",)]
 RUNS += [("tests/check_terminal.py",), ("tests/check_killed_writers.py",), ("tests/calls/check_failing_calls.py",), ("tests/check_damaged_images.py",)]
+RUNS += [("tests/hosts/check_races.py",)]
+RUNS += [("tests/hosts/check_shown_names.py",)]
 RUNS += [("tests/model/check_pal8_rows.py",), ("tests/model/compare_indexes.py",), ("tests/model/compare_lenient.py",), ("tests/model/compare_scans.py",)]
+RUNS += [("tests/model/compare_kinds.py",)]
 RUNS += [("tests/model/compare_pal8_faults.py",), ("tests/model/compare_pal8_tapes.py",), ("tests/model/compare_pal8_notes.py",)]
 # How many random cases the plain models are given where a contributor waits.
 FEW: dict[str, Words] = {"tests/model/compare_scripts.py": ("--scripts", "50"), "tests/model/compare_host_commands.py": ("--cases", "30"), "tests/model/compare_archives.py": ("--cases", "20")}
 FEW["tests/model/compare_indexes.py"] = ("--images", "200")
 FEW["tests/model/compare_lenient.py"] = ("--images", "60")
+FEW["tests/model/compare_kinds.py"] = ("--files", "60")
 FEW["tests/model/compare_scans.py"] = ("--volumes", "40")
 FEW["tests/model/compare_pal8_faults.py"] = ("--sources", "100")
 FEW["tests/model/compare_pal8_tapes.py"] = ("--cases", "60")

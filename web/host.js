@@ -198,10 +198,15 @@ function imports(memory, files, words, host) {
         },
         mkdir(at) { return files.make_folder?.(path(at)) === false ? fail(EACCES) : 0; },
         clock_gettime: () => fail(EINVAL),
+        // names that nobody can guess
+        getentropy(at, count) { crypto.getRandomValues(memory(at, count)); return 0; },
+        // no program of the page is ended as it writes, so nothing is looked for beside a file
+        rattle_open_dir_at: () => fail(EACCES),
+        getdents64: () => BigInt(fail(EINVAL)),
         // nobody lets a file go while the program runs, so no time passes
         nanosleep: () => 0,
         flock(number) { return host.locked?.(own_of(number).name) ? fail(EAGAIN) : 0; },
-        fchmod: () => 0, chown: () => 0, fsync: () => 0, fdatasync: () => 0, __sysv_signal: () => 0n,
+        fchmod: () => 0, fchown: () => 0, fsync: () => 0, fdatasync: () => 0, __sysv_signal: () => 0n,
     };
 }
 

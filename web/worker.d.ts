@@ -31,7 +31,8 @@ interface Calls {
     ftruncate(number: number, size: bigint): number; futimens(number: number, at: bigint): number; statx(folder: number, at: bigint, flags: number, mask: number, to: bigint): number;
     realpath(at: bigint, to: bigint): bigint; readlink(): bigint; unlink(at: bigint): number; link(from: bigint, to: bigint): number;
     rename(from: bigint, to: bigint): number; mkdir(at: bigint): number; clock_gettime(): number; flock(number: number): number; fchmod(): number;
-    chown(): number; fsync(): number; fdatasync(): number; __sysv_signal(): bigint;
+    getentropy(at: bigint, count: number | bigint): number; rattle_open_dir_at(): number; getdents64(): bigint;
+    fchown(): number; fsync(): number; fdatasync(): number; __sysv_signal(): bigint;
 }
 
 declare namespace WebAssembly {

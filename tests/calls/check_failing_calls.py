@@ -7,6 +7,7 @@ usage: check_failing_calls.py [--program FILE]
 """
 import errno
 import os
+import re
 import subprocess
 import sys
 import tempfile
@@ -16,8 +17,16 @@ HERE = os.path.dirname(os.path.abspath(__file__))
 TOP = os.path.dirname(os.path.dirname(HERE))
 PROGRAM = os.path.abspath(sys.argv[sys.argv.index("--program") + 1] if "--program" in sys.argv else f"{TOP}/crates/pdp8/out/pdp8")
 KILLED = -9
-BUSY = "error: another program works on the image\n? HOST BUSY\n"
+BUSY = "note: V: another program works on it\nerror: another program works on the image\n? HOST BUSY\n"
 AS_IT_WAS = "error: the image is not written: the file is as it was\n? HOST WRITE\n"
+
+
+def noted(name: str, why: str, line: str) -> str:
+    """A refusal with its note."""
+    return f"note: {name}: {why}\n{line}"
+
+
+FAILED = "input/output error"
 
 
 class Room:
@@ -47,8 +56,8 @@ class Room:
             return [call for call in log.read().split("\n")[:-1] if not call.startswith("open ")]
 
     def names(self) -> list[str]:
-        """The names in the folder but the program's."""
-        return sorted(set(os.listdir(self.folder)) - {"pdp8", "said"})
+        """The names in the folder but the program's. Those that nobody can guess have their end as `*`."""
+        return sorted(re.sub(r"(\.pdp8-)[a-z2-7]{10}$", r"\1*", name) for name in set(os.listdir(self.folder)) - {"pdp8", "said"})
 
 
 Test = Callable[[Room], None]
@@ -82,7 +91,7 @@ def a_name_that_comes_before_the_naming_is_not_written_over(room: Room) -> None:
 @case
 def a_tape_is_not_written_over_a_file_that_comes_after_the_look(room: Room) -> None:
     said = room.pdp8("assemble", "-", "--output", "T", given="1\n$", call="realpath", after="echo mine > T")
-    holds(said, (1, "error: another program works on the tape\n? HOST BUSY\n"))
+    holds(said, (1, noted("T", "another program works on it", "error: another program works on the tape\n? HOST BUSY\n")))
     holds(room.sh("cat T"), "mine\n")
 
 
@@ -90,7 +99,7 @@ def a_tape_is_not_written_over_a_file_that_comes_after_the_look(room: Room) -> N
 def a_link_that_leads_to_no_file_gets_one_whole_or_none(room: Room) -> None:
     room.sh("mkdir far; ln -s far/next link; ln -s ../V far/next")
     refused = room.pdp8("create", "link", "20", call="fsync", error=errno.EIO)
-    holds((refused, room.names()), ((1, AS_IT_WAS), ["far", "link"]))
+    holds((refused, room.names()), ((1, noted("link", FAILED, AS_IT_WAS)), ["far", "link"]))
     holds(room.pdp8("create", "link", "20"), (0, "CREATED 20\n"))
     holds(room.sh("readlink link; readlink far/next; ls -A far; stat -c %s V"), "far/next\n../V\nnext\n10240\n")
     holds(room.names(), ["V", "far", "link"])
@@ -99,7 +108,7 @@ def a_link_that_leads_to_no_file_gets_one_whole_or_none(room: Room) -> None:
 @case
 def a_file_that_comes_where_a_link_leads_is_not_written_over(room: Room) -> None:
     room.sh("ln -s V link")
-    holds(room.pdp8("create", "link", "20", call="link", before="./pdp8 create V 30"), (1, BUSY))
+    holds(room.pdp8("create", "link", "20", call="link", before="./pdp8 create V 30"), (1, BUSY.replace("V", "link")))
     holds(room.sh("stat -c %s V"), "15360\n")
     holds(room.names(), ["V", "link"])
 
@@ -107,14 +116,14 @@ def a_file_that_comes_where_a_link_leads_is_not_written_over(room: Room) -> None
 @case
 def links_that_lead_to_each_other_get_no_file(room: Room) -> None:
     room.sh("ln -s b a; ln -s a b")
-    holds(room.pdp8("create", "a", "20"), (1, AS_IT_WAS))
+    holds(room.pdp8("create", "a", "20"), (1, noted("a", "too many links", AS_IT_WAS)))
     holds(room.names(), ["a", "b"])
 
 
 @case
 def a_second_name_that_a_killed_program_left_is_taken_away(room: Room) -> None:
     holds(room.pdp8("create", "V", "20", call="link", after="kill -9 $PPID")[0], KILLED)
-    holds(room.names(), [".V.pdp8-000", "V"])
+    holds(room.names(), [".V.pdp8-*", "V"])
     was = room.sh("stat -c %i V")
     holds(room.sh("echo A | ./pdp8 put V - --as A"), "STORED A 1\n")
     assert room.sh("stat -c %i V") != was, "the image is written in its place"
@@ -128,6 +137,76 @@ def another_file_beside_an_image_stays(room: Room) -> None:
     holds(room.names(), [".V.pdp8-000", "V", "mine"])
 
 
+LEFT = "note: files that ended writers left beside V are removed: 1 in all\n"
+SOUND = "BLOCKS 20\nSEGMENT 1 1\nEMPTY 7 13\n"
+
+
+@case
+def what_a_killed_writer_left_is_taken_away_by_a_check(room: Room) -> None:
+    room.sh("./pdp8 create V 20; touch .V.pdp8-000 .V.pdp8-other .V.pdp8-aaaaaaaaaaa .V.pdp8-aaaaaaaa0a .Vpdp8-aaaaaaaaaa; mkdir .V.pdp8-bbbbbbbbbb; ln -s V .V.pdp8-cccccccccc")
+    stays = room.names()
+    holds(room.pdp8("put", "V", "-", "--as", "A", given="A", call="fsync", before="kill -9 $PPID")[0], KILLED)
+    holds(room.names(), sorted([".V.pdp8-*", *stays]))
+    holds(room.sh("./pdp8 check V"), SOUND + LEFT)
+    holds((room.names(), room.sh("./pdp8 check V")), (stays, SOUND))
+
+
+@case
+def what_killed_writers_left_is_taken_away_by_the_next_one(room: Room) -> None:
+    room.sh("./pdp8 create V 20; ./pdp8 create W 20")
+    for call in ("open V", "write", "fsync", "rename"):
+        room.pdp8("put", "V", "-", "--as", "A", given="A", call=call, before="kill -9 $PPID")
+    holds(room.names(), [".V.pdp8-*", "V", "W"])
+    holds(room.sh("echo A | ./pdp8 put W - --as A; ls -A | grep -c ^.V.pdp8-; echo A | ./pdp8 put V - --as A"), "STORED A 1\n1\nSTORED A 1\n")
+    holds(room.names(), ["V", "W"])
+
+
+@case
+def a_file_that_a_living_writer_holds_stays(room: Room) -> None:
+    room.sh("./pdp8 create V 20")
+    holds(room.pdp8("put", "V", "-", "--as", "A", given="A", call="fsync", before="./pdp8 check V; echo B | ./pdp8 put V - --as B"), (0, "STORED A 1\n"))
+    holds((room.sh("cat said"), room.names()), (SOUND + BUSY, ["V"]))
+
+
+@case
+def a_file_that_is_taken_away_before_it_is_locked_is_made_anew(room: Room) -> None:
+    room.sh("./pdp8 create V 20")
+    holds(room.pdp8("put", "V", "-", "--as", "A", given="A", call="flock", number=2, before="./pdp8 check V"), (0, "STORED A 1\n"))
+    holds((room.sh("cat said"), room.names()), (LEFT + SOUND, ["V"]))
+
+
+@case
+def a_second_name_goes_by_a_check_only_once_nobody_holds_it(room: Room) -> None:
+    holds(room.pdp8("create", "V", "20", call="unlink", before="./pdp8 check V; ls -A | grep -c ^.V"), (0, "CREATED 20\n"))
+    holds((room.sh("cat said"), room.names()), (SOUND + "1\n", ["V"]))
+    holds(room.pdp8("create", "W", "20", call="link", after="kill -9 $PPID")[0], KILLED)
+    room.sh("ln V .V.pdp8-other")
+    holds(room.sh("./pdp8 check W; ./pdp8 check V"), SOUND + SOUND + LEFT.replace(" V ", " W "))
+    holds(room.names(), [".V.pdp8-other", "V", "W"])
+
+
+@case
+def planted_names_are_no_obstacle(room: Room) -> None:
+    room.sh("./pdp8 create V 20; for n in $(seq -w 0 999); do ln -s V .V.pdp8-$n; done")
+    holds(room.sh("echo A | ./pdp8 put V - --as A; ls -A | grep -c ^.V.pdp8-; cat V > W; ./pdp8 list W"), "STORED A 1\n1000\nA 1\nFREE 12\n")
+
+
+@case
+def without_random_bytes_no_file_is_made(room: Room) -> None:
+    room.sh("./pdp8 create V 20")
+    status, said = room.pdp8("put", "V", "-", "--as", "A", given="A", call="random", error=errno.ENOSYS)
+    holds((status, said.split("\n")[-2], room.names()), (1, "? HOST WRITE", ["V"]))
+
+
+@case
+def an_image_whose_owner_is_not_kept_is_not_written(room: Room) -> None:
+    room.sh("./pdp8 create V 20; chown 65534:65533 V")
+    if os.geteuid() == 0:
+        status, said = room.pdp8("put", "V", "-", "--as", "A", given="A", call="owner", error=errno.EPERM)
+        holds((status, said.split("\n")[-2], room.names()), (1, "? HOST WRITE", ["V"]))
+        holds(room.sh("./pdp8 list V; stat -c %u:%g V"), "FREE 13\n65534:65533\n")
+
+
 @case
 def a_writer_comes_in_only_once_a_new_image_has_one_name(room: Room) -> None:
     holds(room.pdp8("create", "V", "20", call="unlink", before="./pdp8 squeeze V"), (0, "CREATED 20\n"))
@@ -137,10 +216,10 @@ def a_writer_comes_in_only_once_a_new_image_has_one_name(room: Room) -> None:
 
 @case
 def a_file_that_gets_no_number_of_its_own_is_taken_away(room: Room) -> None:
-    holds(room.pdp8("create", "V", "20", call="dup", error=errno.EMFILE), (1, AS_IT_WAS))
+    holds(room.pdp8("create", "V", "20", call="dup", error=errno.EMFILE), (1, noted("V", FAILED, AS_IT_WAS)))
     holds(room.names(), [])
     room.sh("./pdp8 create V 20; echo A | ./pdp8 put V - --as A")
-    holds(room.pdp8("get", "V", "A", "--into", "F", call="dup", error=errno.EMFILE), (1, "A: ? HOST WRITE\n"))
+    holds(room.pdp8("get", "V", "A", "--into", "F", call="dup", error=errno.EMFILE), (1, noted("F/A", FAILED, "A: ? HOST WRITE\n")))
     holds(room.sh("ls -A F"), "")
 
 
@@ -168,7 +247,7 @@ def a_new_file_is_held_before_it_has_its_bytes_where_there_are_no_further_names(
     holds((said, room.sh("cat said")), ((0, "CREATED 20\n"), BUSY))
     holds(room.names(), ["V"])
     said = room.pdp8("create", "W", "20", call="rename", error=errno.EIO, links=errno.EPERM)
-    holds((said, room.names()), ((1, AS_IT_WAS), ["V"]))
+    holds((said, room.names()), ((1, noted("W", FAILED, AS_IT_WAS)), ["V"]))
 
 
 @case
@@ -197,7 +276,7 @@ def a_file_that_is_written_while_it_is_read_is_refused(room: Room) -> None:
         status, said = room.pdp8(*words, call="read", number=number, after=write.format("V"), given="B\n")
         holds((words, status, said.split("\n")[-2]), (words, 1, "? HOST READ"))
         room.sh("sleep 0.1")
-    holds(room.pdp8("check", "V", "W", call="read", after=write.format("V")), (1, "V: ? HOST READ\nW: BLOCKS 20\nW: SEGMENT 1 1\nW: EMPTY 7 13\nIMAGES 2 REFUSED 1\n"))
+    holds(room.pdp8("check", "V", "W", call="read", after=write.format("V")), (1, noted("V", "changed while it was read", "V: ? HOST READ\nW: BLOCKS 20\nW: SEGMENT 1 1\nW: EMPTY 7 13\nIMAGES 2 REFUSED 1\n")))
     status, said = room.pdp8("assemble", "s.pa", call="read", number=2, after="echo >> s.pa")
     holds((status, said.split("\n")[-2]), (1, "? HOST READ"))
     holds(room.sh("./pdp8 list V; ./pdp8 list W"), "A 1\nFREE 12\nFREE 13\n")
@@ -219,6 +298,18 @@ def a_file_of_the_same_number_on_another_disk_is_another(room: Room) -> None:
         holds(room.pdp8("put", "V", "-", "--as", "A", call="statx", number=number, given="A"), (0, "STORED A 1\n"))
         with open(f"{room.folder}.log", encoding="utf-8") as log:
             holds((number, log.read().split("\n").count("open V")), (number, times))
+
+
+@case
+def a_tape_is_not_written_where_it_is_not_known_whether_it_is_a_source(room: Room) -> None:
+    room.sh("printf '1\n$\n' > a.pa")
+    for number in (3, 4):
+        said = room.pdp8("assemble", "./a.pa", "--output", "a.pa", call="statx", number=number, error=errno.EIO)
+        holds((said, room.sh("cat a.pa")), ((1, f"note: a.pa: {FAILED}\n" + AS_IT_WAS.replace("image", "tape")), "1\n$\n"))
+    room.sh("./pdp8 create V 20; echo A | ./pdp8 put V - --as V --text; cp V kept")
+    for number in range(1, 8):
+        room.pdp8("get", "./V", "V", "--into", ".", "--force", call="statx", number=number, error=errno.EIO)
+        holds((number, room.sh("cmp V kept")), (number, ""))
 
 
 @case
@@ -276,6 +367,8 @@ WRITERS = {
     ("get", "V", "A", "--into", "F", "--force"): b"", ("put", "V", "-", "--as", "B"): b"B", ("rename", "V", "A", "C"): b"", ("copy", "V", "A", "W"): b"",
     ("delete", "V", "A"): b"", ("squeeze", "V"): b"", ("create", "N", "8"): b"", ("list", "none"): b"", ("--help",): b"", ("--version",): b"",
 }
+# the image that has the change after it
+CHANGED = {"run": b"V", "put": b"V", "rename": b"V", "copy": b"W", "delete": b"V", "squeeze": b"V", "create": b"N"}
 
 
 @case
@@ -287,9 +380,62 @@ def output_that_takes_no_more_is_told_by_all_commands_alike(room: Room) -> None:
         for output, wanted in ((full, (1, b"? 9 WRITER\n")), (reader_gone[1], (141, b""))):
             room.sh("rm -f N; ./pdp8 create V 20; echo A | ./pdp8 put V - --as A; ./pdp8 create W 20; ./pdp8 assemble --output T - <<.\nCLA;TAD C;TLS;JMP .-1;C, 301\n$\n.\n")
             run = subprocess.run(["./pdp8", *words], cwd=room.folder, input=given, stdout=output, stderr=subprocess.PIPE, timeout=20)
-            if (run.returncode, run.stderr) != wanted:
+            status, said = wanted
+            if words == ("list", "none"):
+                status, said = 1, b"note: none: no such file\n" + said
+            elif words[0] in CHANGED and output == full:
+                said = b"note: %s has the change\n" % CHANGED[words[0]] + said
+            if (run.returncode, run.stderr) != (status, said):
                 found[words, wanted] = (run.returncode, run.stderr)
     holds(found, {})
+
+
+REASONS = {
+    errno.ENOENT: "no such file", errno.EISDIR: "is a folder", errno.ENOTDIR: "a part of its path is no folder", errno.EACCES: "permission denied",
+    errno.EPERM: "permission denied", errno.EROFS: "read-only file system", errno.ENOSPC: "no space left", errno.EDQUOT: "no space left",
+    errno.ELOOP: "too many links", errno.EMLINK: "too many links", errno.EFBIG: "larger than the file system takes", errno.EIO: FAILED,
+    errno.EINVAL: FAILED, errno.EMFILE: FAILED, errno.ESTALE: FAILED, errno.ENXIO: FAILED, errno.ENAMETOOLONG: FAILED,
+}
+
+
+@case
+def a_file_that_is_not_read_has_its_reason_in_a_note(room: Room) -> None:
+    room.sh("./pdp8 create V 20; echo A | ./pdp8 put V - --as A; printf '1\n$\n' > s.pa")
+    for error, why in REASONS.items():
+        for words, call, name in ((("list", "V"), "open V", "V"), (("list", "V"), "read", "V"), (("assemble", "s.pa"), "open s.pa", "s.pa")):
+            status, said = room.pdp8(*words, call=call, error=error)
+            holds((words, call, error, status, said.split("\n")[0]), (words, call, error, 1, f"note: {name}: {why}"))
+            holds((words, call, error, said.count("note:"), said.split("\n")[-2]), (words, call, error, 1, "? HOST READ"))
+
+
+@case
+def a_file_that_is_not_written_has_its_reason_in_a_note(room: Room) -> None:
+    room.sh("./pdp8 create V 20; echo A | ./pdp8 put V - --as A")
+    for error, why in REASONS.items():
+        for call in ("dup", "write", "fsync", "rename"):
+            said = room.pdp8("put", "V", "-", "--as", "B", call=call, number=2 if call == "dup" else 1, error=error, given="B")
+            holds((call, error, said), (call, error, (1, noted("V", why, AS_IT_WAS))))
+        for call in ("write", "fsync"):
+            said = room.pdp8("create", "W", "20", call=call, error=error)
+            holds((call, error, said), (call, error, (1, noted("W", why, AS_IT_WAS))))
+    holds(room.sh("./pdp8 list V"), "A 1\nFREE 12\n")
+    holds(room.names(), ["V"])
+
+
+@case
+def a_name_that_can_not_be_given_has_its_reason_in_a_note(room: Room) -> None:
+    for error, why in REASONS.items():
+        if error in (errno.EPERM, errno.EACCES, errno.EMLINK):
+            continue
+        said = room.pdp8("create", "W", "20", call="link", error=error)
+        holds((error, said, room.names()), (error, (1, noted("W", why, AS_IT_WAS)), []))
+
+
+@case
+def an_image_that_may_not_be_written_has_its_reason_in_a_note(room: Room) -> None:
+    room.sh("./pdp8 create V 20; echo A | ./pdp8 put V - --as A")
+    for error, why in {errno.EROFS: "read-only file system", errno.EACCES: "permission denied", errno.EPERM: "permission denied"}.items():
+        holds(room.pdp8("delete", "V", "A", call="open V", error=error), (1, noted("V", why, AS_IT_WAS)))
 
 
 def main() -> int:

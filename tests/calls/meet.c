@@ -1,7 +1,7 @@
 // Meets one call of the program that it is laid before: the call CALL of the number NUMBER, counted from 1. The command BEFORE is run
 // before it, the call fails with the error ERROR, or else the command AFTER is run after it. The file LOG gets a line for each call that
-// is looked at, but for reads and looks. Where LINKS is an error, each call of link fails with it. A look that is
-// met tells of another disk.
+// is looked at, but for reads, looks, locks, random bytes and owners. Where LINKS is an error, each call of link fails with it. A look that is
+// met and doesn't fail tells of another disk.
 #define _GNU_SOURCE
 #include <dlfcn.h>
 #include <errno.h>
@@ -10,6 +10,7 @@
 #include <stdio.h>
 #include <stdlib.h>
 #include <string.h>
+#include <sys/file.h>
 #include <sys/stat.h>
 #include <unistd.h>
 
@@ -43,7 +44,7 @@ static void note(const char *call)
 // Whether this is the call that is met; the command before it is run.
 static int meets(const char *call)
 {
-    if (strcmp(call, "read") != 0 && strcmp(call, "statx") != 0)
+    if (!strstr(" read statx flock random owner ", call))
         note(call);
     if (strcmp(call, word("CALL")) != 0 || ++count != atoi(word("NUMBER")))
         return 0;
@@ -110,6 +111,21 @@ int futimens(int file, const struct timespec times[2])
     MET(int, "date", -1, (int, const struct timespec *), (file, times));
 }
 
+int flock(int file, int how)
+{
+    MET(int, "flock", -1, (int, int), (file, how));
+}
+
+int getentropy(void *bytes, size_t size)
+{
+    MET(int, "random", -1, (void *, size_t), (bytes, size));
+}
+
+int fchown(int file, uid_t user, gid_t group)
+{
+    MET(int, "owner", -1, (int, uid_t, gid_t), (file, user, group));
+}
+
 int fcntl(int file, int how, ...)
 {
     va_list rest;
@@ -134,6 +150,8 @@ int open(const char *name, int how, ...)
 int statx(int folder, const char *name, int how, unsigned mask, struct statx *found)
 {
     int is_met = meets("statx");
+    if (fails(is_met))
+        return -1;
     int got = ((int (*)(int, const char *, int, unsigned, struct statx *))dlsym(RTLD_NEXT, __func__))(folder, name, how, mask, found);
     found->stx_dev_minor += is_met;
     return got;

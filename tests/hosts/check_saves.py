@@ -6,6 +6,7 @@ usage: check_saves.py [--program FILE]
 """
 import errno
 import os
+import re
 import subprocess
 import sys
 import tempfile
@@ -88,7 +89,8 @@ class Folder:
         return os.stat(f"{self.path}/F").st_mtime == TIME
 
     def names(self) -> list[str]:
-        return sorted(os.listdir(self.path))
+        """The names in the folder. Those that nobody can guess have their end as `*`."""
+        return sorted(re.sub(r"(\.pdp8-)[a-z2-7]{10}$", r"\1*", name) for name in os.listdir(self.path))
 
 
 def tried(room: str, kind: Kind, number: int | None, trial: str, library: str) -> bool:
@@ -112,7 +114,7 @@ def tried(room: str, kind: Kind, number: int | None, trial: str, library: str) -
     if call == "fsync folder":
         return (said, found) == ("unknown\n", "NEW TEXT")
     if call == "unlink":
-        return (said, found, folder.names()) == (ended, "NEW TEXT", [".F.pdp8-000", "F"])
+        return (said, found, folder.names()) == (ended, "NEW TEXT", [".F.pdp8-*", "F"])
     if call == "print":
         return (said, found) == ("", "NEW TEXT")
     is_whole = found in (old, "NEW TEXT") or is_over and call in ("write", "fsync")

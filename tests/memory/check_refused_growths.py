@@ -18,11 +18,9 @@ from typing import Callable, Iterator
 
 HERE = os.path.dirname(os.path.abspath(__file__))
 TOP = os.path.dirname(os.path.dirname(HERE))
-
-
-def option(name: str, value: str) -> str:
-    return sys.argv[sys.argv.index(name) + 1] if name in sys.argv else value
-
+sys.dont_write_bytecode = True
+sys.path.insert(0, TOP)
+from tests.options import option
 
 PROGRAM = os.path.abspath(option("--program", f"{TOP}/crates/pdp8/out/pdp8"))
 SHORT = os.path.abspath(option("--short", f"{TOP}/crates/short_memory/out/short_memory"))

@@ -10,6 +10,7 @@ import subprocess
 import sys
 import tempfile
 from random import Random
+from typing import Callable
 
 sys.dont_write_bytecode = True
 TOP = os.path.dirname(os.path.dirname(os.path.dirname(os.path.abspath(__file__))))
@@ -103,9 +104,10 @@ def random_file(random: Random) -> bytes:
 
 
 def run(program: str, folder: str, names: list[str], words: list[str]) -> tuple[list[str], list[str], int]:
-    """What `index` prints of files, its lines and those of its refusals, and its status."""
+    """What `index` prints of files, its lines, those of its refusals without notes, and its status."""
     done = subprocess.run([program, "index", *names, *words], cwd=folder, capture_output=True, timeout=600)
-    return done.stdout.decode().splitlines(), done.stderr.decode().splitlines(), done.returncode
+    said = [line for line in done.stderr.decode().splitlines() if not line.startswith("note: ")]
+    return done.stdout.decode().splitlines(), said, done.returncode
 
 
 def fault_of(program: str, folder: str, names: list[str], year: int | None, is_same: bool) -> str:
@@ -145,6 +147,16 @@ def print_faults(faults: list[str], tests: int) -> int:
         print(fault)
     print(f"{tests - len(faults)} passed, {len(faults)} failed")
     return 1 if faults else 0
+
+
+def try_each(about: str | None, what: str, count: int, fault_of: Callable[[str, Random], str]) -> int:
+    """Tries the program that the command line names on `count` of `what`, each by its own seed. The exit status."""
+    program, seeds = program_and_seeds(about, what, count)
+    faults = list[str]()
+    for seed in seeds:
+        fault = fault_of(program, Random(seed))
+        faults += [f"{seed}: {fault}"] if fault else []
+    return print_faults(faults, len(seeds))
 
 
 def main() -> int:

@@ -13,7 +13,7 @@ from random import Random
 sys.dont_write_bytecode = True
 TOP = os.path.dirname(os.path.dirname(os.path.dirname(os.path.abspath(__file__))))
 sys.path.insert(0, TOP)
-from tests.model.compare_indexes import print_faults, program_and_seeds, random_file
+from tests.model.compare_indexes import random_file, try_each
 from tests.model.mended import mended
 
 NAME = "I"
@@ -66,14 +66,5 @@ def fault_of(program: str, random: Random) -> str:
     return ""
 
 
-def main() -> int:
-    program, seeds = program_and_seeds(__doc__, "images", 200)
-    faults = list[str]()
-    for seed in seeds:
-        fault = fault_of(program, Random(seed))
-        faults += [f"{seed}: {fault}"] if fault else []
-    return print_faults(faults, len(seeds))
-
-
 if __name__ == "__main__":
-    sys.exit(main())
+    sys.exit(try_each(__doc__, "images", 200, fault_of))

@@ -90,7 +90,7 @@ def random_words(random: Random) -> list[int]:
 
 
 def run(program: str, folder: str, words: list[str]) -> tuple[bytes, int]:
-    done = subprocess.run([program, *words], cwd=folder, stdout=subprocess.PIPE, timeout=600)
+    done = subprocess.run([program, *words], cwd=folder, stdout=subprocess.PIPE, stderr=subprocess.DEVNULL, timeout=600)
     return done.stdout, done.returncode
 
 

@@ -3,13 +3,13 @@ import hashlib
 from collections import Counter
 from dataclasses import dataclass
 from typing import Optional
-from tests.model.disks import VOLUME, image_in
+from tests.model.disks import image_in
 from tests.model.keeper import day_of
+from tests.model.kinds import BLOCK, kind_of
 from tests.model.tape import meaning_of
 from tests.model.volume import Unsound, Volume, read_volume, words_of_image
 from tests.model.words import BLOCK_WORDS, Name, frames_of, octal, spelled_name
 
-DISK, TAPE, LARGEST, BLOCK = 2 * VOLUME, 1474 * 258, 4095 * 512, 512
 TEXT = {7, *range(0o11, 0o16), *range(0o40, 0o200)}
 
 
@@ -24,45 +24,15 @@ class Part:
 # ## What a file is
 
 
-def has_head(data: bytes, at: int, blocks: int) -> bool:
-    """The words with which a directory's first segment begins may stand at a byte."""
-    if at + 10 > len(data):
-        return False
-    count, first, link, _, info = (int.from_bytes(data[at + 2 * k : at + 2 * k + 2], "little") % 4096 for k in range(5))
-    return -count % 4096 <= 125 and 7 <= first <= blocks and link <= 6 and -info % 4096 <= 10
-
-
-def fits(form: str, data: bytes, before: int) -> bool:
-    """Directories begin where they should after so many bytes."""
-    if form == "tape":
-        return has_head(data, before + 516, 737)
-    if form == "disk":
-        second = has_head(data, before + VOLUME + BLOCK, 3248)
-        return second or (len(data) > LARGEST and has_head(data, before + BLOCK, 3248))
-    return has_head(data, before + BLOCK, min(len(data) // BLOCK, 4095))
-
-
-def excess(form: str, size: int) -> Optional[int]:
-    """How many bytes a file of so many has beyond its form's, if it may be of the form."""
-    if form == "tape":
-        return size - TAPE if TAPE <= size < TAPE + BLOCK else None
-    if form == "disk":
-        return max(size - DISK, 0) if VOLUME < size < DISK + BLOCK else None
-    return size % BLOCK if 8 * BLOCK <= size < LARGEST + BLOCK else None
-
-
 def parts_of(data: bytes) -> list[Part]:
     """The volumes of a file of unknown origin; one of no known kind is taken as an image."""
-    for form in ("tape", "disk", "volume"):
-        more = excess(form, len(data))
-        if more is None:
-            continue
-        for before in (0, more):
-            if fits(form, data, before):
-                body = data[before : len(data) - (more - before)]
-                layouts = {"tape": ["tape"], "disk": ["1", "2"], "volume": [""]}[form]
-                return [Part(it if form == "disk" else "", image_in(it, body)) for it in layouts]
-    return [Part("", data)]
+    kind = kind_of(data)
+    if kind is None:
+        return [Part("", data)]
+    form, before, after = kind
+    body = data[before : len(data) - after]
+    layouts = {"tape": ["tape"], "disk": ["1", "2"], "volume": [""]}[form]
+    return [Part(it if form == "disk" else "", image_in(it, body)) for it in layouts]
 
 
 # ## What a file of a volume is
@@ -110,7 +80,7 @@ def is_text(frames: list[int]) -> bool:
     return any(0o41 <= it <= 0o176 for it in kept)
 
 
-def kind_of(words: list[int]) -> str:
+def kind_of_words(words: list[int]) -> str:
     frames = frames_of(words)
     start = core_start(words)
     if not any(frames):
@@ -148,7 +118,7 @@ def lines_of(name: str, part: Part, volume: Volume, year: Optional[int]) -> list
         file = volume.files[it]
         held = part.image[BLOCK * place : BLOCK * (place + file.blocks)]
         columns = [quoted(name), part.number or "-", str(place), str(file.blocks), spelled_name(it)]
-        columns += [spelled_date(file.info, last_year(part.image, year)), kind_of(file.words), hashlib.md5(held).hexdigest()]
+        columns += [spelled_date(file.info, last_year(part.image, year)), kind_of_words(file.words), hashlib.md5(held).hexdigest()]
         lines.append("\t".join(columns))
     return lines
 

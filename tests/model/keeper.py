@@ -38,8 +38,10 @@ def day_of(info: tuple[int, ...], last: int) -> list[str]:
         return []
 
 
-def word_of_time(seconds: int) -> int:
-    """The word of the day, in UTC, of a time in seconds after the begin of 1970."""
+def word_of_time(seconds: int) -> Optional[int]:
+    """The word of the day, in UTC, of a time in seconds after the begin of 1970. That of files with no date, 0, has none."""
+    if not seconds:
+        return None
     day = datetime.datetime.fromtimestamp(seconds, datetime.timezone.utc)
     return day.month << 8 | day.day << 3 | (day.year - 1970) % 8
 
@@ -59,6 +61,11 @@ def found(volume: Volume, asked: Asked) -> tuple[Optional[Name], str]:
 def emptying(path: str) -> Answer:
     """What is said of an input of no byte that would replace a file."""
     return [f"note: {path} is empty, and the volume has a file of its name: --empty puts it all the same", NOTHING], 1
+
+
+def frames_note(path: str, what: str) -> str:
+    """What is said of a file that goes as frames, where others go as texts."""
+    return f"note: {path} is {what} as frames: its extension is none of a text's"
 
 
 def refused(line: str) -> Answer:
@@ -93,26 +100,38 @@ class Keeper:
 
     def put_frames(self, image: str, typed: bytes, frames: bytes, info: Optional[tuple[int, ...]]) -> Answer:
         name = typed_name(typed)
+        volume = self.volumes[image]
+        if name is not None and not frames and name in volume.files:
+            return emptying("-")
+        if len(info or ()) > volume.info:
+            return refused(f"? PUT 2 ONLY {volume.info} WORDS")
         if name is not None and not frames:
-            return emptying("-") if name in self.volumes[image].files else refused(NOTHING)
+            return refused(NOTHING)
         return self.put(image, name, packed(list(frames)), info)
 
     def put_all(self, image: str, given: list[tuple[bytes, bytes]], texts: list[str], info: Optional[tuple[int, ...]], times: Sequence[int] = ()) -> Answer:
-        """Puts files of the host in, each with its bytes, all or none; those with one of these extensions as texts. Where times are given, in seconds
-        after the begin of 1970, each file is dated by its own."""
-        before, lines, names = self.volumes[image], [], [typed_name(path) for path, _ in given]
+        """Puts files of the host in, each with its bytes, all or none. All are texts where the extensions are those of texts, which the option for
+        texts gives, or else those with one of them. Where times are given, in seconds after the begin of 1970, each file is dated by its own."""
+        before, lines, names = self.volumes[image], list[str](), [typed_name(path) for path, _ in given]
         for at, name in enumerate(names):
             note = f"note: {given[at][0].decode()} is refused, and no file is put"
             if name is None:
-                return [note, "note: a file's name is 1 to 6 letters, digits or escapes (_ and two octal digits), then nothing, or a dot and 1 or 2 more", BAD_NAME], 1
+                return [*lines, note, "note: a file's name is 1 to 6 letters, digits or escapes (_ and two octal digits), then nothing, or a dot and 1 or 2 more", BAD_NAME], 1
             if name in names[:at]:
-                return [note, "? PUT 1 SAME NAME"], 1
+                return [*lines, note, "? PUT 1 SAME NAME"], 1
+            if texts and texts is not TEXTS and extension(name) not in texts:
+                lines.append(frames_note(given[at][0].decode(), "put"))
+        notes, dates = list(lines), [word_of_time(it) for it in times] if times else [None] * len(given)
         for (path, content), name in zip(given, names):
             if not content and name in before.files:
-                return emptying(path.decode())
+                told, status = emptying(path.decode())
+                return [*notes, *told], status
+        if max([len(info or ()) if it is None else 1 for it in dates]) > before.info:
+            return [*notes, f"? PUT 2 ONLY {before.info} WORDS"], 1
         for at, ((path, content), name) in enumerate(zip(given, names)):
-            own = (word_of_time(times[at]),) if times else info
-            is_text = name is not None and extension(name) in texts
+            date = dates[at]
+            own = info if date is None else (date,)
+            is_text = name is not None and (texts is TEXTS or extension(name) in texts)
             words = stored_host_text(content) if is_text else packed(list(content))
             if words is None:
                 answer: Answer = refused(BAD_TEXT)
@@ -121,7 +140,7 @@ class Keeper:
             if answer[1]:
                 self.volumes[image] = before
                 hint = bad_text_hint(content) if answer[0] == [BAD_TEXT] else []
-                return [f"note: {path.decode()} is refused, and no file is put", *hint, *answer[0]], 1
+                return [*notes, f"note: {path.decode()} is refused, and no file is put", *hint, *answer[0]], 1
             lines += answer[0]
         return lines, 0
 
@@ -166,9 +185,10 @@ class Keeper:
         name, why = found(self.volumes[image], asked)
         if name is None or why:
             return [f"note: {image} is the image that refuses", why], 1
-        file = self.volumes[image].files[name]
+        source, target = self.volumes[image], self.volumes[to]
+        file = source.files[name]
         lines, status = self.put(to, name if wanted is None else typed_name(wanted), file.words, file.info)
-        return [*([f"note: {to} is the image that refuses"] if status else []), *lines], status
+        return [*([f"note: {to} is the image that refuses"] if status else []), *lines, *([] if status else cut_lines(source, name, target))], status
 
     def copy_many(self, image: str, words: list[str], to: str, is_forced: bool) -> Answer:
         """Copies files that words choose, all or none; older ones of their names go only where that is asked for."""
@@ -185,7 +205,7 @@ class Keeper:
             if status:
                 self.volumes[to] = before
                 return [f"note: {spelled_name(name)} is refused, and no file is copied", f"note: {to} is the image that refuses", *told], 1
-            lines += told
+            lines += [*told, *cut_lines(source, name, before)]
         return lines, 0
 
     def squeeze(self, image: str) -> Answer:
@@ -257,6 +277,12 @@ class Keeper:
                 shown.append(name)
             text += "".join(f"{line}\n" for line in lines).encode("latin-1")
         return text, 1 if any(lines for _, lines in parts) else 0
+
+
+def cut_lines(source: Volume, name: Name, target: Volume) -> list[str]:
+    """The line of a file that is copied without some of its information words that are not 0."""
+    file = source.files[name]
+    return [f"CUT FILE {spelled_name(name)} {source.places[name]} {file.blocks}"] if any(file.info[target.info:]) else []
 
 
 def extension(name: Name) -> str:

@@ -1,21 +1,10 @@
 """Image files of which the faults are mended, by the definitions: words of more than twelve bits, and lengths that no such file has."""
-from typing import Optional
-from tests.model.index import BLOCK, DISK, TAPE, excess, fits
+from tests.model.kinds import BLOCK, DISK, TAPE, kind_of
 from tests.model.words import BLOCK_WORDS
 
 MOST_LINES = 16
 TAPE_WORDS = 129
 MAY_BE = {"": ("tape", "disk", "volume"), "1": ("disk",), "2": ("disk",), "tape": ("tape",)}
-
-
-def kind_of(data: bytes) -> Optional[tuple[str, int, int]]:
-    """What a file is, and how many bytes stand before and after its volumes."""
-    for form in ("tape", "disk", "volume"):
-        more = excess(form, len(data))
-        for before in () if more is None else (0, more):
-            if fits(form, data, before):
-                return form, before, (more or 0) - before
-    return None
 
 
 def fitted_size(layout: str, size: int) -> int:

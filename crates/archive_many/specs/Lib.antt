@@ -13,4 +13,6 @@ pub mod Wishing
 pub mod Listing
 pub mod Copying
 pub mod CopySteps
+pub mod Cutting
+pub mod Naming
 pub mod WishSteps

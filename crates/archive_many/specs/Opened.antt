@@ -11,6 +11,7 @@ use Rattle.os8_dir.specs.Found.{FilePlace, files_at, find}
 use Rattle.os8_dir.specs.Reading.{directory_of}
 use Rattle.os8_dir.specs.Files.{FileData, files_of, run}
 use Rattle.os8_dir.specs.declared.faults.DirFault.{DirFault}
+use Rattle.os8_files.specs.Calls.{info_of}
 use Rattle.os8_files.specs.Failed.{extent_or}
 use Rattle.os8_dir.specs.declared.file_faults.FileFault.TheVariants.{NotFound}
 use Rattle.script8.specs.declared.faults.SessionFault.{SessionFault}
@@ -56,6 +57,10 @@ first_word_or (Err fault) name = None
 -- the first information word of the file of a name, where the volume has such a file and has information words
 abbrev pub first_word : List (List ℕ) → ℕ → Option ℕ
 first_word blocks name = first_word_or (directory_of blocks) name
+
+-- how many information words each file of a volume has
+abbrev pub information_on : List (List ℕ) → ℕ
+information_on blocks = info_of blocks
 
 -- ## What is opened
 

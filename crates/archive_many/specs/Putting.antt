@@ -1,5 +1,5 @@
 -- The result of putting many files into an image at once.
-use Rattle.std.specs.Prelude.{◌≡◌, ◌⊎◌, ℕ, ◌/◌, ◌<◌, ◌≤◌, Option, None, Some, Result, Ok, Err, List, [], ◌∷◌, ◌++◌, length, map}
+use Rattle.std.specs.Prelude.{◌≡◌, ◌⊎◌, ℕ, ◌/◌, ◌<◌, ◌≤◌, Option, None, Some, Result, Ok, Err, List, [], ◌∷◌, ◌++◌, nat_lt, if◌then◌else◌, length, map}
 use Rattle.word12.specs.declared.sizes.TheConstants.{FIRST_FILE_BLOCK}
 use Rattle.volume_image.specs.Image.{IsImageOf}
 use Rattle.os8_dir.specs.Entries.{DirectoryState, IsNamed, end_of}
@@ -28,6 +28,29 @@ blocks_in file = blocks_filled (words_in file)
 abbrev pub info_or : Option ℕ → Option (List ℕ) → Option (List ℕ)
 info_or None info = info
 info_or (Some date) info = Some (date ∷ [])
+
+-- the information words that are given
+abbrev pub info_words : Option (List ℕ) → List ℕ
+info_words None = []
+info_words (Some words) = words
+
+-- how many information words are given
+abbrev pub given_count : Option (List ℕ) → ℕ
+given_count None = 0
+given_count (Some words) = length words
+
+-- how many a file is to have, where so many are given for all
+abbrev pub words_wanted : ℕ → Option ℕ → ℕ
+words_wanted given None = given
+words_wanted given (Some date) = 1
+
+abbrev pub larger_of : ℕ → ℕ → ℕ
+larger_of one other = if nat_lt one other then other else one
+
+-- the most that one of some files is to have, or so many
+abbrev pub most_wanted : ℕ → ℕ → List NewFile → ℕ
+most_wanted most given [] = most
+most_wanted most given (file ∷ files) = most_wanted (larger_of most (words_wanted given file.date)) given files
 
 -- a volume gets a new file, which has a name and bytes of a file, and the information words that are given, or those of an older file
 pub record HasPutFile (old : MountState) (info : Option (List ℕ)) (file : NewFile) (new : MountState) : Type 0 where

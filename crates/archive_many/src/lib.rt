@@ -5,6 +5,7 @@
 
 mod choosing;
 mod copying;
+mod cutting;
 mod emptying;
 mod extensions;
 mod faults;
@@ -12,6 +13,7 @@ mod host_names;
 mod images;
 pub mod laws;
 mod listing;
+mod naming;
 mod opened;
 mod putting;
 mod raw;
@@ -19,11 +21,13 @@ mod wishes;
 
 pub use choosing::{at_place, choose_files};
 pub use copying::copy_all;
+pub use cutting::{cut_file, cut_files};
 pub use emptying::empties;
 pub use extensions::{bad_extensions, is_text};
 pub use faults::{BlocksFault, ChoiceFault, CopyAllFault, ManyFault};
 pub use host_names::{host_name, volume_name};
 pub use listing::list_like;
+pub use naming::is_named;
 pub use opened::{OpenVolume, VolumeFile, open};
 pub use putting::{ManyImage, NewFile, put_all};
 pub use raw::blocks_of;

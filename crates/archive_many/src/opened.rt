@@ -3,7 +3,8 @@ ghost use Rattle.word12.specs.declared.sizes.TheConstants.{MOST_BLOCKS};
 ghost use Rattle.os8_dir.specs.Entries.{total};
 ghost use Rattle.os8_dir.specs.Files.{run};
 ghost use Rattle.volume_image.specs.Image.{block_word};
-ghost use Rattle.archive_many.specs.Opened.{GetsFile, OpensVolume, files_on, first_of, first_word};
+ghost use Rattle.archive_many.specs.Opened.{GetsFile, OpensVolume, files_on, first_of, first_word, information_on};
+ghost use Rattle.archive_many.specs.Cutting.{are_zeros, is_cut};
 ghost use Rattle.archive_many.specs.Steps.{file_of_entry, files_of_entries};
 
 use crate::images::volume_of;
@@ -84,6 +85,23 @@ impl OpenVolume {
         }
     }
 
+    /// Whether a copy of the file of a name lacks an information word that is not 0, where it gets so many of them (OS/8 Software Support Manual).
+    pub fn is_cut(&self, name: Name, count: usize) -> bool
+        ensures { result ≡ is_cut self.now name count }
+    {
+        match self.directory.information(&name) {
+            Some(words) => !are_zeros(words.split_at(count.min(words.len())).1),
+            None => false,
+        }
+    }
+
+    /// How many information words each file of the volume has (OS/8 Software Support Manual).
+    pub fn information_words(&self) -> usize
+        ensures { result ≡ information_on self.now }
+    {
+        self.directory.information_words()
+    }
+
     /// The last word of block 0, where a system disk has the word at 07777 of field 0 (OS/8 Software Support Manual).
     pub fn last_word(&self) -> Word
         ensures { result ≡ block_word self.now 0 0o377 }
@@ -118,6 +136,20 @@ impl OpenVolume {
             }
         }
     }
+}
+
+/// Whether words are all 0.
+fn are_zeros(words: &[Word]) -> bool
+    ensures { result ≡ are_zeros words.now }
+{
+    let mut rest = words;
+    while let [word, others @ ..] = rest {
+        if *word > Word::ZERO {
+            return false;
+        }
+        rest = others;
+    }
+    true
 }
 
 /// The first of some words, if there is one.

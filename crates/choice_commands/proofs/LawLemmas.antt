@@ -4,6 +4,7 @@ use Rattle.hosts.specs.Event.{Event, tell_call}
 use Rattle.hosts.specs.Place.{about}
 use Rattle.archive_files.specs.declared.faults.ArchiveFault.{ArchiveFault}
 use Rattle.archive_files.specs.declared.faults.CopyFault.TheVariants as one
+use Rattle.archive_many.specs.Cutting.{CutsFiles}
 use Rattle.archive_many.specs.Opened.{OpensVolume}
 use Rattle.archive_many.specs.Wishing.{first_unfound}
 use Rattle.archive_many.specs.declared.faults.CopyAllFault.{CopyAllFault}
@@ -15,19 +16,21 @@ use Rattle.outcome.specs.Notes.{name_text}
 use Rattle.outcome.specs.declared.contents.Content.TheVariants as content
 use Rattle.outcome.specs.declared.notes.NameNote.TheVariants as note
 use Rattle.outcome.specs.declared.endings.Ending.{Ending}
-use Rattle.outcome.specs.declared.endings.Ending.TheVariants.{Line, Fault, Failure, Busy, NotWritten, FullOutput, NoReader, Misuse}
+use Rattle.outcome.specs.declared.endings.Ending.TheVariants.{Line, Fault, Failure, Busy, NotWritten, FullOutput, Unreported, NoReader, Misuse}
 use Rattle.program_tasks.specs.declared.forms.CopyManyForm.{CopyManyForm}
 use Rattle.program_tasks.specs.declared.forms.ImageForm.{ImageForm}
 use Rattle.program_tasks.specs.declared.forms.ListForm.{ListForm}
 use Rattle.image_files.specs.Answers.{Answers, AreLines, Refuses}
 use Rattle.image_files.specs.Pairs.{IsOneRefused, RefusesIf, is_one_image, is_want_of}
 use Rattle.image_files.specs.Laws.{KeepsFiles}
+use Rattle.image_volumes.specs.Keeping.{keeps_kind}
+use Rattle.image_volumes.specs.declared.judging.Judgment.{Judgment}
 use Rattle.image_files.specs.Reading.{LooksAt, Opens}
-use Rattle.image_files.specs.Saving.{Prints, SavesIf, Stores, Writes}
+use Rattle.image_files.specs.Saving.{Prints, Reports, SavesIf, Stores, Writes, WritesIf}
 use Rattle.image_files.specs.Work.{Then, Purely}
 use Rattle.image_files.specs.declared.images.Image.{Image}
 use Rattle.choice_commands.specs.Copying as copies
-use Rattle.choice_commands.specs.Copying.{CopiesFrom, CopiesInto, CopiesMany, FindsAll, FindsFiles, OpensFrom, PutsFiles, StoresCopies, stored_lines}
+use Rattle.choice_commands.specs.Copying.{CopiesFrom, CopiesInto, CopiesMany, FindsAll, FindsFiles, OpensFrom, PutsFiles, TellsCopies, stored_lines}
 use Rattle.choice_commands.specs.Listing as lists
 use Rattle.choice_commands.specs.Listing.{EndsWhere, ListsSome, ListsWished, ListsWords, refusal_lines}
 use Rattle.choice_commands.specs.Refusing.{RefusesCopies, RefusesWish, TellsFile, TellsWord}
@@ -151,6 +154,7 @@ IsRefusal Failure = ⊥
 IsRefusal (Busy content) = ⊥
 IsRefusal (NotWritten content left) = ⊥
 IsRefusal FullOutput = ⊥
+IsRefusal Unreported = ⊥
 IsRefusal NoReader = ⊥
 IsRefusal Misuse = ⊥
 
@@ -162,40 +166,52 @@ then-leaves : {A B : Type 0} (first : List Event → Result A Ending → List Ev
 then-leaves first next f n ending is old new (inl ends) = f old (Err ending) new ends
 then-leaves first next f n ending is old new (inr it) = λ path. n it.given ending is it.between new it.after path ∙ f old (Ok it.given) it.between it.done path
 
-writes-no : (path file : List ℕ) (old : List Event) (ending : Ending) (new : List Event) → Writes content.Image path file old (Err ending) new → IsRefusal ending → ⊥
-writes-no path file old (Line it) new p is = p
-writes-no path file old (Fault it) new p is = p
-writes-no path file old Failure new p is = is
-writes-no path file old (Busy it) new p is = is
-writes-no path file old (NotWritten it left) new p is = is
-writes-no path file old FullOutput new p is = is
-writes-no path file old NoReader new p is = is
-writes-no path file old Misuse new p is = is
+writes-no : (path name file : List ℕ) (old : List Event) (ending : Ending) (new : List Event) → Writes content.Image path name file old (Err ending) new → IsRefusal ending → ⊥
+writes-no path name file old (Line it) new p is = p
+writes-no path name file old (Fault it) new p is = p
+writes-no path name file old Failure new p is = is
+writes-no path name file old (Busy it) new p is = is
+writes-no path name file old (NotWritten it left) new p is = is
+writes-no path name file old FullOutput new p is = is
+writes-no path name file old Unreported new p is = is
+writes-no path name file old NoReader new p is = is
+writes-no path name file old Misuse new p is = is
 
-prints-no : (bytes : List ℕ) (old : List Event) (ending : Ending) (new : List Event) → Prints bytes old (Err ending) new → IsRefusal ending → ⊥
-prints-no bytes old (Line it) new p is = p
-prints-no bytes old (Fault it) new p is = p
-prints-no bytes old Failure new p is = is
-prints-no bytes old (Busy it) new p is = is
-prints-no bytes old (NotWritten it left) new p is = is
-prints-no bytes old FullOutput new p is = is
-prints-no bytes old NoReader new p is = is
-prints-no bytes old Misuse new p is = is
+reports-no : (bytes : List ℕ) (old : List Event) (ending : Ending) (new : List Event) → Reports bytes old (Err ending) new → IsRefusal ending → ⊥
+reports-no bytes old (Line it) new p is = p
+reports-no bytes old (Fault it) new p is = p
+reports-no bytes old Failure new p is = is
+reports-no bytes old (Busy it) new p is = is
+reports-no bytes old (NotWritten it left) new p is = is
+reports-no bytes old FullOutput new p is = is
+reports-no bytes old Unreported new p is = is
+reports-no bytes old NoReader new p is = is
+reports-no bytes old Misuse new p is = is
 
-saves-no : (is_same : Bool) (image : Image) (bytes : List ℕ) (old : List Event) (ending : Ending) (new : List Event) → SavesIf is_same image bytes old (Err ending) new → IsRefusal ending → ⊥
-saves-no true image bytes old ending new (done, stays) is = done
-saves-no false image bytes old ending new (inl (refused, cannot, stays)) is = rw refused at is
-saves-no false image bytes old ending new (inr (held, file, laid, p)) is = writes-no image.place.path.bytes.items file old ending new p is
+writes-if-leave : (keeps : Bool) (judgment : Judgment) (path name file : List ℕ) (old : List Event) (ending : Ending) (new : List Event) → WritesIf keeps judgment path name file old (Err ending) new → IsRefusal ending
+    → (any : List ℕ) → about any new ≡ about any old
+writes-if-leave true judgment path name file old ending new p is = absurd (writes-no path name file old ending new p is)
+writes-if-leave false judgment path name file old ending new (ends, ok, p) is = λ any. ap (λ (events : List Event). about any events) p
+
+saves-leave : (is_same : Bool) (image : Image) (bytes : List ℕ) (old : List Event) (ending : Ending) (new : List Event) → SavesIf is_same image bytes old (Err ending) new → IsRefusal ending
+    → (any : List ℕ) → about any new ≡ about any old
+saves-leave true image bytes old ending new (done, stays) is = absurd done
+saves-leave false image bytes old ending new (inl (refused, told)) is = absurd (rw refused at is)
+saves-leave false image bytes old ending new (inr (held, file, laid, p)) is = writes-if-leave (keeps_kind image.judgment file) image.judgment image.place.path.bytes.items image.place.name.bytes.items file old ending new p is
 
 stores-leave : (image : Image) (bytes lines : List ℕ) → Leaves (Stores image bytes lines)
-stores-leave image bytes lines ending is old new (inl p) = absurd (saves-no (bytes_eq image.bytes.items bytes) image bytes old ending new p is)
-stores-leave image bytes lines ending is old new (inr it) = absurd (prints-no lines it.between ending new it.after is)
+stores-leave image bytes lines ending is old new (inl p) = saves-leave (bytes_eq image.bytes.items bytes) image bytes old ending new p is
+stores-leave image bytes lines ending is old new (inr it) = absurd (reports-no lines it.between ending new it.after is)
+
+tells-copies : RefusesKeep → (from : List ℕ) (files : List VolumeFile) (to : List ℕ) → KeepsFiles (TellsCopies from files to)
+tells-copies law from files to =
+    then-keeps (Answers (CutsFiles from to files) (length from)) (λ cuts. Purely (AreLines (stored_lines files cuts.items))) (answers-keep law (CutsFiles from to files) (length from)) (λ cuts. purely-keeps (AreLines (stored_lines files cuts.items)))
 
 copies-into : RefusesKeep → (form : CopyManyForm) (image : Image) (from : List ℕ) → Leaves (CopiesInto form image from)
 copies-into law form image from =
-    then-leaves (FindsFiles form from) (λ files. Then (PutsFiles form from files.items image.bytes.items) (λ made. StoresCopies image made.items files.items)) (finds-files law form from)
-    (λ files. then-leaves (PutsFiles form from files.items image.bytes.items) (λ made. StoresCopies image made.items files.items) (puts-files law form from files.items image.bytes.items)
-    (λ made. then-leaves (Purely (AreLines (stored_lines files.items))) (λ lines. Stores image made.items lines.items) (purely-keeps (AreLines (stored_lines files.items))) (λ lines. stores-leave image made.items lines.items)))
+    then-leaves (FindsFiles form from) (λ files. Then (PutsFiles form from files.items image.bytes.items) (λ made. Then (TellsCopies from files.items image.bytes.items) (λ lines. Stores image made.items lines.items))) (finds-files law form from)
+    (λ files. then-leaves (PutsFiles form from files.items image.bytes.items) (λ made. Then (TellsCopies from files.items image.bytes.items) (λ lines. Stores image made.items lines.items)) (puts-files law form from files.items image.bytes.items)
+    (λ made. then-leaves (TellsCopies from files.items image.bytes.items) (λ lines. Stores image made.items lines.items) (tells-copies law from files.items image.bytes.items) (λ lines. stores-leave image made.items lines.items)))
 
 copies-from : LooksKeep → RefusesKeep → (is_one : Bool) (form : CopyManyForm) (image : Image) → Leaves (CopiesFrom is_one form image)
 copies-from looks law true form image = copies-into law form image image.bytes.items

@@ -17,7 +17,9 @@ use Rattle.outcome.specs.declared.endings.Ending.TheVariants.{Fault}
 use Rattle.program_tasks.specs.declared.forms.CopyManyForm.{CopyManyForm}
 use Rattle.image_files.specs.Work.{Then, Purely}
 use Rattle.image_files.specs.Reading.{Opens, LooksAt}
-use Rattle.image_files.specs.Answers.{AreLines}
+use Rattle.archive_many.specs.Cutting.{CutsFiles}
+use Rattle.volume_salvage.specs.Salvaging.{cut_line}
+use Rattle.image_files.specs.Answers.{Answers, AreLines}
 use Rattle.image_files.specs.Pairs.{IsOneRefused, is_one_image}
 use Rattle.image_files.specs.Saving.{Stores}
 use Rattle.image_files.specs.declared.images.Image.{Image}
@@ -50,20 +52,28 @@ abbrev pub PutsFiles : CopyManyForm → List ℕ → List VolumeFile → List �
 PutsFiles form from files to old (Ok new_image) new = CopiesAll from to files form.is_forced (Ok new_image) × (new ≡ old)
 PutsFiles form from files to old (Err ending) new = (fault : CopyAllFault) × CopiesAll from to files form.is_forced (Err fault) × RefusesCopies form fault (length from) (length to) old ending new
 
--- the line of each
-abbrev pub stored_lines : List VolumeFile → List ℕ
-stored_lines [] = []
-stored_lines (file ∷ files) = program_line (line.Stored file.name file.blocks) ++ stored_lines files
+-- the line of a copy, and that of its file if the copy lacks some of its information words
+abbrev pub cut_line_if : Bool → VolumeFile → List ℕ
+cut_line_if true file = cut_line file.name file.place file.blocks
+cut_line_if false file = []
 
--- an image is saved, and only then the lines of the files are printed
-abbrev pub StoresCopies : Image → List ℕ → List VolumeFile → List Event → Result (Unit {0}) Ending → List Event → Type 0
-StoresCopies image new files = Then (Purely (AreLines (stored_lines files))) (λ lines. Stores image new lines.items)
+abbrev pub copy_lines : VolumeFile → Bool → List ℕ
+copy_lines file is_cut = program_line (line.Stored file.name file.blocks) ++ cut_line_if is_cut file
+
+-- those of each
+abbrev pub stored_lines : List VolumeFile → List Bool → List ℕ
+stored_lines [] cuts = []
+stored_lines (file ∷ files) [] = []
+stored_lines (file ∷ files) (is_cut ∷ cuts) = copy_lines file is_cut ++ stored_lines files cuts
+
+abbrev pub TellsCopies : List ℕ → List VolumeFile → List ℕ → List Event → Result (Vec ℕ) Ending → List Event → Type 0
+TellsCopies from files to = Then (Answers (CutsFiles from to files) (length from)) (λ cuts. Purely (AreLines (stored_lines files cuts.items)))
 
 -- ## The command
 
 -- the files of an image are put on the volume in the one that is held, and that is saved
 abbrev pub CopiesInto : CopyManyForm → Image → List ℕ → List Event → Result (Unit {0}) Ending → List Event → Type 0
-CopiesInto form image from = Then (FindsFiles form from) (λ files. Then (PutsFiles form from files.items image.bytes.items) (λ made. StoresCopies image made.items files.items))
+CopiesInto form image from = Then (FindsFiles form from) (λ files. Then (PutsFiles form from files.items image.bytes.items) (λ made. Then (TellsCopies from files.items image.bytes.items) (λ lines. Stores image made.items lines.items)))
 
 -- where both images are one, it is not read again; else the other one is only looked at
 abbrev pub CopiesFrom : Bool → CopyManyForm → Image → List Event → Result (Unit {0}) Ending → List Event → Type 0

@@ -1,6 +1,7 @@
 -- The command that lists those files of the volume in an image file whose names are like words.
 use Rattle.std.specs.Prelude.{◌≡◌, ℕ, Bool, true, false, Option, None, Some, Result, Ok, Err, List, [], ◌∷◌, ◌++◌, codes, is_some, not, length, map, slice_get}
 use Rattle.std.specs.Global.{Vec}
+use Rattle.shown_text.specs.Showing.{shown_text}
 use Rattle.hosts.specs.Event.{Event}
 use Rattle.os8_dir.specs.declared.file_faults.FileFault.{FileFault}
 use Rattle.os8_dir.specs.declared.file_faults.FileFault.TheVariants.{BadName, NotFound}
@@ -25,10 +26,10 @@ use Rattle.choice_commands.specs.Wishing.{AreWished}
 
 -- ## Words of no file
 
--- the line of a word that is refused: the word, and why
+-- the line of a word that is refused: the word as it is shown, and why
 abbrev pub refusal_of : Option (List ℕ) → FileFault → List ℕ
 refusal_of None why = []
-refusal_of (Some word) why = with_prefixes (word ++ codes ": ") (fault_line (File why))
+refusal_of (Some word) why = with_prefixes (shown_text word ++ codes ": ") (fault_line (File why))
 
 abbrev pub refusal_for : List (List ℕ) → Wish → List ℕ
 refusal_for words (wish.File file) = []

@@ -1,20 +1,22 @@
 //! The command that copies those files of the volume in an image file that words choose to the volume in another, all or none.
-ghost use Rattle.std.specs.Prelude.{◌≡◌, ◌++◌, false, IfOk, OnOk, map};
+ghost use Rattle.std.specs.Prelude.{◌≡◌, ◌++◌, false, IfOk, OnOk, length, map};
 ghost use Rattle.archive_many.specs.Wishing.{file_of, found_files};
 ghost use Rattle.outcome.specs.declared.endings.Ending.TheVariants.{Fault};
-ghost use Rattle.image_files.specs.Answers.{AreLines};
+ghost use Rattle.archive_many.specs.Cutting.{CutsFiles};
+ghost use Rattle.image_files.specs.Answers.{Answers, AreLines};
 ghost use Rattle.image_files.specs.Pairs as one;
 ghost use Rattle.choice_commands.specs.Copying as spec;
-ghost use Rattle.choice_commands.specs.Copying.{CopiesFrom, CopiesInto, CopiesMany, FindsAll, FindsFiles, OpensFrom, PutsFiles, StoresCopies};
+ghost use Rattle.choice_commands.specs.Copying.{CopiesFrom, CopiesInto, CopiesMany, FindsAll, FindsFiles, OpensFrom, PutsFiles, TellsCopies, copy_lines};
 
 use crate::refusing::{refuse_copies, refuse_wish};
 use crate::wishing::wishes_on;
-use archive_many::{OpenVolume, VolumeFile, Wish, copy_all, first_unfound, open};
+use archive_many::{OpenVolume, VolumeFile, Wish, copy_all, cut_files, first_unfound, open};
 use hosts::Host;
-use image_files::{Image, is_one_image, look_at, put_stored, refuse_one, store};
+use image_files::{Image, answer_of, is_one_image, look_at, put_stored, refuse_one, store};
 use outcome::Ending;
 use program_tasks::CopyManyForm;
 use std::alloc::{AllocError, Global};
+use volume_salvage::put_cut;
 
 /// Copies those files of the volume in an image file that the words choose to the volume in another, all or none, and reports each.
 pub fn copy_files<H: Host>(host: &mut H, alloc: Global, form: &CopyManyForm) -> Result<(), Ending>
@@ -50,7 +52,8 @@ fn copy_within<H: Host>(
 {
     let files = find_files(host, alloc, form, &image.bytes)?;
     let new = image_with(host, alloc, form, &image.bytes, &files, &image)?;
-    store_copies(host, alloc, image, &new, &files)
+    let lines = copied_lines(host, alloc, &image.bytes, &files, &image)?;
+    store(host, alloc, image, &new, &lines)
 }
 
 /// Copies them from another image file, which is read.
@@ -65,7 +68,8 @@ fn copy_between<H: Host>(
     let from = look_at(host, alloc, &form.image)?;
     let files = find_files(host, alloc, form, &from)?;
     let new = image_with(host, alloc, form, &from, &files, &image)?;
-    store_copies(host, alloc, image, &new, &files)
+    let lines = copied_lines(host, alloc, &from, &files, &image)?;
+    store(host, alloc, image, &new, &lines)
 }
 
 /// The files of an image that the words choose.
@@ -158,37 +162,67 @@ fn image_with<H: Host>(
     }
 }
 
-/// Has an image file hold these bytes of an image, and only then prints the lines of the files that were copied.
-fn store_copies<H: Host>(
+/// The lines of files that are copied. After that of a copy stands that of its file, where the copy lacks information words of it.
+fn copied_lines<H: Host>(
     host: &mut H,
     alloc: Global,
-    image: Image,
-    new: &[u8],
+    from: &[u8],
     files: &[VolumeFile],
-) -> Result<(), Ending>
-    ensures { StoresCopies image new.now files.now (H.history host.old) result (H.history host.new) }
+    image: &Image,
+) -> Result<Vec<u8>, Ending>
+    ensures { TellsCopies from.now files.now image.now.bytes.items (H.history host.old) result (H.history host.new) }
 {
-    let lines = stored_lines(alloc, files)?;
-    store(host, alloc, image, new, &lines)
+    let cuts = cuts_of(host, alloc, from, files, &image.bytes)?;
+    lines_of(alloc, files, &cuts)
+}
+
+/// Whether the copies of files lack information words of them.
+fn cuts_of<H: Host>(
+    host: &mut H,
+    alloc: Global,
+    from: &[u8],
+    files: &[VolumeFile],
+    to: &[u8],
+) -> Result<Vec<bool>, Ending>
+    ensures { Answers (CutsFiles from.now to.now files.now) (length from.now) (H.history host.old) result (H.history host.new) }
+{
+    let answer = cut_files(alloc, from, files, to);
+    answer_of(host, from.len(), answer)
 }
 
 /// The lines of files that were copied.
-fn stored_lines(alloc: Global, files: &[VolumeFile]) -> Result<Vec<u8>, Ending>
-    ensures { AreLines (spec.stored_lines files.now) result }
+fn lines_of(alloc: Global, files: &[VolumeFile], cuts: &[bool]) -> Result<Vec<u8>, Ending>
+    ensures { AreLines (spec.stored_lines files.now cuts.now) result }
 {
     let mut lines = Vec::new(alloc);
-    put_lines(files, &mut lines)?;
+    put_lines(files, cuts, &mut lines)?;
     Ok(lines)
 }
 
 /// Appends the lines of files that were copied.
-fn put_lines(files: &[VolumeFile], lines: &mut Vec<u8>) -> Result<(), AllocError>
-    ensures { OnOk result (lines.new.items ≡ lines.old.items ++ spec.stored_lines files.now) }
+fn put_lines(files: &[VolumeFile], cuts: &[bool], lines: &mut Vec<u8>) -> Result<(), AllocError>
+    ensures { OnOk result (lines.new.items ≡ lines.old.items ++ spec.stored_lines files.now cuts.now) }
 {
     let mut rest = files;
+    let mut left = cuts;
     while let [file, others @ ..] = rest {
-        put_stored(file.name, file.blocks, lines)?;
+        let [is_cut, later @ ..] = left else {
+            return Ok(());
+        };
+        put_copy(file, *is_cut, lines)?;
         rest = others;
+        left = later;
+    }
+    Ok(())
+}
+
+/// Appends the line of a copy, and that of its file if it is cut.
+fn put_copy(file: &VolumeFile, is_cut: bool, lines: &mut Vec<u8>) -> Result<(), AllocError>
+    ensures { OnOk result (lines.new.items ≡ lines.old.items ++ copy_lines file.now is_cut) }
+{
+    put_stored(file.name, file.blocks, lines)?;
+    if is_cut {
+        put_cut(file.name, file.place, file.blocks, lines)?;
     }
     Ok(())
 }

@@ -16,6 +16,7 @@ use outcome::Ending;
 use program_reports::with_prefix;
 use program_tasks::ListForm;
 use script8::{SessionFault, put_reply};
+use shown_text::ShownText;
 use std::alloc::{AllocError, Global};
 
 /// Lists the files of the one volume that is meant whose names are like the words, as `list_files` or `list_places` has them. A word that is like
@@ -143,7 +144,7 @@ pub(crate) fn put_word(
     }
 }
 
-/// Appends the line of a word, and why it is refused.
+/// Appends the line of a word, which is shown with escapes where it isn't graphic, and why it is refused.
 pub(crate) fn put_line(
     alloc: Global,
     word: &str,
@@ -153,6 +154,7 @@ pub(crate) fn put_line(
     ensures { OnOk result (out.new.items ≡ out.old.items ++ refusal_of (Some word.now) why) }
 {
     let line = fault_text(alloc, why)?;
+    let word = ShownText { text: word };
     let prefix = format!(in alloc; "{word}: ")?;
     let lines = with_prefix(alloc, prefix.as_bytes(), &line)?;
     out.extend_from_slice(&lines)?;

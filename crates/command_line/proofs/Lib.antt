@@ -8,3 +8,4 @@ mod TaskLemmas
 mod EnterLemmas
 mod UseLemmas
 mod EnteredLemmas
+mod GetLemmas

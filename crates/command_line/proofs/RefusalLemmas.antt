@@ -1,12 +1,11 @@
 -- What arguments that are not refused have.
-use Rattle.command_table.proofs.Names.{both, length-map, ◌≡◌, ◌∙◌, ◌||◌, ◌≤◌, ◌+◌, Bool, true, false, true≢false, not, if◌then◌else◌, arith, ap, map, option_map, refl, subst, sym, codes, is_some, length, List, [], ◌∷◌, Option, None, Some, find, option_and_then, slice_get, unwrap_or, bytes_eq, read_as, row_text, Row, Text, first_of, one_of}
-use Rattle.clap.specs.declared.builder.value_parser.Reading.{Reading}
+use Rattle.command_table.proofs.Names.{both, length-map, ◌≡◌, ◌∙◌, ◌||◌, ◌≤◌, ◌+◌, Bool, true, false, true≢false, not, if◌then◌else◌, arith, ap, map, option_map, refl, subst, sym, codes, is_some, length, List, [], ◌∷◌, Option, None, Some, find, option_and_then, slice_get, unwrap_or, bytes_eq, Row, Text, first_of}
 use Rattle.command_refusals.specs.declared.refusals.What.{What}
 use Rattle.command_refusals.specs.declared.refusals.What.TheVariants as what
 use Rattle.command_table.specs.declared.table.Kind.{Kind}
 use Rattle.command_table.specs.declared.table.Verb.{Verb}
 use Rattle.command_table.specs.declared.table.Verb.TheVariants as verb
-use Rattle.command_table.specs.Found.{capitals, has, is_set, names_in, number_in, number_of, place_of, values_of}
+use Rattle.command_table.specs.Found.{capitals, has, is_set, names_in, number_in, place_of, values_of}
 use Rattle.command_line.specs.Steps.{AllHold, IsWhole, Needs}
 use Rattle.command_table.specs.Values.{Has, kind_at}
 use Rattle.command_refusals.specs.Refusals.{Bad, Saying, bad_block, blocks_missing, blocks_word, both_given, first_bad, input_twice, is_alone, missing, missing_of, moved_missing, names_input_twice, names_one, names_some, prints_texts, or_else, refusal_of, saying_of_bad, together, unexpected, extra_argument}
@@ -67,10 +66,6 @@ middle_true true y z is left right = absurd (true≢false left)
 middle_true false true z is left right = refl
 middle_true false false true is left right = absurd (true≢false right)
 middle_true false false false is left right = absurd (true≢false (sym is))
-
-right_true : (x y : Bool) → (x || y) ≡ true → x ≡ false → y ≡ true
-right_true true y is off = absurd (true≢false off)
-right_true false y is off = is
 
 -- ## What words have with nothing missing
 
@@ -155,18 +150,6 @@ some_deleted values names places text_of read none named placed = go (has (codes
     go : (a : Bool) → has (codes "NAME") values ≡ a → (a || has (codes "at") values) ≡ true → 1 ≤ length names + length places
     go true is some = omega (arith, some_values (codes "NAME") values is, named_count)
     go false is some = omega (arith, some_values (codes "at") values some, placed_count)
-
--- a new volume with no number of blocks is that of a DECtape
-pub sized_tape : (values : List Row) → missing_of verb.Create values ≡ None → option_map number_of (one_of (codes "BLOCKS") values) ≡ None → is_set (codes "dectape") values ≡ true
-sized_tape values none unnumbered = right_true _ _ (met _ _ none) (no_row (find (λ r. bytes_eq r.id (codes "BLOCKS")) values) unnumbered)
-  where
-    no_value : (how : Reading) (o : Option Text) → option_map number_of (option_map (read_as how) o) ≡ None → is_some o ≡ false
-    no_value how None is = refl
-    no_value how (Some text) is = absurd (cc)
-
-    no_row : (o : Option Row) → option_map number_of (option_and_then row_text o) ≡ None → is_some (option_and_then (λ (r : Row). slice_get r.values 0) o) ≡ false
-    no_row None is = refl
-    no_row (Some r) is = no_value r.reading (slice_get r.values 0) is
 
 -- the argument after a file takes a text
 pub after_takes : (takes : Option Kind → Bool) (which : Verb) (moved own : Text) (values : List Row) → takes (kind_at moved (rows_for which)) ≡ true

@@ -8,7 +8,7 @@ use Rattle.program_tasks.specs.declared.forms.ImageForm.{ImageForm}
 use Rattle.command_refusals.specs.declared.refusals.What.{What}
 use Rattle.command_refusals.specs.declared.refusals.What.TheVariants as what
 use Rattle.command_table.specs.Found.{capitals, has, is_set, name_in, names_in, values_of}
-use Rattle.command_refusals.specs.Refusals.{assemble_missing, says_of_pal8}
+use Rattle.command_refusals.specs.Refusals.{assemble_missing, says_of_pal8, says_where}
 use Rattle.command_line.specs.Tasks.{IsFrom, source_names}
 
 -- there are as many sources as words
@@ -33,7 +33,7 @@ has_volume values None onto none is_from are is =
     (if has (codes "wait") values && not (has (codes "onto") values) then Some what.Onto else None) (named (first_of (codes "onto") values) onto are is) is_from none
   where
     go : (a b c d : Bool) (rest : Option What) → c ≡ true → d ≡ false
-        → (if a then Some what.List else if b then Some what.Pal8 else if (c || has (codes "volume") values || is_set (codes "dectape") values) && not d then Some what.From else rest) ≡ None
+        → (if a then Some what.List else if b then Some what.Pal8 else if (c || says_where values) && not d then Some what.From else rest) ≡ None
         → is_some {T = ImageForm} None ≡ true
     go true b c d rest yes_c no_d none = absurd (cc)
     go false true c d rest yes_c no_d none = absurd (cc)

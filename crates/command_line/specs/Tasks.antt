@@ -25,7 +25,7 @@ use Rattle.program_tasks.specs.declared.tasks.RimForm.TheVariants.{Lines, Bin}
 use Rattle.program_tasks.specs.declared.tasks.Saving.{Saving}
 use Rattle.program_tasks.specs.declared.tasks.Saving.TheVariants.{AtEnd, Never, Always}
 use Rattle.program_tasks.specs.declared.tasks.Task.{Task}
-use Rattle.program_tasks.specs.declared.tasks.Task.TheVariants.{Tape, Rim, Source, Run, Create, CreateTape, ListLong, ListSome, Get, GetBin, GetMany, GetTexts, GetBlocks, Put, PutMany, Delete, Rename, Copy, CopyMany, Squeeze, Check, Dump, Patch, Index, Rescue, Scan, Assemble, Teletype, Trace, Profile}
+use Rattle.program_tasks.specs.declared.tasks.Task.TheVariants.{Tape, Rim, Source, Run, Create, CreateTape, CreateDisk, CreateVolume, ListLong, ListSome, Get, GetBin, GetMany, GetTexts, GetBlocks, Put, PutMany, Delete, Rename, Copy, CopyMany, Squeeze, Check, Dump, Patch, Index, Rescue, Scan, Assemble, Teletype, Trace, Profile}
 use Rattle.program_tasks.specs.declared.tasks.Task.TheVariants as task
 use Rattle.command_refusals.specs.declared.faults.TaskFault.{TaskFault}
 use Rattle.command_refusals.specs.declared.faults.TaskFault.TheVariants.{Words, Memory, Refused}
@@ -33,7 +33,7 @@ use Rattle.command_refusals.specs.declared.refusals.Refusal.{Refusal}
 use Rattle.command_table.specs.declared.table.TheConstants.{MOST_IMAGES}
 use Rattle.command_table.specs.declared.table.Verb.{Verb}
 use Rattle.command_table.specs.declared.table.Verb.TheVariants as verb
-use Rattle.command_table.specs.Found.{IsReadAs, bits_of, cell_of, has, is_set, layout_of, name_in, names_in, number_in, number_of, place_of, span_of, values_of, wait_of, word_of, year_of, IsInfo}
+use Rattle.command_table.specs.Found.{IsReadAs, bits_of, cell_of, date_year, has, is_set, layout_of, name_in, names_in, number_in, number_of, place_of, span_of, values_of, wait_of, word_of, year_of, IsInfo}
 use Rattle.command_refusals.specs.Refusals.{blocks_word, copies_pattern, input_count, prints_texts, puts_many, refusal_of}
 use Rattle.command_table.specs.Tables.{Entry, entry_named, pdp8}
 use Rattle.command_refusals.specs.Faults.{RefusesOf}
@@ -58,12 +58,12 @@ saving_of values = if is_set (codes "look") values then Never else if is_set (co
 
 -- The volume that an argument names: its file, and where in that it lies, as options say or else the name. It is waited for so many seconds, and
 -- its faults are mended or not.
-abbrev pub IsVolume : Option Layout → Text → ℕ → Bool → List Row → ImageForm → Type 0
-IsVolume given id wait is_lenient values image = (option_map (volume_named given) (first_of id values) ≡ Some (image.file.bytes.items, image.layout))
-    × (image.wait ≡ wait) × (image.is_lenient ≡ is_lenient)
+abbrev pub IsVolume : Option Layout → Bool → Text → ℕ → Bool → List Row → ImageForm → Type 0
+IsVolume given is_plain id wait is_lenient values image = (option_map (volume_named given) (first_of id values) ≡ Some (image.file.bytes.items, image.layout))
+    × (image.is_plain ≡ is_plain) × (image.wait ≡ wait) × (image.is_lenient ≡ is_lenient)
 
 abbrev pub IsImage : Text → ℕ → List Row → ImageForm → Type 0
-IsImage id wait values image = IsVolume (layout_of (codes "volume") (codes "dectape") values) id wait false values image
+IsImage id wait values image = IsVolume (layout_of (codes "volume") (codes "dectape") values) (is_set (codes "plain") values) id wait false values image
 
 -- ## The sources and the Teletype
 
@@ -101,14 +101,18 @@ abbrev pub IsSeen : List Row → ImageForm → Type 0
 IsSeen values image = IsImage (codes "IMAGE") 0 values image
 
 abbrev pub IsRead : List Row → ImageForm → Type 0
-IsRead values image = IsVolume (layout_of (codes "volume") (codes "dectape") values) (codes "IMAGE") 0 (is_set (codes "lenient") values) values image
+IsRead values image = IsVolume (layout_of (codes "volume") (codes "dectape") values) (is_set (codes "plain") values) (codes "IMAGE") 0 (is_set (codes "lenient") values) values image
 
 abbrev pub IsChanged : List Row → ImageForm → Type 0
 IsChanged values image = IsImage (codes "IMAGE") (wait_of values) values image
 
+-- one of a disk that is made anew, whose options have no `--plain`
+abbrev pub IsMade : List Row → ImageForm → Type 0
+IsMade values image = IsVolume (layout_of (codes "volume") (codes "dectape") values) false (codes "IMAGE") (wait_of values) false values image
+
 -- and one that files are copied to
 abbrev pub IsTarget : Text → List Row → ImageForm → Type 0
-IsTarget id values image = IsVolume (layout_of (codes "to-volume") (codes "to-dectape") values) id (wait_of values) false values image
+IsTarget id values image = IsVolume (layout_of (codes "to-volume") (codes "to-dectape") values) (is_set (codes "to-plain") values) id (wait_of values) false values image
 
 -- the file whose first block `--at` gives, else that of the name
 abbrev pub IsFile : List Row → FileForm → Type 0
@@ -173,9 +177,13 @@ AsksFor which values (Source form) = (which ≡ verb.Source) × IsTapeOrInput va
 AsksFor which values (Run image form) = (which ≡ verb.Run) × IsChanged values image × (form.saving ≡ saving_of values)
     × (form.is_strict ≡ is_set (codes "strict") values)
 AsksFor which values (Create form blocks) = (which ≡ verb.Create) × IsCreateForm values form
-    × (is_set (codes "dectape") values ≡ false) × (option_map number_of (one_of (codes "BLOCKS") values) ≡ Some blocks)
+    × (is_set (codes "dectape") values ≡ false) × (is_set (codes "rk05") values ≡ false) × (option_map number_of (one_of (codes "BLOCKS") values) ≡ Some blocks)
 AsksFor which values (CreateTape form) = (which ≡ verb.Create) × IsCreateForm values form
     × (is_set (codes "dectape") values ≡ true)
+AsksFor which values (CreateDisk form) = (which ≡ verb.Create) × IsCreateForm values form
+    × (is_set (codes "dectape") values ≡ false) × (is_set (codes "rk05") values ≡ true)
+AsksFor which values (CreateVolume image) = (which ≡ verb.Create) × IsMade values image
+    × (is_set (codes "dectape") values ≡ false) × (is_set (codes "rk05") values ≡ false) × (option_map number_of (one_of (codes "BLOCKS") values) ≡ None)
 AsksFor which values (task.List image) = (which ≡ verb.List) × (has (codes "NAME") values ≡ false) × IsRead values image
     × (is_set (codes "long") values ≡ false)
 AsksFor which values (ListLong image year) = (which ≡ verb.List) × (has (codes "NAME") values ≡ false) × IsRead values image
@@ -203,11 +211,12 @@ AsksFor which values (Put form) = (which ≡ verb.Put) × (puts_many values ≡ 
     × (first_of (codes "FILE") values ≡ Some form.file.bytes.items)
     × (name_in (codes "as") values ≡ Some form.name.bytes.items) × (form.form ≡ put_form values)
     × (form.may_empty ≡ is_set (codes "empty") values) × IsInfo values (option_map (λ words. words.items) form.info)
-    × (form.is_dated ≡ is_set (codes "dates") values)
+    × (form.is_dated ≡ is_set (codes "dates") values) × (form.year ≡ date_year values)
 AsksFor which values (PutMany form) = (which ≡ verb.Put) × (puts_many values ≡ true) × IsChanged values form.image
     × (values_of (codes "FILE") values ≡ map (λ file. file.bytes.items) form.files.items)
     × AreTexts values form.texts × (form.may_empty ≡ is_set (codes "empty") values)
     × IsInfo values (option_map (λ words. words.items) form.info) × (form.is_dated ≡ is_set (codes "dates") values)
+    × (form.year ≡ date_year values)
 AsksFor which values (Delete form) = (which ≡ verb.Delete) × IsChanged values form.image
     × (names_in (codes "NAME") values ≡ map (λ name. name.bytes.items) form.names.items)
     × ArePlaces values form.places.items
@@ -221,7 +230,7 @@ AsksFor which values (CopyMany form) = (which ≡ verb.Copy) × IsSeen values fo
     × (form.is_forced ≡ is_set (codes "force") values)
 AsksFor which values (Squeeze image) = (which ≡ verb.Squeeze) × IsChanged values image
 AsksFor which values (Check form) = (which ≡ verb.Check) × (values_of (codes "IMAGE") values ≡ map (λ image. image.bytes.items) form.images.items)
-    × (layout_of (codes "volume") (codes "dectape") values ≡ form.layout) × (form.is_all ≡ is_set (codes "all") values)
+    × (layout_of (codes "volume") (codes "dectape") values ≡ form.layout) × (form.is_plain ≡ is_set (codes "plain") values) × (form.is_all ≡ is_set (codes "all") values)
     × (form.is_lenient ≡ is_set (codes "lenient") values)
 AsksFor which values (Dump form) = (which ≡ verb.Dump) × IsSeen values form.image × (form.span ≡ option_and_then span_of (first_of (codes "BLOCK") values))
     × (form.is_sixbit ≡ is_set (codes "sixbit") values)
@@ -231,7 +240,7 @@ AsksFor which values (Patch form) = (which ≡ verb.Patch) × IsChanged values f
     × (option_and_then bits_of (first_of (codes "OLD") values) ≡ Some form.old)
     × (option_and_then word_of (first_of (codes "NEW") values) ≡ Some form.new)
 AsksFor which values (Index form) = (which ≡ verb.Index) × (values_of (codes "IMAGE") values ≡ map (λ image. image.bytes.items) form.images.items)
-    × (layout_of (codes "volume") (codes "dectape") values ≡ form.layout) × (form.year ≡ year_of values)
+    × (layout_of (codes "volume") (codes "dectape") values ≡ form.layout) × (form.is_plain ≡ is_set (codes "plain") values) × (form.year ≡ year_of values)
     × (form.form ≡ line_form values) × (form.is_same ≡ is_set (codes "same") values) × (name_in (codes "find") values ≡ option_map (λ pattern. pattern.bytes.items) form.find)
     × (first_of (codes "grep") values ≡ option_map (λ text. text.bytes.items) form.grep) × (form.is_lenient ≡ is_set (codes "lenient") values)
 AsksFor which values (Rescue form) = (which ≡ verb.Rescue) × IsSeen values form.image × (first_of (codes "NEW") values ≡ Some form.new.bytes.items)

@@ -58,6 +58,7 @@ pub fn index(alloc: Global, found: &ArgMatches<'_>) -> Read<Task>
     Ok(Task::Index(IndexForm {
         images,
         layout: layout_of(found, Verb::Index, "volume", "dectape"),
+        is_plain: flag(found, Verb::Index, "plain"),
         year: year_of(found, Verb::Index),
         form: line_form(found),
         is_same: flag(found, Verb::Index, "same"),

@@ -17,8 +17,8 @@ use char_pack::{GetForm, PutForm};
 use clap::ArgMatches;
 use command_refusals::{blocks_word, copies_pattern, prints_texts, puts_many};
 use command_table::{
-    Read, Verb, block_of, blocks_of, flag, has, info_of, name_if_given, name_of, names_of,
-    number_of, text_of, texts_in, value_of, values_of, year_of,
+    Read, Verb, block_of, blocks_of, date_year, flag, has, info_of, name_if_given, name_of,
+    names_of, number_of, text_of, texts_in, value_of, values_of, year_of,
 };
 use program_tasks::{
     BlocksForm, CopyForm, CopyManyForm, DeleteForm, FileForm, GetManyForm, GetTextsForm, ImageForm,
@@ -164,6 +164,7 @@ pub fn put(alloc: Global, found: &ArgMatches<'_>) -> Read<Task>
 {
     let image = changed_image(alloc, found, Verb::Put, "IMAGE")?;
     let info = info_of(alloc, found, Verb::Put)?;
+    let year = date_year(found, Verb::Put);
     let is_dated = flag(found, Verb::Put, "dates");
     let may_empty = flag(found, Verb::Put, "empty");
     if puts_many(found) {
@@ -174,6 +175,7 @@ pub fn put(alloc: Global, found: &ArgMatches<'_>) -> Read<Task>
             files,
             texts,
             info,
+            year,
             is_dated,
             may_empty,
         }));
@@ -186,6 +188,7 @@ pub fn put(alloc: Global, found: &ArgMatches<'_>) -> Read<Task>
         name,
         form: put_form(found),
         info,
+        year,
         is_dated,
         may_empty,
     }))

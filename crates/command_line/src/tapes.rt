@@ -54,6 +54,7 @@ fn tape_if_given(alloc: Global, found: &ArgMatches<'_>, verb: Verb) -> Read<Opti
     requires name { has_text (kind_at (codes "NAME") (rows_for verb)) ≡ true }
     requires volume { kind_at (codes "volume") (rows_for verb) ≡ Some (kind.One form.Volume) }
     requires dectape { kind_at (codes "dectape") (rows_for verb) ≡ Some kind.Flag }
+    requires plain { kind_at (codes "plain") (rows_for verb) ≡ Some kind.Flag }
     ensures { IfOk result (IsTapeOrInput (values_in found.now)) }
 {
     if has(found, "TAPE") {
@@ -69,6 +70,7 @@ fn tape_of(alloc: Global, found: &ArgMatches<'_>, verb: Verb) -> Read<TapeForm>
     requires name { has_text (kind_at (codes "NAME") (rows_for verb)) ≡ true }
     requires volume { kind_at (codes "volume") (rows_for verb) ≡ Some (kind.One form.Volume) }
     requires dectape { kind_at (codes "dectape") (rows_for verb) ≡ Some kind.Flag }
+    requires plain { kind_at (codes "plain") (rows_for verb) ≡ Some kind.Flag }
     requires given { Has (codes "TAPE") (values_in found.now) }
     ensures { IfOk result (IsTape (values_in found.now)) }
 {

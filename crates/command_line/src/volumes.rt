@@ -4,7 +4,7 @@ ghost use Rattle.command_table.specs.Found.{has, wait_of};
 ghost use Rattle.command_table.specs.Values.{Has, has_text, kind_at, values_in};
 ghost use Rattle.command_line.specs.Steps.{IsAskedBy, Needs};
 ghost use Rattle.command_table.specs.Tables.{rows_for};
-ghost use Rattle.command_line.specs.Tasks.{IsImage, IsRead, IsTarget, IsVolume};
+ghost use Rattle.command_line.specs.Tasks.{IsImage, IsMade, IsRead, IsTarget, IsVolume};
 ghost use Rattle.command_line.specs.Tasks as spec;
 ghost use Rattle.command_table.specs.declared.table.Form.TheVariants as form;
 ghost use Rattle.command_table.specs.declared.table.Kind.TheVariants as kind;
@@ -26,11 +26,13 @@ pub fn image_of(alloc: Global, found: &ArgMatches<'_>, verb: Verb, id: &str) -> 
     requires image { has_text (kind_at id.now (rows_for verb)) ≡ true }
     requires volume { kind_at (codes "volume") (rows_for verb) ≡ Some (kind.One form.Volume) }
     requires dectape { kind_at (codes "dectape") (rows_for verb) ≡ Some kind.Flag }
+    requires plain { kind_at (codes "plain") (rows_for verb) ≡ Some kind.Flag }
     requires given { Has id.now (values_in found.now) }
     ensures { IfOk result (IsImage id.now 0 (values_in found.now)) }
 {
     let given = layout_of(found, verb, "volume", "dectape");
-    volume_at(alloc, found, id, given, 0, false)
+    let is_plain = flag(found, verb, "plain");
+    volume_at(alloc, found, id, given, is_plain, 0, false)
 }
 
 /// The volume that a subcommand only reads, and where `--lenient` says so, its faults are mended as it is read.
@@ -38,13 +40,15 @@ pub fn read_image(alloc: Global, found: &ArgMatches<'_>, verb: Verb) -> Read<Ima
     requires image { has_text (kind_at (codes "IMAGE") (rows_for verb)) ≡ true }
     requires volume { kind_at (codes "volume") (rows_for verb) ≡ Some (kind.One form.Volume) }
     requires dectape { kind_at (codes "dectape") (rows_for verb) ≡ Some kind.Flag }
+    requires plain { kind_at (codes "plain") (rows_for verb) ≡ Some kind.Flag }
     requires lenient { kind_at (codes "lenient") (rows_for verb) ≡ Some kind.Flag }
     requires given { Has (codes "IMAGE") (values_in found.now) }
     ensures { IfOk result (IsRead (values_in found.now)) }
 {
     let given = layout_of(found, verb, "volume", "dectape");
     let is_lenient = flag(found, verb, "lenient");
-    volume_at(alloc, found, "IMAGE", given, 0, is_lenient)
+    let is_plain = flag(found, verb, "plain");
+    volume_at(alloc, found, "IMAGE", given, is_plain, 0, is_lenient)
 }
 
 /// The volume that an argument names, which a subcommand may change.
@@ -52,13 +56,15 @@ pub fn changed_image(alloc: Global, found: &ArgMatches<'_>, verb: Verb, id: &str
     requires image { has_text (kind_at id.now (rows_for verb)) ≡ true }
     requires volume { kind_at (codes "volume") (rows_for verb) ≡ Some (kind.One form.Volume) }
     requires dectape { kind_at (codes "dectape") (rows_for verb) ≡ Some kind.Flag }
+    requires plain { kind_at (codes "plain") (rows_for verb) ≡ Some kind.Flag }
     requires wait { kind_at (codes "wait") (rows_for verb) ≡ Some (kind.One form.Seconds) }
     requires given { Has id.now (values_in found.now) }
     ensures { IfOk result (IsImage id.now (wait_of (values_in found.now)) (values_in found.now)) }
 {
     let given = layout_of(found, verb, "volume", "dectape");
+    let is_plain = flag(found, verb, "plain");
     let wait = wait_of(found, verb);
-    volume_at(alloc, found, id, given, wait, false)
+    volume_at(alloc, found, id, given, is_plain, wait, false)
 }
 
 /// The volume that an argument names, which files are copied to.
@@ -68,8 +74,9 @@ pub fn target_of(alloc: Global, found: &ArgMatches<'_>, id: &str) -> Read<ImageF
     ensures { IfOk result (IsTarget id.now (values_in found.now)) }
 {
     let given = layout_of(found, Verb::Copy, "to-volume", "to-dectape");
+    let is_plain = flag(found, Verb::Copy, "to-plain");
     let wait = wait_of(found, Verb::Copy);
-    volume_at(alloc, found, id, given, wait, false)
+    volume_at(alloc, found, id, given, is_plain, wait, false)
 }
 
 /// The volume that an argument names, where options say in which layout, or else its name does.
@@ -78,17 +85,19 @@ fn volume_at(
     found: &ArgMatches<'_>,
     id: &str,
     given: Option<Layout>,
+    is_plain: bool,
     wait: usize,
     is_lenient: bool,
 ) -> Read<ImageForm>
     requires { Has id.now (values_in found.now) }
-    ensures { IfOk result (IsVolume given id.now wait is_lenient (values_in found.now)) }
+    ensures { IfOk result (IsVolume given is_plain id.now wait is_lenient (values_in found.now)) }
 {
     let (name, layout) = volume_named(given, text_given(found, id));
     let file = String::from_str(alloc, name)?;
     Ok(ImageForm {
         file,
         layout,
+        is_plain,
         wait,
         is_lenient,
     })
@@ -121,7 +130,6 @@ fn saving(found: &ArgMatches<'_>) -> Saving
 }
 
 /// The new volume that is asked for.
-#[tactic(auto, using(crate::proofs::RefusalLemmas::sized_tape))]
 pub fn create(alloc: Global, found: &ArgMatches<'_>) -> Read<Task>
     requires { Needs verb.Create (values_in found.now) }
     ensures { IfOk result (IsAskedBy verb.Create (values_in found.now)) }
@@ -134,10 +142,26 @@ pub fn create(alloc: Global, found: &ArgMatches<'_>) -> Read<Task>
     if flag(found, Verb::Create, "dectape") {
         return Ok(Task::CreateTape(form));
     }
+    if flag(found, Verb::Create, "rk05") {
+        return Ok(Task::CreateDisk(form));
+    }
     match size_of(found, Verb::Create, "BLOCKS") {
         Some(blocks) => Ok(Task::Create(form, blocks)),
-        None => unreachable!(),
+        None => {
+            let image = made_volume(alloc, found)?;
+            Ok(Task::CreateVolume(image))
+        }
     }
+}
+
+/// The volume of a disk that is to be made anew.
+fn made_volume(alloc: Global, found: &ArgMatches<'_>) -> Read<ImageForm>
+    requires { Has (codes "IMAGE") (values_in found.now) }
+    ensures { IfOk result (IsMade (values_in found.now)) }
+{
+    let given = layout_of(found, Verb::Create, "volume", "dectape");
+    let wait = wait_of(found, Verb::Create);
+    volume_at(alloc, found, "IMAGE", given, false, wait, false)
 }
 
 /// The volume whose files are to be listed.
@@ -179,6 +203,7 @@ pub fn check(alloc: Global, found: &ArgMatches<'_>) -> Read<Task>
     Ok(Task::Check(CheckForm {
         images,
         layout: layout_of(found, Verb::Check, "volume", "dectape"),
+        is_plain: flag(found, Verb::Check, "plain"),
         is_all: flag(found, Verb::Check, "all"),
         is_lenient: flag(found, Verb::Check, "lenient"),
     }))

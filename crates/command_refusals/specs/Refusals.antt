@@ -15,6 +15,7 @@ use Rattle.command_table.specs.declared.table.Kind.{Kind}
 use Rattle.command_table.specs.declared.table.Kind.TheVariants as kind
 use Rattle.command_table.specs.declared.table.Verb.{Verb}
 use Rattle.command_table.specs.declared.table.Verb.TheVariants as verb
+use Rattle.program_tasks.specs.Names.{volume_named}
 use Rattle.command_table.specs.Found.{first_not, form_of, has, is_set, number_in, values_of, word_at}
 use Rattle.command_table.specs.Tables.{Argument, pairs, rows_for}
 
@@ -145,15 +146,19 @@ copy_missing values =
     if has (codes "to") values then (if has (codes "NAME") values then None else Some what.Name)
     else moved_missing (codes "TO") what.To what.NameAndTo values
 
+-- it is said where a volume lies in its file
+abbrev pub says_where : List Row → Bool
+says_where values = has (codes "volume") values || is_set (codes "dectape") values || is_set (codes "plain") values
+
 -- of a file of a volume, where it is said where the volume lies
 abbrev pub tape_missing : List Row → Option What
 tape_missing values =
-    if has (codes "NAME") values || not (has (codes "volume") values || is_set (codes "dectape") values) then None
+    if has (codes "NAME") values || not (says_where values) then None
     else if has (codes "TAPE") values then Some what.Name else Some what.TapeAndName
 
 -- something is said of the volume that has the sources
 abbrev pub says_of_volume : List Row → Bool
-says_of_volume values = has (codes "onto") values || has (codes "volume") values || is_set (codes "dectape") values
+says_of_volume values = has (codes "onto") values || says_where values
 
 -- something is said of how PAL8 is read, or what is noted of it
 abbrev pub says_of_pal8 : List Row → Bool
@@ -170,6 +175,16 @@ assemble_missing values =
     else if has (codes "wait") values && not (has (codes "onto") values) then Some what.Onto
     else None
 
+-- a name means a volume of a disk by its end
+abbrev pub means_volume : Option Text → Bool
+means_volume None = false
+means_volume (Some name) = is_some (volume_named None name).1
+
+-- a new volume has the blocks of a DECtape or of an RK05 disk
+abbrev pub makes_disk : List Row → Bool
+makes_disk values = is_set (codes "dectape") values || (is_set (codes "rk05") values || (has (codes "volume") values
+    || (means_volume (first_of (codes "IMAGE") values) && not (is_set (codes "new") values))))
+
 abbrev pub missing_of : Verb → List Row → Option What
 missing_of verb.Tape values = tape_missing values
 missing_of verb.Rim values = tape_missing values
@@ -178,7 +193,7 @@ missing_of verb.Teletype values = tape_missing values
 missing_of verb.Trace values = tape_missing values
 missing_of verb.Profile values = tape_missing values
 missing_of verb.Assemble values = assemble_missing values
-missing_of verb.Create values = if has (codes "BLOCKS") values || is_set (codes "dectape") values then None else Some what.Blocks
+missing_of verb.Create values = if has (codes "BLOCKS") values || makes_disk values then None else Some what.Blocks
 missing_of verb.Get values =
     if is_set (codes "blocks") values then blocks_missing values
     else if not (names_some values) then Some what.Name

@@ -1,5 +1,5 @@
 //! What is missing of the arguments of a subcommand, where its table says of none of them that it must be given.
-ghost use Rattle.std.specs.Prelude.{◌≡◌, ◌≤◌, if◌then◌else◌, codes, length, map, None, Some};
+ghost use Rattle.std.specs.Prelude.{◌≡◌, ◌≤◌, if◌then◌else◌, codes, length, map, option_map, None, Some};
 ghost use Rattle.command_table.specs.Values.{values_in};
 ghost use Rattle.command_table.specs.Found.{values_of};
 ghost use Rattle.command_refusals.specs.Refusals as spec;
@@ -9,6 +9,7 @@ use crate::judging::blocks_word;
 use crate::refusals::What;
 use clap::ArgMatches;
 use command_table::{Verb, has, is_set, text_of, texts_in, word_at};
+use program_tasks::volume_named;
 
 /// What is missing.
 pub fn missing_of(found: &ArgMatches<'_>, which: Verb) -> Option<What>
@@ -16,10 +17,7 @@ pub fn missing_of(found: &ArgMatches<'_>, which: Verb) -> Option<What>
 {
     match which {
         Verb::Assemble => assemble_missing(found),
-        Verb::Create => lack(
-            has(found, "BLOCKS") || is_set(found, "dectape"),
-            What::Blocks,
-        ),
+        Verb::Create => lack(has(found, "BLOCKS") || makes_disk(found), What::Blocks),
         Verb::Get => get_missing(found),
         Verb::Put => lack(!(puts_many(found) && puts_input(found)), What::As),
         Verb::Delete => lack(has(found, "NAME") || has(found, "at"), What::Name),
@@ -29,6 +27,26 @@ pub fn missing_of(found: &ArgMatches<'_>, which: Verb) -> Option<What>
         Verb::Teletype | Verb::Trace | Verb::Profile => tape_missing(found),
         Verb::Run | Verb::List | Verb::Squeeze | Verb::Check => None,
         Verb::Dump | Verb::Patch | Verb::Index | Verb::Rescue | Verb::Scan => None,
+    }
+}
+
+/// Whether a new volume has the blocks of a DECtape or of an RK05 disk.
+fn makes_disk(found: &ArgMatches<'_>) -> bool
+    ensures { result ≡ spec.makes_disk (values_in found.now) }
+{
+    is_set(found, "dectape")
+        || is_set(found, "rk05")
+        || has(found, "volume")
+        || (means_volume(text_of(found, "IMAGE")) && !is_set(found, "new"))
+}
+
+/// Whether a name means a volume of a disk by its end.
+fn means_volume(name: Option<&str>) -> bool
+    ensures { result ≡ spec.means_volume (option_map (λ text. text.now) name.entry) }
+{
+    match name {
+        None => false,
+        Some(name) => volume_named(None, name).1.is_some(),
     }
 }
 
@@ -43,7 +61,7 @@ fn lack(is_given: bool, what: What) -> Option<What>
 fn tape_missing(found: &ArgMatches<'_>) -> Option<What>
     ensures { result ≡ spec.tape_missing (values_in found.now) }
 {
-    if has(found, "NAME") || !(has(found, "volume") || is_set(found, "dectape")) {
+    if has(found, "NAME") || !says_where(found) {
         return None;
     }
     if has(found, "TAPE") {
@@ -87,7 +105,14 @@ fn says_of_pal8(found: &ArgMatches<'_>) -> bool
 fn says_of_volume(found: &ArgMatches<'_>) -> bool
     ensures { result ≡ spec.says_of_volume (values_in found.now) }
 {
-    has(found, "onto") || has(found, "volume") || is_set(found, "dectape")
+    has(found, "onto") || says_where(found)
+}
+
+/// Whether it is said where a volume lies in its file.
+fn says_where(found: &ArgMatches<'_>) -> bool
+    ensures { result ≡ spec.says_where (values_in found.now) }
+{
+    has(found, "volume") || is_set(found, "dectape") || is_set(found, "plain")
 }
 
 /// What is missing where files are got.

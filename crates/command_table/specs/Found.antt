@@ -7,9 +7,10 @@ use Rattle.clap.specs.Words.{Row, Text, all_of, first_of}
 use Rattle.command_table.specs.declared.table.Kind.{Kind}
 use Rattle.command_table.specs.declared.table.Kind.TheVariants.{Value, One, Many}
 use Rattle.command_table.specs.declared.table.Form.{Form}
-use Rattle.command_table.specs.declared.table.Form.TheVariants.{Text as a_text, Cell, Octal, Volume, Block, Seconds, Span, Index, Bits, Date, Year}
+use Rattle.command_table.specs.declared.table.Form.TheVariants.{Text as a_text, Cell, Octal, Volume, Block, Seconds, Span, Index, Bits, Date as a_date, Year}
 use Rattle.word12.specs.Octal.{octal_of}
 use Rattle.os8_dates.specs.Dates.{word_of as word_of_date}
+use Rattle.os8_dates.specs.declared.dates.Date.{Date}
 use Rattle.os8_dates.specs.Spelling.{parsed_date}
 use Rattle.word12.specs.declared.sizes.TheConstants.{MOST_BLOCKS}
 use Rattle.disk_layouts.specs.declared.layouts.Layout.{Layout}
@@ -117,6 +118,13 @@ span_of text = span_from (place_of (take (length (before_hyphen text)) text)) (d
 abbrev pub date_word : Text → Option ℕ
 date_word text = option_and_then word_of_date (parsed_date text)
 
+-- the year of a date, if one is given
+abbrev pub year_of_date : Date → ℕ
+year_of_date date = date.year
+
+abbrev pub date_year : List Row → Option ℕ
+date_year values = option_map year_of_date (option_and_then parsed_date (first_of (codes "date") values))
+
 -- the last of eight years, if it is given
 abbrev pub year_of : List Row → Option ℕ
 year_of values = option_and_then (number_in 1977 9999) (first_of (codes "year") values)
@@ -176,7 +184,7 @@ passes Seconds text = is_some (number_in 0 3600 text)
 passes Span text = is_some (span_of text)
 passes Index text = is_some (number_in 0 0o377 text)
 passes Bits text = is_some (bits_of text)
-passes Date text = is_some (date_word text)
+passes a_date text = is_some (date_word text)
 passes Year text = is_some (number_in 1977 9999 text)
 
 -- the first of the values that is none of a form

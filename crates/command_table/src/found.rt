@@ -13,6 +13,7 @@ use crate::numbers::{cell_in, date_in, number_in, span_in, word_in};
 use crate::table::Verb;
 use clap::ArgMatches;
 use disk_layouts::Layout;
+use os8_dates::parse_date;
 use std::alloc::{AllocError, Global};
 use word12::{Cell, MOST_BLOCKS, Word};
 
@@ -262,6 +263,15 @@ pub fn date_of(found: &ArgMatches<'_>, _verb: Verb) -> Option<Word>
         ≡ option_map (λ word. Some word) result }
 {
     Some(date_in(text_of(found, "date")?.as_bytes()).unwrap())
+}
+
+/// The year of a date, if it was given.
+pub fn date_year(found: &ArgMatches<'_>, _verb: Verb) -> Option<usize>
+    requires { kind_at (codes "date") (rows_for _verb) ≡ Some (kind.One form.Date) }
+    ensures { result ≡ spec.date_year (values_in found.now) }
+{
+    let date = parse_date(text_of(found, "date")?.as_bytes())?;
+    Some(usize::from(date.year))
 }
 
 /// The text of an argument that was given.

@@ -18,12 +18,14 @@ pub fn letters()
 /// A law: no two subcommands share a name, and these arguments exclude each other.
 pub fn excluded_arguments()
     ensures words { are_distinct (map (λ entry. entry.word) table) ≡ true }
-    ensures pairs { pairs ≡ (codes "volume", codes "dectape") ∷ (codes "to-volume", codes "to-dectape")
-        ∷ (codes "BLOCKS", codes "dectape") ∷ (codes "blocks", codes "at") ∷ (codes "at", codes "to") ∷ (codes "blocks", codes "into")
-        ∷ (codes "blocks", codes "all") ∷ (codes "blocks", codes "force") ∷ (codes "blocks", codes "text-of")
-        ∷ (codes "blocks", codes "tape") ∷ (codes "blocks", codes "bin") ∷ (codes "tape", codes "into")
-        ∷ (codes "bin", codes "into") ∷ (codes "blocks", codes "year") ∷ (codes "as", codes "text-of")
-        ∷ (codes "output", codes "onto") ∷ (codes "look", codes "keep")
-        ∷ (codes "look", codes "wait") ∷ (codes "new", codes "wait") ∷ (codes "info", codes "date")
-        ∷ (codes "info", codes "dates") ∷ (codes "date", codes "dates") ∷ [] }
+    ensures pairs { pairs ≡ (codes "volume", codes "dectape") ∷ (codes "volume", codes "plain") ∷ (codes "dectape", codes "plain")
+        ∷ (codes "to-volume", codes "to-dectape") ∷ (codes "to-volume", codes "to-plain") ∷ (codes "to-dectape", codes "to-plain")
+        ∷ (codes "BLOCKS", codes "dectape") ∷ (codes "BLOCKS", codes "rk05") ∷ (codes "BLOCKS", codes "volume")
+        ∷ (codes "rk05", codes "dectape") ∷ (codes "rk05", codes "volume") ∷ (codes "new", codes "volume")
+        ∷ (codes "blocks", codes "at") ∷ (codes "at", codes "to") ∷ (codes "blocks", codes "into") ∷ (codes "blocks", codes "all")
+        ∷ (codes "blocks", codes "force") ∷ (codes "blocks", codes "text-of") ∷ (codes "blocks", codes "tape")
+        ∷ (codes "blocks", codes "bin") ∷ (codes "tape", codes "into") ∷ (codes "bin", codes "into") ∷ (codes "blocks", codes "year")
+        ∷ (codes "as", codes "text-of") ∷ (codes "output", codes "onto") ∷ (codes "look", codes "keep") ∷ (codes "look", codes "wait")
+        ∷ (codes "new", codes "wait") ∷ (codes "info", codes "date") ∷ (codes "info", codes "dates") ∷ (codes "date", codes "dates")
+        ∷ [] }
 {}

@@ -12,9 +12,9 @@ mod texts;
 
 pub use build::{Draft, command_line};
 pub use found::{
-    Read, block_of, cell_of, count_of, date_of, flag, has, is_set, layout_of, name_if_given,
-    name_of, names_of, octal_of, size_of, span_of, text_given, text_of, texts_in, value_if_given,
-    value_of, values_of, wait_of, word_at, year_of,
+    Read, block_of, cell_of, count_of, date_of, date_year, flag, has, is_set, layout_of,
+    name_if_given, name_of, names_of, octal_of, size_of, span_of, text_given, text_of, texts_in,
+    value_if_given, value_of, values_of, wait_of, word_at, year_of,
 };
 pub use laws::{excluded_arguments, letters};
 pub use lists::{blocks_of, cells_of, info_of};

@@ -204,8 +204,17 @@ pub const COMMANDS: &[Entry] = entries! {
 /// The arguments that exclude each other, in whatever subcommand they are.
 pub const PAIRS: &[Pair] = &[
     ("volume", "dectape"),
+    ("volume", "plain"),
+    ("dectape", "plain"),
     ("to-volume", "to-dectape"),
+    ("to-volume", "to-plain"),
+    ("to-dectape", "to-plain"),
     ("BLOCKS", "dectape"),
+    ("BLOCKS", "rk05"),
+    ("BLOCKS", "volume"),
+    ("rk05", "dectape"),
+    ("rk05", "volume"),
+    ("new", "volume"),
     ("blocks", "at"),
     ("at", "to"),
     ("blocks", "into"),
@@ -232,6 +241,7 @@ pub const TAPE: &[Argument] = rows! {
     "NAME" may Kind::Word, "", "The name of the file on the volume";
     "volume" 'v' option Kind::One(Form::Volume), "N", "The volume of an RK05 disk, 1 or 2, where TAPE is the file of one; TAPE:1 and TAPE:2 mean it too";
     "dectape" flag Kind::Flag, "", "TAPE is the file of a DECtape, of 129 words a block";
+    "plain" flag Kind::Flag, "", "TAPE is one volume from its first byte, whatever stands in it";
 };
 
 pub const RIM: &[Argument] = rows! {
@@ -240,6 +250,7 @@ pub const RIM: &[Argument] = rows! {
     "bin" flag Kind::Flag, "", "Write the BIN tape of its words";
     "volume" 'v' option Kind::One(Form::Volume), "N", "The volume of an RK05 disk, 1 or 2, where TAPE is the file of one; TAPE:1 and TAPE:2 mean it too";
     "dectape" flag Kind::Flag, "", "TAPE is the file of a DECtape, of 129 words a block";
+    "plain" flag Kind::Flag, "", "TAPE is one volume from its first byte, whatever stands in it";
 };
 
 pub const SOURCE: &[Argument] = rows! {
@@ -250,6 +261,7 @@ pub const SOURCE: &[Argument] = rows! {
     "pal8" flag Kind::Flag, "", "Write PAL8, the language of OS/8's assembler";
     "volume" 'v' option Kind::One(Form::Volume), "N", "The volume of an RK05 disk, 1 or 2, where TAPE is the file of one; TAPE:1 and TAPE:2 mean it too";
     "dectape" flag Kind::Flag, "", "TAPE is the file of a DECtape, of 129 words a block";
+    "plain" flag Kind::Flag, "", "TAPE is one volume from its first byte, whatever stands in it";
 };
 
 pub const ASSEMBLE: &[Argument] = rows! {
@@ -267,6 +279,7 @@ pub const ASSEMBLE: &[Argument] = rows! {
     "onto" option Kind::One(Form::Text), "NAME", "Put the tape on that volume as the file NAME, in place of standard output";
     "volume" 'v' option Kind::One(Form::Volume), "N", "The volume of an RK05 disk, 1 or 2, where IMAGE is the file of one; IMAGE:1 and IMAGE:2 mean it too";
     "dectape" flag Kind::Flag, "", "IMAGE is the file of a DECtape, of 129 words a block";
+    "plain" flag Kind::Flag, "", "IMAGE is one volume from its first byte, whatever stands in it";
     "wait" option Kind::One(Form::Seconds), "SECONDS", "With --onto wait so long while another program holds the image, 0 to 3600 seconds; else not at all";
 };
 
@@ -280,6 +293,7 @@ pub const TELETYPE: &[Argument] = rows! {
     "live" hidden Kind::Flag, "", "Take the keys as they are struck";
     "volume" 'v' option Kind::One(Form::Volume), "N", "The volume of an RK05 disk, 1 or 2, where TAPE is the file of one; TAPE:1 and TAPE:2 mean it too";
     "dectape" flag Kind::Flag, "", "TAPE is the file of a DECtape, of 129 words a block";
+    "plain" flag Kind::Flag, "", "TAPE is one volume from its first byte, whatever stands in it";
 };
 
 /// The arguments of `trace` and of `profile`.
@@ -292,6 +306,7 @@ pub const TRACE: &[Argument] = rows! {
     "keys" option Kind::One(Form::Text), "TEXT", "The keys to strike, each where the program asks for one; a line's end is CR";
     "volume" 'v' option Kind::One(Form::Volume), "N", "The volume of an RK05 disk, 1 or 2, where TAPE is the file of one; TAPE:1 and TAPE:2 mean it too";
     "dectape" flag Kind::Flag, "", "TAPE is the file of a DECtape, of 129 words a block";
+    "plain" flag Kind::Flag, "", "TAPE is one volume from its first byte, whatever stands in it";
 };
 
 pub const RUN: &[Argument] = rows! {
@@ -301,6 +316,7 @@ pub const RUN: &[Argument] = rows! {
     "strict" flag Kind::Flag, "", "End with status 1 where a reply was a refusal";
     "volume" 'v' option Kind::One(Form::Volume), "N", "The volume of an RK05 disk, 1 or 2, where IMAGE is the file of one; IMAGE:1 and IMAGE:2 mean it too";
     "dectape" flag Kind::Flag, "", "IMAGE is the file of a DECtape, of 129 words a block";
+    "plain" flag Kind::Flag, "", "IMAGE is one volume from its first byte, whatever stands in it";
     "wait" option Kind::One(Form::Seconds), "SECONDS", "Wait so long while another program holds the image, 0 to 3600 seconds; else not at all";
 };
 
@@ -308,6 +324,8 @@ pub const CREATE: &[Argument] = rows! {
     "IMAGE" must Kind::Word, "", "The file that holds the volume";
     "BLOCKS" may Kind::Size, "", "The number of blocks, 8 to 4095";
     "dectape" flag Kind::Flag, "", "Write the file of a DECtape";
+    "rk05" flag Kind::Flag, "", "Write the file of an RK05 disk of two empty volumes";
+    "volume" 'v' option Kind::One(Form::Volume), "N", "Empty volume 1 or 2 of the RK05 disk in the file IMAGE, and leave the other; IMAGE:1 and IMAGE:2 mean it too";
     "new" flag Kind::Flag, "", "Refuse where there is a file of that name";
     "wait" option Kind::One(Form::Seconds), "SECONDS", "Wait so long while another program holds the file, 0 to 3600 seconds; else not at all";
 };
@@ -319,6 +337,7 @@ pub const LIST: &[Argument] = rows! {
     "year" option Kind::One(Form::Year), "N", "The last of the eight years that dates mean, 1977 to 9999; else the one that block 0 gives";
     "volume" 'v' option Kind::One(Form::Volume), "N", "The volume of an RK05 disk, 1 or 2, where IMAGE is the file of one; IMAGE:1 and IMAGE:2 mean it too";
     "dectape" flag Kind::Flag, "", "IMAGE is the file of a DECtape, of 129 words a block";
+    "plain" flag Kind::Flag, "", "IMAGE is one volume from its first byte, whatever stands in it";
     "lenient" flag Kind::Flag, "", "Read an image with faults: top bits are taken off, a length is made whole; each is printed on standard error";
 };
 
@@ -326,7 +345,7 @@ pub const GET: &[Argument] = rows! {
     "IMAGE" must Kind::Word, "", "The file that holds the volume";
     "NAME" may Kind::Words(MOST_BLOCKS), "", "The names of the files on the volume; with --blocks FIRST and COUNT";
     "at" option Kind::Many(Form::Block), "BLOCK", "The first block of a file, 0 to 4095, where no typed name is its own; it may be given several times";
-    "text" 't' flag Kind::Flag, "", "Write its text, each line ended by LF; with --into of files whose extension says text";
+    "text" 't' flag Kind::Flag, "", "Write its text, each line ended by LF; with --into of files that are named, and of others whose extension says text";
     "tape" flag Kind::Flag, "", "Write the BIN tape that it begins with, also where --text is given";
     "bin" flag Kind::Flag, "", "Write the BIN tape of the core image that it is, also where others are given";
     "into" option Kind::One(Form::Text), "FOLDER", "The folder that gets the files";
@@ -337,13 +356,14 @@ pub const GET: &[Argument] = rows! {
     "blocks" flag Kind::Flag, "", "Write blocks of the volume: COUNT from block FIRST on";
     "volume" 'v' option Kind::One(Form::Volume), "N", "The volume of an RK05 disk, 1 or 2, where IMAGE is the file of one; IMAGE:1 and IMAGE:2 mean it too";
     "dectape" flag Kind::Flag, "", "IMAGE is the file of a DECtape, of 129 words a block";
+    "plain" flag Kind::Flag, "", "IMAGE is one volume from its first byte, whatever stands in it";
     "lenient" flag Kind::Flag, "", "Read an image with faults: top bits are taken off, a length is made whole; each is printed on standard error";
 };
 
 pub const PUT: &[Argument] = rows! {
     "IMAGE" must Kind::Word, "", "The file that holds the volume";
     "FILE" must Kind::Words(MOST_BLOCKS), "", "The files of this system that are put; - is standard input";
-    "text" 't' flag Kind::Flag, "", "Keep as texts, each LF as CR and LF, control Z at the end, those whose extension says text; with --as the one";
+    "text" 't' flag Kind::Flag, "", "Keep as texts, each LF as CR and LF, control Z at the end; --text-of goes by extensions";
     "text-of" option Kind::Many(Form::Text), "LIST", "Extensions of files that are texts, as PA,TX; it may be given several times";
     "files" flag Kind::Flag, "", "Changes nothing: FILE are files of this system";
     "info" option Kind::Many(Form::Octal), "WWWW", "An information word of the file, in octal; it may be given several times";
@@ -353,6 +373,7 @@ pub const PUT: &[Argument] = rows! {
     "empty" flag Kind::Flag, "", "Let a file of no byte replace one that has words";
     "volume" 'v' option Kind::One(Form::Volume), "N", "The volume of an RK05 disk, 1 or 2, where IMAGE is the file of one; IMAGE:1 and IMAGE:2 mean it too";
     "dectape" flag Kind::Flag, "", "IMAGE is the file of a DECtape, of 129 words a block";
+    "plain" flag Kind::Flag, "", "IMAGE is one volume from its first byte, whatever stands in it";
     "wait" option Kind::One(Form::Seconds), "SECONDS", "Wait so long while another program holds the image, 0 to 3600 seconds; else not at all";
 };
 
@@ -362,6 +383,7 @@ pub const DELETE: &[Argument] = rows! {
     "at" option Kind::Many(Form::Block), "BLOCK", "The first block of a file, 0 to 4095; it may be given several times";
     "volume" 'v' option Kind::One(Form::Volume), "N", "The volume of an RK05 disk, 1 or 2, where IMAGE is the file of one; IMAGE:1 and IMAGE:2 mean it too";
     "dectape" flag Kind::Flag, "", "IMAGE is the file of a DECtape, of 129 words a block";
+    "plain" flag Kind::Flag, "", "IMAGE is one volume from its first byte, whatever stands in it";
     "wait" option Kind::One(Form::Seconds), "SECONDS", "Wait so long while another program holds the image, 0 to 3600 seconds; else not at all";
 };
 
@@ -372,6 +394,7 @@ pub const RENAME: &[Argument] = rows! {
     "at" option Kind::One(Form::Block), "BLOCK", "The first block of the file, 0 to 4095, in place of NAME";
     "volume" 'v' option Kind::One(Form::Volume), "N", "The volume of an RK05 disk, 1 or 2, where IMAGE is the file of one; IMAGE:1 and IMAGE:2 mean it too";
     "dectape" flag Kind::Flag, "", "IMAGE is the file of a DECtape, of 129 words a block";
+    "plain" flag Kind::Flag, "", "IMAGE is one volume from its first byte, whatever stands in it";
     "wait" option Kind::One(Form::Seconds), "SECONDS", "Wait so long while another program holds the image, 0 to 3600 seconds; else not at all";
 };
 
@@ -386,8 +409,10 @@ pub const COPY: &[Argument] = rows! {
     "force" 'f' flag Kind::Flag, "", "Write over older files of that volume; one that is copied alone does so anyway";
     "to-volume" option Kind::One(Form::Volume), "N", "The volume of an RK05 disk, 1 or 2, where TO is the file of one; TO:1 and TO:2 mean it too";
     "to-dectape" flag Kind::Flag, "", "TO is the file of a DECtape, of 129 words a block";
+    "to-plain" flag Kind::Flag, "", "TO is one volume from its first byte, whatever stands in it";
     "volume" 'v' option Kind::One(Form::Volume), "N", "The volume of an RK05 disk, 1 or 2, where IMAGE is the file of one; IMAGE:1 and IMAGE:2 mean it too";
     "dectape" flag Kind::Flag, "", "IMAGE is the file of a DECtape, of 129 words a block";
+    "plain" flag Kind::Flag, "", "IMAGE is one volume from its first byte, whatever stands in it";
     "wait" option Kind::One(Form::Seconds), "SECONDS", "Wait so long while another program holds TO, 0 to 3600 seconds; else not at all";
 };
 
@@ -395,6 +420,7 @@ pub const SQUEEZE: &[Argument] = rows! {
     "IMAGE" must Kind::Word, "", "The file that holds the volume";
     "volume" 'v' option Kind::One(Form::Volume), "N", "The volume of an RK05 disk, 1 or 2, where IMAGE is the file of one; IMAGE:1 and IMAGE:2 mean it too";
     "dectape" flag Kind::Flag, "", "IMAGE is the file of a DECtape, of 129 words a block";
+    "plain" flag Kind::Flag, "", "IMAGE is one volume from its first byte, whatever stands in it";
     "wait" option Kind::One(Form::Seconds), "SECONDS", "Wait so long while another program holds the image, 0 to 3600 seconds; else not at all";
 };
 
@@ -403,6 +429,7 @@ pub const CHECK: &[Argument] = rows! {
     "all" 'a' flag Kind::Flag, "", "Show each fault of the directory, and the files that are sound";
     "volume" 'v' option Kind::One(Form::Volume), "N", "The volume of an RK05 disk, 1 or 2, where IMAGE is the file of one";
     "dectape" flag Kind::Flag, "", "IMAGE is the file of a DECtape, of 129 words a block";
+    "plain" flag Kind::Flag, "", "IMAGE is one volume from its first byte, whatever stands in it";
     "lenient" flag Kind::Flag, "", "Read an image with faults: top bits are taken off, a length is made whole; each is printed on standard error";
 };
 
@@ -412,6 +439,7 @@ pub const DUMP: &[Argument] = rows! {
     "sixbit" flag Kind::Flag, "", "Show the two characters of each word in sixbit; else three of each two words, as a text has them";
     "volume" 'v' option Kind::One(Form::Volume), "N", "The volume of an RK05 disk, 1 or 2, where IMAGE is the file of one; IMAGE:1 and IMAGE:2 mean it too";
     "dectape" flag Kind::Flag, "", "IMAGE is the file of a DECtape, of 129 words a block";
+    "plain" flag Kind::Flag, "", "IMAGE is one volume from its first byte, whatever stands in it";
 };
 
 pub const PATCH: &[Argument] = rows! {
@@ -422,6 +450,7 @@ pub const PATCH: &[Argument] = rows! {
     "NEW" must Kind::Value(Form::Octal), "", "The word that is put there, in octal";
     "volume" 'v' option Kind::One(Form::Volume), "N", "The volume of an RK05 disk, 1 or 2, where IMAGE is the file of one; IMAGE:1 and IMAGE:2 mean it too";
     "dectape" flag Kind::Flag, "", "IMAGE is the file of a DECtape, of 129 words a block";
+    "plain" flag Kind::Flag, "", "IMAGE is one volume from its first byte, whatever stands in it";
     "wait" option Kind::One(Form::Seconds), "SECONDS", "Wait so long while another program holds the image, 0 to 3600 seconds; else not at all";
 };
 
@@ -434,6 +463,7 @@ pub const INDEX: &[Argument] = rows! {
     "year" option Kind::One(Form::Year), "N", "The last of the eight years that dates mean, 1977 to 9999; else the one that block 0 gives";
     "volume" 'v' option Kind::One(Form::Volume), "N", "The volume of an RK05 disk, 1 or 2, where IMAGE is the file of one";
     "dectape" flag Kind::Flag, "", "IMAGE is the file of a DECtape, of 129 words a block";
+    "plain" flag Kind::Flag, "", "IMAGE is one volume from its first byte, whatever stands in it";
     "lenient" flag Kind::Flag, "", "Read an image with faults: top bits are taken off, a length is made whole; each is printed on standard error";
 };
 
@@ -442,6 +472,7 @@ pub const RESCUE: &[Argument] = rows! {
     "NEW" must Kind::Word, "", "The file that gets the new volume";
     "volume" 'v' option Kind::One(Form::Volume), "N", "The volume of an RK05 disk, 1 or 2, where IMAGE is the file of one; IMAGE:1 and IMAGE:2 mean it too";
     "dectape" flag Kind::Flag, "", "IMAGE is the file of a DECtape, of 129 words a block";
+    "plain" flag Kind::Flag, "", "IMAGE is one volume from its first byte, whatever stands in it";
 };
 
 pub const SCAN: &[Argument] = rows! {
@@ -449,6 +480,7 @@ pub const SCAN: &[Argument] = rows! {
     "into" option Kind::One(Form::Text), "FOLDER", "Write each piece to a file of FOLDER too, named by its block and what it is";
     "volume" 'v' option Kind::One(Form::Volume), "N", "The volume of an RK05 disk, 1 or 2, where IMAGE is the file of one; IMAGE:1 and IMAGE:2 mean it too";
     "dectape" flag Kind::Flag, "", "IMAGE is the file of a DECtape, of 129 words a block";
+    "plain" flag Kind::Flag, "", "IMAGE is one volume from its first byte, whatever stands in it";
 };
 
 /// The arguments of a subcommand.

@@ -132,7 +132,7 @@ pub fn texts_of(verb: Verb) -> Texts {
         },
         Verb::Create => Texts {
             about: "Write an empty volume",
-            long_about: "Writes an empty OS/8 volume of BLOCKS blocks of 512 bytes to the file IMAGE, in place of any{n}file of that name, and prints CREATED and the number of blocks. With --dectape the file is that of a{n}DECtape of 1474 blocks of 129 words.",
+            long_about: "Writes an empty OS/8 volume of BLOCKS blocks of 512 bytes to the file IMAGE, in place of any{n}file of that name, and prints CREATED and the number of blocks. With --dectape the file is that of a{n}DECtape of 1474 blocks of 129 words, and with --rk05 that of a disk of two volumes. IMAGE:1, IMAGE:2{n}or --volume make a volume of a disk that is there an empty one, and leave the other as it is.",
             examples: "Examples:\n  pdp8 create disk.img 256\n  pdp8 create tape.dt8 --dectape --new",
         },
         Verb::List => Texts {

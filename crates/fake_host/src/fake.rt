@@ -4,10 +4,11 @@ ghost use Rattle.hosts.specs.Raw.{events_of};
 
 use crate::memory::InMemory;
 use hosts::notes::{
-    ALONE, CLAIM, DATE_BESIDE, DROP_BESIDE, DROP_CLAIM, DROP_SECONDS, END_OF_WORDS, FINISH_OVER,
-    FREE, HOLD, LEADS, LINK_NEW, LOCK_BESIDE, LOOK, MAKE_BESIDE, MAKE_FOLDER, OWN_BESIDE, PAUSE,
-    PRINT, RENAME, RESOLVE, SECONDS, SYNC_BESIDE, SYNC_FOLDER, TAKE_INPUT, TELL, TERMINAL, THERE,
-    TIME_OF, WRITE_BESIDE, WRITE_OVER, fault_number, number,
+    ALONE, CLAIM, DATE_BESIDE, DROP_BESIDE, DROP_CLAIM, DROP_LEFTOVERS, DROP_SECONDS, END_OF_WORDS,
+    FINISH_OVER, FREE, HOLD, LEADS, LINK_NEW, LOCK_BESIDE, LOOK, MAKE_BESIDE, MAKE_FOLDER,
+    OWN_BESIDE, PAUSE, PRINT, RENAME, RESOLVE, SAME, SECONDS, SYNC_BESIDE, SYNC_FOLDER, TAKE_INPUT,
+    TELL, TERMINAL, THERE, TIME_OF, WRITE_BESIDE, WRITE_OVER, fault_number, link_number, number,
+    rename_number,
 };
 use hosts::{Host, HostFault, LinkFault, PrintFault, Record, RenameFault, Stream};
 use std::alloc::{AllocError, Global};
@@ -73,6 +74,21 @@ impl Host for Fake {
         done
     }
 
+    fn drop_leftovers(&mut self, _alloc: Global, name: &str) -> Result<usize, HostFault> {
+        let done = self.memory.answer(0);
+        match &done {
+            Ok(count) => self
+                .log
+                .note(&[DROP_LEFTOVERS, 1, *count as u64], name.as_bytes(), &[]),
+            Err(fault) => self.log.note(
+                &[DROP_LEFTOVERS, 0, fault_number(fault)],
+                name.as_bytes(),
+                &[],
+            ),
+        }
+        done
+    }
+
     fn look_held(&mut self, alloc: Global, path: &str, most: usize) -> Result<Vec<u8>, HostFault> {
         let done = self.memory.look(alloc, most);
         match &done {
@@ -113,7 +129,9 @@ impl Host for Fake {
             Ok(is) => self
                 .log
                 .note(&[ALONE, 1, u64::from(*is)], path.as_bytes(), &[]),
-            Err(_) => self.log.note(&[ALONE, 0, 0], path.as_bytes(), &[]),
+            Err(fault) => self
+                .log
+                .note(&[ALONE, 0, fault_number(fault)], path.as_bytes(), &[]),
         }
         done
     }
@@ -140,22 +158,40 @@ impl Host for Fake {
 
     fn own_beside(&mut self, path: &str) -> Result<(), HostFault> {
         let done = self.memory.pass();
-        self.log
-            .note(&[OWN_BESIDE, number(&done), 0], path.as_bytes(), &[]);
+        match &done {
+            Ok(()) => self.log.note(&[OWN_BESIDE, 1, 0], path.as_bytes(), &[]),
+            Err(fault) => self.log.note(
+                &[OWN_BESIDE, 0, fault_number(fault)],
+                path.as_bytes(),
+                &[],
+            ),
+        }
         done
     }
 
     fn lock_beside(&mut self, path: &str) -> Result<(), HostFault> {
         let done = self.memory.pass();
-        self.log
-            .note(&[LOCK_BESIDE, number(&done), 0], path.as_bytes(), &[]);
+        match &done {
+            Ok(()) => self.log.note(&[LOCK_BESIDE, 1, 0], path.as_bytes(), &[]),
+            Err(fault) => self.log.note(
+                &[LOCK_BESIDE, 0, fault_number(fault)],
+                path.as_bytes(),
+                &[],
+            ),
+        }
         done
     }
 
     fn write_beside(&mut self, path: &str, bytes: &[u8]) -> Result<(), HostFault> {
         let done = self.memory.write_beside(bytes);
-        self.log
-            .note(&[WRITE_BESIDE, number(&done), 0], path.as_bytes(), bytes);
+        match &done {
+            Ok(()) => self.log.note(&[WRITE_BESIDE, 1, 0], path.as_bytes(), bytes),
+            Err(fault) => self.log.note(
+                &[WRITE_BESIDE, 0, fault_number(fault)],
+                path.as_bytes(),
+                &[],
+            ),
+        }
         done
     }
 
@@ -167,15 +203,27 @@ impl Host for Fake {
 
     fn sync_beside(&mut self, path: &str) -> Result<(), HostFault> {
         let done = self.memory.pass();
-        self.log
-            .note(&[SYNC_BESIDE, number(&done), 0], path.as_bytes(), &[]);
+        match &done {
+            Ok(()) => self.log.note(&[SYNC_BESIDE, 1, 0], path.as_bytes(), &[]),
+            Err(fault) => self.log.note(
+                &[SYNC_BESIDE, 0, fault_number(fault)],
+                path.as_bytes(),
+                &[],
+            ),
+        }
         done
     }
 
     fn drop_beside(&mut self, path: &str) -> Result<(), HostFault> {
         let done = self.memory.drop_beside();
-        self.log
-            .note(&[DROP_BESIDE, number(&done), 0], path.as_bytes(), &[]);
+        match &done {
+            Ok(()) => self.log.note(&[DROP_BESIDE, 1, 0], path.as_bytes(), &[]),
+            Err(fault) => self.log.note(
+                &[DROP_BESIDE, 0, fault_number(fault)],
+                path.as_bytes(),
+                &[],
+            ),
+        }
         done
     }
 
@@ -183,8 +231,9 @@ impl Host for Fake {
         let done = self.memory.rename();
         match &done {
             Ok(()) => self.log.note(&[RENAME, 1, 0], path.as_bytes(), &[]),
-            Err(RenameFault::Mount) => self.log.note(&[RENAME, 0, 1], path.as_bytes(), &[]),
-            Err(RenameFault::Failed) => self.log.note(&[RENAME, 0, 0], path.as_bytes(), &[]),
+            Err(fault) => self
+                .log
+                .note(&[RENAME, 0, rename_number(fault)], path.as_bytes(), &[]),
         }
         done
     }
@@ -193,51 +242,77 @@ impl Host for Fake {
         let done = self.memory.link();
         match &done {
             Ok(()) => self.log.note(&[LINK_NEW, 1, 0], path.as_bytes(), &[]),
-            Err(LinkFault::Exists) => self.log.note(&[LINK_NEW, 0, 1], path.as_bytes(), &[]),
-            Err(LinkFault::NoLinks) => self.log.note(&[LINK_NEW, 0, 2], path.as_bytes(), &[]),
-            Err(LinkFault::Failed) => self.log.note(&[LINK_NEW, 0, 0], path.as_bytes(), &[]),
+            Err(fault) => self
+                .log
+                .note(&[LINK_NEW, 0, link_number(fault)], path.as_bytes(), &[]),
         }
         done
     }
 
     fn claim(&mut self, path: &str) -> Result<(), HostFault> {
         let done = self.memory.claim();
-        self.log
-            .note(&[CLAIM, number(&done), 0], path.as_bytes(), &[]);
+        match &done {
+            Ok(()) => self.log.note(&[CLAIM, 1, 0], path.as_bytes(), &[]),
+            Err(fault) => self
+                .log
+                .note(&[CLAIM, 0, fault_number(fault)], path.as_bytes(), &[]),
+        }
         done
     }
 
     fn drop_claim(&mut self, path: &str) -> Result<(), HostFault> {
         let done = self.memory.drop_claim();
-        self.log
-            .note(&[DROP_CLAIM, number(&done), 0], path.as_bytes(), &[]);
+        match &done {
+            Ok(()) => self.log.note(&[DROP_CLAIM, 1, 0], path.as_bytes(), &[]),
+            Err(fault) => self.log.note(
+                &[DROP_CLAIM, 0, fault_number(fault)],
+                path.as_bytes(),
+                &[],
+            ),
+        }
         done
     }
 
     fn sync_folder(&mut self, path: &str) -> Result<(), HostFault> {
         let done = self.memory.pass();
-        self.log
-            .note(&[SYNC_FOLDER, number(&done), 0], path.as_bytes(), &[]);
+        match &done {
+            Ok(()) => self.log.note(&[SYNC_FOLDER, 1, 0], path.as_bytes(), &[]),
+            Err(fault) => self.log.note(
+                &[SYNC_FOLDER, 0, fault_number(fault)],
+                path.as_bytes(),
+                &[],
+            ),
+        }
         done
     }
 
     fn write_over(&mut self, path: &str, at: usize, bytes: &[u8]) -> Result<(), HostFault> {
         let done = self.memory.write_over(at, bytes);
-        self.log.note(
-            &[WRITE_OVER, number(&done), at as u64],
-            path.as_bytes(),
-            bytes,
-        );
+        match &done {
+            Ok(()) => self
+                .log
+                .note(&[WRITE_OVER, 1, at as u64], path.as_bytes(), bytes),
+            Err(fault) => self.log.note(
+                &[WRITE_OVER, 0, fault_number(fault)],
+                path.as_bytes(),
+                &[],
+            ),
+        }
         done
     }
 
     fn finish_over(&mut self, path: &str, size: usize) -> Result<(), HostFault> {
         let done = self.memory.cut(size);
-        self.log.note(
-            &[FINISH_OVER, number(&done), size as u64],
-            path.as_bytes(),
-            &[],
-        );
+        match &done {
+            Ok(()) => self
+                .log
+                .note(&[FINISH_OVER, 1, size as u64], path.as_bytes(), &[]),
+            Err(fault) => self.log.note(
+                &[FINISH_OVER, 0, fault_number(fault)],
+                path.as_bytes(),
+                &[],
+            ),
+        }
         done
     }
 
@@ -266,6 +341,20 @@ impl Host for Fake {
             Err(fault) => self
                 .log
                 .note(&[TIME_OF, 0, fault_number(fault)], name.as_bytes(), &[]),
+        }
+        done
+    }
+
+    fn leads_to_same(&mut self, _alloc: Global, one: &str, other: &str) -> Result<bool, HostFault> {
+        let is_one = self.memory.is_one;
+        let done = self.memory.answer(is_one);
+        match &done {
+            Ok(is) => self.log.note(&[SAME, 1, u64::from(*is)], one.as_bytes(), other.as_bytes()),
+            Err(fault) => self.log.note(
+                &[SAME, 0, fault_number(fault)],
+                one.as_bytes(),
+                other.as_bytes(),
+            ),
         }
         done
     }

@@ -21,6 +21,9 @@ pub struct InMemory {
     /// Whether a new file may take the path with nothing lost.
     pub is_alone: bool,
 
+    /// Whether two names lead to one file.
+    pub is_one: bool,
+
     /// Whether the path is a mount's.
     pub is_mount: bool,
 
@@ -81,6 +84,7 @@ impl InMemory {
             time: 0,
             beside_time: 0,
             is_alone: true,
+            is_one: false,
             is_mount: false,
             has_links: true,
             calls_left: left,
@@ -102,9 +106,9 @@ impl InMemory {
         }
     }
 
-    pub(crate) fn answer(&mut self, is: bool) -> Result<bool, HostFault> {
+    pub(crate) fn answer<T: Drop>(&mut self, it: T) -> Result<T, HostFault> {
         self.pass()?;
-        Ok(is)
+        Ok(it)
     }
 
     pub(crate) fn path(&mut self, alloc: Global, name: &str) -> Result<String, HostFault> {
@@ -173,8 +177,8 @@ impl InMemory {
     }
 
     pub(crate) fn rename(&mut self) -> Result<(), RenameFault> {
-        if self.pass().is_err() {
-            return Err(RenameFault::Failed);
+        if let Err(why) = self.pass() {
+            return Err(RenameFault::Failed(why));
         }
         if self.is_mount {
             return Err(RenameFault::Mount);
@@ -185,13 +189,13 @@ impl InMemory {
                 self.time = self.beside_time;
                 Ok(())
             }
-            None => Err(RenameFault::Failed),
+            None => Err(RenameFault::Failed(HostFault::Absent)),
         }
     }
 
     pub(crate) fn link(&mut self) -> Result<(), LinkFault> {
-        if self.pass().is_err() {
-            return Err(LinkFault::Failed);
+        if let Err(why) = self.pass() {
+            return Err(LinkFault::Failed(why));
         }
         if self.file.is_some() {
             return Err(LinkFault::Exists);

@@ -95,8 +95,10 @@ fn try_row(host: &mut Fake, alloc: Global, trial: Trial) -> &'static str {
         Trial::Save | Trial::SaveOver | Trial::SaveMount => {
             match save_file(host, alloc, "DISK", 3, NEW, "") {
                 Ok(durability) => words_on(durability),
-                Err(Unwritten::AsItWas) => "as it was",
-                Err(Unwritten::InPart) => "in part",
+                Err(fault) => match fault.state {
+                    Unwritten::AsItWas => "as it was",
+                    Unwritten::InPart => "in part",
+                },
             }
         }
         Trial::Make | Trial::MakeUnlinked => match make(host, alloc, "DISK", NEW) {

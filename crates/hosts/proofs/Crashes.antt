@@ -1,7 +1,7 @@
 -- What changes leave after a crash.
 use Rattle.std.proofs.Common.{◌≡◌, ℕ, Bool, true, false, List, [], ◌∷◌, ◌++◌, Option, Some, inl, inr, refl}
 use Rattle.std.specs.Str.{bytes_eq}
-use Rattle.hosts.specs.Event.{Event, Call, Change, Alter, MakeBeside, OwnBeside, WriteBeside, SyncBeside, DropBeside, DateBeside, Rename, LinkNew, Claim, DropClaim, SyncFolder, WriteOver, FinishOver, Resolve, Hold, DropSeconds, Look, TakeInput, Alone, Leads, LockBeside, Free, There, MakeFolder, Print, Tell, Terminal, Seconds, Pause, Word, EndOfWords, TimeOf}
+use Rattle.hosts.specs.Event.{Event, Call, Change, Alter, MakeBeside, OwnBeside, WriteBeside, SyncBeside, DropBeside, DateBeside, Rename, LinkNew, Claim, DropClaim, SyncFolder, WriteOver, FinishOver, Resolve, Hold, DropSeconds, Look, TakeInput, Alone, Leads, LockBeside, Free, There, MakeFolder, Print, Tell, Terminal, Seconds, Pause, Word, EndOfWords, TimeOf, Same, DropLeftovers}
 use Rattle.hosts.specs.Place.{Place, Step, Remainder, Anything, Leaves, may_leave, after, replay, with_moment, ever, with_step, about}
 use Rattle.hosts.specs.Saving.{IsSaved}
 use Rattle.hosts.specs.Laws.{IsSound}
@@ -110,6 +110,8 @@ keeps Pause e other old differs = refl
 keeps Word e other old differs = refl
 keeps EndOfWords e other old differs = refl
 keeps TimeOf e other old differs = refl
+keeps Same e other old differs = refl
+keeps DropLeftovers e other old differs = refl
 
 pub others_stay : (e : Event) (other : List ℕ) (old : List Event) → bytes_eq e.name other ≡ false → about other (e ∷ old) ≡ about other old
 others_stay e other old differs = keeps e.call e other (about other old) differs

@@ -65,6 +65,8 @@ with_turn_append event.Pause who e path later earlier = refl
 with_turn_append event.Word who e path later earlier = refl
 with_turn_append event.EndOfWords who e path later earlier = refl
 with_turn_append event.TimeOf who e path later earlier = refl
+with_turn_append event.Same who e path later earlier = refl
+with_turn_append event.DropLeftovers who e path later earlier = refl
 
 turns_append : (path : List ℕ) (later earlier : List (Bool × Option Event)) → turns path (later ++ earlier) ≡ turns path later ++ turns path earlier
 turns_append path [] earlier = refl

@@ -56,6 +56,10 @@ pub data Call : Type 0 where
   EndOfWords : Call
   -- when a file was last changed
   TimeOf : Call
+  -- whether two names lead to one file, or to one path that no file has
+  Same : Call
+  -- files beside a path are taken away, of writers that were ended
+  DropLeftovers : Call
 
 -- which call, whether it succeeded, the name or path that it is about, bytes, and a number
 pub record Event : Type 0 where
@@ -74,7 +78,7 @@ event_at call name ok bytes = record { call = call; ok = ok; name = name; bytes 
 abbrev pub event_of_number : Call → List ℕ → Bool → ℕ → List ℕ → Event
 event_of_number call name ok number bytes = record { call = call; ok = ok; name = name; bytes = bytes; number = number }
 
--- a call failed, and `number` is why
+-- a call failed, and `number` is why; what it was to write is not noted
 abbrev pub failed_call : Call → List ℕ → HostFault → Event
 failed_call call name fault = event_of_number call name false (fault_number fault) []
 
@@ -89,6 +93,10 @@ hold_call path has_lock = event_of_number Hold path true (number_of has_lock) []
 abbrev pub drop_seconds_call : List ℕ → Event
 drop_seconds_call path = event_at DropSeconds path true []
 
+-- so many files were taken away that writers of the file of a name had left beside it
+abbrev pub leftovers_call : List ℕ → ℕ → Event
+leftovers_call name count = event_of_number DropLeftovers name true count []
+
 -- a file was read, and held these bytes, or began with them where they are one more than the most that were asked for
 abbrev pub look_call : List ℕ → List ℕ → Event
 look_call name bytes = event_at Look name true bytes
@@ -98,57 +106,66 @@ abbrev pub input_call : List ℕ → Event
 input_call bytes = event_at TakeInput [] true bytes
 
 -- it was asked whether a new file may take the path with nothing lost, and `number` is the answer
-abbrev pub alone_call : List ℕ → Bool → ℕ → Event
-alone_call path ok is = event_of_number Alone path ok is []
+abbrev pub alone_call : List ℕ → Bool → Event
+alone_call path is = event_of_number Alone path true (number_of is) []
 
 -- it was asked whether the path still leads to the file that is held, and this was the answer
 abbrev pub leads_call : List ℕ → Bool → Event
 leads_call path is = event_at Leads path is []
 
+-- it was asked whether two names lead to one file, or to one path that no file has, and `number_of` this was the answer
+abbrev pub same_call : List ℕ → List ℕ → Bool → Event
+same_call one other is = event_of_number Same one true (number_of is) other
+
+-- the same question failed, and `number` is why
+abbrev pub failed_same : List ℕ → List ℕ → HostFault → Event
+failed_same one other fault = event_of_number Same one false (fault_number fault) other
+
 abbrev pub make_call : List ℕ → Event
 make_call path = event_at (Alter MakeBeside) path true []
 
-abbrev pub own_call : List ℕ → Bool → Event
-own_call path ok = event_at (Alter OwnBeside) path ok []
+abbrev pub own_call : List ℕ → Event
+own_call path = event_at (Alter OwnBeside) path true []
 
-abbrev pub lock_call : List ℕ → Bool → Event
-lock_call path ok = event_at LockBeside path ok []
+abbrev pub lock_call : List ℕ → Event
+lock_call path = event_at LockBeside path true []
 
-abbrev pub write_call : List ℕ → Bool → List ℕ → Event
-write_call path ok bytes = event_at (Alter WriteBeside) path ok bytes
+abbrev pub write_call : List ℕ → List ℕ → Event
+write_call path bytes = event_at (Alter WriteBeside) path true bytes
 
-abbrev pub sync_call : List ℕ → Bool → Event
-sync_call path ok = event_at (Alter SyncBeside) path ok []
+abbrev pub sync_call : List ℕ → Event
+sync_call path = event_at (Alter SyncBeside) path true []
 
 -- the file beside a path was given a time of change, in seconds after the begin of 1970 in UTC
 abbrev pub date_call : List ℕ → Bool → ℕ → Event
 date_call path ok seconds = event_of_number (Alter DateBeside) path ok seconds []
 
-abbrev pub drop_call : List ℕ → Bool → Event
-drop_call path ok = event_at (Alter DropBeside) path ok []
+-- `number` is why it failed, where it did
+abbrev pub drop_call : List ℕ → Bool → ℕ → Event
+drop_call path ok number = event_of_number (Alter DropBeside) path ok number []
 
--- `is_mount` is 1 where the path is a mount's, which no other file can take
+-- a call that failed has its fault's number, by `rename_number`
 abbrev pub rename_call : List ℕ → Bool → ℕ → Event
-rename_call path ok is_mount = event_of_number (Alter Rename) path ok is_mount []
+rename_call path ok number = event_of_number (Alter Rename) path ok number []
 
--- a call that failed has its fault's number
+-- the same by `link_number`
 abbrev pub link_call : List ℕ → Bool → ℕ → Event
 link_call path ok number = event_of_number (Alter LinkNew) path ok number []
 
-abbrev pub claim_call : List ℕ → Bool → Event
-claim_call path ok = event_at (Alter Claim) path ok []
+abbrev pub claim_call : List ℕ → Event
+claim_call path = event_at (Alter Claim) path true []
 
-abbrev pub drop_claim_call : List ℕ → Bool → Event
-drop_claim_call path ok = event_at (Alter DropClaim) path ok []
+abbrev pub drop_claim_call : List ℕ → Event
+drop_claim_call path = event_at (Alter DropClaim) path true []
 
-abbrev pub sync_folder_call : List ℕ → Bool → Event
-sync_folder_call path ok = event_at (Alter SyncFolder) path ok []
+abbrev pub sync_folder_call : List ℕ → Event
+sync_folder_call path = event_at (Alter SyncFolder) path true []
 
-abbrev pub write_over_call : List ℕ → Bool → ℕ → List ℕ → Event
-write_over_call path ok at bytes = event_of_number (Alter WriteOver) path ok at bytes
+abbrev pub write_over_call : List ℕ → ℕ → List ℕ → Event
+write_over_call path at bytes = event_of_number (Alter WriteOver) path true at bytes
 
-abbrev pub finish_over_call : List ℕ → Bool → ℕ → Event
-finish_over_call path ok size = event_of_number (Alter FinishOver) path ok size []
+abbrev pub finish_over_call : List ℕ → ℕ → Event
+finish_over_call path size = event_of_number (Alter FinishOver) path true size []
 
 -- a name led to a path that no file has
 abbrev pub free_call : List ℕ → List ℕ → Event

@@ -1,5 +1,5 @@
 -- The numbers of faults and streams in the history.
-use Rattle.std.specs.Prelude.{ℕ}
+use Rattle.std.specs.Prelude.{◌≡◌, ℕ, zero, suc}
 use Rattle.hosts.specs.declared.faults.HostFault.{HostFault}
 use Rattle.hosts.specs.declared.faults.HostFault.TheVariants as host
 use Rattle.hosts.specs.declared.faults.RenameFault.{RenameFault}
@@ -17,18 +17,38 @@ fault_number host.Failed = 0
 fault_number host.Busy = 1
 fault_number host.Memory = 2
 fault_number host.Absent = 3
-fault_number host.Unwritable = 4
+fault_number host.Denied = 4
+fault_number host.ReadOnly = 5
+fault_number host.Folder = 6
+fault_number host.NoFolder = 7
+fault_number host.Full = 8
+fault_number host.Links = 9
+fault_number host.Large = 10
+fault_number host.Changed = 11
+fault_number host.Pipe = 12
 
--- 1 where the path is a mount's
-abbrev pub mount_number : RenameFault → ℕ
-mount_number rename.Mount = 1
-mount_number rename.Failed = 0
+-- The fault of a step by which a new file is made. That a file is busy, or memory is wanted, is said of other calls alone: here it is only
+-- known that the step failed.
+abbrev pub step_number : ℕ → ℕ
+step_number (suc zero) = 0
+step_number (suc (suc zero)) = 0
+step_number number = number
 
--- 1 where a file has the path, 2 where the file system has no further names
+-- 0 where the path is a mount's, else one more than the fault's number
+abbrev pub rename_number : RenameFault → ℕ
+rename_number rename.Mount = 0
+rename_number (rename.Failed fault) = suc (fault_number fault)
+
+-- a call failed by this number, where the fault has a reason
+abbrev pub IsWhy : RenameFault → ℕ → Type 0
+IsWhy rename.Mount number = Unit {0}
+IsWhy (rename.Failed fault) number = fault_number fault ≡ number
+
+-- 0 where a file has the path, 1 where the file system has no further names, else two more than the fault's number
 abbrev pub link_number : LinkFault → ℕ
-link_number link.Failed = 0
-link_number link.Exists = 1
-link_number link.NoLinks = 2
+link_number link.Exists = 0
+link_number link.NoLinks = 1
+link_number (link.Failed fault) = suc (suc (fault_number fault))
 
 -- 1 where nobody reads the pipe any more
 abbrev pub pipe_number : PrintFault → ℕ

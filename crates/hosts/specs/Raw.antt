@@ -1,6 +1,6 @@
 -- How a record keeps the calls of a host: by numbers, since only such data has a code.
 use Rattle.std.specs.Prelude.{ℕ, zero, suc, Bool, List, [], ◌∷◌, slice_index, ◌==◌}
-use Rattle.hosts.specs.Event.{Event, Call, Alter, MakeBeside, OwnBeside, WriteBeside, SyncBeside, DropBeside, DateBeside, Rename, LinkNew, Claim, DropClaim, SyncFolder, WriteOver, FinishOver, Resolve, Hold, DropSeconds, Look, TakeInput, Alone, Leads, LockBeside, Free, There, MakeFolder, Print, Tell, Terminal, Seconds, Pause, Word, EndOfWords, TimeOf}
+use Rattle.hosts.specs.Event.{Event, Call, Alter, MakeBeside, OwnBeside, WriteBeside, SyncBeside, DropBeside, DateBeside, Rename, LinkNew, Claim, DropClaim, SyncFolder, WriteOver, FinishOver, Resolve, Hold, DropSeconds, Look, TakeInput, Alone, Leads, LockBeside, Free, There, MakeFolder, Print, Tell, Terminal, Seconds, Pause, Word, EndOfWords, TimeOf, Same, DropLeftovers}
 
 -- which call, whether it succeeded, a number, the name that it is about, and bytes
 abbrev pub Raw : Type 0
@@ -11,7 +11,7 @@ raw_of numbers name bytes = (slice_index numbers 0, slice_index numbers 1 == 1, 
 
 -- the calls by their numbers
 abbrev pub calls : List Call
-calls = Resolve ∷ Hold ∷ DropSeconds ∷ Look ∷ TakeInput ∷ Alone ∷ Leads ∷ LockBeside ∷ Free ∷ There ∷ MakeFolder ∷ Print ∷ Tell ∷ Terminal ∷ Seconds ∷ Pause ∷ Word ∷ EndOfWords ∷ Alter MakeBeside ∷ Alter OwnBeside ∷ Alter WriteBeside ∷ Alter SyncBeside ∷ Alter DropBeside ∷ Alter Rename ∷ Alter LinkNew ∷ Alter Claim ∷ Alter DropClaim ∷ Alter SyncFolder ∷ Alter WriteOver ∷ Alter FinishOver ∷ TimeOf ∷ Alter DateBeside ∷ []
+calls = Resolve ∷ Hold ∷ DropSeconds ∷ Look ∷ TakeInput ∷ Alone ∷ Leads ∷ LockBeside ∷ Free ∷ There ∷ MakeFolder ∷ Print ∷ Tell ∷ Terminal ∷ Seconds ∷ Pause ∷ Word ∷ EndOfWords ∷ Alter MakeBeside ∷ Alter OwnBeside ∷ Alter WriteBeside ∷ Alter SyncBeside ∷ Alter DropBeside ∷ Alter Rename ∷ Alter LinkNew ∷ Alter Claim ∷ Alter DropClaim ∷ Alter SyncFolder ∷ Alter WriteOver ∷ Alter FinishOver ∷ TimeOf ∷ Alter DateBeside ∷ Same ∷ DropLeftovers ∷ []
 
 abbrev pub call_at : List Call → ℕ → Call
 call_at [] number = EndOfWords

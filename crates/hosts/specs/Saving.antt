@@ -1,13 +1,13 @@
 -- What becomes of a path that is to have other bytes. `old` and `new` are the changes of the path before and after.
-use Rattle.std.specs.Prelude.{◌≡◌, ℕ, ◌+◌, Bool, true, false, List, [], ◌∷◌, None, Some, Result, Ok, Err, ◌⊎◌}
-use Rattle.hosts.specs.Event.{Change, Claim, Rename, WriteOver}
+use Rattle.std.specs.Prelude.{◌≡◌, ℕ, ◌+◌, Bool, true, false, not, List, [], ◌∷◌, None, Some, Result, Ok, Err, ◌⊎◌}
+use Rattle.hosts.specs.Event.{Change, Claim, DropClaim, Rename, WriteOver}
 use Rattle.hosts.specs.Place.{Place, Step, Remainder, Just, replay, ever}
 use Rattle.hosts.specs.declared.faults.HostFault.{HostFault}
-use Rattle.hosts.specs.declared.faults.HostFault.TheVariants.{Unwritable}
 use Rattle.hosts.specs.declared.faults.Durability.{Durability}
 use Rattle.hosts.specs.declared.faults.Durability.TheVariants.{Certain, Unknown}
 use Rattle.hosts.specs.declared.faults.RenameFault.{RenameFault}
 use Rattle.hosts.specs.declared.faults.RenameFault.TheVariants.{Mount, Failed}
+use Rattle.hosts.specs.declared.faults.SaveFault.{SaveFault}
 use Rattle.hosts.specs.declared.faults.Unwritten.{Unwritten}
 use Rattle.hosts.specs.declared.faults.Unwritten.TheVariants.{AsItWas, InPart}
 
@@ -58,14 +58,17 @@ KeepsFile true durability bytes old new = IsKept durability bytes old new
 KeepsFile false Certain bytes old new = IsWrittenOver bytes old new
 KeepsFile false Unknown bytes old new = ⊥
 
+abbrev pub IsUnwritten : Unwritten → Bool → List Step → List Step → Type 0
+IsUnwritten AsItWas true old new = StaysAsItWas old new
+IsUnwritten AsItWas false old new = ⊥
+IsUnwritten InPart true old new = ⊥
+IsUnwritten InPart false old new = Unit {0}
+
 -- Where the host said that a new file may take the path, it does, whole. Where not, the file is written in its place, and nothing is
 -- promised of one that is written in part.
-abbrev pub SavesFile : Result Durability Unwritten → Bool → List ℕ → List Step → List Step → Type 0
+abbrev pub SavesFile : Result Durability SaveFault → Bool → List ℕ → List Step → List Step → Type 0
 SavesFile (Ok durability) is bytes old new = KeepsFile is durability bytes old new
-SavesFile (Err AsItWas) true bytes old new = StaysAsItWas old new
-SavesFile (Err AsItWas) false bytes old new = ⊥
-SavesFile (Err InPart) true bytes old new = ⊥
-SavesFile (Err InPart) false bytes old new = Unit {0}
+SavesFile (Err fault) is bytes old new = IsUnwritten fault.state is old new
 
 -- before a file is written in its place a note is printed on standard error, if there is one
 abbrev pub IsPlaceNoted : Bool → List ℕ → List (Bool × List ℕ) → List (Bool × List ℕ) → Type 0
@@ -83,7 +86,7 @@ IsNotedBefore false (byte ∷ others) old noted = StaysAsItWas old noted
 abbrev pub still_may : Result Durability RenameFault → Bool → Bool
 still_may (Ok durability) before = before
 still_may (Err Mount) before = false
-still_may (Err Failed) before = before
+still_may (Err (Failed fault)) before = before
 
 -- each crash at any moment since leaves what it might have left at one before, or else the bytes, all of them
 abbrev pub IsOldOrNew : List ℕ → List Remainder → List Remainder → Type 0
@@ -96,25 +99,31 @@ AnyMoment bytes old new = (start : Place) → IsOldOrNew bytes (ever start old) 
 abbrev pub AnyMomentOf : Bool → List ℕ → List Step → List Step → Type 0
 AnyMomentOf is bytes old new = (start : Place) → IsOldOrNew bytes (ever start old) (ever start new) ⊎ (is ≡ false)
 
-abbrev pub MayStayEmpty : HostFault → Place → Type 0
-MayStayEmpty Unwritable p = p.seen ≡ Just (Some [])
-MayStayEmpty fault p = ⊥
+abbrev pub with_empty : Change → Bool → Bool → Bool
+with_empty Claim ok before = false
+with_empty DropClaim ok before = not ok
+with_empty _ ok before = before
 
--- What becomes of a path where no file is made for this reason. It is as it was, or has no file. It has an empty one where that could not be
--- taken away, and so may not be written, where the file system has no further names.
-abbrev pub IsUnmade : HostFault → Place → Place → Type 0
-IsUnmade fault before p = IsAsItWas before p ⊎ ((p.seen ≡ Just None) ⊎ MayStayEmpty fault p)
+-- an empty file that took the path could not be taken away again
+abbrev pub stays_empty : List Step → Bool
+stays_empty [] = false
+stays_empty (s ∷ earlier) = with_empty s.change s.ok (stays_empty earlier)
+
+-- What becomes of a path where no file is made by these changes. It is as it was, or has no file. It has an empty one where the file system has
+-- no further names, and that one could not be taken away.
+abbrev pub IsUnmade : List Step → Place → Place → Type 0
+IsUnmade new before p = IsAsItWas before p ⊎ ((p.seen ≡ Just None) ⊎ ((stays_empty new ≡ true) × (p.seen ≡ Just (Some []))))
 
 -- a new file has the path whole, or there is none
 abbrev pub Makes : Result Durability HostFault → List ℕ → List Step → List Step → Type 0
 Makes (Ok Certain) bytes old new = (start : Place) → IsSaved bytes (replay start new)
 Makes (Ok Unknown) bytes old new = (start : Place) → (replay start new).seen ≡ Just (Some bytes)
-Makes (Err fault) bytes old new = (start : Place) → IsUnmade fault (replay start old) (replay start new)
+Makes (Err fault) bytes old new = (start : Place) → IsUnmade new (replay start old) (replay start new)
 
 -- a file that is laid has the path whole; when the disk has it is left to the system
 abbrev pub Lays : Result Unit HostFault → List ℕ → List Step → List Step → Type 0
 Lays (Ok _) bytes old new = (start : Place) → (replay start new).seen ≡ Just (Some bytes)
-Lays (Err fault) bytes old new = (start : Place) → IsUnmade fault (replay start old) (replay start new)
+Lays (Err fault) bytes old new = (start : Place) → IsUnmade new (replay start old) (replay start new)
 
 abbrev pub is_claim : Change → Bool → Bool
 is_claim Claim true = true

@@ -14,7 +14,7 @@ pub record IsTaken (before p : Place) : Type 0 where
 
 abbrev pub Takes : Result Unit HostFault → List Step → List Step → Type 0
 Takes (Ok _) old new = (start : Place) → IsTaken (replay start old) (replay start new)
-Takes (Err fault) old new = (start : Place) → IsUnmade fault (replay start old) (replay start new)
+Takes (Err fault) old new = (start : Place) → IsUnmade new (replay start old) (replay start new)
 
 -- nothing has come of calls that did not succeed for the file of the path, the others, or the streams
 pub record IsQuiet (path : List ℕ) (old new : List Event) : Type 0 where
@@ -33,15 +33,15 @@ pub record IsQuiet (path : List ℕ) (old new : List Event) : Type 0 where
 
 -- a new file of these bytes stands beside the path, on the disk
 abbrev pub ready_calls : List ℕ → List ℕ → List Event → List Event
-ready_calls path bytes old = sync_call path true ∷ write_call path true bytes ∷ lock_call path true ∷ own_call path true ∷ make_call path ∷ old
+ready_calls path bytes old = sync_call path ∷ write_call path bytes ∷ lock_call path ∷ own_call path ∷ make_call path ∷ old
 
 -- the same of a path that no file has
 abbrev pub new_calls : List ℕ → List ℕ → List Event → List Event
-new_calls path bytes old = sync_call path true ∷ write_call path true bytes ∷ lock_call path true ∷ make_call path ∷ old
+new_calls path bytes old = sync_call path ∷ write_call path bytes ∷ lock_call path ∷ make_call path ∷ old
 
 -- a new file of these bytes stands beside the path
 abbrev pub laid_calls : List ℕ → List ℕ → List Event → List Event
-laid_calls path bytes old = write_call path true bytes ∷ lock_call path true ∷ make_call path ∷ old
+laid_calls path bytes old = write_call path bytes ∷ lock_call path ∷ make_call path ∷ old
 
 -- it was then given the time, if one is asked for, or could not be
 abbrev pub AreDatedCalls : Option ℕ → List ℕ → List Event → List Event → Type 0

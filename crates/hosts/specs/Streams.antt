@@ -1,7 +1,7 @@
 -- What the calls of a host mean for its streams, and for what was asked of it.
 use Rattle.std.specs.Prelude.{ℕ, zero, suc, ◌+◌, Bool, true, false, List, [], ◌∷◌, ◌++◌}
-use Rattle.hosts.specs.Event.{Event, Call, Alter, MakeBeside, DropBeside, DateBeside, Rename, LinkNew, Claim, DropClaim, SyncFolder, Look, TakeInput, Alone, Leads, LockBeside, There, Free, Print, Tell, Terminal}
-use Rattle.hosts.specs.Faults.{fault_number}
+use Rattle.hosts.specs.Event.{Event, Call, Alter, OwnBeside, WriteBeside, SyncBeside, DropBeside, DateBeside, Rename, LinkNew, DropClaim, SyncFolder, Look, TakeInput, Alone, Leads, LockBeside, There, Free, Print, Tell, Terminal, Same}
+use Rattle.hosts.specs.Faults.{fault_number, step_number}
 use Rattle.hosts.specs.declared.faults.HostFault.TheVariants as host
 
 abbrev pub with_printed : Call → Event → List (Bool × List ℕ) → List (Bool × List ℕ)
@@ -44,9 +44,10 @@ output_text (e ∷ earlier) = with_text e.call e.ok e.bytes (output_text earlier
 abbrev pub with_read : Call → Event → List Event → List Event
 with_read Look e before = e ∷ before
 with_read TakeInput e before = e ∷ before
+with_read Same e before = e ∷ before
 with_read _ e before = before
 
--- the calls by which files and standard input were read, the newest first
+-- the calls by which files and standard input were read, and by which it was asked whether two names lead to one file, the newest first
 abbrev pub read : List Event → List Event
 read [] = []
 read (e ∷ earlier) = with_read e.call e (read earlier)
@@ -86,7 +87,7 @@ abbrev pub with_alone : Call → Bool → ℕ → Bool → Bool
 with_alone Alone true (suc zero) before = true
 with_alone Alone true zero before = false
 with_alone Alone false number before = true
-with_alone (Alter Rename) false (suc zero) before = false
+with_alone (Alter Rename) false zero before = false
 with_alone _ ok number before = before
 
 -- whether, as the host said last, a new file may take the path with nothing lost
@@ -96,7 +97,7 @@ may_replace (e ∷ earlier) = with_alone e.call e.ok e.number (may_replace earli
 
 abbrev pub with_links : Call → Bool → ℕ → Bool → Bool
 with_links (Alter LinkNew) true number before = true
-with_links (Alter LinkNew) false (suc (suc zero)) before = false
+with_links (Alter LinkNew) false (suc zero) before = false
 with_links (Alter LinkNew) false number before = true
 with_links _ ok number before = before
 
@@ -105,26 +106,30 @@ abbrev pub has_links : List Event → Bool
 has_links [] = true
 has_links (e ∷ earlier) = with_links e.call e.ok e.number (has_links earlier)
 
--- A call that failed says why. Where a file has the path, by which another program made it meanwhile, that is busy. The empty file of a path
--- that can't be taken away may not be written. Of other calls on a file that is made it is only known that they failed. One that
--- takes the file beside it away, or gives that a time, says nothing.
+-- A call that failed says why. Where a file has the path, by which another program made it meanwhile, that is busy, and so is a held file
+-- whose path leads elsewhere. A path that is a mount's, and a file system without further names, are no reasons. A call that takes away the
+-- file beside it, or the empty one of the path, or that gives a time, says nothing.
 abbrev pub with_fault : Call → Bool → ℕ → ℕ → ℕ
 with_fault There true number before = fault_number host.Busy
 with_fault There false number before = before
 with_fault Terminal ok number before = before
 with_fault Print ok number before = before
 with_fault Tell ok number before = before
-with_fault Leads ok number before = before
+with_fault Leads true number before = before
+with_fault Leads false number before = fault_number host.Busy
 with_fault (Alter DropBeside) ok number before = before
+with_fault (Alter DropClaim) ok number before = before
 with_fault (Alter DateBeside) ok number before = before
 with_fault (Alter SyncFolder) ok number before = before
-with_fault (Alter LinkNew) false (suc zero) before = fault_number host.Busy
-with_fault (Alter LinkNew) false number before = fault_number host.Failed
-with_fault (Alter Claim) false number before = fault_number host.Busy
-with_fault (Alter DropClaim) false number before = fault_number host.Unwritable
-with_fault (Alter MakeBeside) false number before = number
-with_fault (Alter change) false number before = fault_number host.Failed
-with_fault LockBeside false number before = fault_number host.Failed
+with_fault (Alter LinkNew) false zero before = fault_number host.Busy
+with_fault (Alter LinkNew) false (suc zero) before = fault_number host.Failed
+with_fault (Alter LinkNew) false (suc (suc number)) before = step_number number
+with_fault (Alter Rename) false zero before = fault_number host.Failed
+with_fault (Alter Rename) false (suc number) before = step_number number
+with_fault (Alter OwnBeside) false number before = step_number number
+with_fault (Alter WriteBeside) false number before = step_number number
+with_fault (Alter SyncBeside) false number before = step_number number
+with_fault LockBeside false number before = step_number number
 with_fault _ true number before = before
 with_fault _ false number before = number
 

@@ -1,4 +1,8 @@
 //! Why a call of a host failed, and what a file holds after one.
+ghost use Rattle.std.specs.Prelude.{◌≡◌, ℕ, false};
+ghost use Rattle.hosts.specs.Event.{Alter, Rename};
+ghost use Rattle.hosts.specs.Faults.{fault_number, rename_number, step_number};
+ghost use Rattle.hosts.specs.Streams.{with_fault};
 
 use std::alloc::AllocError;
 
@@ -14,15 +18,38 @@ pub enum HostFault {
     /// There is no file of that name.
     Absent,
 
-    /// It may not be written.
-    Unwritable,
+    /// Permission is denied.
+    Denied,
 
-    /// It can't be done.
+    /// The file system is read-only.
+    ReadOnly,
+
+    /// It is a folder.
+    Folder,
+
+    /// A part of its path is no folder.
+    NoFolder,
+
+    /// No space is left, or none of a quota.
+    Full,
+
+    /// There are too many links, or links lead in a circle.
+    Links,
+
+    /// It would be larger than the file system takes.
+    Large,
+
+    /// Another program changed the file while it was read.
+    Changed,
+
+    /// It is a pipe, so it can't be changed.
+    Pipe,
+
+    /// It can't be done for another reason.
     Failed,
 }
 
 impl From<AllocError> for HostFault {
-    ghost use Rattle.std.specs.Prelude.{◌≡◌};
     ghost use Rattle.hosts.specs.declared.faults.HostFault.TheVariants.{Memory};
 
     ghost from_gives = { λ _ fault. fault ≡ Memory };
@@ -38,8 +65,8 @@ pub enum RenameFault {
     /// The path is a mount's, which no other file can take.
     Mount,
 
-    /// It can't be done.
-    Failed,
+    /// It can't be done for this reason.
+    Failed(HostFault),
 }
 
 /// Why a file can't have a path as a further name.
@@ -51,8 +78,39 @@ pub enum LinkFault {
     /// The file system has no further names.
     NoLinks,
 
-    /// It can't be done.
-    Failed,
+    /// It can't be done for this reason.
+    Failed(HostFault),
+}
+
+/// Why a step failed by which a new file is made. That it is busy, or that memory is wanted, is said of other calls alone.
+pub(crate) fn step_fault(fault: HostFault) -> HostFault
+    ensures { fault_number result ≡ step_number (fault_number fault) }
+{
+    match fault {
+        HostFault::Busy => HostFault::Failed,
+        HostFault::Memory => HostFault::Failed,
+        HostFault::Absent => HostFault::Absent,
+        HostFault::Denied => HostFault::Denied,
+        HostFault::ReadOnly => HostFault::ReadOnly,
+        HostFault::Folder => HostFault::Folder,
+        HostFault::NoFolder => HostFault::NoFolder,
+        HostFault::Full => HostFault::Full,
+        HostFault::Links => HostFault::Links,
+        HostFault::Large => HostFault::Large,
+        HostFault::Changed => HostFault::Changed,
+        HostFault::Pipe => HostFault::Pipe,
+        HostFault::Failed => HostFault::Failed,
+    }
+}
+
+/// Why a new file can't take a path. That it is a mount's is no reason of its own.
+pub(crate) fn rename_cause(fault: RenameFault) -> HostFault
+    ensures { (before : ℕ) → fault_number result ≡ with_fault (Alter Rename) false (rename_number fault) before }
+{
+    match fault {
+        RenameFault::Mount => HostFault::Failed,
+        RenameFault::Failed(why) => step_fault(why),
+    }
 }
 
 /// Why bytes can't be written to standard output.
@@ -81,6 +139,13 @@ pub enum Durability {
 
     /// The folder could not be brought to the disk, so a crash may give the name back to an older file, or to none.
     Unknown,
+}
+
+/// Why a file could not be written, and what it holds.
+#[derive(Clone, Copy, Debug, PartialEq, Eq)]
+pub struct SaveFault {
+    pub state: Unwritten,
+    pub why: HostFault,
 }
 
 /// What a file holds that could not be written.

@@ -16,8 +16,8 @@ pub struct Held {
     pub has_lock: bool,
 }
 
-/// Holds a file that is there, through links. The answer is `Busy` where another program holds it, `Absent` where there is none, and
-/// `Unwritable` where it may not be written, or is a pipe. No file changes.
+/// Holds a file that is there, through links. The answer is `Busy` where another program holds it, `Absent` where there is none, `Denied` or
+/// `ReadOnly` where it may not be written, and `Pipe` where it is a pipe. No file changes.
 pub fn hold_file<H: Host>(host: &mut H, alloc: Global, name: &str) -> Result<Held, HostFault>
     ensures holds { IfOk result (λ held. H.history host.new
         ≡ drop_seconds_call held.path.bytes.items ∷ hold_call held.path.bytes.items held.has_lock ∷ resolve_call name.now held.path.bytes.items ∷ H.history host.old) }

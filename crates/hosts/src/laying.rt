@@ -8,6 +8,7 @@ ghost use Rattle.hosts.specs.SavingSteps.{AreDatedCalls, IsQuiet, laid_calls};
 ghost use Rattle.hosts.specs.Streams.{output, errors, read, failures, last_fault};
 ghost use Rattle.hosts.specs.Times.{file_time};
 
+use crate::faults::{rename_cause, step_fault};
 use crate::making::take_path;
 use crate::saving::give_up;
 use crate::{Host, HostFault, LinkFault};
@@ -43,9 +44,9 @@ pub fn lay<H: Host>(
     if replaces {
         return match host.rename(name) {
             Ok(()) => Ok(()),
-            Err(_) => {
+            Err(fault) => {
                 give_up(host, name);
-                Err(HostFault::Failed)
+                Err(rename_cause(fault))
             }
         };
     }
@@ -59,9 +60,9 @@ pub fn lay<H: Host>(
                 give_up(host, name);
                 Err(HostFault::Busy)
             }
-            LinkFault::Failed => {
+            LinkFault::Failed(why) => {
                 give_up(host, name);
-                Err(HostFault::Failed)
+                Err(step_fault(why))
             }
             LinkFault::NoLinks => match take_path(host, name) {
                 Ok(()) => Ok(()),
@@ -84,13 +85,13 @@ fn prepare_laid<H: Host>(
     ensures why { IfErr result (λ fault. fault_number fault ≡ last_fault (H.history host.new)) }
 {
     host.make_beside(alloc, name)?;
-    if host.lock_beside(name).is_err() {
+    if let Err(fault) = host.lock_beside(name) {
         give_up(host, name);
-        return Err(HostFault::Failed);
+        return Err(step_fault(fault));
     }
-    if host.write_beside(name, bytes).is_err() {
+    if let Err(fault) = host.write_beside(name, bytes) {
         give_up(host, name);
-        return Err(HostFault::Failed);
+        return Err(step_fault(fault));
     }
     date_laid(host, name, seconds);
     Ok(())

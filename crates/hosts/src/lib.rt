@@ -12,7 +12,9 @@ pub mod notes;
 mod record;
 mod saving;
 
-pub use faults::{Durability, HostFault, LinkFault, PrintFault, RenameFault, Stream, Unwritten};
+pub use faults::{
+    Durability, HostFault, LinkFault, PrintFault, RenameFault, SaveFault, Stream, Unwritten,
+};
 pub use holding::{Held, hold_file};
 pub use host::Host;
 pub use laying::lay;

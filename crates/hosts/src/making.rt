@@ -7,6 +7,7 @@ ghost use Rattle.hosts.specs.SavingSteps.{Takes, IsQuiet, new_calls};
 ghost use Rattle.hosts.specs.Streams.{output, errors, read, failures, last_fault, path_of_name, asked_name, has_links};
 ghost use Rattle.hosts.specs.Times.{beside_time, file_time};
 
+use crate::faults::{rename_cause, step_fault};
 use crate::saving::give_up;
 use crate::{Durability, Host, HostFault, LinkFault};
 use std::alloc::Global;
@@ -74,9 +75,9 @@ pub fn make_at<H: Host>(
                 give_up(host, path);
                 Err(HostFault::Busy)
             }
-            LinkFault::Failed => {
+            LinkFault::Failed(why) => {
                 give_up(host, path);
-                Err(HostFault::Failed)
+                Err(step_fault(why))
             }
             LinkFault::NoLinks => match take_path(host, path) {
                 Ok(()) => match host.sync_folder(path) {
@@ -106,20 +107,22 @@ pub(crate) fn take_path<H: Host>(host: &mut H, path: &str) -> Result<(), HostFau
     ensures asked { asked_name (H.history host.new) ≡ asked_name (H.history host.old) }
     ensures links { has_links (H.history host.new) ≡ has_links (H.history host.old) }
 {
-    if host.claim(path).is_err() {
+    if let Err(fault) = host.claim(path) {
         give_up(host, path);
-        return Err(HostFault::Busy);
+        return Err(fault);
     }
     match host.rename(path) {
         Ok(()) => Ok(()),
-        Err(_) => {
-            let is_dropped = host.drop_claim(path).is_ok();
-            give_up(host, path);
-            if is_dropped {
-                return Err(HostFault::Failed);
+        Err(fault) => match host.drop_claim(path) {
+            Ok(()) => {
+                give_up(host, path);
+                Err(rename_cause(fault))
             }
-            Err(HostFault::Unwritable)
-        }
+            Err(_) => {
+                give_up(host, path);
+                Err(rename_cause(fault))
+            }
+        },
     }
 }
 
@@ -135,17 +138,17 @@ fn prepare_new<H: Host>(
     ensures why { IfErr result (λ fault. fault_number fault ≡ last_fault (H.history host.new)) }
 {
     host.make_beside(alloc, path)?;
-    if host.lock_beside(path).is_err() {
+    if let Err(fault) = host.lock_beside(path) {
         give_up(host, path);
-        return Err(HostFault::Failed);
+        return Err(step_fault(fault));
     }
-    if host.write_beside(path, bytes).is_err() {
+    if let Err(fault) = host.write_beside(path, bytes) {
         give_up(host, path);
-        return Err(HostFault::Failed);
+        return Err(step_fault(fault));
     }
-    if host.sync_beside(path).is_err() {
+    if let Err(fault) = host.sync_beside(path) {
         give_up(host, path);
-        return Err(HostFault::Failed);
+        return Err(step_fault(fault));
     }
     Ok(())
 }

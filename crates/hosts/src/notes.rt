@@ -1,8 +1,8 @@
 //! The numbers of the calls by which a `Record` notes them, as the definition `calls` lists them.
-ghost use Rattle.std.specs.Prelude.{◌≡◌, is_ok, if◌then◌else◌};
-ghost use Rattle.hosts.specs.Faults.{fault_number};
+ghost use Rattle.std.specs.Prelude.{◌≡◌, suc, is_ok, if◌then◌else◌};
+ghost use Rattle.hosts.specs.Faults.{fault_number, rename_number, link_number};
 
-use crate::HostFault;
+use crate::{HostFault, LinkFault, RenameFault};
 
 pub const RESOLVE: u64 = 0;
 
@@ -68,6 +68,10 @@ pub const TIME_OF: u64 = 30;
 
 pub const DATE_BESIDE: u64 = 31;
 
+pub const SAME: u64 = 32;
+
+pub const DROP_LEFTOVERS: u64 = 33;
+
 /// 1 where a call succeeded, and else 0.
 pub fn number<T, E>(done: &Result<T, E>) -> u64
     ensures { result ≡ (if is_ok done.now then 1 else 0) }
@@ -87,6 +91,75 @@ pub fn fault_number(fault: &HostFault) -> u64
         HostFault::Busy => 1,
         HostFault::Memory => 2,
         HostFault::Absent => 3,
-        HostFault::Unwritable => 4,
+        HostFault::Denied => 4,
+        HostFault::ReadOnly => 5,
+        HostFault::Folder => 6,
+        HostFault::NoFolder => 7,
+        HostFault::Full => 8,
+        HostFault::Links => 9,
+        HostFault::Large => 10,
+        HostFault::Changed => 11,
+        HostFault::Pipe => 12,
+    }
+}
+
+/// Why a file can't take a path.
+pub fn rename_number(fault: &RenameFault) -> u64
+    ensures { result ≡ rename_number fault.now }
+{
+    match fault {
+        RenameFault::Mount => 0,
+        RenameFault::Failed(why) => number_after(*why),
+    }
+}
+
+fn number_after(fault: HostFault) -> u64
+    ensures { result ≡ suc (fault_number fault) }
+{
+    match fault {
+        HostFault::Failed => 1,
+        HostFault::Busy => 2,
+        HostFault::Memory => 3,
+        HostFault::Absent => 4,
+        HostFault::Denied => 5,
+        HostFault::ReadOnly => 6,
+        HostFault::Folder => 7,
+        HostFault::NoFolder => 8,
+        HostFault::Full => 9,
+        HostFault::Links => 10,
+        HostFault::Large => 11,
+        HostFault::Changed => 12,
+        HostFault::Pipe => 13,
+    }
+}
+
+/// Why a file can't have a path as a further name.
+pub fn link_number(fault: &LinkFault) -> u64
+    ensures { result ≡ link_number fault.now }
+{
+    match fault {
+        LinkFault::Exists => 0,
+        LinkFault::NoLinks => 1,
+        LinkFault::Failed(why) => number_after_two(*why),
+    }
+}
+
+fn number_after_two(fault: HostFault) -> u64
+    ensures { result ≡ suc (suc (fault_number fault)) }
+{
+    match fault {
+        HostFault::Failed => 2,
+        HostFault::Busy => 3,
+        HostFault::Memory => 4,
+        HostFault::Absent => 5,
+        HostFault::Denied => 6,
+        HostFault::ReadOnly => 7,
+        HostFault::Folder => 8,
+        HostFault::NoFolder => 9,
+        HostFault::Full => 10,
+        HostFault::Links => 11,
+        HostFault::Large => 12,
+        HostFault::Changed => 13,
+        HostFault::Pipe => 14,
     }
 }

@@ -1,12 +1,15 @@
-ghost use Rattle.std.specs.Prelude.{◌≡◌, ◌<◌, ◌≤◌, ℕ, List, [], ◌∷◌, false, OnErr, OnOk, is_ok, take};
+ghost use Rattle.std.specs.Prelude.{◌≡◌, ◌<◌, ◌≤◌, ℕ, List, [], ◌∷◌, false, IfErr, OnErr, OnOk, take};
 ghost use Rattle.std.specs.Str.{bytes_eq};
-ghost use Rattle.hosts.specs.Event.{Event, drop_call, leads_call};
+ghost use Rattle.hosts.specs.Event.{drop_call};
+ghost use Rattle.hosts.specs.Faults.{IsWhy, fault_number};
 ghost use Rattle.hosts.specs.Place.{about};
 ghost use Rattle.hosts.specs.Saving.{Saves, SavesFile, AnyMoment, AnyMomentOf, IsPlaceNoted, IsNotedBefore, IsWrittenOver, still_may, last_bytes, last_over};
 ghost use Rattle.hosts.specs.SavingSteps.{IsQuiet, ready_calls};
-ghost use Rattle.hosts.specs.Streams.{before_told, output, errors, read, failures, may_replace, path_of_name};
+ghost use Rattle.hosts.specs.Streams.{before_told, output, errors, read, failures, last_fault, may_replace};
+ghost use Rattle.hosts.specs.declared.faults.Unwritten.TheVariants.{AsItWas};
 
-use crate::{Durability, Host, HostFault, RenameFault, Unwritten};
+use crate::faults::step_fault;
+use crate::{Durability, Host, HostFault, RenameFault, SaveFault, Unwritten};
 use std::alloc::Global;
 
 /// Has the path of the held file lead to a file of these bytes, whole or not at all. A file beside it is written and comes to the disk, and
@@ -26,13 +29,14 @@ pub fn save<H: Host>(
     ensures errors { errors (H.history host.new) ≡ errors (H.history host.old) }
     ensures read { read (H.history host.new) ≡ read (H.history host.old) }
     ensures alone { may_replace (H.history host.new) ≡ still_may result (may_replace (H.history host.old)) }
+    ensures why { IfErr result (λ fault. IsWhy fault (last_fault (H.history host.new))) }
 {
-    if prepare(host, alloc, path, bytes).is_err() {
-        return Err(RenameFault::Failed);
+    if let Err(why) = prepare(host, alloc, path, bytes) {
+        return Err(RenameFault::Failed(why));
     }
     if !host.leads_to_held(path) {
         give_up(host, path);
-        return Err(RenameFault::Failed);
+        return Err(RenameFault::Failed(HostFault::Busy));
     }
     match host.rename(path) {
         Ok(()) => match host.sync_folder(path) {
@@ -44,9 +48,9 @@ pub fn save<H: Host>(
                 give_up(host, path);
                 Err(RenameFault::Mount)
             }
-            RenameFault::Failed => {
+            RenameFault::Failed(why) => {
                 give_up(host, path);
-                Err(RenameFault::Failed)
+                Err(RenameFault::Failed(step_fault(why)))
             }
         },
     }
@@ -57,32 +61,36 @@ pub fn save<H: Host>(
 fn prepare<H: Host>(host: &mut H, alloc: Global, path: &str, bytes: &[u8]) -> Result<(), HostFault>
     ensures ready { OnOk result (H.history host.new ≡ ready_calls path.now bytes.now (H.history host.old)) }
     ensures quiet { OnErr result (IsQuiet path.now (H.history host.old) (H.history host.new)) }
+    ensures why { IfErr result (λ fault. fault_number fault ≡ last_fault (H.history host.new)) }
 {
     host.make_beside(alloc, path)?;
-    if host.own_beside(path).is_err() {
+    if let Err(fault) = host.own_beside(path) {
         give_up(host, path);
-        return Err(HostFault::Failed);
+        return Err(step_fault(fault));
     }
-    if host.lock_beside(path).is_err() {
+    if let Err(fault) = host.lock_beside(path) {
         give_up(host, path);
-        return Err(HostFault::Failed);
+        return Err(step_fault(fault));
     }
-    if host.write_beside(path, bytes).is_err() {
+    if let Err(fault) = host.write_beside(path, bytes) {
         give_up(host, path);
-        return Err(HostFault::Failed);
+        return Err(step_fault(fault));
     }
-    if host.sync_beside(path).is_err() {
+    if let Err(fault) = host.sync_beside(path) {
         give_up(host, path);
-        return Err(HostFault::Failed);
+        return Err(step_fault(fault));
     }
     Ok(())
 }
 
 /// Takes away the file beside a path.
 pub(crate) fn give_up<H: Host>(host: &mut H, path: &str)
-    ensures { (ok : _) × (H.history host.new ≡ drop_call path.now ok ∷ H.history host.old) }
+    ensures { (ok : _) × (number : _) × (H.history host.new ≡ drop_call path.now ok number ∷ H.history host.old) }
 {
-    let _ = host.drop_beside(path);
+    match host.drop_beside(path) {
+        Ok(()) => {}
+        Err(_) => {}
+    }
 }
 
 /// Writes bytes over the held file in its place, and has the disk hold it: those from `first` on before the others.
@@ -103,6 +111,7 @@ pub fn write_over<H: Host>(
     ensures errors { errors (H.history host.new) ≡ errors (H.history host.old) }
     ensures read { read (H.history host.new) ≡ read (H.history host.old) }
     ensures alone { may_replace (H.history host.new) ≡ may_replace (H.history host.old) }
+    ensures why { IfErr result (λ fault. fault_number fault ≡ last_fault (H.history host.new)) }
 {
     if bytes.len() <= first {
         host.write_over(path, 0, bytes)?;
@@ -125,7 +134,7 @@ pub fn save_file<H: Host>(
     first: usize,
     bytes: &[u8],
     note: &str,
-) -> Result<Durability, Unwritten>
+) -> Result<Durability, SaveFault>
     ensures head { OnOk result (may_replace (H.history host.new) ≡ false → last_bytes (about path.now (H.history host.new)) ≡ take first bytes.now) }
     ensures saves { SavesFile result (may_replace (H.history host.new)) bytes.now (about path.now (H.history host.old)) (about path.now (H.history host.new)) }
     ensures any_moment { AnyMomentOf (may_replace (H.history host.new)) bytes.now (about path.now (H.history host.old)) (about path.now (H.history host.new)) }
@@ -136,9 +145,11 @@ pub fn save_file<H: Host>(
     ensures noted { IsPlaceNoted (may_replace (H.history host.new)) note.now (errors (H.history host.old)) (errors (H.history host.new)) }
     ensures noted_first { IsNotedBefore (may_replace (H.history host.new)) note.now (about path.now (H.history host.old)) (about path.now (before_told (H.history host.new))) }
     ensures read { read (H.history host.new) ≡ read (H.history host.old) }
+    ensures why { IfErr result (λ fault. fault_number fault.why ≡ last_fault (H.history host.new)) }
 {
-    let Ok(is_alone) = host.is_alone(path) else {
-        return Err(Unwritten::AsItWas);
+    let is_alone = match host.is_alone(path) {
+        Ok(is_alone) => is_alone,
+        Err(why) => return Err(save_fault(why)),
     };
     if !is_alone {
         return save_over(host, path, first, bytes, note);
@@ -146,10 +157,18 @@ pub fn save_file<H: Host>(
     match save(host, alloc, path, bytes) {
         Ok(durability) => Ok(durability),
         Err(fault) => match fault {
-            RenameFault::Failed => Err(Unwritten::AsItWas),
+            RenameFault::Failed(why) => Err(save_fault(why)),
             RenameFault::Mount => save_over(host, path, first, bytes, note),
         },
     }
+}
+
+/// A file that could not be written for this reason, and is as it was.
+fn save_fault(why: HostFault) -> SaveFault
+    ensures { result ≡ record { state = AsItWas; why = why } }
+{
+    let state = Unwritten::AsItWas;
+    SaveFault { state, why }
 }
 
 /// Has the held file hold these bytes in its place, after the note.
@@ -159,7 +178,7 @@ fn save_over<H: Host>(
     first: usize,
     bytes: &[u8],
     note: &str,
-) -> Result<Durability, Unwritten>
+) -> Result<Durability, SaveFault>
     ensures head { OnOk result (last_bytes (about path.now (H.history host.new)) ≡ take first bytes.now) }
     ensures saves { SavesFile result false bytes.now (about path.now (H.history host.old)) (about path.now (H.history host.new)) }
     ensures cause { OnErr result (failures (H.history host.old) < failures (H.history host.new)) }
@@ -170,11 +189,15 @@ fn save_over<H: Host>(
     ensures noted_first { IsNotedBefore false note.now (about path.now (H.history host.old)) (about path.now (before_told (H.history host.new))) }
     ensures read { read (H.history host.new) ≡ read (H.history host.old) }
     ensures alone { may_replace (H.history host.new) ≡ may_replace (H.history host.old) }
+    ensures why { IfErr result (λ fault. fault_number fault.why ≡ last_fault (H.history host.new)) }
 {
     note_place(host, note);
     match write_over(host, path, first, bytes) {
         Ok(()) => Ok(Durability::Certain),
-        Err(_) => Err(Unwritten::InPart),
+        Err(why) => {
+            let state = Unwritten::InPart;
+            Err(SaveFault { state, why })
+        }
     }
 }
 

@@ -1,17 +1,20 @@
 -- The steps that read and print change no file.
 use Rattle.std.proofs.Common.{◌≡◌, ◌∙◌, ℕ, Bool, true, false, Option, None, Some, Result, Ok, Err, List, [], ◌∷◌, ap, refl, inl, inr}
-use Rattle.hosts.specs.Event.{Event}
+use Rattle.hosts.specs.Event.{Event, Look, TimeOf, failed_call}
 use Rattle.hosts.specs.Place.{about}
 use Rattle.outcome.specs.Hints.{image_note}
 use Rattle.outcome.specs.declared.contents.Content.TheVariants as content
 use Rattle.outcome.specs.declared.endings.Ending.{Ending}
-use Rattle.outcome.specs.declared.endings.Ending.TheVariants.{Line, Fault, Failure, Busy, NotWritten, FullOutput, NoReader, Misuse}
+use Rattle.outcome.specs.declared.endings.Ending.TheVariants.{Line, Fault, Failure, Busy, NotWritten, FullOutput, Unreported, NoReader, Misuse}
 use Rattle.outcome.specs.declared.hints.ImageNote.{ImageNote}
 use Rattle.archive_files.specs.declared.faults.ArchiveFault.{ArchiveFault}
-use Rattle.image_kind.specs.Kinds.{kind_of}
 use Rattle.image_kind.specs.declared.kinds.ImageKind.{ImageKind}
+use Rattle.std.specs.Global.{Vec}
+use Rattle.image_volumes.specs.Judging.{judged_kind}
+use Rattle.image_volumes.specs.Keeping.{two_readings}
+use Rattle.image_volumes.specs.declared.judging.Judgment.{Judgment}
 use Rattle.image_volumes.specs.Margins.{body_of, margins_by}
-use Rattle.image_volumes.specs.Volumes.{volumes_in, volumes_with}
+use Rattle.image_volumes.specs.Volumes.{script_kind, volumes_in, volumes_with}
 use Rattle.image_volumes.specs.declared.margins.Margins.{Margins}
 use Rattle.image_volumes.specs.declared.volumes.Volumes.{Volumes}
 use Rattle.disk_layouts.specs.declared.layouts.Layout.{Layout}
@@ -21,15 +24,19 @@ use Rattle.program_tasks.specs.declared.forms.ImageForm.{ImageForm}
 use Rattle.image_files.specs.Answers.{Refuses}
 use Rattle.image_files.specs.Dates.{DatesFile}
 use Rattle.image_files.specs.Laws.{KeepsFiles}
+use Rattle.image_files.specs.Judging.{Judges, JudgesBy}
 use Rattle.image_files.specs.Mending.{Mends, TellsLines}
 use Rattle.image_files.specs.Notes.{TellsOfImage}
 use Rattle.image_files.specs.Inputs.{TakesInput}
-use Rattle.image_files.specs.Reading.{IsUnread, FindsIn, FindsOne, Holds, HoldsAt, Looks, LooksAt, LooksIf, LooksImage, MakesOne, OpensAs, hold_calls, looked_name, reading_of, with_lock_note}
+use Rattle.image_files.specs.Reading.{IsUnread, FindsIn, FindsOne, Holds, HoldsAt, Looks, LooksAt, LooksIf, LooksImage, MakesOne, hold_calls, looked_name, reading_of, with_lock_note, JudgesForScript, JudgesLooked, JudgesOpened, IsJudged, MakesOf, Opens, OpensForScript, judgment_of, IsUnheldImage}
+use Rattle.image_files.specs.Reasons.{is_untold, is_want_of_memory}
 use Rattle.image_files.specs.Saving.{Prints}
 use Rattle.image_files.specs.Work.{Then, Purely}
 use Rattle.image_files.specs.declared.images.Image.{Image}
 use Rattle.image_files.specs.declared.mending.ImageReading.{ImageReading}
 use Rattle.image_files.specs.declared.reading.ImagePlace.{ImagePlace}
+use Rattle.image_files.proofs.ReasonLemmas.{unless-keeps}
+use Rattle.outcome.specs.declared.reasons.Reason.TheVariants as reason
 
 same : {old new : List Event} (path : List ℕ) → new ≡ old → about path new ≡ about path old
 same path is = ap (λ (events : List Event). about path events) is
@@ -46,7 +53,7 @@ purely-keeps gives old result new p path = same path p.1
 pub date-keeps : (is_dated : Bool) (name : List ℕ) → KeepsFiles (DatesFile is_dated name)
 date-keeps false name old result new p path = same path p.1
 date-keeps true name old (Ok date) new (seconds, is, p) path = same path p
-date-keeps true name old (Err ending) new (fault, is, p) path = same path p
+date-keeps true name old (Err ending) new (fault, is, p) path = unless-keeps (is_want_of_memory fault) (reason.Fault fault) name (failed_call TimeOf name fault ∷ old) new p path
 
 -- ## What is printed
 
@@ -58,6 +65,7 @@ prints-keeps bytes old (Err Failure) new p path = absurd p
 prints-keeps bytes old (Err (Busy it)) new p path = absurd p
 prints-keeps bytes old (Err (NotWritten it left)) new p path = absurd p
 prints-keeps bytes old (Err FullOutput) new p path = same path p
+prints-keeps bytes old (Err Unreported) new p path = absurd p
 prints-keeps bytes old (Err NoReader) new p path = same path p
 prints-keeps bytes old (Err Misuse) new p path = absurd p
 
@@ -73,7 +81,7 @@ refuses-keeps path why size old ending new p = tells-keeps path (image_note size
 pub looks-keeps : (name shown : List ℕ) → KeepsFiles (Looks name shown)
 unfolding IsUnread
 looks-keeps name shown old (Ok bytes) new p path = same path p.1
-looks-keeps name shown old (Err ending) new (inl (fault, is, p)) path = same path p
+looks-keeps name shown old (Err ending) new (inl (fault, is, p)) path = unless-keeps (is_want_of_memory fault) (reason.Fault fault) shown (failed_call Look name fault ∷ old) new p path
 looks-keeps name shown old (Err ending) new (inr (bytes, many, inl (is, ok, p))) path = same path p
 looks-keeps name shown old (Err ending) new (inr (bytes, many, inr (is, p))) path = same path p
 
@@ -87,20 +95,34 @@ pub lines-keep : (lines : List ℕ) (old new : List Event) → TellsLines lines 
 lines-keep [] old new p path = same path p
 lines-keep (c ∷ lines) old new p path = same path p.1
 
-mends-keeps : (given : Option Layout) (name file : List ℕ) → KeepsFiles (Mends given name file)
-mends-keeps given name file old (Ok bytes) new p path = lines-keep (mended_lines name p.0) old new p.3 path
-mends-keeps given name file old (Err ending) new p path = same path p.1
+mends-keeps : (given : Option Layout) (is_plain : Bool) (name file : List ℕ) → KeepsFiles (Mends given is_plain name file)
+mends-keeps given is_plain name file old (Ok bytes) new p path = lines-keep (mended_lines name p.0) old new p.3 path
+mends-keeps given is_plain name file old (Err ending) new p path = same path p.1
 
-pub looks-if-keeps : (is_lenient : Bool) (given : Option Layout) (name : List ℕ) → KeepsFiles (LooksIf is_lenient given name)
-looks-if-keeps true given name = then-keeps (Looks name name) (λ file. Mends given name file.items) (looks-keeps name name) (λ file. mends-keeps given name file.items)
-looks-if-keeps false given name = looks-keeps name name
+pub looks-if-keeps : (is_lenient : Bool) (given : Option Layout) (is_plain : Bool) (name : List ℕ) → KeepsFiles (LooksIf is_lenient given is_plain name)
+looks-if-keeps true given is_plain name = then-keeps (Looks name name) (λ file. Mends given is_plain name file.items) (looks-keeps name name) (λ file. mends-keeps given is_plain name file.items)
+looks-if-keeps false given is_plain name = looks-keeps name name
+
+judges-by-keeps : (name : List ℕ) (two : Option (ImageKind × ImageKind)) → KeepsFiles (JudgesBy name two)
+judges-by-keeps name None old (Ok it) new p path = same path p
+judges-by-keeps name None old (Err ending) new p path = absurd p
+judges-by-keeps name (Some two) old (Ok it) new p path = absurd p
+judges-by-keeps name (Some two) old (Err ending) new (inl (is, ok, p)) path = same path p
+judges-by-keeps name (Some two) old (Err ending) new (inr (is, p)) path = same path p
+
+pub judges-keeps : (name : List ℕ) (given : Option Layout) (is_plain : Bool) (file : List ℕ) → KeepsFiles (Judges name given is_plain file)
+judges-keeps name given is_plain file = judges-by-keeps name (two_readings given is_plain file)
+
+pub judged-keeps : (reading : ImageReading) (name : List ℕ) (file : Vec ℕ) → KeepsFiles (JudgesLooked reading name file)
+judged-keeps reading name file = then-keeps (Judges name reading.layout reading.is_plain file.items) (λ it. Purely (IsJudged file)) (judges-keeps name reading.layout reading.is_plain file.items) (λ it. purely-keeps (IsJudged file))
 
 pub looks-image-keeps : (reading : ImageReading) (name : List ℕ) → KeepsFiles (LooksImage reading name)
-looks-image-keeps reading name = looks-if-keeps reading.is_lenient reading.layout name
+looks-image-keeps reading name = then-keeps (LooksIf reading.is_lenient reading.layout reading.is_plain name) (λ file. JudgesLooked reading name file)
+    (looks-if-keeps reading.is_lenient reading.layout reading.is_plain name) (λ file. judged-keeps reading name file)
 
 pub looks-at-keeps : (form : ImageForm) → KeepsFiles (LooksAt form)
-looks-at-keeps form = then-keeps (LooksImage (reading_of form) form.file.bytes.items) (λ file. FindsOne form.layout file.items)
-    (looks-image-keeps (reading_of form) form.file.bytes.items) (λ file. finds-keeps (volumes_in form.layout file.items) (body_of form.layout file.items))
+looks-at-keeps form = then-keeps (LooksImage (reading_of form) form.file.bytes.items) (λ file. FindsOne form.layout form.is_plain file.items)
+    (looks-image-keeps (reading_of form) form.file.bytes.items) (λ file. finds-keeps (volumes_in form.layout form.is_plain file.items) (body_of form.layout form.is_plain file.items))
 
 pub input-keeps : KeepsFiles TakesInput
 input-keeps old (Ok bytes) new p path = same path p.1
@@ -114,21 +136,36 @@ noted-lock false ok path old = refl
 
 held-at : (name path : List ℕ) (place : ImagePlace) (is_held : Bool) (old new : List Event) → HoldsAt name place is_held old new → about path new ≡ about path old
 held-at name path place true old new (has, ok, p) = same path p ∙ noted-lock has ok path (hold_calls name place.path.bytes.items has old)
-held-at name path place false old new (idle, failed, why) = idle.files path
+held-at name path place false old new (idle, failed, why, may) = idle.files path
 
 pub holds-keeps : (name : List ℕ) → KeepsFiles (Holds name)
-holds-keeps name old (Ok place) new p path = held-at name path place place.is_held old new p
-holds-keeps name old (Err ending) new (fault, unheld, idle, failed, why) path = idle.files path
+unfolding IsUnheldImage
+holds-keeps name old (Ok place) new p path = held-at name path place place.is_held old new p.1
+holds-keeps name old (Err ending) new (inl (fault, unheld, (between, idle, failed, why, told))) path =
+    unless-keeps (is_untold content.Image fault) (reason.Fault fault) name between new told path ∙ idle.files path
+holds-keeps name old (Err ending) new (inr (is, p)) path = same path p
 
-makes-keeps : (place : ImagePlace) (volumes : Volumes) (margins : Margins) (file : List ℕ) → KeepsFiles (MakesOne place volumes margins file)
-makes-keeps place (One layout) margins file old result new p path = same path p.1
-makes-keeps place Both margins file old (Ok image) new p path = absurd p
-makes-keeps place Both margins file old (Err ending) new (is, ok, p) path = same path p
+makes-keeps : (place : ImagePlace) (judgment : Judgment) (volumes : Volumes) (margins : Margins) (file : List ℕ) → KeepsFiles (MakesOne place judgment volumes margins file)
+makes-keeps place judgment (One layout) margins file old result new p path = same path p.1
+makes-keeps place judgment Both margins file old (Ok image) new p path = absurd p
+makes-keeps place judgment Both margins file old (Err ending) new (is, ok, p) path = same path p
 
-pub opens-keeps : (kind_in : List ℕ → Option ImageKind) (form : ImageForm) → KeepsFiles (OpensAs kind_in form)
-opens-keeps kind_in form = then-keeps (Holds form.file.bytes.items) (λ place. Then (Looks (looked_name place form.file.bytes.items) form.file.bytes.items) (λ file. made place file.items))
+makes-of-keeps : (place : ImagePlace) (form : ImageForm) (file : List ℕ) (kind : Option ImageKind) → KeepsFiles (MakesOf place form file kind)
+makes-of-keeps place form file kind = makes-keeps place (judgment_of form file) (volumes_with form.layout kind) (margins_by form.layout kind) file
+
+judges-of-keeps : (kind_in : List ℕ → Option ImageKind) (place : ImagePlace) (form : ImageForm) (file : List ℕ) → KeepsFiles (Then (Judges form.file.bytes.items form.layout form.is_plain file) (λ it. MakesOf place form file (kind_in file)))
+judges-of-keeps kind_in place form file = then-keeps (Judges form.file.bytes.items form.layout form.is_plain file) (λ it. MakesOf place form file (kind_in file))
+    (judges-keeps form.file.bytes.items form.layout form.is_plain file) (λ it. makes-of-keeps place form file (kind_in file))
+
+opens-so-keeps : (form : ImageForm) (makes : ImagePlace → List ℕ → List Event → Result Image Ending → List Event → Type 0) → ((place : ImagePlace) (file : List ℕ) → KeepsFiles (makes place file))
+    → KeepsFiles (Then (Holds form.file.bytes.items) (λ place. Then (Looks (looked_name place form.file.bytes.items) form.file.bytes.items) (λ file. makes place file.items)))
+opens-so-keeps form makes keeps = then-keeps (Holds form.file.bytes.items) (λ place. Then (Looks (looked_name place form.file.bytes.items) form.file.bytes.items) (λ file. makes place file.items))
     (holds-keeps form.file.bytes.items)
-    (λ place. then-keeps (Looks (looked_name place form.file.bytes.items) form.file.bytes.items) (λ file. made place file.items)
-    (looks-keeps (looked_name place form.file.bytes.items) form.file.bytes.items) (λ file. makes-keeps place (volumes_with form.layout (kind_in file.items)) (margins_by form.layout (kind_in file.items)) file.items)) where
-      made : ImagePlace → List ℕ → List Event → Result Image Ending → List Event → Type 0
-      made place file = MakesOne place (volumes_with form.layout (kind_in file)) (margins_by form.layout (kind_in file)) file
+    (λ place. then-keeps (Looks (looked_name place form.file.bytes.items) form.file.bytes.items) (λ file. makes place file.items)
+    (looks-keeps (looked_name place form.file.bytes.items) form.file.bytes.items) (λ file. keeps place file.items))
+
+pub opens-keeps : (form : ImageForm) → KeepsFiles (Opens form)
+opens-keeps form = opens-so-keeps form (λ place. JudgesOpened place form) (λ place. judges-of-keeps (judged_kind form.is_plain) place form)
+
+pub opens-for-script-keeps : (form : ImageForm) → KeepsFiles (OpensForScript form)
+opens-for-script-keeps form = opens-so-keeps form (λ place. JudgesForScript place form) (λ place. judges-of-keeps (script_kind form.is_plain) place form)

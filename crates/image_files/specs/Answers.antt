@@ -1,6 +1,7 @@
 -- The result of a call on the bytes of an image for a command.
 use Rattle.std.specs.Prelude.{◌≡◌, ℕ, Result, Ok, Err, List, ◌++◌, codes}
 use Rattle.std.specs.Global.{Vec}
+use Rattle.shown_text.specs.Showing.{shown_text}
 use Rattle.hosts.specs.Event.{Event}
 use Rattle.archive_files.specs.declared.faults.ArchiveFault.{ArchiveFault}
 use Rattle.script8.specs.declared.faults.SessionFault.TheVariants.{Memory}
@@ -40,6 +41,6 @@ abbrev pub AreLines : List ℕ → Result (Vec ℕ) Ending → Type 0
 AreLines text (Ok lines) = lines.items ≡ text
 AreLines text (Err ending) = ending ≡ Fault Memory
 
--- each line has the name of its file or volume before it
+-- each line has the name of its file or volume before it, as that is shown
 abbrev pub named_lines : List ℕ → List ℕ → List ℕ
-named_lines file text = with_prefixes (file ++ codes ": ") text
+named_lines file text = with_prefixes (shown_text file ++ codes ": ") text

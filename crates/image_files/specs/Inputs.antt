@@ -18,7 +18,15 @@ abbrev pub ending_of_input : HostFault → Ending
 ending_of_input host.Memory = Fault Memory
 ending_of_input host.Busy = Fault Reader
 ending_of_input host.Absent = Fault Reader
-ending_of_input host.Unwritable = Fault Reader
+ending_of_input host.Denied = Fault Reader
+ending_of_input host.ReadOnly = Fault Reader
+ending_of_input host.Folder = Fault Reader
+ending_of_input host.NoFolder = Fault Reader
+ending_of_input host.Full = Fault Reader
+ending_of_input host.Links = Fault Reader
+ending_of_input host.Large = Fault Reader
+ending_of_input host.Changed = Fault Reader
+ending_of_input host.Pipe = Fault Reader
 ending_of_input host.Failed = Fault Reader
 
 -- it has more bytes than are read, of which a note is printed unless memory is wanted for it

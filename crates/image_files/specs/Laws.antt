@@ -2,8 +2,12 @@
 use Rattle.std.specs.Prelude.{◌≡◌, ℕ, Result, List, Bool, true, false, Err}
 use Rattle.hosts.specs.Event.{Event}
 use Rattle.hosts.specs.Place.{about}
+use Rattle.image_volumes.specs.Keeping.{keeps_kind}
+use Rattle.outcome.specs.declared.contents.Content.TheVariants as content
 use Rattle.outcome.specs.declared.endings.Ending.{Ending}
-use Rattle.outcome.specs.declared.endings.Ending.TheVariants.{Line, Fault, Failure, Busy, NotWritten, FullOutput, NoReader, Misuse}
+use Rattle.outcome.specs.declared.endings.Ending.TheVariants.{Line, Fault, Failure, Busy, NotWritten, FullOutput, Unreported, NoReader, Misuse}
+use Rattle.image_files.specs.Saving.{HasSaved, IsFileWith}
+use Rattle.image_files.specs.declared.images.Image.{Image}
 
 -- what the calls so far come to for the file of each path is as it was before the step, in whichever way it ends
 abbrev pub KeepsFiles : {A : Type 0} → (List Event → Result A Ending → List Event → Type 0) → Type 0
@@ -17,6 +21,7 @@ is_refusal Failure = true
 is_refusal (Busy content) = true
 is_refusal (NotWritten content left) = false
 is_refusal FullOutput = false
+is_refusal Unreported = false
 is_refusal NoReader = false
 is_refusal Misuse = true
 
@@ -27,3 +32,10 @@ ChangesNothing old new = (path : List ℕ) → about path new ≡ about path old
 -- a command that is refused has changed no file
 abbrev pub LeavesFiles : {A : Type 0} → (List Event → Result A Ending → List Event → Type 0) → Type 0
 LeavesFiles command = (old : List Event) (ending : Ending) (new : List Event) → command old (Err ending) new → is_refusal ending ≡ true → ChangesNothing old new
+
+-- What a change saves is judged as what was read: the same volumes are meant, in the same place, and the file may be read in no other way.
+pub record HasKeptKind (image : Image) (bytes : List ℕ) (old new : List Event) : Type 0 where
+  pub file : List ℕ
+  pub is : IsFileWith image bytes file
+  pub kind : keeps_kind image.judgment file ≡ true
+  pub saved : HasSaved content.Image image.place.path.bytes.items file old new

@@ -16,6 +16,7 @@ use Rattle.outcome.specs.declared.endings.Ending.{Ending}
 use Rattle.outcome.specs.declared.endings.Ending.TheVariants.{Line, Fault, Busy, NotWritten}
 use Rattle.program_reports.specs.declared.programs.ProgramLine.TheVariants as line
 use Rattle.image_files.specs.Reading.{IsIdle, with_lock_note, hold_calls}
+use Rattle.image_files.specs.Reasons.{TellsFirst, TellsUnheld}
 use Rattle.image_files.specs.Saving.{Writes, IsSyncTold, TouchesOnly}
 
 -- a file for this that is to be written can't be held, or can't be made, and is as it was
@@ -23,7 +24,15 @@ abbrev pub ending_of_file : Content → HostFault → Ending
 ending_of_file content host.Busy = Busy content
 ending_of_file content host.Memory = Fault Memory
 ending_of_file content host.Absent = NotWritten content AsItWas
-ending_of_file content host.Unwritable = NotWritten content AsItWas
+ending_of_file content host.Denied = NotWritten content AsItWas
+ending_of_file content host.ReadOnly = NotWritten content AsItWas
+ending_of_file content host.Folder = NotWritten content AsItWas
+ending_of_file content host.NoFolder = NotWritten content AsItWas
+ending_of_file content host.Full = NotWritten content AsItWas
+ending_of_file content host.Links = NotWritten content AsItWas
+ending_of_file content host.Large = NotWritten content AsItWas
+ending_of_file content host.Changed = NotWritten content AsItWas
+ending_of_file content host.Pipe = NotWritten content AsItWas
 ending_of_file content host.Failed = NotWritten content AsItWas
 
 -- a file that is to be the first of its name can't be made: there is one, or a call failed
@@ -31,7 +40,15 @@ abbrev pub ending_of_first : HostFault → Ending
 ending_of_first host.Busy = Line line.HostExists
 ending_of_first host.Memory = Fault Memory
 ending_of_first host.Absent = NotWritten Image AsItWas
-ending_of_first host.Unwritable = NotWritten Image AsItWas
+ending_of_first host.Denied = NotWritten Image AsItWas
+ending_of_first host.ReadOnly = NotWritten Image AsItWas
+ending_of_first host.Folder = NotWritten Image AsItWas
+ending_of_first host.NoFolder = NotWritten Image AsItWas
+ending_of_first host.Full = NotWritten Image AsItWas
+ending_of_first host.Links = NotWritten Image AsItWas
+ending_of_first host.Large = NotWritten Image AsItWas
+ending_of_first host.Changed = NotWritten Image AsItWas
+ending_of_first host.Pipe = NotWritten Image AsItWas
 ending_of_first host.Failed = NotWritten Image AsItWas
 
 -- A file of these bytes is made where the host says that this name has none. It is there whole, on the disk, unless a note says that it is not
@@ -55,14 +72,14 @@ pub record HasNotMade (name file : List ℕ) (fault : HostFault) (old new : List
   pub tells : errors new ≡ errors old
   pub only : TouchesOnly (path_of_name new) old new
 
--- a file is made where there is none of its name, or else the command ends so by a fault
-abbrev pub MakesBy : Content → (HostFault → Ending) → List ℕ → List ℕ → List Event → Result (Unit {0}) Ending → List Event → Type 0
-MakesBy content ends name file old (Ok it) new = HasMade content name file old new
-MakesBy content ends name file old (Err ending) new = (fault : HostFault) × (ending ≡ ends fault) × HasNotMade name file fault old new
+-- a file is made where there is none of its name, or else the command ends so by a fault, which is printed
+abbrev pub MakesBy : Content → (HostFault → Ending) → (HostFault → List ℕ → List Event → List Event → Type 0) → List ℕ → List ℕ → List Event → Result (Unit {0}) Ending → List Event → Type 0
+MakesBy content ends tells name file old (Ok it) new = HasMade content name file old new
+MakesBy content ends tells name file old (Err ending) new = (fault : HostFault) × (between : List Event) × (ending ≡ ends fault) × HasNotMade name file fault old between × tells fault name between new
 
 -- a file of these bytes is the first of this name, or none is made
 abbrev pub MakesFirst : List ℕ → List ℕ → List Event → Result (Unit {0}) Ending → List Event → Type 0
-MakesFirst = MakesBy Image ending_of_first
+MakesFirst = MakesBy Image ending_of_first TellsFirst
 
 -- by which fault a command ends so, whose file of a name is there and can't be held to be written
 abbrev pub IsUnheldFile : Content → HostFault → Result (Unit {0}) Ending → Type 0
@@ -70,9 +87,9 @@ IsUnheldFile content host.Absent result = ⊥
 IsUnheldFile content fault result = result ≡ Err (ending_of_file content fault)
 
 -- A file of a name, which is for this, is to have these bytes: one that is there is held, and gets them as any image file does. Where there
--- is none, one is made. Else a call failed by another fault, and nothing is changed.
+-- is none, one is made. Else a call failed by another fault, which is printed, and nothing is changed.
 abbrev pub MakesFile : Content → List ℕ → List ℕ → List Event → Result (Unit {0}) Ending → List Event → Type 0
 MakesFile content name file old result new =
-    ((path : List ℕ) × (has_lock : Bool) × (ok : Bool) × Writes content path file (with_lock_note content has_lock ok (hold_calls name path has_lock old)) result new)
-    ⊎ (((between : List Event) × IsIdle old between × (failures old < failures between) × (last_fault between ≡ fault_number host.Absent) × MakesBy content (ending_of_file content) name file between result new)
-    ⊎ ((fault : HostFault) × IsUnheldFile content fault result × IsIdle old new × (failures old < failures new) × (last_fault new ≡ fault_number fault)))
+    ((path : List ℕ) × (has_lock : Bool) × (ok : Bool) × Writes content path name file (with_lock_note content has_lock ok (hold_calls name path has_lock old)) result new)
+    ⊎ (((between : List Event) × IsIdle old between × (failures old < failures between) × (last_fault between ≡ fault_number host.Absent) × MakesBy content (ending_of_file content) (TellsUnheld content) name file between result new)
+    ⊎ ((fault : HostFault) × (between : List Event) × IsUnheldFile content fault result × IsIdle old between × (failures old < failures between) × (last_fault between ≡ fault_number fault) × TellsUnheld content fault name between new))

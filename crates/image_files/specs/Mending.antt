@@ -16,7 +16,7 @@ TellsLines [] old new = new ≡ old
 TellsLines (c ∷ lines) old new = (ok : Bool) × (new ≡ tell_call ok (c ∷ lines) ∷ old)
 
 -- the bytes of a mended file, of which each fault is printed; or memory is wanted for it
-abbrev pub Mends : Option Layout → List ℕ → List ℕ → List Event → Result (Vec ℕ) Ending → List Event → Type 0
-Mends given name file old (Ok bytes) new =
-    (it : MendedFile) × IsMended given file it × (bytes.items ≡ it.bytes.items) × TellsLines (mended_lines name it) old new
-Mends given name file old (Err ending) new = (ending ≡ Fault Memory) × (new ≡ old)
+abbrev pub Mends : Option Layout → Bool → List ℕ → List ℕ → List Event → Result (Vec ℕ) Ending → List Event → Type 0
+Mends given is_plain name file old (Ok bytes) new =
+    (it : MendedFile) × IsMended given is_plain file it × (bytes.items ≡ it.bytes.items) × TellsLines (mended_lines name it) old new
+Mends given is_plain name file old (Err ending) new = (ending ≡ Fault Memory) × (new ≡ old)

@@ -15,6 +15,7 @@ use hosts::Host;
 use os8_dir::Name;
 use outcome::Ending;
 use program_reports::{ProgramLine, put_program, with_prefix};
+use shown_text::ShownText;
 use std::alloc::{AllocError, Global};
 
 /// What a call on an image of so many bytes answers. Where it or a file of it is refused, what may help is printed.
@@ -50,10 +51,11 @@ pub fn put_stored(name: Name, blocks: usize, lines: &mut Vec<u8>) -> Result<(), 
     }
 }
 
-/// Lines with a name before each.
+/// Lines with a name before each, which is shown with escapes where it isn't graphic.
 pub fn named_lines(alloc: Global, name: &str, text: &[u8]) -> Result<Vec<u8>, Ending>
     ensures { AreLines (named_lines name.now text.now) result }
 {
+    let name = ShownText { text: name };
     let prefix = format!(in alloc; "{name}: ")?;
     let lines = with_prefix(alloc, prefix.as_bytes(), text)?;
     Ok(lines)

@@ -2,14 +2,17 @@
 ghost use Rattle.image_files.specs.Dates.{DatesFile};
 
 use crate::faults::ending_of_image;
+use crate::reasons::tell_fault;
 use hosts::Host;
 use os8_dates::word_of_time;
 use outcome::Ending;
+use std::alloc::Global;
 use word12::Word;
 
 /// The word of the day in UTC on which a file was last changed, where that is asked for. There is none after the year 9999.
 pub fn date_of_file<H: Host>(
     host: &mut H,
+    alloc: Global,
     name: &str,
     is_asked: bool,
 ) -> Result<Option<Word>, Ending>
@@ -20,6 +23,9 @@ pub fn date_of_file<H: Host>(
     }
     match host.time_of(name) {
         Ok(seconds) => Ok(word_of_time(seconds)),
-        Err(fault) => Err(ending_of_image(fault)),
+        Err(fault) => {
+            tell_fault(host, alloc, name, fault);
+            Err(ending_of_image(fault))
+        }
     }
 }

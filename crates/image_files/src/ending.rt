@@ -1,11 +1,16 @@
 //! The end of a command: what the table of outcomes has for it is printed.
-ghost use Rattle.image_files.specs.Ending.{EndsSo, EndsSound, PrintsOutcome, TellsLine};
+ghost use Rattle.std.specs.Prelude.{◌≡◌};
+ghost use Rattle.image_files.specs.Ending.{EndsInstead, EndsSo, EndsSound, PrintsOutcome, TellsLine, status_unread};
 
 use crate::notes::tell;
 use crate::printing::print;
+use crate::states::{ImageNotes, state_at_end, state_refused, tell_state};
 use hosts::Host;
 use outcome::{Ending, LineRoom, Outcome, Stream, outcome_of};
 use std::alloc::{AllocError, Global};
+
+/// The status that a shell gives a program which SIGPIPE has ended.
+const NO_READER: u8 = 141;
 
 /// Room for the last line of a command, and for one in its place where standard output does not take that.
 #[derive(Drop)]
@@ -23,21 +28,50 @@ impl Rooms {
     }
 }
 
-/// Prints what is printed at the end of a command that ends so, whose output is data or lines, and gives the exit status. No memory is
-/// taken (this project's profile).
-pub fn end<H: Host>(host: &mut H, rooms: Rooms, is_data: bool, work: Result<(), Ending>) -> u8
-    ensures { EndsSo is_data work (H.history host.old) (H.history host.new) result }
+/// Prints what is printed at the end of a command that ends so, whose output is data or lines, and gives the exit status. Where standard output
+/// takes no line, the notes that are given say whether the image has the change. No memory is taken (this project's profile).
+pub fn end<H: Host>(
+    host: &mut H,
+    rooms: Rooms,
+    notes: &Option<ImageNotes>,
+    is_data: bool,
+    work: Result<(), Ending>,
+) -> u8
+    ensures { EndsSo is_data notes.now work (H.history host.old) (H.history host.new) result }
 {
     let Rooms { line, other } = rooms;
+    let refused = state_refused(&work);
+    tell_state(host, notes, state_at_end(&work));
     let outcome = outcome_of(line, is_data, work);
     match print_outcome(host, &outcome) {
         Ok(()) => outcome.status,
-        Err(ending) => {
-            let instead = outcome_of(other, is_data, Err(ending));
-            let _ = print_outcome(host, &instead);
-            instead.status
-        }
+        Err(ending) => match ending {
+            Ending::NoReader => status_unread(outcome.status),
+            _ => {
+                tell_state(host, notes, refused);
+                end_instead(host, other, is_data, ending)
+            }
+        },
     }
+}
+
+/// The exit status of a command whose line nobody reads: 141 where its work went well, as a shell reports SIGPIPE.
+fn status_unread(status: u8) -> u8
+    ensures { result ≡ status_unread status }
+{
+    if status == 0 {
+        return NO_READER;
+    }
+    status
+}
+
+/// Prints what is printed where standard output does not take a command's line, and gives the exit status.
+fn end_instead<H: Host>(host: &mut H, room: LineRoom, is_data: bool, ending: Ending) -> u8
+    ensures { EndsInstead is_data ending (H.history host.old) (H.history host.new) result }
+{
+    let instead = outcome_of(room, is_data, Err(ending));
+    let _ = print_outcome(host, &instead);
+    instead.status
 }
 
 /// Prints the note and the line of an outcome. Where standard output does not take the line, the answer is how the command ends then.

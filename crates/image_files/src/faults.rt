@@ -16,9 +16,17 @@ pub fn ending_of_image(fault: HostFault) -> Ending
     match fault {
         HostFault::Busy => Ending::Busy(Content::Image),
         HostFault::Memory => Ending::Fault(SessionFault::Memory),
-        HostFault::Absent | HostFault::Unwritable | HostFault::Failed => {
-            Ending::Line(ProgramLine::HostRead)
-        }
+        HostFault::Absent
+        | HostFault::Denied
+        | HostFault::ReadOnly
+        | HostFault::Folder
+        | HostFault::NoFolder
+        | HostFault::Full
+        | HostFault::Links
+        | HostFault::Large
+        | HostFault::Changed
+        | HostFault::Pipe
+        | HostFault::Failed => { Ending::Line(ProgramLine::HostRead) }
     }
 }
 
@@ -39,9 +47,17 @@ pub fn ending_of_file(content: Content, fault: HostFault) -> Ending
     match fault {
         HostFault::Busy => Ending::Busy(content),
         HostFault::Memory => Ending::Fault(SessionFault::Memory),
-        HostFault::Absent | HostFault::Unwritable | HostFault::Failed => {
-            Ending::NotWritten(content, Unwritten::AsItWas)
-        }
+        HostFault::Absent
+        | HostFault::Denied
+        | HostFault::ReadOnly
+        | HostFault::Folder
+        | HostFault::NoFolder
+        | HostFault::Full
+        | HostFault::Links
+        | HostFault::Large
+        | HostFault::Changed
+        | HostFault::Pipe
+        | HostFault::Failed => { Ending::NotWritten(content, Unwritten::AsItWas) }
     }
 }
 
@@ -52,8 +68,16 @@ pub fn ending_of_first(fault: HostFault) -> Ending
     match fault {
         HostFault::Busy => Ending::Line(ProgramLine::HostExists),
         HostFault::Memory => Ending::Fault(SessionFault::Memory),
-        HostFault::Absent | HostFault::Unwritable | HostFault::Failed => {
-            Ending::NotWritten(Content::Image, Unwritten::AsItWas)
-        }
+        HostFault::Absent
+        | HostFault::Denied
+        | HostFault::ReadOnly
+        | HostFault::Folder
+        | HostFault::NoFolder
+        | HostFault::Full
+        | HostFault::Links
+        | HostFault::Large
+        | HostFault::Changed
+        | HostFault::Pipe
+        | HostFault::Failed => { Ending::NotWritten(Content::Image, Unwritten::AsItWas) }
     }
 }

@@ -1,18 +1,21 @@
 //! What the steps of the commands mean for who keeps images, as laws.
-ghost use Rattle.std.specs.Prelude.{◌≡◌, ℕ, List, Option, Some, true};
+ghost use Rattle.std.specs.Prelude.{◌≡◌, ℕ, List, Option, Some, Ok, true, false};
+ghost use Rattle.std.specs.Str.{bytes_eq};
 ghost use Rattle.hosts.specs.Event.{Event};
 ghost use Rattle.hosts.specs.Place.{Place, Leaves, may_leave, about, replay};
 ghost use Rattle.hosts.specs.Streams.{may_replace};
 ghost use Rattle.hosts.specs.declared.faults.Durability.TheVariants.{Certain};
+ghost use Rattle.hosts.specs.declared.faults.HostFault.{HostFault};
 ghost use Rattle.archive_files.specs.declared.faults.ArchiveFault.{ArchiveFault};
 ghost use Rattle.outcome.specs.declared.contents.Content.{Content};
 ghost use Rattle.outcome.specs.declared.endings.Ending.{Ending};
 ghost use Rattle.program_tasks.specs.declared.forms.ImageForm.{ImageForm};
 ghost use Rattle.image_files.specs.Answers.{Refuses};
-ghost use Rattle.image_files.specs.Laws.{KeepsFiles};
+ghost use Rattle.image_files.specs.Laws.{HasKeptKind, KeepsFiles};
 ghost use Rattle.image_files.specs.Inputs.{TakesInput};
 ghost use Rattle.image_files.specs.Reading.{Looks, LooksAt, LooksImage, Opens};
-ghost use Rattle.image_files.specs.Saving.{HasSaved, IsUnsaved, Prints};
+ghost use Rattle.image_files.specs.Saving.{HasSaved, IsUnsaved, Prints, Saves};
+ghost use Rattle.image_files.specs.declared.images.Image.{Image as Opened};
 ghost use Rattle.image_files.specs.declared.mending.ImageReading.{ImageReading as How};
 
 use hosts::laws;
@@ -29,7 +32,7 @@ pub fn saved_images()
 
 /// Such a file that could not be written, and is reported to be as it was, is after a crash what it might have been before.
 pub fn unsaved_images()
-    ensures { (content : Content) (path file : List ℕ) (old new : List Event) → IsUnsaved content path file old new
+    ensures { (content : Content) (path file : List ℕ) (fault : HostFault) (old new : List Event) → IsUnsaved content path file fault old new
         → (start : Place) (found : Option (List ℕ)) → Leaves (may_leave (replay start (about path new))) found
         → Leaves (may_leave (replay start (about path old))) found }
 {}
@@ -44,4 +47,10 @@ pub fn kept_files()
     ensures prints { (bytes : List ℕ) → KeepsFiles (Prints bytes) }
     ensures refuses { (fault : ArchiveFault) (size : ℕ) (old : List Event) (ending : Ending) (new : List Event) → Refuses fault size old ending new
         → (path : List ℕ) → about path new ≡ about path old }
+{}
+
+/// What a change saves is judged as what was read: the same volumes are meant, in the same place, and the file may be read in no other way.
+pub fn kept_kind()
+    ensures { (image : Opened) (bytes : List ℕ) (old new : List Event) → bytes_eq image.bytes.items bytes ≡ false
+        → Saves image bytes old (Ok tt) new → HasKeptKind image bytes old new }
 {}

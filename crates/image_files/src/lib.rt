@@ -6,15 +6,22 @@ mod dates;
 mod ending;
 mod faults;
 mod images;
+mod information;
 mod inputs;
+mod judging;
 pub mod laws;
+mod leftovers;
 mod making;
 mod mending;
 mod notes;
 mod pairs;
+mod places;
 mod printing;
 mod reading;
+mod reasons;
 mod saving;
+mod states;
+mod years;
 
 pub use answers::{
     answer_of, named_lines, open_volume, program_line, put_stored, show_file, stored_line,
@@ -22,10 +29,17 @@ pub use answers::{
 pub use dates::date_of_file;
 pub use ending::{Rooms, end, end_sound, tell_line};
 pub use images::Image;
+pub use information::take_words;
 pub use inputs::{given_bytes, input_bytes};
+pub use judging::{judge_file, refuse_kind};
+pub use leftovers::{images_among, is_leftover};
 pub use making::{make_file, make_first};
 pub use mending::{ImageReading, image_named, look_image};
 pub use notes::{refuse_image, tell_note};
 pub use pairs::{is_one_image, refuse_one};
-pub use printing::{print, store};
+pub use places::{keep_apart, tell_pair};
+pub use printing::{print, report, store};
 pub use reading::{ImagePlace, look_at, look_file, one_volume_in, script_volume_in, volume_in};
+pub use reasons::{tell_fault, tell_first, tell_reason};
+pub use states::{ChangeState, ImageNotes};
+pub use years::note_year;

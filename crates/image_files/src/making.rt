@@ -5,6 +5,7 @@ ghost use Rattle.image_files.specs.MakingSteps.{MakesNewFile};
 use crate::faults::{ending_of_file, ending_of_first};
 use crate::notes::tell;
 use crate::reading::tell_of_lock;
+use crate::reasons::{tell_first, tell_unheld};
 use crate::saving::write_file;
 use hosts::{Durability, Host, HostFault, hold_file, make};
 use outcome::{Content, Ending, FileNote};
@@ -23,14 +24,20 @@ pub fn make_file<H: Host>(
     match hold_file(host, alloc, name) {
         Ok(held) => {
             tell_of_lock(host, content, held.has_lock);
-            write_file(host, alloc, content, held.path.as_str(), bytes)
+            write_file(host, alloc, content, held.path.as_str(), name, bytes)
         }
         Err(fault) => match fault {
             HostFault::Absent => match make_new(host, alloc, content, name, bytes) {
                 Ok(()) => Ok(()),
-                Err(fault) => Err(ending_of_file(content, fault)),
+                Err(fault) => {
+                    tell_unheld(host, alloc, content, name, fault);
+                    Err(ending_of_file(content, fault))
+                }
             },
-            _ => Err(ending_of_file(content, fault)),
+            _ => {
+                tell_unheld(host, alloc, content, name, fault);
+                Err(ending_of_file(content, fault))
+            }
         },
     }
 }
@@ -46,7 +53,10 @@ pub fn make_first<H: Host>(
 {
     match make_new(host, alloc, Content::Image, name, bytes) {
         Ok(()) => Ok(()),
-        Err(fault) => Err(ending_of_first(fault)),
+        Err(fault) => {
+            tell_first(host, alloc, name, fault);
+            Err(ending_of_first(fault))
+        }
     }
 }
 

@@ -3,8 +3,9 @@ ghost use Rattle.std.specs.Prelude.{◌≡◌, ℕ, List};
 ghost use Rattle.hosts.specs.Place.{about};
 ghost use Rattle.hosts.specs.Streams.{output};
 ghost use Rattle.image_files.specs.Mending.{Mends, TellsLines};
-ghost use Rattle.image_files.specs.Reading.{LooksImage, LooksLeniently, file_named, reading_named, reading_of};
+ghost use Rattle.image_files.specs.Reading.{LooksIf, LooksImage, LooksLeniently, file_named, reading_named, reading_of};
 
+use crate::judging::judge_file;
 use crate::notes::tell;
 use crate::reading::look_file;
 use disk_layouts::Layout;
@@ -20,6 +21,9 @@ pub struct ImageReading {
     /// Where the volume lies in each, if that is given.
     pub layout: Option<Layout>,
 
+    /// Whether each is one volume from its first byte.
+    pub is_plain: bool,
+
     /// Whether the faults of a file are mended in memory.
     pub is_lenient: bool,
 }
@@ -31,6 +35,7 @@ impl ImageReading {
     {
         ImageReading {
             layout: form.layout,
+            is_plain: form.is_plain,
             is_lenient: form.is_lenient,
         }
     }
@@ -43,12 +48,23 @@ pub fn image_named(reading: ImageReading, name: &str) -> (&str, ImageReading)
     ensures reading { result.1 ≡ reading_named reading name.now }
 {
     let (file, layout) = volume_named(reading.layout, name);
-    let is_lenient = reading.is_lenient;
-    (file, ImageReading { layout, is_lenient })
+    let ImageReading {
+        layout: _,
+        is_plain,
+        is_lenient,
+    } = reading;
+    (
+        file,
+        ImageReading {
+            layout,
+            is_plain,
+            is_lenient,
+        },
+    )
 }
 
 /// The bytes of an image file that is only looked at. Where that is asked for its faults are mended in memory, and each is printed on
-/// standard error. No file changes, and standard output gets nothing (this project's profile).
+/// standard error. One that may be read in two ways is refused. No file changes, and standard output gets nothing (this project's profile).
 pub fn look_image<H: Host>(
     host: &mut H,
     alloc: Global,
@@ -59,8 +75,22 @@ pub fn look_image<H: Host>(
     ensures files { (path : List ℕ) → about path (H.history host.new) ≡ about path (H.history host.old) }
     ensures output { output (H.history host.new) ≡ output (H.history host.old) }
 {
+    let file = look_if(host, alloc, name, reading)?;
+    judge_file(host, alloc, name, reading.layout, reading.is_plain, &file)?;
+    Ok(file)
+}
+
+/// The bytes of an image file, with its faults mended where that is asked for.
+fn look_if<H: Host>(
+    host: &mut H,
+    alloc: Global,
+    name: &str,
+    reading: ImageReading,
+) -> Result<Vec<u8>, Ending>
+    ensures { LooksIf reading.is_lenient reading.layout reading.is_plain name.now (H.history host.old) result (H.history host.new) }
+{
     if reading.is_lenient {
-        return look_leniently(host, alloc, name, reading.layout);
+        return look_leniently(host, alloc, name, reading.layout, reading.is_plain);
     }
     look_file(host, alloc, name)
 }
@@ -71,11 +101,12 @@ fn look_leniently<H: Host>(
     alloc: Global,
     name: &str,
     given: Option<Layout>,
+    is_plain: bool,
 ) -> Result<Vec<u8>, Ending>
-    ensures { LooksLeniently given name.now (H.history host.old) result (H.history host.new) }
+    ensures { LooksLeniently given is_plain name.now (H.history host.old) result (H.history host.new) }
 {
     let file = look_file(host, alloc, name)?;
-    mended_bytes(host, alloc, name, given, file)
+    mended_bytes(host, alloc, name, given, is_plain, file)
 }
 
 /// The bytes of a mended file, of which each fault is printed.
@@ -84,11 +115,12 @@ fn mended_bytes<H: Host>(
     alloc: Global,
     name: &str,
     given: Option<Layout>,
+    is_plain: bool,
     file: Vec<u8>,
 ) -> Result<Vec<u8>, Ending>
-    ensures { Mends given name.now file.items (H.history host.old) result (H.history host.new) }
+    ensures { Mends given is_plain name.now file.items (H.history host.old) result (H.history host.new) }
 {
-    let it = mend_file(alloc, given, file)?;
+    let it = mend_file(alloc, given, is_plain, file)?;
     let lines = mended_text(alloc, name, &it)?;
     tell_lines(host, lines.as_str());
     let MendedFile {

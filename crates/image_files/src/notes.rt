@@ -8,7 +8,7 @@ ghost use Rattle.image_files.specs.Notes.{TellsOfImage};
 
 use archive_files::ArchiveFault;
 use hosts::Host;
-use outcome::{Ending, ImageNote, Note, image_note, size_text};
+use outcome::{Ending, ImageNote, Note, image_note, size_text, word_text};
 use std::alloc::{AllocError, Global};
 
 /// Prints a text on standard error. Where that takes no more, the work goes on.
@@ -46,5 +46,6 @@ fn tell_of_image<H: Host>(host: &mut H, note: ImageNote)
     match note {
         ImageNote::Plain(note) => tell(host, note.text()),
         ImageNote::Size(size) => tell(host, size_text(size).as_str()),
+        ImageNote::Word(number) => tell(host, word_text(number).as_str()),
     }
 }

@@ -1,9 +1,9 @@
 //! What is printed on standard output.
-ghost use Rattle.image_files.specs.Saving.{Prints, Stores};
+ghost use Rattle.image_files.specs.Saving.{Prints, Reports, Stores};
 
 use crate::faults::ending_of_print;
 use crate::images::Image;
-use hosts::Host;
+use hosts::{Host, PrintFault};
 use outcome::Ending;
 use std::alloc::Global;
 
@@ -28,5 +28,18 @@ pub fn store<H: Host>(
     ensures { Stores image bytes.now lines.now (H.history host.old) result (H.history host.new) }
 {
     image.save(host, alloc, bytes)?;
-    print(host, lines)
+    report(host, lines)
+}
+
+/// Prints lines that report a change of an image, which is made.
+pub fn report<H: Host>(host: &mut H, lines: &[u8]) -> Result<(), Ending>
+    ensures { Reports lines.now (H.history host.old) result (H.history host.new) }
+{
+    match host.print(lines) {
+        Ok(()) => Ok(()),
+        Err(fault) => match fault {
+            PrintFault::Abandoned => Err(Ending::NoReader),
+            PrintFault::Failed => Err(Ending::Unreported),
+        },
+    }
 }

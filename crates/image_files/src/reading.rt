@@ -1,5 +1,5 @@
 //! How image files are held and read. A file that a command may change is held from before it is read until the program ends.
-ghost use Rattle.std.specs.Prelude.{◌≡◌, ℕ, List};
+ghost use Rattle.std.specs.Prelude.{◌≡◌, ℕ, List, false};
 ghost use Rattle.hosts.specs.Place.{about};
 ghost use Rattle.hosts.specs.Streams.{output};
 ghost use Rattle.image_files.specs.Reading.{FindsForScript, FindsOne, FindsVolume, Holds, Looks, LooksAt, RefusesDisk, looked_name, with_lock_note};
@@ -8,6 +8,7 @@ ghost use Rattle.image_files.specs.ReadingSteps.{IsAnswer};
 use crate::faults::ending_of_image;
 use crate::mending::{ImageReading, look_image};
 use crate::notes::{tell, tell_note};
+use crate::reasons::{tell_fault, tell_unheld};
 use disk_layouts::{DiskFile, Layout};
 use hosts::{Host, HostFault, hold_file};
 use image_volumes::{
@@ -26,27 +27,50 @@ pub struct ImagePlace {
     /// Its path; nothing of one that is not held, since it may not be written.
     pub path: String,
     pub is_held: bool,
+
+    /// Its name, as it was given.
+    pub name: String,
+
+    /// Why it is not held; of one that is held this says nothing.
+    pub why: HostFault,
 }
 
-/// Holds an image file, unless it may not be written. No file changes.
+/// Holds an image file, unless it may not be written. Why it can't be held otherwise is printed. No file changes.
+#[tactic(auto, unfolding(crate::specs::Reading::IsUnheldImage))]
 pub(crate) fn hold<H: Host>(host: &mut H, alloc: Global, name: &str) -> Result<ImagePlace, Ending>
     ensures { Holds name.now (H.history host.old) result (H.history host.new) }
 {
+    let shown = String::from_str(alloc, name)?;
     match hold_file(host, alloc, name) {
         Ok(held) => {
             tell_of_lock(host, Content::Image, held.has_lock);
             Ok(ImagePlace {
                 path: held.path,
                 is_held: true,
+                name: shown,
+                why: HostFault::Failed,
             })
         }
         Err(fault) => match fault {
-            HostFault::Unwritable => Ok(ImagePlace {
-                path: String::new(alloc),
-                is_held: false,
-            }),
-            _ => Err(ending_of_image(fault)),
+            HostFault::Denied => Ok(unheld_place(alloc, shown, HostFault::Denied)),
+            HostFault::ReadOnly => Ok(unheld_place(alloc, shown, HostFault::ReadOnly)),
+            _ => {
+                tell_unheld(host, alloc, Content::Image, name, fault);
+                Err(ending_of_image(fault))
+            }
         },
+    }
+}
+
+/// The place of a file that is only read, since it may not be written by this fault.
+fn unheld_place(alloc: Global, name: String, why: HostFault) -> ImagePlace
+    ensures { (result.is_held ≡ false) × (result.name ≡ name) × (result.why ≡ why) }
+{
+    ImagePlace {
+        path: String::new(alloc),
+        is_held: false,
+        name,
+        why,
     }
 }
 
@@ -83,7 +107,7 @@ pub fn look_file<H: Host>(host: &mut H, alloc: Global, name: &str) -> Result<Vec
     within(host, alloc, name, found)
 }
 
-/// The bytes that were read, if they are not too many, of which a note is printed.
+/// The bytes that were read, if they are not too many. Why they are not is printed.
 fn within<H: Host>(
     host: &mut H,
     alloc: Global,
@@ -100,7 +124,10 @@ fn within<H: Host>(
             }
             Ok(bytes)
         }
-        Err(fault) => Err(ending_of_image(fault)),
+        Err(fault) => {
+            tell_fault(host, alloc, name, fault);
+            Err(ending_of_image(fault))
+        }
     }
 }
 
@@ -111,7 +138,7 @@ pub fn look_at<H: Host>(host: &mut H, alloc: Global, form: &ImageForm) -> Result
     ensures output { output (H.history host.new) ≡ output (H.history host.old) }
 {
     let file = look_image(host, alloc, form.file.as_str(), ImageReading::of(form))?;
-    one_volume_in(host, alloc, file, form.layout)
+    one_volume_in(host, alloc, file, form.layout, form.is_plain)
 }
 
 /// The image of the one volume in a file of these bytes: that of the layout that is given, or else the one that the file has by its kind. A
@@ -121,14 +148,15 @@ pub fn one_volume_in<H: Host>(
     alloc: Global,
     file: Vec<u8>,
     given: Option<Layout>,
+    is_plain: bool,
 ) -> Result<Vec<u8>, Ending>
-    ensures finds { FindsOne given file.items (H.history host.old) result (H.history host.new) }
+    ensures finds { FindsOne given is_plain file.items (H.history host.old) result (H.history host.new) }
     ensures files { (path : List ℕ) → about path (H.history host.new) ≡ about path (H.history host.old) }
     ensures output { output (H.history host.new) ≡ output (H.history host.old) }
 {
-    match volumes_in(given, &file) {
-        Volumes::One(layout) => volume_in(alloc, body_of(given, file), layout),
-        Volumes::Both => Err(refuse_disk(host, body_of(given, file).len())),
+    match volumes_in(given, is_plain, &file) {
+        Volumes::One(layout) => volume_in(alloc, body_of(given, is_plain, file), layout),
+        Volumes::Both => Err(refuse_disk(host, body_of(given, is_plain, file).len())),
     }
 }
 
@@ -139,10 +167,11 @@ pub fn script_volume_in<H: Host>(
     alloc: Global,
     file: Vec<u8>,
     given: Option<Layout>,
+    is_plain: bool,
 ) -> Result<Vec<u8>, Ending>
-    ensures { FindsForScript given file.items (H.history host.old) result (H.history host.new) }
+    ensures { FindsForScript given is_plain file.items (H.history host.old) result (H.history host.new) }
 {
-    let kind = script_kind(&file);
+    let kind = script_kind(is_plain, &file);
     let body = body_by(margins_with(given, kind), file);
     match volumes_with(given, kind) {
         Volumes::One(layout) => volume_in(alloc, body, layout),

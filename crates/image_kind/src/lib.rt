@@ -4,7 +4,10 @@
 //! In each contract a file is the list of its bytes.
 #![tactic(auto)]
 
+mod directories;
 mod heads;
 mod kinds;
+pub mod laws;
+mod names;
 
-pub use kinds::{Form, ImageKind, kind_of};
+pub use kinds::{Form, ImageKind, Readings, kind_of, readings_of};

@@ -2,8 +2,9 @@
 ghost use Rattle.std.specs.Prelude.{◌≡◌};
 ghost use Rattle.image_volumes.specs.Margins as spec;
 
+use crate::judging::judged_kind;
 use disk_layouts::Layout;
-use image_kind::{Form, ImageKind, kind_of};
+use image_kind::{Form, ImageKind};
 
 /// How many bytes before the volumes of a file, and how many after them, are none of theirs.
 #[derive(Clone, Copy, PartialEq, Eq, Debug)]
@@ -13,11 +14,11 @@ pub struct Margins {
 }
 
 /// How many bytes before and after the volumes of a file are none of theirs, as its length and its directories show. Where a layout is given
-/// these show it only for a file that may be read so (this project's profile).
-pub fn margins_in(given: Option<Layout>, file: &[u8]) -> Margins
-    ensures { result ≡ spec.margins_in given file.now }
+/// these show it only for a file that may be read so, and in a plain volume there are none (this project's profile).
+pub fn margins_in(given: Option<Layout>, is_plain: bool, file: &[u8]) -> Margins
+    ensures { result ≡ spec.margins_in given is_plain file.now }
 {
-    margins_with(given, kind_of(file))
+    margins_with(given, judged_kind(is_plain, file))
 }
 
 /// Those of a file of this kind, or of one that is unknown.
@@ -61,22 +62,22 @@ pub fn may_be(given: Option<Layout>, form: Form) -> bool
 }
 
 /// The bytes before the volumes of a file, those of the volumes, and those after them.
-pub fn parts_of(given: Option<Layout>, file: &[u8]) -> (&[u8], &[u8], &[u8])
-    ensures before { result.0.now ≡ spec.before_of given file.now }
-    ensures body { result.1.now ≡ spec.body_of given file.now }
-    ensures after { result.2.now ≡ spec.after_of given file.now }
+pub fn parts_of(given: Option<Layout>, is_plain: bool, file: &[u8]) -> (&[u8], &[u8], &[u8])
+    ensures before { result.0.now ≡ spec.before_of given is_plain file.now }
+    ensures body { result.1.now ≡ spec.body_of given is_plain file.now }
+    ensures after { result.2.now ≡ spec.after_of given is_plain file.now }
 {
-    let margins = margins_in(given, file);
+    let margins = margins_in(given, is_plain, file);
     let (before, rest) = file.split_at(margins.before.min(file.len()));
     let (body, after) = rest.split_at(rest.len().saturating_sub(margins.after));
     (before, body, after)
 }
 
 /// The bytes of the volumes of a file. No memory is taken.
-pub fn body_of(given: Option<Layout>, file: Vec<u8>) -> Vec<u8>
-    ensures { result.items ≡ spec.body_of given file.items }
+pub fn body_of(given: Option<Layout>, is_plain: bool, file: Vec<u8>) -> Vec<u8>
+    ensures { result.items ≡ spec.body_of given is_plain file.items }
 {
-    let margins = margins_in(given, &file);
+    let margins = margins_in(given, is_plain, &file);
     body_by(margins, file)
 }
 

@@ -2,8 +2,9 @@
 ghost use Rattle.std.specs.Prelude.{◌≡◌};
 ghost use Rattle.image_volumes.specs.Volumes as spec;
 
+use crate::judging::judged_kind;
 use disk_layouts::Layout;
-use image_kind::{Form, ImageKind, kind_of};
+use image_kind::{Form, ImageKind};
 use word12::{BLOCK, MOST_BLOCKS};
 
 /// Which volumes of a file are meant.
@@ -17,12 +18,12 @@ pub enum Volumes {
 }
 
 /// Which volumes of a file are meant: the one of the layout that is given, or else those of what the file is by its length and its
-/// directories. What is unknown is one volume (OS/8's use of the RK05 and of the DECtape; that what is given decides is this project's
-/// profile).
-pub fn volumes_in(given: Option<Layout>, file: &[u8]) -> Volumes
-    ensures { result ≡ spec.volumes_in given file.now }
+/// directories. What is unknown, or taken as a plain volume, is one (OS/8's use of the RK05 and of the DECtape; that what is given decides
+/// is this project's profile).
+pub fn volumes_in(given: Option<Layout>, is_plain: bool, file: &[u8]) -> Volumes
+    ensures { result ≡ spec.volumes_in given is_plain file.now }
 {
-    volumes_with(given, kind_of(file))
+    volumes_with(given, judged_kind(is_plain, file))
 }
 
 /// Which volumes of a file are meant that is of this kind, or is unknown: the one of the layout that is given, or else those of the kind.
@@ -51,11 +52,11 @@ fn volumes_of(form: Form) -> Volumes
 
 /// What a file is taken for where a script runs over it. Whole blocks, at most as many as a volume has, are of no kind and so are one volume,
 /// whatever stands in them. Other files are what their length and their directories show (this project's profile).
-pub fn script_kind(file: &[u8]) -> Option<ImageKind>
-    ensures { result ≡ spec.script_kind file.now }
+pub fn script_kind(is_plain: bool, file: &[u8]) -> Option<ImageKind>
+    ensures { result ≡ spec.script_kind is_plain file.now }
 {
     if file.len() % (2 * BLOCK) == 0 && file.len() <= 2 * BLOCK * MOST_BLOCKS {
         return None;
     }
-    kind_of(file)
+    judged_kind(is_plain, file)
 }

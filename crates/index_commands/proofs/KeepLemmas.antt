@@ -1,5 +1,5 @@
 -- The index of images changes no file.
-use Rattle.std.proofs.Common.{◌≡◌, ◌∙◌, ℕ, ◌+◌, Bool, true, false, Option, None, Result, Ok, Err, List, [], ◌∷◌, length, ap, inl, inr}
+use Rattle.std.proofs.Common.{◌≡◌, ◌∙◌, ℕ, ◌+◌, Bool, true, false, Option, None, Result, Ok, Err, List, [], ◌∷◌, length, map, ap, inl, inr}
 use Rattle.std.specs.Global.{Vec}
 use Rattle.hosts.specs.Event.{Event}
 use Rattle.hosts.specs.Place.{about}
@@ -7,21 +7,23 @@ use Rattle.disk_layouts.specs.declared.layouts.Layout.{Layout}
 use Rattle.program_reports.specs.Program.{program_line}
 use Rattle.program_reports.specs.Prefixes.{with_prefixes}
 use Rattle.outcome.specs.declared.endings.Ending.{Ending}
-use Rattle.outcome.specs.declared.endings.Ending.TheVariants.{Line, Fault, Failure, Busy, NotWritten, FullOutput, NoReader, Misuse}
+use Rattle.outcome.specs.declared.endings.Ending.TheVariants.{Line, Fault, Failure, Busy, NotWritten, FullOutput, Unreported, NoReader, Misuse}
 use Rattle.volume_index.specs.declared.styles.IndexStyle.{IndexStyle}
 use Rattle.image_files.specs.Ending.{TellsLine}
 use Rattle.image_files.specs.Laws.{KeepsFiles}
+use Rattle.image_files.specs.Leftovers.{ChoosesImages}
 use Rattle.image_files.specs.declared.mending.ImageReading.{ImageReading}
 use Rattle.image_files.specs.Reading.{LooksImage, file_named, reading_named}
 use Rattle.image_files.specs.Saving.{Prints}
 use Rattle.image_files.specs.Work.{Then, Purely}
+use Rattle.image_files.proofs.KeepLemmas.{refuses-keeps as image-refused}
 use Rattle.host_progress.specs.Progressing.{BeginsProgress, EndsProgress, TellsDone, TellsProgress}
 use Rattle.index_commands.specs.Columns.{ChoosesColumns, Shows, lines_in}
 use Rattle.index_commands.specs.declared.columns.Columns.{Columns}
 use Rattle.index_commands.specs.declared.columns.LineShape.{LineShape}
 use Rattle.index_commands.specs.Found.{FindsSame, IsFound, KeepsLines, ShowsSame, TakesLines}
 use Rattle.index_commands.specs.declared.found.Found.{Found}
-use Rattle.index_commands.specs.Indexing.{ChecksWord, EndsIndex, Indexes, IndexesAll, IndexesImage, IndexesImages, IndexesInColumns, IndexesNext, IndexesRead, IndexesVolume, IndexesVolumes, IndexesWith, ShowsIndex, ending_of_refusal}
+use Rattle.index_commands.specs.Indexing.{ChecksWord, EndsIndex, Indexes, IndexesAll, IndexesAmong, IndexesImage, IndexesImages, IndexesInColumns, IndexesNext, IndexesRead, IndexesVolume, IndexesVolumes, IndexesWith, ShowsIndex, ending_of_refusal, GivesIndex}
 use Rattle.index_commands.specs.Refusing.{PassesOver, RefusesVolume, prefix_of}
 use Rattle.index_commands.specs.Volumes.{body_of, layouts_in, number_of}
 
@@ -56,6 +58,8 @@ passes-keeps name number (NotWritten content left) old (Ok it) new p path = absu
 passes-keeps name number (NotWritten content left) old (Err ended) new p path = same path p.1
 passes-keeps name number FullOutput old (Ok it) new p path = absurd p
 passes-keeps name number FullOutput old (Err ended) new p path = same path p.1
+passes-keeps name number Unreported old (Ok it) new p path = absurd p
+passes-keeps name number Unreported old (Err ended) new p path = same path p.1
 passes-keeps name number NoReader old (Ok it) new p path = absurd p
 passes-keeps name number NoReader old (Err ended) new p path = same path p.1
 passes-keeps name number Misuse old (Ok it) new p path = absurd p
@@ -84,8 +88,14 @@ index-keeps : PrintsKeep → (columns : Columns) (name : List ℕ) (number : Opt
 index-keeps prints columns name number (Ok lines) is_refused kept = takes-keeps prints columns.shape.is_same columns is_refused kept lines.items
 index-keeps prints columns name number (Err ending) is_refused kept = refuses-keeps name number ending kept
 
+gives-keeps : (style : IndexStyle) (name bytes : List ℕ) (layout : Option Layout) → KeepsFiles (GivesIndex style name bytes layout)
+gives-keeps style name bytes layout old (Ok lines) new (image, is, gives, p) path = same path p
+gives-keeps style name bytes layout old (Err ending) new (inl (is, p)) path = same path p
+gives-keeps style name bytes layout old (Err ending) new (inr (image, is, fault, gives, refuses)) path = image-refused path fault (length image) old ending new refuses
+
 volume-keeps : PrintsKeep → (columns : Columns) (style : IndexStyle) (name bytes : List ℕ) (layout : Option Layout) (is_refused : Bool) (kept : List ℕ) → KeepsFiles (IndexesVolume columns style name bytes layout is_refused kept)
-volume-keeps prints columns style name bytes layout is_refused kept old result new (lines, gives, p) path = index-keeps prints columns name (number_of layout) lines is_refused kept old result new p path
+volume-keeps prints columns style name bytes layout is_refused kept old result new (lines, between, gives, p) path =
+    index-keeps prints columns name (number_of layout) lines is_refused kept between result new p path ∙ gives-keeps style name bytes layout old lines between gives path
 
 -- ## A file
 
@@ -95,13 +105,13 @@ volumes-keeps prints columns style name bytes (layout ∷ layouts) is_refused ke
     then-keeps (IndexesVolume columns style name bytes layout is_refused kept) (λ (found : Found). IndexesVolumes columns style name bytes layouts found.is_refused found.lines.items)
     (volume-keeps prints columns style name bytes layout is_refused kept) (λ (found : Found). volumes-keeps prints columns style name bytes layouts found.is_refused found.lines.items)
 
-read-keeps : PrintsKeep → (columns : Columns) (style : IndexStyle) (layout : Option Layout) (name : List ℕ) (file : Result (Vec ℕ) Ending) (is_refused : Bool) (kept : List ℕ) → KeepsFiles (IndexesRead columns style layout name file is_refused kept)
-read-keeps prints columns style layout name (Ok file) is_refused kept = volumes-keeps prints columns style name (body_of layout file.items) (layouts_in layout file.items) is_refused kept
-read-keeps prints columns style layout name (Err ending) is_refused kept = refuses-keeps name None ending kept
+read-keeps : PrintsKeep → (columns : Columns) (style : IndexStyle) (layout : Option Layout) (is_plain : Bool) (name : List ℕ) (file : Result (Vec ℕ) Ending) (is_refused : Bool) (kept : List ℕ) → KeepsFiles (IndexesRead columns style layout is_plain name file is_refused kept)
+read-keeps prints columns style layout is_plain name (Ok file) is_refused kept = volumes-keeps prints columns style name (body_of layout is_plain file.items) (layouts_in layout is_plain file.items) is_refused kept
+read-keeps prints columns style layout is_plain name (Err ending) is_refused kept = refuses-keeps name None ending kept
 
 image-keeps : LooksKeep → PrintsKeep → (columns : Columns) (style : IndexStyle) (reading : ImageReading) (name : List ℕ) (is_refused : Bool) (kept : List ℕ) → KeepsFiles (IndexesImage columns style reading name is_refused kept)
 image-keeps looks prints columns style reading name is_refused kept old result new (file, between, looked, p) path =
-    read-keeps prints columns style reading.layout name file is_refused kept between result new p path ∙ looks reading name old file between looked path
+    read-keeps prints columns style reading.layout reading.is_plain name file is_refused kept between result new p path ∙ looks reading name old file between looked path
 
 -- ## All images
 
@@ -164,10 +174,12 @@ word-keeps word old (Err Failure) new p path = absurd p
 word-keeps word old (Err (Busy content)) new p path = absurd p
 word-keeps word old (Err (NotWritten content left)) new p path = absurd p
 word-keeps word old (Err FullOutput) new p path = absurd p
+word-keeps word old (Err Unreported) new p path = absurd p
 word-keeps word old (Err NoReader) new p path = absurd p
 word-keeps word old (Err Misuse) new (is, ok, p) path = same path p
 
 pub indexes-keeps : LooksKeep → PrintsKeep → (style : IndexStyle) (shape : LineShape) (reading : ImageReading) (names : List (List ℕ)) → KeepsFiles (Indexes style shape reading names)
 indexes-keeps looks prints style shape reading names =
-    then-keeps (ChecksWord style.find.bytes.items) (λ it. IndexesInColumns style shape reading names) (word-keeps style.find.bytes.items)
-    (λ it. then-keeps (ChoosesColumns shape names) (IndexesWith style reading names) (chooses-keeps shape names) (with-keeps looks prints style reading names))
+    then-keeps (ChecksWord style.find.bytes.items) (λ it. IndexesAmong style shape reading names) (word-keeps style.find.bytes.items)
+    (λ it. then-keeps (Purely (ChoosesImages names)) (λ images. IndexesInColumns style shape reading (map (λ image. image.bytes.items) images.items)) (purely-keeps (ChoosesImages names))
+    (λ images. then-keeps (ChoosesColumns shape (map (λ image. image.bytes.items) images.items)) (IndexesWith style reading (map (λ image. image.bytes.items) images.items)) (chooses-keeps shape (map (λ image. image.bytes.items) images.items)) (with-keeps looks prints style reading (map (λ image. image.bytes.items) images.items))))

@@ -1,5 +1,5 @@
 -- The command that writes the index of many images (this project's profile).
-use Rattle.std.specs.Prelude.{◌≡◌, ◌⊎◌, ℕ, ◌+◌, Bool, true, false, codes, Option, None, Result, Ok, Err, List, [], ◌∷◌, length}
+use Rattle.std.specs.Prelude.{◌≡◌, ◌⊎◌, ℕ, ◌+◌, Bool, true, false, codes, Option, None, Result, Ok, Err, List, [], ◌∷◌, length, map}
 use Rattle.std.specs.Global.{Vec}
 use Rattle.hosts.specs.Event.{Event, tell_call}
 use Rattle.disk_layouts.specs.declared.layouts.Layout.{Layout}
@@ -7,9 +7,10 @@ use Rattle.name_patterns.specs.Patterns.{is_choice}
 use Rattle.archive_files.specs.declared.faults.ArchiveFault.{ArchiveFault}
 use Rattle.volume_index.specs.Indexing.{Indexes as GivesLines}
 use Rattle.volume_index.specs.declared.styles.IndexStyle.{IndexStyle}
-use Rattle.outcome.specs.Endings.{ending_of_archive}
 use Rattle.outcome.specs.declared.endings.Ending.{Ending}
 use Rattle.outcome.specs.declared.endings.Ending.TheVariants.{Failure, Misuse}
+use Rattle.image_files.specs.Leftovers.{ChoosesImages}
+use Rattle.image_files.specs.Answers.{Refuses}
 use Rattle.image_files.specs.Work.{Then, Purely}
 use Rattle.image_files.specs.declared.mending.ImageReading.{ImageReading}
 use Rattle.image_files.specs.Reading.{LooksImage, file_named, reading_named}
@@ -25,11 +26,11 @@ use Rattle.index_commands.specs.Volumes.{IsImageAt, IsNoImage, body_of, layouts_
 -- ## A volume
 
 -- The lines of the files that are wanted of the volume that lies so in these bytes, or why there are none. The reason is that it doesn't lie there,
--- or is refused as a plain list of it is.
-abbrev pub GivesIndex : IndexStyle → List ℕ → List ℕ → Option Layout → Result (Vec ℕ) Ending → Type 0
-GivesIndex style name bytes layout (Ok lines) = (image : List ℕ) × IsImageAt layout bytes image × GivesLines style name (number_of layout) image (Ok lines)
-GivesIndex style name bytes layout (Err ending) = IsNoImage layout bytes ending
-    ⊎ ((image : List ℕ) × IsImageAt layout bytes image × (fault : ArchiveFault) × GivesLines style name (number_of layout) image (Err fault) × (ending ≡ ending_of_archive fault))
+-- or is refused as a plain list of it is, and then what may help is printed.
+abbrev pub GivesIndex : IndexStyle → List ℕ → List ℕ → Option Layout → List Event → Result (Vec ℕ) Ending → List Event → Type 0
+GivesIndex style name bytes layout old (Ok lines) new = (image : List ℕ) × IsImageAt layout bytes image × GivesLines style name (number_of layout) image (Ok lines) × (new ≡ old)
+GivesIndex style name bytes layout old (Err ending) new = (IsNoImage layout bytes ending × (new ≡ old))
+    ⊎ ((image : List ℕ) × IsImageAt layout bytes image × (fault : ArchiveFault) × GivesLines style name (number_of layout) image (Err fault) × Refuses fault (length image) old ending new)
 
 -- its lines are taken, or the volume is passed over
 abbrev pub ShowsIndex : Columns → List ℕ → Option ℕ → Result (Vec ℕ) Ending → Bool → List ℕ → List Event → Result Found Ending → List Event → Type 0
@@ -39,7 +40,7 @@ ShowsIndex columns name number (Err ending) is_refused kept = RefusesVolume name
 -- The index of a volume is made whole before a line of it is taken. Before it a volume may be refused, and lines wait.
 abbrev pub IndexesVolume : Columns → IndexStyle → List ℕ → List ℕ → Option Layout → Bool → List ℕ → List Event → Result Found Ending → List Event → Type 0
 IndexesVolume columns style name bytes layout is_refused kept old result new =
-    (lines : Result (Vec ℕ) Ending) × GivesIndex style name bytes layout lines × ShowsIndex columns name (number_of layout) lines is_refused kept old result new
+    (lines : Result (Vec ℕ) Ending) × (between : List Event) × GivesIndex style name bytes layout old lines between × ShowsIndex columns name (number_of layout) lines is_refused kept between result new
 
 -- ## A file
 
@@ -50,14 +51,14 @@ IndexesVolumes columns style name bytes (layout ∷ layouts) is_refused kept =
     Then (IndexesVolume columns style name bytes layout is_refused kept) (λ found. IndexesVolumes columns style name bytes layouts found.is_refused found.lines.items)
 
 -- those of a file that was read; one that can't be read is passed over
-abbrev pub IndexesRead : Columns → IndexStyle → Option Layout → List ℕ → Result (Vec ℕ) Ending → Bool → List ℕ → List Event → Result Found Ending → List Event → Type 0
-IndexesRead columns style layout name (Ok file) is_refused kept = IndexesVolumes columns style name (body_of layout file.items) (layouts_in layout file.items) is_refused kept
-IndexesRead columns style layout name (Err ending) is_refused kept = RefusesVolume name None ending kept
+abbrev pub IndexesRead : Columns → IndexStyle → Option Layout → Bool → List ℕ → Result (Vec ℕ) Ending → Bool → List ℕ → List Event → Result Found Ending → List Event → Type 0
+IndexesRead columns style layout is_plain name (Ok file) is_refused kept = IndexesVolumes columns style name (body_of layout is_plain file.items) (layouts_in layout is_plain file.items) is_refused kept
+IndexesRead columns style layout is_plain name (Err ending) is_refused kept = RefusesVolume name None ending kept
 
 -- an image file is read whole, and then its volumes
 abbrev pub IndexesImage : Columns → IndexStyle → ImageReading → List ℕ → Bool → List ℕ → List Event → Result Found Ending → List Event → Type 0
 IndexesImage columns style reading name is_refused kept old result new =
-    (file : Result (Vec ℕ) Ending) × (between : List Event) × LooksImage reading name old file between × IndexesRead columns style reading.layout name file is_refused kept between result new
+    (file : Result (Vec ℕ) Ending) × (between : List Event) × LooksImage reading name old file between × IndexesRead columns style reading.layout reading.is_plain name file is_refused kept between result new
 
 -- ## The command
 
@@ -99,6 +100,10 @@ ChecksWord word old (Err Misuse) new =
     (is_choice word ≡ false) × (ok : Bool) × (new ≡ tell_call ok (codes "error: --find takes a name, or a pattern of letters, digits, * and ?\n") ∷ old)
 ChecksWord word old (Err _) new = ⊥
 
+-- of several names those of files are left out that a writer which was ended may have left
+abbrev pub IndexesAmong : IndexStyle → LineShape → ImageReading → List (List ℕ) → List Event → Result (Unit {0}) Ending → List Event → Type 0
+IndexesAmong style shape reading names = Then (Purely (ChoosesImages names)) (λ images. IndexesInColumns style shape reading (map (λ image. image.bytes.items) images.items))
+
 -- The word that chooses files is looked at, and then the index of all images is printed.
 abbrev pub Indexes : IndexStyle → LineShape → ImageReading → List (List ℕ) → List Event → Result (Unit {0}) Ending → List Event → Type 0
-Indexes style shape reading names = Then (ChecksWord style.find.bytes.items) (λ it. IndexesInColumns style shape reading names)
+Indexes style shape reading names = Then (ChecksWord style.find.bytes.items) (λ it. IndexesAmong style shape reading names)

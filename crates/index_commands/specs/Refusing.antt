@@ -1,5 +1,6 @@
 -- Images that are passed over (this project's profile).
 use Rattle.std.specs.Prelude.{◌≡◌, ℕ, true, codes, decimal, Option, Some, None, Result, Ok, Err, List, [], ◌∷◌, ◌++◌}
+use Rattle.shown_text.specs.Showing.{shown_text}
 use Rattle.hosts.specs.Event.{Event}
 use Rattle.script8.specs.declared.faults.SessionFault.TheVariants.{Memory}
 use Rattle.program_reports.specs.Program.{program_line}
@@ -16,9 +17,9 @@ abbrev pub number_text : Option ℕ → List ℕ
 number_text None = []
 number_text (Some number) = 0o72 ∷ decimal number
 
--- what stands before the line of a refusal
+-- what stands before the line of a refusal: the name as it is shown
 abbrev pub prefix_of : List ℕ → Option ℕ → List ℕ
-prefix_of name number = name ++ number_text number ++ codes ": "
+prefix_of name number = shown_text name ++ number_text number ++ codes ": "
 
 -- A volume is refused with a line, which standard error gets with the volume's name before it; the work goes on. Want of memory, and what else
 -- is no refusal, ends it.

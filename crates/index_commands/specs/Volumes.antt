@@ -1,5 +1,5 @@
 -- The volumes of an image file of unknown origin (this project's profile; the layouts are those of OS/8).
-use Rattle.std.specs.Prelude.{◌≡◌, ℕ, ◌-◌, Option, Some, None, List, [], ◌∷◌, Err, drop, length, take}
+use Rattle.std.specs.Prelude.{◌≡◌, ℕ, ◌-◌, Bool, Option, Some, None, List, [], ◌∷◌, Err, drop, length, take}
 use Rattle.disk_layouts.specs.Disks.{FitsLayout, IsImageIn}
 use Rattle.disk_layouts.specs.Files.{Opens}
 use Rattle.disk_layouts.specs.declared.faults.DiskFault.TheVariants as disk
@@ -8,7 +8,7 @@ use Rattle.disk_layouts.specs.declared.layouts.Layout.TheVariants as layout
 use Rattle.image_kind.specs.declared.kinds.Form.{Form}
 use Rattle.image_kind.specs.declared.kinds.Form.TheVariants as form
 use Rattle.image_kind.specs.declared.kinds.ImageKind.{ImageKind}
-use Rattle.image_kind.specs.Kinds.{kind_of}
+use Rattle.image_volumes.specs.Judging.{judged_kind}
 use Rattle.script8.specs.declared.faults.SessionFault.TheVariants.{Memory}
 use Rattle.program_reports.specs.declared.programs.ProgramLine.TheVariants as line
 use Rattle.outcome.specs.declared.endings.Ending.{Ending}
@@ -22,9 +22,9 @@ body_in None file = file
 body_in (Some kind) file = take (length file - kind.before - kind.after) (drop kind.before file)
 
 -- where a layout is given, all bytes are taken
-abbrev pub body_of : Option Layout → List ℕ → List ℕ
-body_of (Some layout) file = file
-body_of None file = body_in (kind_of file) file
+abbrev pub body_of : Option Layout → Bool → List ℕ → List ℕ
+body_of (Some layout) is_plain file = file
+body_of None is_plain file = body_in (judged_kind is_plain file) file
 
 -- ## The volumes
 
@@ -39,9 +39,9 @@ layouts_by None = None ∷ []
 layouts_by (Some kind) = layouts_of kind.form
 
 -- where each volume lies: as it is given, or else as the file's length and its directory show
-abbrev pub layouts_in : Option Layout → List ℕ → List (Option Layout)
-layouts_in (Some layout) file = Some layout ∷ []
-layouts_in None file = layouts_by (kind_of file)
+abbrev pub layouts_in : Option Layout → Bool → List ℕ → List (Option Layout)
+layouts_in (Some layout) is_plain file = Some layout ∷ []
+layouts_in None is_plain file = layouts_by (judged_kind is_plain file)
 
 -- the number of a volume of a disk
 abbrev pub number_of : Option Layout → Option ℕ

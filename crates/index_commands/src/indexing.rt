@@ -1,6 +1,6 @@
 ghost use Rattle.std.specs.Prelude.{◌≡◌, Some, false, ◌∷◌, [], length, map};
 ghost use Rattle.image_kind.specs.declared.kinds.Form.TheVariants.{Disk};
-ghost use Rattle.index_commands.specs.Indexing.{ChecksWord, EndsIndex, GivesIndex, Indexes, IndexesAll, IndexesImage, IndexesImages, IndexesInColumns, IndexesNext, IndexesVolume, IndexesVolumes, IndexesWith, ending_of_refusal};
+ghost use Rattle.index_commands.specs.Indexing.{ChecksWord, EndsIndex, GivesIndex, Indexes, IndexesAll, IndexesAmong, IndexesImage, IndexesImages, IndexesInColumns, IndexesNext, IndexesVolume, IndexesVolumes, IndexesWith, ending_of_refusal};
 ghost use Rattle.index_commands.specs.Indexing as spec;
 ghost use Rattle.index_commands.specs.Volumes.{body_of, layouts_in, layouts_of};
 
@@ -12,8 +12,9 @@ use archive_many::{ChoiceFault, choose_files};
 use disk_layouts::Layout;
 use host_progress::Progress;
 use hosts::Host;
-use image_files::{ImageReading, image_named, look_image};
-use image_kind::{Form, kind_of};
+use image_files::{ImageReading, image_named, images_among, look_image, refuse_image};
+use image_kind::Form;
+use image_volumes::judged_kind;
 use outcome::Ending;
 use std::alloc::Global;
 use volume_index::{IndexStyle, index_volume};
@@ -35,7 +36,22 @@ pub fn index_images<H: Host>(
     ensures { Indexes style.now shape reading (map (λ image. image.bytes.items) images.now) (H.history host.old) result (H.history host.new) }
 {
     check_word(host, alloc, style.find.as_bytes())?;
-    index_in_columns(host, alloc, style, shape, images, reading)
+    index_among(host, alloc, style, shape, images, reading)
+}
+
+/// Prints the index of all image files, without those that a writer which was ended may have left.
+fn index_among<H: Host>(
+    host: &mut H,
+    alloc: Global,
+    style: &IndexStyle,
+    shape: LineShape,
+    names: &[String],
+    reading: ImageReading,
+) -> Result<(), Ending>
+    ensures { IndexesAmong style.now shape reading (map (λ image. image.bytes.items) names.now) (H.history host.old) result (H.history host.new) }
+{
+    let images = images_among(alloc, names)?;
+    index_in_columns(host, alloc, style, shape, &images, reading)
 }
 
 /// Prints the index of all image files, in columns that line up at a terminal.
@@ -199,6 +215,7 @@ fn index_image<H: Host>(
             name.as_bytes(),
             &file,
             reading.layout,
+            reading.is_plain,
             found,
         ),
         Err(ending) => refuse_volume(host, alloc, name.as_bytes(), None, ending, found),
@@ -214,14 +231,15 @@ fn index_file<H: Host>(
     name: &[u8],
     file: &[u8],
     layout: Option<Layout>,
+    is_plain: bool,
     found: Found,
 ) -> Result<Found, Ending>
-    ensures { IndexesVolumes columns.now style.now name.now (body_of layout file.now) (layouts_in layout file.now) found.is_refused found.lines.items (H.history host.old) result (H.history host.new) }
+    ensures { IndexesVolumes columns.now style.now name.now (body_of layout is_plain file.now) (layouts_in layout is_plain file.now) found.is_refused found.lines.items (H.history host.old) result (H.history host.new) }
 {
     if let Some(given) = layout {
         return index_alone(host, alloc, columns, style, name, file, Some(given), found);
     }
-    let kind = kind_of(file);
+    let kind = judged_kind(is_plain, file);
     let bytes = body_in(kind, file);
     match kind {
         None => index_alone(host, alloc, columns, style, name, bytes, None, found),
@@ -324,42 +342,46 @@ fn index_one<H: Host>(
     ensures { IndexesVolume columns.now style.now name.now bytes.now layout found.is_refused found.lines.items (H.history host.old) result (H.history host.new) }
 {
     let number = number_of(layout);
-    match lines_of(alloc, style, name, bytes, layout) {
+    match lines_of(host, alloc, style, name, bytes, layout) {
         Ok(lines) => take_lines(host, alloc, columns, &lines, found),
         Err(ending) => refuse_volume(host, alloc, name, number, ending, found),
     }
 }
 
-/// The lines of the volume that lies so in bytes.
-fn lines_of(
+/// The lines of the volume that lies so in bytes. Where it is refused, what may help is printed.
+fn lines_of<H: Host>(
+    host: &mut H,
     alloc: Global,
     style: &IndexStyle,
     name: &[u8],
     bytes: &[u8],
     layout: Option<Layout>,
 ) -> Result<Vec<u8>, Ending>
-    ensures { GivesIndex style.now name.now bytes.now layout result }
+    ensures { GivesIndex style.now name.now bytes.now layout (H.history host.old) result (H.history host.new) }
 {
     match layout {
-        None => {
-            let lines = index_volume(alloc, style, name, None, bytes)?;
-            Ok(lines)
-        }
-        Some(layout) => lines_at(alloc, style, name, bytes, layout),
+        None => match index_volume(alloc, style, name, None, bytes) {
+            Ok(lines) => Ok(lines),
+            Err(fault) => Err(refuse_image(host, bytes.len(), fault)),
+        },
+        Some(layout) => lines_at(host, alloc, style, name, bytes, layout),
     }
 }
 
 /// The lines of the volume that lies in bytes as in a disk or a DECtape.
-fn lines_at(
+fn lines_at<H: Host>(
+    host: &mut H,
     alloc: Global,
     style: &IndexStyle,
     name: &[u8],
     bytes: &[u8],
     layout: Layout,
 ) -> Result<Vec<u8>, Ending>
-    ensures { GivesIndex style.now name.now bytes.now (Some layout) result }
+    ensures { GivesIndex style.now name.now bytes.now (Some layout) (H.history host.old) result (H.history host.new) }
 {
     let image = volume_at(alloc, bytes, layout)?;
-    let lines = index_volume(alloc, style, name, number_of(Some(layout)), &image)?;
-    Ok(lines)
+    match index_volume(alloc, style, name, number_of(Some(layout)), &image) {
+        Ok(lines) => Ok(lines),
+        Err(fault) => Err(refuse_image(host, image.len(), fault)),
+    }
 }

@@ -10,6 +10,7 @@ use crate::found::Found;
 use hosts::Host;
 use outcome::Ending;
 use program_reports::{ProgramLine, put_program, with_prefix};
+use shown_text::put_shown;
 use std::alloc::{AllocError, Global};
 
 /// Says on standard error why a volume is refused, which is counted; what is no refusal ends the command.
@@ -47,7 +48,7 @@ fn pass_over<H: Host>(
     }
 }
 
-/// The line of a refusal with the name of the volume before it.
+/// The line of a refusal with the name of the volume before it, which is shown with escapes where it isn't graphic.
 fn refusal(
     alloc: Global,
     name: &[u8],
@@ -58,7 +59,8 @@ fn refusal(
 {
     let mut text = Vec::new(alloc);
     put_program(line, &mut text)?;
-    let mut prefix = name.to_vec(alloc)?;
+    let mut prefix = Vec::new(alloc);
+    put_shown(&mut prefix, name)?;
     put_number(&mut prefix, number)?;
     prefix.extend_from_slice(b": ")?;
     let lines = with_prefix(alloc, &prefix, &text)?;

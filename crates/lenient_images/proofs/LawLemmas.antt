@@ -52,28 +52,28 @@ within_half : (z b a s : ℕ) → z ≡ s → (s - b - a) / 2 ≤ (z - b) / 2
 within_half z b a s e = omega arith
 
 pub sound_stays : SoundStays
-sound_stays given file it bo bn mended sound =
-    let s = first_of given file in
-    let n = words_of given file in
+sound_stays given is_plain file it bo bn mended sound =
+    let s = first_of given is_plain file in
+    let n = words_of given is_plain file in
     let size : length it.bytes.items ≡ length file = mended.size ∙ sound.size in
     record {
       same = same_bytes it.bytes.items file s n bn bo size
           (λ k h. mended.words k h ∙ small_rest (word_from file s k) (sound.words k h))
           (λ j h out. mended.others j (let z = mended.size in omega (arith, z, h)) out)
           (within_half _ _ _ _ mended.size);
-      wide = mended.wide ∙ none_wide (block_words (volumes_in given file)) file s n sound.words;
+      wide = mended.wide ∙ none_wide (block_words (volumes_in given is_plain file)) file s n sound.words;
       zeros = (let is = mended.zeros in let same = sound.size in omega (arith, is, same));
       cut = (let is = mended.cut in let same = sound.size in omega (arith, is, same));
     }
 
 pub listed_are_wide : ListedAreWide
-listed_are_wide given file it mended =
-    let all : All (IsWide given file) (wide_words (block_words (volumes_in given file)) file (first_of given file) (words_of given file)) =
-    all_wide (IsWide given file) (block_words (volumes_in given file)) file (first_of given file) (words_of given file)
+listed_are_wide given is_plain file it mended =
+    let all : All (IsWide given is_plain file) (wide_words (block_words (volumes_in given is_plain file)) file (first_of given is_plain file) (words_of given is_plain file)) =
+    all_wide (IsWide given is_plain file) (block_words (volumes_in given is_plain file)) file (first_of given is_plain file) (words_of given is_plain file)
     (λ k h large. record { number = k; within = h; is = refl; wide = large }) in
-    subst (All (IsWide given file)) (sym mended.wide) all
+    subst (All (IsWide given is_plain file)) (sym mended.wide) all
 
 pub wide_are_listed : WideAreListed
-wide_are_listed given file it k mended within large =
-    let listed = wide_listed (block_words (volumes_in given file)) file (first_of given file) (words_of given file) k within large in
-    subst (λ ws. Contains ws (word_of given file k)) (sym mended.wide) listed
+wide_are_listed given is_plain file it k mended within large =
+    let listed = wide_listed (block_words (volumes_in given is_plain file)) file (first_of given is_plain file) (words_of given is_plain file) k within large in
+    subst (λ ws. Contains ws (word_of given is_plain file k)) (sym mended.wide) listed

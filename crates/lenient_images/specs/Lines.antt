@@ -1,5 +1,6 @@
 -- The lines that say what was done to an image file (this project's profile).
 use Rattle.std.specs.Prelude.{ℕ, nat_eq, if◌then◌else◌, ◌-◌, ◌/◌, ◌%◌, codes, decimal, min, take, List, [], ◌∷◌, ◌++◌, length}
+use Rattle.shown_text.specs.Showing.{shown_text}
 use Rattle.word12.specs.Octal.{octal4}
 use Rattle.lenient_images.specs.declared.lines.TheConstants.{MOST_LINES}
 use Rattle.lenient_images.specs.declared.mending.WideWord.{WideWord}
@@ -39,6 +40,9 @@ count_lines name it =
     ++ count_line name (codes ": bytes of zeros added at the end: ") it.zeros
     ++ count_line name (codes ": bytes cut from the end: ") it.cut
 
--- a line for each of the first words, and then the counts
+abbrev pub lines_by : List ℕ → MendedFile → List ℕ
+lines_by name it = first_lines name it.wide.items ++ count_lines name it
+
+-- a line for each of the first words, and then the counts, with the name as it is shown
 abbrev pub mended_lines : List ℕ → MendedFile → List ℕ
-mended_lines name it = first_lines name it.wide.items ++ count_lines name it
+mended_lines name it = lines_by (shown_text name) it

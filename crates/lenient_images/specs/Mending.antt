@@ -1,7 +1,7 @@
 -- An image file of which the faults are mended (this project's profile).
-use Rattle.std.specs.Prelude.{◌≡◌, ◌⊎◌, ℕ, zero, suc, ◌+◌, ◌-◌, ◌*◌, ◌/◌, ◌%◌, ◌<◌, ◌≤◌, nat_le, if◌then◌else◌, Option, List, [], ◌∷◌, ◌++◌, length, slice_index}
+use Rattle.std.specs.Prelude.{◌≡◌, ◌⊎◌, ℕ, Bool, zero, suc, ◌+◌, ◌-◌, ◌*◌, ◌/◌, ◌%◌, ◌<◌, ◌≤◌, nat_le, if◌then◌else◌, Option, List, [], ◌∷◌, ◌++◌, length, slice_index}
 use Rattle.disk_layouts.specs.declared.layouts.Layout.{Layout}
-use Rattle.image_kind.specs.Kinds.{kind_of}
+use Rattle.image_volumes.specs.Judging.{judged_kind}
 use Rattle.image_volumes.specs.Margins.{margins_in}
 use Rattle.image_volumes.specs.Volumes.{volumes_in}
 use Rattle.lenient_images.specs.Sizes.{block_words, mended_size, words_within}
@@ -29,22 +29,22 @@ wide_words block file start (suc k) = wide_words block file start k ++ wide_word
 -- ## The file
 
 -- how long it is when it is mended
-abbrev pub size_of : Option Layout → List ℕ → ℕ
-size_of given file = mended_size given (kind_of file) (length file)
+abbrev pub size_of : Option Layout → Bool → List ℕ → ℕ
+size_of given is_plain file = mended_size given (judged_kind is_plain file) (length file)
 
 -- how many bytes stand before the first word of its volumes, and how many words they have
-abbrev pub first_of : Option Layout → List ℕ → ℕ
-first_of given file = (margins_in given file).before
+abbrev pub first_of : Option Layout → Bool → List ℕ → ℕ
+first_of given is_plain file = (margins_in given is_plain file).before
 
-abbrev pub words_of : Option Layout → List ℕ → ℕ
-words_of given file = words_within (margins_in given file) (size_of given file)
+abbrev pub words_of : Option Layout → Bool → List ℕ → ℕ
+words_of given is_plain file = words_within (margins_in given is_plain file) (size_of given is_plain file)
 
 -- Of each word of the volumes the top bits are off, and each that had such bits is listed. No other byte changes; past the old end are zeros.
-pub record IsMended (given : Option Layout) (file : List ℕ) (it : MendedFile) : Type 0 where
-  pub size : length it.bytes.items ≡ size_of given file
-  pub words : (k : ℕ) → k < words_of given file → word_from it.bytes.items (first_of given file) k ≡ word_from file (first_of given file) k % 0o10000
-  pub others : (j : ℕ) → j < size_of given file → j < first_of given file ⊎ first_of given file + 2 * words_of given file ≤ j
+pub record IsMended (given : Option Layout) (is_plain : Bool) (file : List ℕ) (it : MendedFile) : Type 0 where
+  pub size : length it.bytes.items ≡ size_of given is_plain file
+  pub words : (k : ℕ) → k < words_of given is_plain file → word_from it.bytes.items (first_of given is_plain file) k ≡ word_from file (first_of given is_plain file) k % 0o10000
+  pub others : (j : ℕ) → j < size_of given is_plain file → j < first_of given is_plain file ⊎ first_of given is_plain file + 2 * words_of given is_plain file ≤ j
       → slice_index it.bytes.items j ≡ slice_index file j
-  pub wide : it.wide.items ≡ wide_words (block_words (volumes_in given file)) file (first_of given file) (words_of given file)
-  pub zeros : it.zeros ≡ size_of given file - length file
-  pub cut : it.cut ≡ length file - size_of given file
+  pub wide : it.wide.items ≡ wide_words (block_words (volumes_in given is_plain file)) file (first_of given is_plain file) (words_of given is_plain file)
+  pub zeros : it.zeros ≡ size_of given is_plain file - length file
+  pub cut : it.cut ≡ length file - size_of given is_plain file

@@ -3,6 +3,7 @@ ghost use Rattle.std.specs.Prelude.{◌≡◌, ◌++◌, IfOk, OnOk};
 ghost use Rattle.lenient_images.specs.Lines as spec;
 
 use crate::mending::{MendedFile, WideWord};
+use shown_text::ShownText;
 use std::alloc::{AllocError, Global};
 use word12::Word;
 
@@ -11,8 +12,18 @@ pub const MOST_LINES: usize = 16;
 
 /// The lines that say what was done to the image file of this name. There is one for each of the first 16 words of which the top bits were
 /// taken off, and one for the count of the others. Then come the bytes that were added or cut. Of a file without faults there is none.
+/// The name is shown with escapes where it isn't graphic.
 pub fn mended_text(alloc: Global, name: &str, it: &MendedFile) -> Result<String, AllocError>
     ensures { IfOk result (λ text. text.bytes.items ≡ spec.mended_lines name.now it.now) }
+{
+    let name = ShownText { text: name };
+    let shown = format!(in alloc; "{name}")?;
+    lines_by(alloc, shown.as_str(), it)
+}
+
+/// The lines, by the name as it is shown.
+fn lines_by(alloc: Global, name: &str, it: &MendedFile) -> Result<String, AllocError>
+    ensures { IfOk result (λ text. text.bytes.items ≡ spec.lines_by name.now it.now) }
 {
     let mut text = String::new(alloc);
     let first = &it.wide[..it.wide.len().min(MOST_LINES)];

@@ -5,8 +5,7 @@ ghost use Rattle.lenient_images.specs.Steps.{AreOff};
 
 use crate::sizes::{block_words, mended_size, words_within};
 use disk_layouts::Layout;
-use image_kind::kind_of;
-use image_volumes::{margins_with, volumes_with};
+use image_volumes::{judged_kind, margins_with, volumes_with};
 use std::alloc::{AllocError, Global};
 
 /// A word of the volumes of a file that has more than twelve bits.
@@ -38,11 +37,12 @@ pub struct MendedFile {
 pub fn mend_file(
     alloc: Global,
     given: Option<Layout>,
+    is_plain: bool,
     file: Vec<u8>,
 ) -> Result<MendedFile, AllocError>
-    ensures { IfOk result (λ it. IsMended given file.items it) }
+    ensures { IfOk result (λ it. IsMended given is_plain file.items it) }
 {
-    let kind = kind_of(&file);
+    let kind = judged_kind(is_plain, &file);
     let margins = margins_with(given, kind);
     let block = block_words(volumes_with(given, kind));
     let old = file.len();

@@ -1,3 +1,4 @@
+mod AskLemmas
 pub mod CountLemmas
 pub mod NameLemmas
 pub mod WordLemmas

@@ -8,9 +8,9 @@ use Rattle.outcome.specs.declared.endings.Ending.TheVariants.{Fault}
 use Rattle.archive_many.specs.HostNames.{NamesVolume}
 use Rattle.archive_many.specs.declared.putting.NewFile.{NewFile}
 use Rattle.program_tasks.specs.declared.forms.TextsForm.{TextsForm}
-use Rattle.image_files.specs.Work.{Then, Purely}
+use Rattle.image_files.specs.Work.{Then}
 use Rattle.many_commands.specs.NameSteps.{KnowsNames, has_key}
-use Rattle.many_commands.specs.PuttingMany.{DatesNext, IsNewFile, IsNoName, LooksWhole, ReadsNext, RefusesName, RefusesPath, has_name}
+use Rattle.many_commands.specs.PuttingMany.{DatesNext, IsNoName, LooksWhole, MakesFile, ReadsNext, RefusesName, RefusesPath, has_name}
 
 pub or-assoc : (a b c : Bool) → (a || (b || c)) ≡ ((a || b) || c)
 or-assoc true b c = refl
@@ -30,13 +30,13 @@ knows-more old new files file more knows = λ q. more q ∙ ap (λ b. b || nat_e
 
 -- what is wanted to keep a file that was read is wanted for its step
 unkept-date : (texts : TextsForm) (is_dated : Bool) (path : List ℕ) (name : ℕ) (bytes : List ℕ) (old : List Event) (file : NewFile) (new : List Event)
-    → Then (DatesNext is_dated path) (λ date. Purely (IsNewFile texts name bytes date)) old (Ok file) new → Then (DatesNext is_dated path) (λ date. Purely (IsNewFile texts name bytes date)) old (Err (Fault Memory)) new
+    → Then (DatesNext is_dated path) (λ date. MakesFile texts path name bytes date) old (Ok file) new → Then (DatesNext is_dated path) (λ date. MakesFile texts path name bytes date) old (Err (Fault Memory)) new
 unkept-date texts is_dated path name bytes old file new (inl ends) = absurd ends
-unkept-date texts is_dated path name bytes old file new (inr it) = inr (record { given = it.given; between = it.between; done = it.done; after = (refl, it.after.1) })
+unkept-date texts is_dated path name bytes old file new (inr it) = inr (record { given = it.given; between = it.between; done = it.done; after = (refl, inr it.after.1) })
 
 unkept-bytes : (texts : TextsForm) (is_dated : Bool) (path : List ℕ) (name : ℕ) (old : List Event) (file : NewFile) (new : List Event)
-    → Then (LooksWhole path) (λ bytes. Then (DatesNext is_dated path) (λ date. Purely (IsNewFile texts name bytes.items date))) old (Ok file) new
-    → Then (LooksWhole path) (λ bytes. Then (DatesNext is_dated path) (λ date. Purely (IsNewFile texts name bytes.items date))) old (Err (Fault Memory)) new
+    → Then (LooksWhole path) (λ bytes. Then (DatesNext is_dated path) (λ date. MakesFile texts path name bytes.items date)) old (Ok file) new
+    → Then (LooksWhole path) (λ bytes. Then (DatesNext is_dated path) (λ date. MakesFile texts path name bytes.items date)) old (Err (Fault Memory)) new
 unkept-bytes texts is_dated path name old file new (inl ends) = absurd ends
 unkept-bytes texts is_dated path name old file new (inr it) =
     inr (record { given = it.given; between = it.between; done = it.done; after = unkept-date texts is_dated path name it.given.items it.between file new it.after })

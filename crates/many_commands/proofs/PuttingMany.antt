@@ -5,17 +5,23 @@ use Rattle.archive_files.specs.declared.places.TextPlace.{TextPlace}
 use Rattle.archive_many.specs.declared.faults.ManyFault.{ManyFault}
 use Rattle.archive_many.specs.declared.faults.ManyFault.TheVariants as many
 use Rattle.archive_many.specs.declared.putting.NewFile.{NewFile}
+use Rattle.outcome.specs.declared.notes.NameNote.{NameNote}
+use Rattle.outcome.specs.declared.notes.NameNote.TheVariants.{PutAsFrames}
 use Rattle.outcome.specs.declared.endings.Ending.{Ending}
 use Rattle.program_tasks.specs.declared.forms.PutManyForm.{PutManyForm}
 use Rattle.program_tasks.specs.declared.forms.TextsForm.{TextsForm}
 use Rattle.image_files.specs.Answers.{AreLines}
-use Rattle.image_files.specs.Stored.{TellsPlace, is_bad}
+use Rattle.image_files.specs.Stored.{TellsPlace, is_bad, words_of}
 use Rattle.image_files.specs.Reading.{Opens}
 use Rattle.image_files.specs.Saving.{Stores}
+use Rattle.archive_many.specs.Putting.{given_count, info_words, most_wanted}
+use Rattle.image_files.specs.Information.{TakesWords}
+use Rattle.image_files.specs.Years.{NotesYear}
+use Rattle.image_files.proofs.WordsLemmas.{words-never, year-never}
 use Rattle.image_files.specs.Work.{Then, Purely}
 use Rattle.image_files.specs.declared.images.Image.{Image}
-use Rattle.many_commands.specs.PuttingMany.{AreFiles, DatesNext, FindsFiles, IsNewFile, IsNoName, KeepsIf, KeepsWords, LooksWhole, MakesMany, PutsFiles, PutsMany, ReadsEach, ReadsNext, RefusesLoss, RefusesMany, TakesName, TellsEmpty, TellsPath, TellsText, TellsUnread, WantsMemory, has_empty, loss_from, paths_of, stored_lines}
-use Rattle.many_commands.specs.Texts.{TakesLists, TellsBadList, lists_of}
+use Rattle.many_commands.specs.PuttingMany.{AreFiles, DatesNext, FindsFiles, IsNoName, JudgesInfo, JudgesPut, KeepsIf, KeepsWords, LooksWhole, MakesFile, MakesMany, PutsFiles, PutsMany, ReadsEach, ReadsNext, RefusesLoss, RefusesMany, TakesName, TellsEmpty, TellsPath, TellsText, TellsUnread, WantsMemory, has_empty, loss_from, paths_of, stored_lines}
+use Rattle.many_commands.specs.Texts.{TakesLists, TellsBadList, TellsFrames, is_put_noted, lists_of}
 use Rattle.image_files.specs.Laws.{KeepsFiles, ChangesNothing, LeavesFiles}
 use Rattle.image_files.proofs.KeepLemmas.{date-keeps, then-keeps, purely-keeps, looks-keeps}
 use Rattle.image_files.proofs.LeaveLemmas.{same, told, then-leaves, refuses-never, opens-never, stores-leaves}
@@ -50,11 +56,20 @@ dated-never : (is_dated : Bool) (path : List ℕ) → KeepsFiles (DatesNext is_d
 dated-never is_dated path old (Ok date) new p = date-keeps is_dated path old (Ok date) new p
 dated-never is_dated path old (Err ending) new (why, between, dates, p) = λ at. tells-unread path why between ending new p at ∙ date-keeps is_dated path old (Err why) between dates at
 
+tells-frames : (note : NameNote) (is : Bool) (name : List ℕ) (old new : List Event) → TellsFrames note is name old new → ChangesNothing old new
+tells-frames note false name old new p = same old new p
+tells-frames note true name old new (ok, p) = same _ new p
+
+makes-file : (texts : TextsForm) (path : List ℕ) (name : ℕ) (bytes : List ℕ) (date : Option ℕ) → KeepsFiles (MakesFile texts path name bytes date)
+makes-file texts path name bytes date old (Ok file) new (is, p) = tells-frames PutAsFrames (is_put_noted texts name) path old new p
+makes-file texts path name bytes date old (Err ending) new (is, inl p) = same old new p
+makes-file texts path name bytes date old (Err ending) new (is, inr p) = tells-frames PutAsFrames (is_put_noted texts name) path old new p
+
 next-never : (texts : TextsForm) (is_dated : Bool) (files : List NewFile) (path : List ℕ) → KeepsFiles (ReadsNext texts is_dated files path)
 next-never texts is_dated files path =
-    then-keeps (TakesName files path) (λ name. Then (LooksWhole path) (λ bytes. Then (DatesNext is_dated path) (λ date. Purely (IsNewFile texts name bytes.items date)))) (name-never files path)
-    (λ name. then-keeps (LooksWhole path) (λ bytes. Then (DatesNext is_dated path) (λ date. Purely (IsNewFile texts name bytes.items date))) (whole-never path)
-    (λ bytes. then-keeps (DatesNext is_dated path) (λ date. Purely (IsNewFile texts name bytes.items date)) (dated-never is_dated path) (λ date. purely-keeps (IsNewFile texts name bytes.items date))))
+    then-keeps (TakesName files path) (λ name. Then (LooksWhole path) (λ bytes. Then (DatesNext is_dated path) (λ date. MakesFile texts path name bytes.items date))) (name-never files path)
+    (λ name. then-keeps (LooksWhole path) (λ bytes. Then (DatesNext is_dated path) (λ date. MakesFile texts path name bytes.items date)) (whole-never path)
+    (λ bytes. then-keeps (DatesNext is_dated path) (λ date. MakesFile texts path name bytes.items date) (dated-never is_dated path) (λ date. makes-file texts path name bytes.items date)))
 
 each-never : (texts : TextsForm) (is_dated : Bool) (files : List NewFile) (paths : List (List ℕ)) → KeepsFiles (ReadsEach texts is_dated files paths)
 each-never texts is_dated files [] = purely-keeps (AreFiles files)
@@ -110,10 +125,17 @@ makes-never form files image old (Ok it) new p = same old new p.1
 makes-never form files image old (Err ending) new (fault, puts, inl p) = refuses-many (paths_of form) files fault (length image) old ending new p
 makes-never form files image old (Err ending) new (fault, puts, inr p) = wants-memory (paths_of form) fault old ending new p
 
+judges-info-never : (form : PutManyForm) (files : List NewFile) (image : List ℕ) → KeepsFiles (JudgesInfo form files image)
+judges-info-never form files image = then-keeps (TakesWords (most_wanted 0 (given_count (words_of form.info)) files) image) (λ it. NotesYear image (info_words (words_of form.info)) form.year)
+    (words-never (most_wanted 0 (given_count (words_of form.info)) files) image) (λ it. year-never image (info_words (words_of form.info)) form.year)
+
+judges-never : (form : PutManyForm) (files : List NewFile) (image : List ℕ) → KeepsFiles (JudgesPut form files image)
+judges-never form files image = then-keeps (KeepsWords form files image) (λ it. JudgesInfo form files image) (keeps-never form files image) (λ it. judges-info-never form files image)
+
 puts-files : (form : PutManyForm) (image : Image) (files : List NewFile) → LeavesFiles (PutsFiles form image files)
 puts-files form image files =
-    then-leaves (KeepsWords form files image.bytes.items) (λ it. Then (MakesMany form files image.bytes.items) (λ made. Then (Purely (AreLines (stored_lines files made.blocks.items))) (λ lines. Stores image made.bytes.items lines.items)))
-    (keeps-never form files image.bytes.items)
+    then-leaves (JudgesPut form files image.bytes.items) (λ it. Then (MakesMany form files image.bytes.items) (λ made. Then (Purely (AreLines (stored_lines files made.blocks.items))) (λ lines. Stores image made.bytes.items lines.items)))
+    (judges-never form files image.bytes.items)
     (λ it. then-leaves (MakesMany form files image.bytes.items) (λ made. Then (Purely (AreLines (stored_lines files made.blocks.items))) (λ lines. Stores image made.bytes.items lines.items))
     (makes-never form files image.bytes.items)
     (λ made. then-leaves (Purely (AreLines (stored_lines files made.blocks.items))) (λ lines. Stores image made.bytes.items lines.items) (purely-keeps (AreLines (stored_lines files made.blocks.items)))

@@ -1,7 +1,9 @@
 -- The command that writes several files of the volume in an image file to a folder of the host.
 use Rattle.std.specs.Prelude.{◌≡◌, ◌⊎◌, ◌<◌, ◌&&◌, ℕ, ◌+◌, Bool, true, false, not, if◌then◌else◌, Option, None, Some, Result, Ok, Err, List, [], ◌∷◌, ◌++◌, codes, decimal, length, slice_get, OnOk, String}
 use Rattle.std.specs.Global.{Vec, Global}
-use Rattle.hosts.specs.Event.{Event, MakeFolder, failed_call, folder_call, there_call}
+use Rattle.hosts.specs.Event.{Event, MakeFolder, failed_call, failed_same, folder_call, same_call, there_call, tell_call}
+use Rattle.outcome.specs.Notes.{name_text}
+use Rattle.outcome.specs.declared.notes.NameNote.TheVariants.{GotAsFrames}
 use Rattle.hosts.specs.Faults.{fault_number}
 use Rattle.hosts.specs.Place.{about}
 use Rattle.hosts.specs.Saving.{Lays, replacements}
@@ -10,6 +12,7 @@ use Rattle.hosts.specs.Times.{file_time}
 use Rattle.hosts.specs.declared.faults.HostFault.{HostFault}
 use Rattle.hosts.specs.declared.faults.HostFault.TheVariants as host
 use Rattle.char_pack.specs.declared.forms.GetForm.{GetForm}
+use Rattle.os8_dates.specs.declared.days.TheConstants.{NO_DATE}
 use Rattle.os8_dates.specs.Days.{time_of_word}
 use Rattle.os8_dir.specs.declared.file_faults.FileFault.{FileFault}
 use Rattle.os8_dir.specs.declared.file_faults.FileFault.TheVariants.{BadName, NotFound}
@@ -21,17 +24,20 @@ use Rattle.archive_many.specs.Opened.{GetsFile, OpensVolume, files_on, first_wor
 use Rattle.archive_many.specs.declared.opened.VolumeFile.{VolumeFile}
 use Rattle.volume_index.specs.Years.{last_in}
 use Rattle.program_reports.specs.Program.{program_line}
+use Rattle.program_reports.specs.declared.programs.ProgramLine.{ProgramLine}
 use Rattle.program_reports.specs.declared.programs.ProgramLine.TheVariants as line
 use Rattle.outcome.specs.declared.endings.Ending.{Ending}
 use Rattle.outcome.specs.declared.endings.Ending.TheVariants.{Line, Fault}
 use Rattle.program_tasks.specs.declared.forms.GetManyForm.{GetManyForm}
 use Rattle.image_files.specs.Work.{Then, Purely}
+use Rattle.image_files.specs.Places.{TellsPair}
 use Rattle.image_files.specs.Reading.{LooksAt}
 use Rattle.image_files.specs.Answers.{Answers, AreLines, named_lines}
-use Rattle.image_files.specs.Saving.{Prints, TouchesOnly}
+use Rattle.image_files.specs.Reasons.{TellsFault, TellsFirst}
+use Rattle.image_files.specs.Saving.{Prints, TouchesOnly, IsDone}
 use Rattle.image_files.specs.Ending.{EndsSound}
 use Rattle.host_progress.specs.Progressing.{TellsProgress, WithProgress}
-use Rattle.many_commands.specs.Texts.{TakesLists, get_form}
+use Rattle.many_commands.specs.Texts.{TakesLists, get_form, is_got_noted}
 use Rattle.many_commands.specs.Wishing.{AreWishes, words_of}
 use Rattle.archive_many.specs.declared.wishes.Wish.{Wish}
 use Rattle.archive_many.specs.declared.wishes.Wish.TheVariants as wish
@@ -77,21 +83,49 @@ LaysFile path bytes seconds is_forced old (Err fault) new = HasLaid path bytes s
 abbrev pub PrintsAnswer : Bool → List ℕ → List Event → Result Bool Ending → List Event → Type 0
 PrintsAnswer is_there text = Then (Purely (AreLines text)) (λ lines. Then (Prints lines.items) (λ it. Purely (λ result. result ≡ Ok is_there)))
 
+-- the line of a file that is not laid by this fault; want of memory ends the command
+abbrev pub line_of_laid : HostFault → Option ProgramLine
+line_of_laid host.Busy = Some line.HostExists
+line_of_laid host.Memory = None
+line_of_laid host.Absent = Some line.HostWrite
+line_of_laid host.Denied = Some line.HostWrite
+line_of_laid host.ReadOnly = Some line.HostWrite
+line_of_laid host.Folder = Some line.HostWrite
+line_of_laid host.NoFolder = Some line.HostWrite
+line_of_laid host.Full = Some line.HostWrite
+line_of_laid host.Links = Some line.HostWrite
+line_of_laid host.Large = Some line.HostWrite
+line_of_laid host.Changed = Some line.HostWrite
+line_of_laid host.Pipe = Some line.HostWrite
+line_of_laid host.Failed = Some line.HostWrite
+
+-- why is printed with its path, and then its line after its name
+abbrev pub TellsUnlaid : Option ProgramLine → HostFault → List ℕ → List ℕ → List Event → Result Bool Ending → List Event → Type 0
+TellsUnlaid None fault name path old result new = (result ≡ Err (Fault Memory)) × (new ≡ old)
+TellsUnlaid (Some said) fault name path old result new = (between : List Event) × TellsFirst fault path old between × PrintsAnswer false (named_lines name (program_line said)) between result new
+
 -- what becomes of a file that is laid, or not: its line is printed; one that is not there is reported after its name
-abbrev pub TellsLaid : VolumeFile → List ℕ → Result (Unit {0}) HostFault → List Event → Result Bool Ending → List Event → Type 0
-TellsLaid file name (Ok it) = PrintsAnswer true (program_line (line.Got file.name file.blocks))
-TellsLaid file name (Err host.Busy) = PrintsAnswer false (named_lines name (program_line line.HostExists))
-TellsLaid file name (Err host.Memory) = Purely (λ result. result ≡ Err (Fault Memory))
-TellsLaid file name (Err host.Absent) = PrintsAnswer false (named_lines name (program_line line.HostWrite))
-TellsLaid file name (Err host.Unwritable) = PrintsAnswer false (named_lines name (program_line line.HostWrite))
-TellsLaid file name (Err host.Failed) = PrintsAnswer false (named_lines name (program_line line.HostWrite))
+abbrev pub TellsLaid : VolumeFile → List ℕ → List ℕ → Result (Unit {0}) HostFault → List Event → Result Bool Ending → List Event → Type 0
+TellsLaid file name path (Ok it) old result new = PrintsAnswer true (program_line (line.Got file.name file.blocks)) old result new
+TellsLaid file name path (Err fault) old result new = TellsUnlaid (line_of_laid fault) fault name path old result new
 
 -- a file is laid, and only then its line is printed
 pub record LaysAndTells (form : GetManyForm) (file : VolumeFile) (name path bytes : List ℕ) (seconds : Option ℕ) (old : List Event) (result : Result Bool Ending) (new : List Event) : Type 0 where
   pub done : Result (Unit {0}) HostFault
   pub between : List Event
   pub lays : LaysFile path bytes seconds form.is_forced old done between
-  pub tells : TellsLaid file name done between result new
+  pub tells : TellsLaid file name path done between result new
+
+-- a file that would be laid over the image is reported after its name, and a note names both
+abbrev pub RefusesOver : List ℕ → List ℕ → List ℕ → List Event → Result Bool Ending → List Event → Type 0
+RefusesOver name path image = Then (TellsPair path image) (λ it. PrintsAnswer false (named_lines name (program_line line.OneFile)))
+
+-- A file is laid where its path doesn't lead to the image. Of that the host is asked, by the files themselves and not by their names, right
+-- before. Where it can't say, the file isn't laid.
+pub record LaysApart (form : GetManyForm) (file : VolumeFile) (name path bytes : List ℕ) (seconds : Option ℕ) (old : List Event) (result : Result Bool Ending) (new : List Event) : Type 0 where
+  pub way : LaysAndTells form file name path bytes seconds (same_call path form.image.file.bytes.items false ∷ old) result new
+      ⊎ (RefusesOver name path form.image.file.bytes.items (same_call path form.image.file.bytes.items true ∷ old) result new
+      ⊎ ((fault : HostFault) × TellsLaid file name path (Err fault) (failed_same path form.image.file.bytes.items fault ∷ old) result new))
 
 -- ## A file of the volume
 
@@ -109,18 +143,37 @@ abbrev pub IsPath : List ℕ → List ℕ → Result (String Global) Ending → 
 IsPath folder name (Ok path) = path.bytes.items ≡ path_in folder name
 IsPath folder name (Err ending) = ending ≡ Fault Memory
 
-abbrev pub time_if : ℕ → Option ℕ → Option ℕ
-time_if last None = None
-time_if last (Some word) = time_of_word last word
+-- the time of a date, or that of a file with none
+abbrev pub time_or_none : Option ℕ → Option ℕ
+time_or_none (Some seconds) = Some seconds
+time_or_none None = Some NO_DATE
 
--- the time for the file of the host: that of the date which the first information word means, where it means one, as a long list shows it
+abbrev pub time_if : ℕ → Option ℕ → Option ℕ
+time_if last None = Some NO_DATE
+time_if last (Some word) = time_or_none (time_of_word last word)
+
+-- the time for the file of the host: that of the date which the first information word means, as a long list shows it. Where it
+-- means none, that is the begin of 1970
 abbrev pub time_of_file : Option ℕ → List (List ℕ) → VolumeFile → Option ℕ
 time_of_file year blocks file = time_if (last_in year blocks) (first_word blocks file.name)
 
 -- a file of the volume is written to the folder, and reported; it is answered whether it is there
 abbrev pub GivesFile : GetManyForm → List (List ℕ) → VolumeFile → List Event → Result Bool Ending → List Event → Type 0
-GivesFile form blocks file = Then (Purely (TakesFile blocks file (get_form form.texts file.name))) (λ bytes. Then (Purely (IsHostName file)) (λ name.
-    Then (Purely (IsPath form.folder.bytes.items name.bytes.items)) (λ path. LaysAndTells form file name.bytes.items path.bytes.items bytes.items (time_of_file form.year blocks file))))
+GivesFile form blocks file = Then (Purely (TakesFile blocks file (get_form form file))) (λ bytes. Then (Purely (IsHostName file)) (λ name.
+    Then (Purely (IsPath form.folder.bytes.items name.bytes.items)) (λ path. LaysApart form file name.bytes.items path.bytes.items bytes.items (time_of_file form.year blocks file))))
+
+-- the name is printed as that of a file that goes as frames, unless memory is wanted for that
+abbrev pub TellsGot : List ℕ → List Event → Result (Unit {0}) Ending → List Event → Type 0
+TellsGot name old (Ok it) new = (ok : Bool) × (new ≡ tell_call ok (name_text GotAsFrames name) ∷ old)
+TellsGot name old (Err ending) new = (ending ≡ Fault Memory) × (new ≡ old)
+
+abbrev pub NotesGot : Bool → VolumeFile → List Event → Result (Unit {0}) Ending → List Event → Type 0
+NotesGot false file = Purely IsDone
+NotesGot true file = Then (Purely (IsHostName file)) (λ name. TellsGot name.bytes.items)
+
+-- a file is given, and before that it is printed if it goes as frames, and others as texts
+abbrev pub GivesNoted : GetManyForm → List (List ℕ) → VolumeFile → List Event → Result Bool Ending → List Event → Type 0
+GivesNoted form blocks file = Then (NotesGot (is_got_noted form file) file) (λ it. GivesFile form blocks file)
 
 -- ## What is asked for
 
@@ -131,7 +184,7 @@ RefusesWord (Some word) why = PrintsAnswer false (named_lines word (fault_line (
 
 -- a file is given, and before that it is printed which of all it is; or a word, or a block, is refused
 abbrev pub GivesWish : GetManyForm → List (List ℕ) → Bool → ℕ → ℕ → Wish → List Event → Result Bool Ending → List Event → Type 0
-GivesWish form blocks is_told all done (wish.File file) = Then (TellsProgress is_told (done + 1) all) (λ it. GivesFile form blocks file)
+GivesWish form blocks is_told all done (wish.File file) = Then (TellsProgress is_told (done + 1) all) (λ it. GivesNoted form blocks file)
 GivesWish form blocks is_told all done (wish.BadWord place) = RefusesWord (slice_get (words_of form) place) BadName
 GivesWish form blocks is_told all done (wish.NotFound place) = RefusesWord (slice_get (words_of form) place) NotFound
 GivesWish form blocks is_told all done (wish.Block block) = PrintsAnswer false (named_lines (codes "--at " ++ decimal block) (fault_line (File NotFound)))
@@ -155,13 +208,21 @@ abbrev pub ending_of_folder : HostFault → Ending
 ending_of_folder host.Memory = Fault Memory
 ending_of_folder host.Busy = Line line.HostWrite
 ending_of_folder host.Absent = Line line.HostWrite
-ending_of_folder host.Unwritable = Line line.HostWrite
+ending_of_folder host.Denied = Line line.HostWrite
+ending_of_folder host.ReadOnly = Line line.HostWrite
+ending_of_folder host.Folder = Line line.HostWrite
+ending_of_folder host.NoFolder = Line line.HostWrite
+ending_of_folder host.Full = Line line.HostWrite
+ending_of_folder host.Links = Line line.HostWrite
+ending_of_folder host.Large = Line line.HostWrite
+ending_of_folder host.Changed = Line line.HostWrite
+ending_of_folder host.Pipe = Line line.HostWrite
 ending_of_folder host.Failed = Line line.HostWrite
 
 -- the folder is made, unless there is one of its name
 abbrev pub MakesFolder : List ℕ → List Event → Result (Unit {0}) Ending → List Event → Type 0
 MakesFolder folder old (Ok it) new = new ≡ folder_call folder ∷ old
-MakesFolder folder old (Err ending) new = (fault : HostFault) × (ending ≡ ending_of_folder fault) × (new ≡ failed_call MakeFolder folder fault ∷ old)
+MakesFolder folder old (Err ending) new = (fault : HostFault) × (ending ≡ ending_of_folder fault) × TellsFault fault folder (failed_call MakeFolder folder fault ∷ old) new
 
 -- the files of a volume, unless memory is wanted for them
 abbrev pub AreFilesOn : List (List ℕ) → Result (Vec VolumeFile) Ending → Type 0

@@ -1,9 +1,11 @@
 -- What the commands on volumes leave as it was, and what a check that ends well says.
-use Rattle.std.specs.Prelude.{◌≡◌, ℕ, Result, List}
+use Rattle.std.specs.Prelude.{◌≡◌, ◌⊎◌, ℕ, Result, List}
 use Rattle.hosts.specs.Event.{Event}
 use Rattle.hosts.specs.Place.{about}
 use Rattle.hosts.specs.Saving.{replacements}
+use Rattle.hosts.specs.Streams.{read}
 use Rattle.outcome.specs.declared.endings.Ending.{Ending}
+use Rattle.image_files.specs.Places.{IsSaidApart}
 use Rattle.many_commands.specs.GettingMany.{path_in}
 
 -- ## Folders
@@ -21,3 +23,8 @@ ChangesIn {A} folder command = (old : List Event) (result : Result A Ending) (ne
 abbrev pub NeverReplaces : {A : Type 0} → (List Event → Result A Ending → List Event → Type 0) → Type 0
 NeverReplaces {A} command = (old : List Event) (result : Result A Ending) (new : List Event) → command old result new
     → (path : List ℕ) → replacements (about path new) ≡ replacements (about path old)
+
+-- the file of a path is as it was, or the host has said, by the files themselves and not by their names, that it isn't the image
+abbrev pub KeepsImage : {A : Type 0} → List ℕ → (List Event → Result A Ending → List Event → Type 0) → Type 0
+KeepsImage {A} image command = (old : List Event) (result : Result A Ending) (new : List Event) → command old result new
+    → (path : List ℕ) → (about path new ≡ about path old) ⊎ IsSaidApart path image (read new)

@@ -10,7 +10,7 @@ use Rattle.archive_files.specs.declared.faults.ArchiveFault.{ArchiveFault}
 use Rattle.archive_many.specs.Emptying.{empties}
 use Rattle.archive_many.specs.HostNames.{NamesVolume}
 use Rattle.archive_many.specs.Opened.{OpensVolume, files_on}
-use Rattle.archive_many.specs.Putting.{PutsAll}
+use Rattle.archive_many.specs.Putting.{PutsAll, given_count, info_words, most_wanted}
 use Rattle.archive_many.specs.declared.faults.ManyFault.{ManyFault}
 use Rattle.archive_many.specs.declared.faults.ManyFault.TheVariants as many
 use Rattle.archive_many.specs.declared.opened.VolumeFile.{VolumeFile}
@@ -18,20 +18,22 @@ use Rattle.archive_many.specs.declared.putting.ManyImage.{ManyImage}
 use Rattle.archive_many.specs.declared.putting.NewFile.{NewFile}
 use Rattle.program_reports.specs.declared.programs.ProgramLine.TheVariants.{SameName}
 use Rattle.outcome.specs.Notes.{name_text, plain_text}
-use Rattle.outcome.specs.declared.notes.NameNote.TheVariants.{NotPut, Empty}
+use Rattle.outcome.specs.declared.notes.NameNote.TheVariants.{NotPut, Empty, PutAsFrames}
 use Rattle.outcome.specs.declared.notes.PlainNote.TheVariants.{FileNames}
 use Rattle.outcome.specs.declared.endings.Ending.{Ending}
 use Rattle.outcome.specs.declared.endings.Ending.TheVariants.{Line, Fault}
 use Rattle.program_tasks.specs.declared.forms.PutManyForm.{PutManyForm}
 use Rattle.program_tasks.specs.declared.forms.TextsForm.{TextsForm}
 use Rattle.image_files.specs.Dates.{DatesFile}
+use Rattle.image_files.specs.Information.{TakesWords}
+use Rattle.image_files.specs.Years.{NotesYear}
 use Rattle.image_files.specs.Work.{Then, Purely}
 use Rattle.image_files.specs.Reading.{Looks, Opens}
 use Rattle.image_files.specs.Answers.{AreLines, Refuses}
 use Rattle.image_files.specs.Stored.{TellsBad, is_bad, words_of}
 use Rattle.image_files.specs.Saving.{IsDone, Stores}
 use Rattle.image_files.specs.declared.images.Image.{Image}
-use Rattle.many_commands.specs.Texts.{TakesLists, put_form}
+use Rattle.many_commands.specs.Texts.{TakesLists, TellsFrames, is_put_noted, put_form}
 
 -- ## The files of the host
 
@@ -72,6 +74,11 @@ abbrev pub IsNewFile : TextsForm → ℕ → List ℕ → Option ℕ → Result 
 IsNewFile texts name bytes date (Ok file) = (file.name ≡ name) × (file.bytes.items ≡ bytes) × (file.form ≡ put_form texts name) × (file.date ≡ date)
 IsNewFile texts name bytes date (Err ending) = ending ≡ Fault Memory
 
+-- the same, and it is printed where it is put as frames, and others as texts
+abbrev pub MakesFile : TextsForm → List ℕ → ℕ → List ℕ → Option ℕ → List Event → Result NewFile Ending → List Event → Type 0
+MakesFile texts path name bytes date old (Ok file) new = IsNewFile texts name bytes date (Ok file) × TellsFrames PutAsFrames (is_put_noted texts name) path old new
+MakesFile texts path name bytes date old (Err ending) new = IsNewFile texts name bytes date (Err ending) × ((new ≡ old) ⊎ TellsFrames PutAsFrames (is_put_noted texts name) path old new)
+
 -- the date of a file of the host, where that is asked for; one whose time is not known is reported
 abbrev pub DatesNext : Bool → List ℕ → List Event → Result (Option ℕ) Ending → List Event → Type 0
 DatesNext is_dated path old (Ok date) new = DatesFile is_dated path old (Ok date) new
@@ -79,7 +86,7 @@ DatesNext is_dated path old (Err ending) new = (why : Ending) × (between : List
 
 -- the file of a path, after those of earlier ones
 abbrev pub ReadsNext : TextsForm → Bool → List NewFile → List ℕ → List Event → Result NewFile Ending → List Event → Type 0
-ReadsNext texts is_dated files path = Then (TakesName files path) (λ name. Then (LooksWhole path) (λ bytes. Then (DatesNext is_dated path) (λ date. Purely (IsNewFile texts name bytes.items date))))
+ReadsNext texts is_dated files path = Then (TakesName files path) (λ name. Then (LooksWhole path) (λ bytes. Then (DatesNext is_dated path) (λ date. MakesFile texts path name bytes.items date)))
 
 -- these are the files
 abbrev pub AreFiles : List NewFile → Result (Vec NewFile) Ending → Type 0
@@ -168,9 +175,17 @@ stored_lines [] blocks = []
 stored_lines (file ∷ files) [] = []
 stored_lines (file ∷ files) (count ∷ counts) = program_line (line.Stored file.name count) ++ stored_lines files counts
 
+-- no more information words are given than there is room for, and it is printed how a date will be shown that is shown otherwise
+abbrev pub JudgesInfo : PutManyForm → List NewFile → List ℕ → List Event → Result (Unit {0}) Ending → List Event → Type 0
+JudgesInfo form files image = Then (TakesWords (most_wanted 0 (given_count (words_of form.info)) files) image) (λ it. NotesYear image (info_words (words_of form.info)) form.year)
+
+-- and no older file loses its words
+abbrev pub JudgesPut : PutManyForm → List NewFile → List ℕ → List Event → Result (Unit {0}) Ending → List Event → Type 0
+JudgesPut form files image = Then (KeepsWords form files image) (λ it. JudgesInfo form files image)
+
 -- the image with the files is saved once, and only then their lines are printed
 abbrev pub PutsFiles : PutManyForm → Image → List NewFile → List Event → Result (Unit {0}) Ending → List Event → Type 0
-PutsFiles form image files = Then (KeepsWords form files image.bytes.items) (λ it. Then (MakesMany form files image.bytes.items) (λ made. Then (Purely (AreLines (stored_lines files made.blocks.items))) (λ lines. Stores image made.bytes.items lines.items)))
+PutsFiles form image files = Then (JudgesPut form files image.bytes.items) (λ it. Then (MakesMany form files image.bytes.items) (λ made. Then (Purely (AreLines (stored_lines files made.blocks.items))) (λ lines. Stores image made.bytes.items lines.items)))
 
 -- An image file is held and read, and then each file of the host, in their order. The image with all of them on its volume is saved once,
 -- and only then their lines are printed; where one is refused, none is put.

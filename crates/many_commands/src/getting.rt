@@ -8,14 +8,14 @@ ghost use Rattle.image_files.specs.Work.{Then};
 ghost use Rattle.host_progress.specs.Progressing.{TellsProgress, WithProgress};
 ghost use Rattle.many_commands.specs.GettingMany as spec;
 ghost use Rattle.many_commands.specs.Wishing.{AreWishes};
-ghost use Rattle.many_commands.specs.GettingMany.{AreFilesOn, GetsMany, GivesAsked, GivesEach, GivesFile, GivesWish, MakesFolder, ending_of_folder, PrintsAnswer, RefusesWord};
+ghost use Rattle.many_commands.specs.GettingMany.{AreFilesOn, GetsMany, GivesAsked, GivesEach, GivesNoted, GivesWish, MakesFolder, ending_of_folder, PrintsAnswer, RefusesWord};
 
-use crate::giving::{give_file, refuse};
+use crate::giving::{give_noted, refuse};
 use crate::texts::take_lists;
 use archive_many::{OpenVolume, VolumeFile, Wish, wishes_of};
 use host_progress::Progress;
 use hosts::{Host, HostFault};
-use image_files::{end_sound, look_at, open_volume};
+use image_files::{end_sound, look_at, open_volume, tell_fault};
 use os8_dir::FileFault;
 use outcome::Ending;
 use program_reports::ProgramLine;
@@ -44,7 +44,7 @@ fn give_asked<H: Host>(
 {
     let files = files_on(alloc, volume)?;
     let wishes = wishes_in(alloc, form, &files)?;
-    make_folder(host, form.folder.as_str())?;
+    make_folder(host, alloc, form.folder.as_str())?;
     let are_there = give_all(host, alloc, form, volume, files.len(), &wishes)?;
     end_sound(are_there)
 }
@@ -65,12 +65,15 @@ fn wishes_in(alloc: Global, form: &GetManyForm, files: &[VolumeFile]) -> Result<
 }
 
 /// Makes a folder, unless there is one of its name.
-fn make_folder<H: Host>(host: &mut H, folder: &str) -> Result<(), Ending>
+fn make_folder<H: Host>(host: &mut H, alloc: Global, folder: &str) -> Result<(), Ending>
     ensures { MakesFolder folder.now (H.history host.old) result (H.history host.new) }
 {
     match host.make_folder(folder) {
         Ok(()) => Ok(()),
-        Err(fault) => Err(ending_of_folder(fault)),
+        Err(fault) => {
+            tell_fault(host, alloc, folder, fault);
+            Err(ending_of_folder(fault))
+        }
     }
 }
 
@@ -80,9 +83,18 @@ fn ending_of_folder(fault: HostFault) -> Ending
 {
     match fault {
         HostFault::Memory => Ending::Fault(SessionFault::Memory),
-        HostFault::Busy | HostFault::Absent | HostFault::Unwritable | HostFault::Failed => {
-            Ending::Line(ProgramLine::HostWrite)
-        }
+        HostFault::Busy
+        | HostFault::Absent
+        | HostFault::Denied
+        | HostFault::ReadOnly
+        | HostFault::Folder
+        | HostFault::NoFolder
+        | HostFault::Full
+        | HostFault::Links
+        | HostFault::Large
+        | HostFault::Changed
+        | HostFault::Pipe
+        | HostFault::Failed => { Ending::Line(ProgramLine::HostWrite) }
     }
 }
 
@@ -179,12 +191,12 @@ fn give_next<H: Host>(
     progress: &mut Progress,
     done: usize,
 ) -> Result<bool, Ending>
-    ensures gives { Then (TellsProgress progress.old.is_told done progress.old.all) (λ it. GivesFile form.now volume.now file.now) (H.history host.old) result (H.history host.new) }
+    ensures gives { Then (TellsProgress progress.old.is_told done progress.old.all) (λ it. GivesNoted form.now volume.now file.now) (H.history host.old) result (H.history host.new) }
     ensures told { progress.new.is_told ≡ progress.old.is_told }
     ensures all { progress.new.all ≡ progress.old.all }
 {
     progress.tell(host, done);
-    give_file(host, alloc, form, volume, file)
+    give_noted(host, alloc, form, volume, file)
 }
 
 /// Prints that the word at a place is refused.

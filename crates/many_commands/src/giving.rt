@@ -6,24 +6,69 @@ ghost use Rattle.script8.specs.Replies.{fault_line};
 ghost use Rattle.script8.specs.declared.faults.SessionFault.TheVariants.{File};
 ghost use Rattle.image_files.specs.Answers.{AreLines, named_lines};
 ghost use Rattle.many_commands.specs.GettingMany as spec;
-ghost use Rattle.many_commands.specs.GettingMany.{GivesFile, IsPath, LaysAndTells, LaysFile, PrintsAnswer, TakesFile, IsHostName, TellsLaid};
+ghost use Rattle.many_commands.specs.GettingMany.{GivesFile, IsPath, LaysAndTells, LaysApart, LaysFile, PrintsAnswer, RefusesOver, TakesFile, IsHostName, TellsLaid, GivesNoted, NotesGot, TellsGot};
+ghost use Rattle.many_commands.specs.Texts.{is_got_noted};
 
-use crate::texts::get_form;
+use crate::texts::{get_form, is_got_noted};
 use archive_files::GetForm;
 use archive_many::{OpenVolume, VolumeFile, host_name};
 use hosts::{Host, HostFault, lay};
-use image_files::{named_lines, print, program_line};
-use os8_dates::time_of_word;
+use image_files::{named_lines, print, program_line, tell_first, tell_note, tell_pair};
+use os8_dates::{NO_DATE, time_of_word};
 use os8_dir::FileFault;
-use outcome::Ending;
+use outcome::{Ending, NameNote, Note};
 use program_reports::ProgramLine;
 use program_tasks::GetManyForm;
 use script8::{SessionFault, put_reply};
 use std::alloc::Global;
 use volume_index::last_of;
 
+/// Gives a file, and prints before that where it goes as frames, and others as texts.
+pub(crate) fn give_noted<H: Host>(
+    host: &mut H,
+    alloc: Global,
+    form: &GetManyForm,
+    volume: &OpenVolume,
+    file: &VolumeFile,
+) -> Result<bool, Ending>
+    ensures { GivesNoted form.now volume.now file.now (H.history host.old) result (H.history host.new) }
+{
+    note_got(host, alloc, form, file)?;
+    give_file(host, alloc, form, volume, file)
+}
+
+/// Prints that a file goes as frames, where others go as texts.
+fn note_got<H: Host>(
+    host: &mut H,
+    alloc: Global,
+    form: &GetManyForm,
+    file: &VolumeFile,
+) -> Result<(), Ending>
+    ensures { NotesGot (is_got_noted form.now file.now) file.now (H.history host.old) result (H.history host.new) }
+{
+    if !is_got_noted(form, file) {
+        return Ok(());
+    }
+    name_got(host, alloc, file)
+}
+
+/// Prints the name of a file that goes as frames.
+fn name_got<H: Host>(host: &mut H, alloc: Global, file: &VolumeFile) -> Result<(), Ending>
+    ensures { NotesGot true file.now (H.history host.old) result (H.history host.new) }
+{
+    let name = name_of(alloc, file)?;
+    tell_got(host, alloc, name.as_str())
+}
+
+fn tell_got<H: Host>(host: &mut H, alloc: Global, name: &str) -> Result<(), Ending>
+    ensures { TellsGot name.now (H.history host.old) result (H.history host.new) }
+{
+    tell_note(host, alloc, Note::OnName(NameNote::GotAsFrames, name))?;
+    Ok(())
+}
+
 /// Writes a file of a volume to the folder and reports it, and answers whether it is there.
-pub(crate) fn give_file<H: Host>(
+fn give_file<H: Host>(
     host: &mut H,
     alloc: Global,
     form: &GetManyForm,
@@ -32,11 +77,11 @@ pub(crate) fn give_file<H: Host>(
 ) -> Result<bool, Ending>
     ensures { GivesFile form.now volume.now file.now (H.history host.old) result (H.history host.new) }
 {
-    let bytes = take_file(alloc, volume, file, get_form(&form.texts, file.name))?;
+    let bytes = take_file(alloc, volume, file, get_form(form, file))?;
     let name = name_of(alloc, file)?;
     let path = path_in(alloc, form.folder.as_str(), name.as_str())?;
     let seconds = time_of_file(form.year, volume, file);
-    lay_and_tell(
+    lay_apart(
         host,
         alloc,
         form,
@@ -63,14 +108,25 @@ fn take_file(
     }
 }
 
-/// The time for the file of the host: that of the date which the first information word means, where it means one, as a long list shows it.
+/// The time for the file of the host: that of the date which the first information word means, as a long list shows it. Where it means none, that
+/// is the begin of 1970.
 fn time_of_file(year: Option<usize>, volume: &OpenVolume, file: &VolumeFile) -> Option<u64>
     ensures { result ≡ spec.time_of_file year volume.now file.now }
 {
     let last = last_of(year, volume.last_word());
     match volume.first_word(file.name) {
-        Some(word) => time_of_word(word, last),
-        None => None,
+        Some(word) => time_or_none(time_of_word(word, last)),
+        None => Some(NO_DATE),
+    }
+}
+
+/// The time of a date, or that of a file with none.
+fn time_or_none(time: Option<u64>) -> Option<u64>
+    ensures { result ≡ spec.time_or_none time }
+{
+    match time {
+        Some(seconds) => Some(seconds),
+        None => Some(NO_DATE),
     }
 }
 
@@ -114,6 +170,45 @@ fn needs_slash(folder: &[u8]) -> bool
     needs
 }
 
+/// Lays a file of these bytes, unless its path leads to the image, whatever their names are: then it is refused.
+fn lay_apart<H: Host>(
+    host: &mut H,
+    alloc: Global,
+    form: &GetManyForm,
+    file: &VolumeFile,
+    name: &str,
+    path: &str,
+    bytes: &[u8],
+    seconds: Option<u64>,
+) -> Result<bool, Ending>
+    ensures { LaysApart form.now file.now name.now path.now bytes.now seconds (H.history host.old) result (H.history host.new) }
+{
+    let image = form.image.file.as_str();
+    match host.leads_to_same(alloc, path, image) {
+        Ok(is_one) => {
+            if is_one {
+                return refuse_over(host, alloc, name, path, image);
+            }
+            lay_and_tell(host, alloc, form, file, name, path, bytes, seconds)
+        }
+        Err(fault) => tell_laid(host, alloc, file, name, path, Err(fault)),
+    }
+}
+
+/// Prints that a file would be laid over the image, and how both are named.
+fn refuse_over<H: Host>(
+    host: &mut H,
+    alloc: Global,
+    name: &str,
+    path: &str,
+    image: &str,
+) -> Result<bool, Ending>
+    ensures { RefusesOver name.now path.now image.now (H.history host.old) result (H.history host.new) }
+{
+    tell_pair(host, alloc, path, image)?;
+    print_line_of(host, alloc, name, &ProgramLine::OneFile)
+}
+
 /// Lays a file of these bytes, and only then prints its line, or why it is not there.
 fn lay_and_tell<H: Host>(
     host: &mut H,
@@ -128,7 +223,7 @@ fn lay_and_tell<H: Host>(
     ensures { LaysAndTells form.now file.now name.now path.now bytes.now seconds (H.history host.old) result (H.history host.new) }
 {
     let done = lay_file(host, alloc, path, bytes, seconds, form.is_forced);
-    tell_laid(host, alloc, file, name, done)
+    tell_laid(host, alloc, file, name, path, done)
 }
 
 /// Has the file of a path hold these bytes, and have this time.
@@ -148,25 +243,47 @@ fn lay_file<H: Host>(
     }
 }
 
-/// Prints the line of a file that is laid. Of one that is not it prints the name, and why.
+/// Prints the line of a file that is laid. Of one that is not it prints why, with its path, and then the line with its name.
 fn tell_laid<H: Host>(
     host: &mut H,
     alloc: Global,
     file: &VolumeFile,
     name: &str,
+    path: &str,
     done: Result<(), HostFault>,
 ) -> Result<bool, Ending>
-    ensures { TellsLaid file.now name.now done (H.history host.old) result (H.history host.new) }
+    ensures { TellsLaid file.now name.now path.now done (H.history host.old) result (H.history host.new) }
 {
     match done {
         Ok(()) => print_got(host, alloc, file),
-        Err(fault) => match fault {
-            HostFault::Busy => print_line_of(host, alloc, name, &ProgramLine::HostExists),
-            HostFault::Memory => Err(Ending::Fault(SessionFault::Memory)),
-            HostFault::Absent => print_line_of(host, alloc, name, &ProgramLine::HostWrite),
-            HostFault::Unwritable => print_line_of(host, alloc, name, &ProgramLine::HostWrite),
-            HostFault::Failed => print_line_of(host, alloc, name, &ProgramLine::HostWrite),
+        Err(fault) => match line_of_laid(fault) {
+            None => Err(Ending::Fault(SessionFault::Memory)),
+            Some(line) => {
+                tell_first(host, alloc, path, fault);
+                print_line_of(host, alloc, name, &line)
+            }
         },
+    }
+}
+
+/// The line of a file that is not laid by this fault; want of memory ends the command.
+fn line_of_laid(fault: HostFault) -> Option<ProgramLine>
+    ensures { result ≡ spec.line_of_laid fault }
+{
+    match fault {
+        HostFault::Busy => Some(ProgramLine::HostExists),
+        HostFault::Memory => None,
+        HostFault::Absent
+        | HostFault::Denied
+        | HostFault::ReadOnly
+        | HostFault::Folder
+        | HostFault::NoFolder
+        | HostFault::Full
+        | HostFault::Links
+        | HostFault::Large
+        | HostFault::Changed
+        | HostFault::Pipe
+        | HostFault::Failed => { Some(ProgramLine::HostWrite) }
     }
 }
 

@@ -3,10 +3,10 @@ ghost use Rattle.std.specs.Prelude.{◌≡◌, ◌⊎◌, ◌||◌, List, [], �
 ghost use Rattle.script8.specs.declared.faults.SessionFault.TheVariants.{Memory};
 ghost use Rattle.outcome.specs.declared.endings.Ending.TheVariants.{Fault};
 ghost use Rattle.archive_many.specs.declared.putting.NewFile.{NewFile as AsNew};
-ghost use Rattle.many_commands.specs.PuttingMany.{DatesNext, LooksWhole, ReadsEach, ReadsNext, RefusesName, RefusesPath, TakesName, TellsUnread};
+ghost use Rattle.many_commands.specs.PuttingMany.{DatesNext, LooksWhole, MakesFile, ReadsEach, ReadsNext, RefusesName, RefusesPath, TakesName, TellsUnread};
 ghost use Rattle.many_commands.specs.NameSteps.{KnowsNames, has_key};
 
-use crate::texts::put_form;
+use crate::texts::{note_put, put_form};
 use archive_many::{NewFile, volume_name};
 use hosts::Host;
 use image_files::{date_of_file, look_file, tell_note};
@@ -63,6 +63,22 @@ fn read_next<H: Host>(
     let name = take_name(host, alloc, path, names)?;
     let bytes = look_whole(host, alloc, path)?;
     let date = date_next(host, alloc, path, is_dated)?;
+    new_file(host, alloc, texts, path, name, bytes, date)
+}
+
+/// The file of a path that has this name and these bytes. It is printed where it is put as frames, and others as texts.
+fn new_file<H: Host>(
+    host: &mut H,
+    alloc: Global,
+    texts: &TextsForm,
+    path: &str,
+    name: Name,
+    bytes: Vec<u8>,
+    date: Option<Word>,
+) -> Result<NewFile, Ending>
+    ensures { MakesFile texts.now path.now name bytes.items date (H.history host.old) result (H.history host.new) }
+{
+    note_put(host, alloc, texts, path, name)?;
     Ok(NewFile {
         name,
         bytes,
@@ -154,7 +170,7 @@ fn date_next<H: Host>(
 ) -> Result<Option<Word>, Ending>
     ensures { DatesNext is_dated path.now (H.history host.old) result (H.history host.new) }
 {
-    match date_of_file(host, path, is_dated) {
+    match date_of_file(host, alloc, path, is_dated) {
         Ok(date) => Ok(date),
         Err(why) => Err(tell_unread(host, alloc, path, why)),
     }

@@ -2,11 +2,12 @@
 //! stands in memory.
 ghost use Rattle.std.specs.Prelude.{◌≡◌, ◌++◌, false, true, map, option_copied, slice_get, OnOk, OnErr};
 ghost use Rattle.outcome.specs.declared.endings.Ending.TheVariants.{Fault};
+ghost use Rattle.archive_many.specs.Putting.{given_count, info_words, larger_of, most_wanted, words_wanted};
 ghost use Rattle.image_files.specs.Answers.{AreLines};
 ghost use Rattle.image_files.specs.Stored as put_spec;
 ghost use Rattle.image_files.specs.Stored.{TellsBad};
 ghost use Rattle.many_commands.specs.PuttingMany as spec;
-ghost use Rattle.many_commands.specs.PuttingMany.{FindsFiles, KeepsIf, KeepsWords, MakesMany, PutsFiles, PutsMany, RefusesLoss, TellsEmpty, TellsPath, TellsText, loss_from, paths_of};
+ghost use Rattle.many_commands.specs.PuttingMany.{FindsFiles, JudgesInfo, JudgesPut, KeepsIf, KeepsWords, MakesMany, PutsFiles, PutsMany, RefusesLoss, TellsEmpty, TellsPath, TellsText, loss_from, paths_of};
 ghost use Rattle.many_commands.specs.PutManySteps.{IsFileRefused, IsNotPut, IsTextRefused};
 
 use crate::host_files::read_files;
@@ -14,7 +15,7 @@ use crate::texts::take_lists;
 use archive_files::bad_text_at;
 use archive_many::{ManyFault, ManyImage, NewFile, VolumeFile, empties, open, put_all};
 use hosts::Host;
-use image_files::{Image, put_stored, refuse_image, store, tell_note};
+use image_files::{Image, note_year, put_stored, refuse_image, store, take_words, tell_note};
 use os8_dir::FileFault;
 use outcome::{Ending, NameNote, Note};
 use program_tasks::PutManyForm;
@@ -42,10 +43,38 @@ fn put_into<H: Host>(
 ) -> Result<(), Ending>
     ensures { PutsFiles form.now image files.now (H.history host.old) result (H.history host.new) }
 {
-    keep_words(host, alloc, form, files, &image.bytes)?;
+    judge_put(host, alloc, form, files, &image.bytes)?;
     let new = image_with(host, alloc, form, files, &image.bytes)?;
     let lines = stored_lines(alloc, files, &new.blocks)?;
     store(host, alloc, image, &new.bytes, &lines)
+}
+
+/// Refuses what would lose words of older files, or information words that are given. Then it prints how a date will be shown that is shown otherwise.
+fn judge_put<H: Host>(
+    host: &mut H,
+    alloc: Global,
+    form: &PutManyForm,
+    files: &[NewFile],
+    image: &[u8],
+) -> Result<(), Ending>
+    ensures { JudgesPut form.now files.now image.now (H.history host.old) result (H.history host.new) }
+{
+    keep_words(host, alloc, form, files, image)?;
+    judge_info(host, alloc, form, files, image)
+}
+
+/// Refuses information words for which there is no room, and prints how a date will be shown that is shown otherwise.
+fn judge_info<H: Host>(
+    host: &mut H,
+    alloc: Global,
+    form: &PutManyForm,
+    files: &[NewFile],
+    image: &[u8],
+) -> Result<(), Ending>
+    ensures { JudgesInfo form.now files.now image.now (H.history host.old) result (H.history host.new) }
+{
+    take_words(host, alloc, image, most_wanted(form, files))?;
+    note_year(host, alloc, image, info_of(&form.info), form.year)
 }
 
 /// Refuses files of no byte that would replace files of the volume in an image, unless that is asked for.
@@ -301,6 +330,59 @@ fn put_lines(files: &[NewFile], blocks: &[usize], lines: &mut Vec<u8>) -> Result
         counts = later;
     }
     Ok(())
+}
+
+/// The most information words that one of the files is to have.
+fn most_wanted(form: &PutManyForm, files: &[NewFile]) -> usize
+    ensures { result ≡ most_wanted 0 (given_count (put_spec.words_of form.now.info)) files.now }
+{
+    let given = given_count(&form.info);
+    let mut most: usize = 0;
+    let mut rest = files;
+    while let [file, others @ ..] = rest {
+        most = larger_of(most, words_wanted(given, file.date));
+        rest = others;
+    }
+    most
+}
+
+fn larger_of(one: usize, other: usize) -> usize
+    ensures { result ≡ larger_of one other }
+{
+    if one < other {
+        return other;
+    }
+    one
+}
+
+/// How many information words a file is to have: its date alone, or as many as are given.
+fn words_wanted(given: usize, date: Option<Word>) -> usize
+    ensures { result ≡ words_wanted given date }
+{
+    match date {
+        Some(_) => 1,
+        None => given,
+    }
+}
+
+/// How many information words are given.
+fn given_count(info: &Option<Vec<Word>>) -> usize
+    ensures { result ≡ given_count (put_spec.words_of info.now) }
+{
+    match info {
+        Some(words) => words.len(),
+        None => 0,
+    }
+}
+
+/// The information words that are given.
+fn info_of(info: &Option<Vec<Word>>) -> &[Word]
+    ensures { result.now ≡ info_words (put_spec.words_of info.now) }
+{
+    match info {
+        Some(words) => words.as_slice(),
+        None => &[],
+    }
 }
 
 /// The information words that are given, if any are.

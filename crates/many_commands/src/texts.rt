@@ -1,15 +1,16 @@
 //! Which of several files are texts.
 ghost use Rattle.std.specs.Prelude.{◌≡◌, map, slice_get, OnOk, OnErr};
 ghost use Rattle.many_commands.specs.Texts as spec;
-ghost use Rattle.many_commands.specs.Texts.{TakesLists, TellsBadList};
+ghost use Rattle.many_commands.specs.Texts.{TakesLists, TellsBadList, TellsFrames};
+ghost use Rattle.outcome.specs.declared.notes.NameNote.TheVariants.{PutAsFrames};
 
 use archive_files::{GetForm, PutForm};
-use archive_many::{bad_extensions, is_text};
+use archive_many::{VolumeFile, bad_extensions, is_named, is_text};
 use hosts::Host;
 use image_files::tell_note;
 use os8_dir::Name;
 use outcome::{Ending, NameNote, Note};
-use program_tasks::TextsForm;
+use program_tasks::{GetManyForm, TextsForm};
 use std::alloc::{AllocError, Global};
 
 /// Refuses words that are no lists of extensions, and prints the first of them.
@@ -49,29 +50,68 @@ fn tell_bad_list<H: Host>(
     }
 }
 
-/// Whether a file of this name is one of the texts.
-pub(crate) fn is_one_of(texts: &TextsForm, name: Name) -> bool
-    ensures { result ≡ spec.is_one_of texts.now name }
+/// Whether some files are asked for as texts.
+fn are_asked(texts: &TextsForm) -> bool
+    ensures { result ≡ spec.are_asked texts.now }
 {
-    is_text(name, texts.is_usual, &texts.extensions)
+    texts.is_usual || !texts.extensions.is_empty()
+}
+
+/// Whether a file of the host with this name on the volume is put as a text. Each is named.
+fn is_put_text(texts: &TextsForm, name: Name) -> bool
+    ensures { result ≡ spec.is_put_text texts.now name }
+{
+    texts.is_usual || is_text(name, false, &texts.extensions)
 }
 
 /// What a file of the host is put as.
 pub(crate) fn put_form(texts: &TextsForm, name: Name) -> PutForm
     ensures { result ≡ spec.put_form texts.now name }
 {
-    if is_one_of(texts, name) {
+    if is_put_text(texts, name) {
         return PutForm::Text;
     }
     PutForm::Frames
 }
 
-/// What is given of a file of the volume.
-pub(crate) fn get_form(texts: &TextsForm, name: Name) -> GetForm
-    ensures { result ≡ spec.get_form texts.now name }
+/// Prints the path of a file of the host that is put as frames, where others are put as texts.
+pub(crate) fn note_put<H: Host>(
+    host: &mut H,
+    alloc: Global,
+    texts: &TextsForm,
+    path: &str,
+    name: Name,
+) -> Result<(), AllocError>
+    ensures told { OnOk result (TellsFrames PutAsFrames (spec.is_put_noted texts.now name) path.now (H.history host.old) (H.history host.new)) }
+    ensures wanted { OnErr result (H.history host.new ≡ H.history host.old) }
 {
-    if is_one_of(texts, name) {
+    if !are_asked(texts) || is_put_text(texts, name) {
+        return Ok(());
+    }
+    tell_note(host, alloc, Note::OnName(NameNote::PutAsFrames, path))
+}
+
+/// Whether a file of the volume is got as a text.
+fn is_got_text(form: &GetManyForm, file: &VolumeFile) -> bool
+    ensures { result ≡ spec.is_got_text form.now file.now }
+{
+    is_text(file.name, form.texts.is_usual, &form.texts.extensions)
+        || (form.texts.is_usual && is_named(file, &form.names, &form.places))
+}
+
+/// What is given of a file of the volume.
+pub(crate) fn get_form(form: &GetManyForm, file: &VolumeFile) -> GetForm
+    ensures { result ≡ spec.get_form form.now file.now }
+{
+    if is_got_text(form, file) {
         return GetForm::Text;
     }
     GetForm::Frames
+}
+
+/// Whether a file of the volume is got as frames, where others are got as texts.
+pub(crate) fn is_got_noted(form: &GetManyForm, file: &VolumeFile) -> bool
+    ensures { result ≡ spec.is_got_noted form.now file.now }
+{
+    are_asked(&form.texts) && !is_got_text(form, file)
 }

@@ -73,7 +73,7 @@ pub record LacksRoom (old new : List Event) (status : ℕ) : Type 0 where
 -- the words that a program has are done as they ask, and else it ends
 abbrev pub RunsGot : Reading → List Event → Result (Vec (String Global)) Ending → List Event → ℕ → Type 0
 RunsGot input old (Ok words) new status = RunsGiven (map (λ word. word.bytes.items) words.items) input old new status
-RunsGot input old (Err ending) new status = EndsSo false (Err ending) old new status
+RunsGot input old (Err ending) new status = EndsSo false None (Err ending) old new status
 
 -- The words that the host gives are done as they ask. Before anything else memory for the last line is taken.
 abbrev pub RunsProgram : Reading → List Event → List Event → ℕ → Type 0

@@ -13,14 +13,23 @@ use std::env::Env;
 use std::fs::{File, Files};
 use std::io::{Input, IsTerminal};
 use std::process::ExitCode;
+use std::random::RandomSource;
 use std::time::Clock;
-use system::System;
+use system::{Outputs, System};
 use task_commands::run_words;
 
 /// Does what the words of the command line ask for, over the system, as `run_program` does it. The answer is the exit status.
-pub fn program<R: Env + Files<File = File> + Input + Print + Eprint + Clock + AllocGlobal>(
-    rt: &R,
-) -> ExitCode
+pub fn program<
+    R: Env
+        + Files<File = File>
+        + Input
+        + Outputs
+        + Print
+        + Eprint
+        + Clock
+        + RandomSource
+        + AllocGlobal,
+>(rt: &R) -> ExitCode
 where
     R::Reader: IsTerminal,
 {
@@ -44,7 +53,7 @@ pub fn run_program<H: Host, I: ByteReader>(host: H, alloc: Global, input: &mut I
     match words_of(&mut host, alloc) {
         Ok(words) => run_given(host, alloc, rooms, &words, input),
         Err(ending) => {
-            let status = end(&mut host, rooms, false, Err(ending));
+            let status = end(&mut host, rooms, &None, false, Err(ending));
             (host, status)
         }
     }
@@ -67,7 +76,7 @@ fn run_given<H: Host, I: ByteReader>(
             run_words(host, alloc, rooms, &texts, input, is_typed)
         }
         Err(error) => {
-            let status = end(&mut host, rooms, false, Err(Ending::from(error)));
+            let status = end(&mut host, rooms, &None, false, Err(Ending::from(error)));
             (host, status)
         }
     }

@@ -4,6 +4,7 @@ use Rattle.std.specs.Prelude.{nat_le, unwrap_or}
 use Rattle.std.proofs.lemmas.Bool.{leb-true, le-leb}
 use Rattle.std.proofs.lemmas.Bool.Decides.{nat_tests}
 use Rattle.os8_dates.specs.declared.dates.Date.{Date}
+use Rattle.os8_dates.specs.declared.days.TheConstants.{NO_DATE}
 use Rattle.os8_dates.specs.Dates.{date_in, days_in, fields_of, has_30_days, has_31_days, is_day, is_leap, word_of}
 use Rattle.os8_dates.specs.Days.{date_at, day_after, day_number, days_of_months, days_of_years, if_spelled, next_day, seconds_of, time_if, time_of_word, word_if, word_of_time, year_length}
 use Rattle.os8_dates.proofs.DateLemmas.{both, from_1970, not_none, words_come_back}
@@ -297,6 +298,10 @@ words_through_times last word date least most small is =
     up_to : (last n : ℕ) → last - n % 8 ≤ last
     up_to last n = omega arith
 
+-- noon of a day is after the begin of the first
+after_none : (n : ℕ) → nat_eq (86400 * n + 43200) NO_DATE ≡ false
+after_none n = grind arith
+
 pub times_keep_words : (last word seconds : ℕ) → 1977 ≤ last → last ≤ 9999 → word < 4096 → time_of_word last word ≡ Some seconds → word_of_time seconds ≡ Some word
 times_keep_words last word seconds least most small is = go (date_in last word) refl is
   where
@@ -304,4 +309,4 @@ times_keep_words last word seconds least most small is = go (date_in last word) 
     go None none e = absurd (not_none seconds e)
     go (Some date) some e =
         let back = words_through_times last word date least most small some in
-        ap word_of_time (sym (ap (λ o. unwrap_or o 0) e)) ∙ ap word_if back.0 ∙ back.1
+        ap word_of_time (sym (ap (λ o. unwrap_or o 0) e)) ∙ ap (λ (b : Bool). if b then None else word_if (date_at (seconds_of date))) (after_none (day_number date)) ∙ ap word_if back.0 ∙ back.1

@@ -2,6 +2,7 @@
 -- day has 86400 (POSIX, "Seconds Since the Epoch").
 use Rattle.std.specs.Prelude.{ℕ, zero, suc, ◌+◌, ◌-◌, ◌*◌, ◌/◌, nat_eq, nat_le, not, if◌then◌else◌, Option, Some, None}
 use Rattle.os8_dates.specs.declared.dates.Date.{Date}
+use Rattle.os8_dates.specs.declared.days.TheConstants.{NO_DATE}
 use Rattle.os8_dates.specs.declared.years.TheConstants.{FIRST_YEAR, LAST_YEAR}
 use Rattle.os8_dates.specs.Dates.{date_in, days_in, is_leap, word_of}
 
@@ -67,6 +68,6 @@ abbrev pub word_if : Option Date → Option ℕ
 word_if None = None
 word_if (Some date) = word_of date
 
--- the word of the day of a time
+-- the word of the day of a time; that of files with no date has none
 abbrev pub word_of_time : ℕ → Option ℕ
-word_of_time seconds = word_if (date_at seconds)
+word_of_time seconds = if nat_eq seconds NO_DATE then None else word_if (date_at seconds)

@@ -10,6 +10,9 @@ use word12::Word;
 /// How many seconds a day has (POSIX, "Seconds Since the Epoch").
 const DAY: u64 = 86_400;
 
+/// The time of a file of the host whose file on a volume has no date, the begin of 1970 (this project's profile).
+pub const NO_DATE: u64 = 0;
+
 /// How many seconds there are from the begin of a day to its noon.
 const NOON: u64 = 43_200;
 
@@ -51,10 +54,14 @@ pub fn time_of_word(word: Word, last: u16) -> Option<u64>
     }
 }
 
-/// The word of the day of a time, which is given in seconds after the begin of 1970 in UTC; none after the year 9999.
+/// The word of the day of a time, which is given in seconds after the begin of 1970 in UTC. The time of files with no date has none, and there
+/// is none after the year 9999.
 pub fn word_of_time(seconds: u64) -> Option<Word>
     ensures { result ≡ word_of_time seconds }
 {
+    if seconds == NO_DATE {
+        return None;
+    }
     match date_of_seconds(seconds) {
         Some(date) => date_word(date),
         None => None,

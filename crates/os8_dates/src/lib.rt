@@ -11,6 +11,6 @@ mod spelling;
 mod years;
 
 pub use dates::{Date, date_of, date_word, is_calendar_day};
-pub use days::{date_of_seconds, seconds_of, time_of_word, word_of_time};
+pub use days::{NO_DATE, date_of_seconds, seconds_of, time_of_word, word_of_time};
 pub use spelling::{parse_date, put_date};
 pub use years::{FIRST_YEAR, LAST_YEAR, LEAST_LAST, last_year};

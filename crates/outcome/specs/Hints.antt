@@ -1,5 +1,5 @@
 -- What may help where an image is refused (this project's profile).
-use Rattle.std.specs.Prelude.{ℕ, ◌*◌, ◌%◌, nat_eq, nat_le, nat_lt, Bool, ◌&&◌, if◌then◌else◌, codes, decimal, Option, Some, None, List, ◌++◌}
+use Rattle.std.specs.Prelude.{ℕ, ◌*◌, ◌/◌, ◌%◌, nat_eq, nat_le, nat_lt, Bool, ◌&&◌, if◌then◌else◌, codes, decimal, Option, Some, None, List, ◌++◌}
 use Rattle.disk_layouts.specs.Disks.{guess_of}
 use Rattle.disk_layouts.specs.declared.layouts.Layout.{Layout}
 use Rattle.disk_layouts.specs.declared.layouts.Layout.TheVariants.{First, Second, Dectape}
@@ -9,9 +9,11 @@ use Rattle.os8_dir.specs.declared.faults.DirFault.{DirFault}
 use Rattle.os8_dir.specs.declared.faults.DirFault.TheVariants as directory
 use Rattle.archive_files.specs.declared.faults.ArchiveFault.{ArchiveFault}
 use Rattle.archive_files.specs.declared.faults.ArchiveFault.TheVariants.{Image, Directory, Refused}
+use Rattle.volume_image.specs.declared.faults.ImageFault.{ImageFault}
+use Rattle.volume_image.specs.declared.faults.ImageFault.TheVariants as image
 use Rattle.outcome.specs.declared.hints.TheConstants.{IMAGE}
 use Rattle.outcome.specs.declared.hints.ImageNote.{ImageNote}
-use Rattle.outcome.specs.declared.hints.ImageNote.TheVariants.{Plain, Size}
+use Rattle.outcome.specs.declared.hints.ImageNote.TheVariants.{Plain, Size, Word}
 use Rattle.outcome.specs.Notes.{plain_text}
 use Rattle.outcome.specs.declared.notes.PlainNote.{PlainNote}
 use Rattle.outcome.specs.declared.notes.PlainNote.TheVariants as plain
@@ -39,9 +41,22 @@ directory_note size directory.MixedInfo = None
 directory_note size directory.Device = None
 directory_note size directory.Memory = None
 
+-- a word of more than twelve bits is named, unless the file may be that of a DECtape or of a disk
+abbrev pub word_note : ℕ → Option ImageNote → Option ImageNote
+word_note number None = Some (Word number)
+word_note number (Some note) = Some note
+
+-- so many bytes are no image by this fault
+abbrev pub fault_note : ℕ → ImageFault → Option ImageNote
+fault_note size (image.BadWord number) = word_note number (layout_note size (guess_of size))
+fault_note size image.NotWhole = layout_note size (guess_of size)
+fault_note size image.TooSmall = layout_note size (guess_of size)
+fault_note size image.TooLarge = layout_note size (guess_of size)
+fault_note size image.Memory = layout_note size (guess_of size)
+
 -- what may help where an image of so many bytes, or a file of it, is refused
 abbrev pub image_note : ℕ → ArchiveFault → Option ImageNote
-image_note size (Image fault) = layout_note size (guess_of size)
+image_note size (Image fault) = fault_note size fault
 image_note size (Directory fault) = directory_note size fault
 image_note size (Refused fault) = None
 
@@ -49,10 +64,15 @@ image_note size (Refused fault) = None
 abbrev pub size_text : ℕ → List ℕ
 size_text size = codes "note: " ++ decimal size ++ codes " bytes are no image: a volume has 8 to 4095 blocks of 512, a disk 1662977 to 3325952 bytes, a DECtape 380292\n"
 
+-- that a word has more than twelve bits, by its place in its block of 256
+abbrev pub word_text : ℕ → List ℕ
+word_text number = codes "note: word " ++ decimal (number % 256) ++ codes " of block " ++ decimal (number / 256) ++ codes " has more than 12 bits: --lenient reads it without the top ones\n"
+
 -- a note on an image, with the end of its line
 abbrev pub image_text : ImageNote → List ℕ
 image_text (Plain note) = plain_text note
 image_text (Size size) = size_text size
+image_text (Word number) = word_text number
 
 -- what is said of frames that are no BIN tape, by what they are
 abbrev pub kind_note : FileKind → Option PlainNote

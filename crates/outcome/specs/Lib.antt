@@ -3,6 +3,8 @@ pub mod Endings
 pub mod Hints
 pub mod Notes
 pub mod Outcomes
+pub mod Readings
+pub mod Reasons
 pub mod Streams
 pub mod Shown
 pub mod Steps

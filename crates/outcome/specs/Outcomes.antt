@@ -66,6 +66,7 @@ ending_outcome is_data ending.Failure = silence 1
 ending_outcome is_data (ending.Busy content) = refusal is_data (note_on file.Busy content) (program_line HostBusy)
 ending_outcome is_data (ending.NotWritten content left) = refusal is_data (note_on (note_of_write left) content) (program_line HostWrite)
 ending_outcome is_data ending.FullOutput = full_output
+ending_outcome is_data ending.Unreported = full_output
 ending_outcome is_data ending.NoReader = silence 141
 ending_outcome is_data ending.Misuse = silence 2
 

@@ -39,6 +39,9 @@ pub enum Ending {
     /// Standard output takes no more.
     FullOutput,
 
+    /// An image has its change, and standard output does not take the line that reports it.
+    Unreported,
+
     /// Standard output is a pipe that nobody reads any more.
     NoReader,
 

@@ -9,6 +9,7 @@ use arrayvec::ArrayString;
 use disk_layouts::{Layout, guess};
 use file_kind::FileKind;
 use os8_dir::DirFault;
+use volume_image::ImageFault;
 use word12::{BLOCK, Cell, MOST_BLOCKS};
 
 /// The most bytes that an image has.
@@ -21,6 +22,9 @@ pub enum ImageNote {
 
     /// The file has so many bytes, and no image has.
     Size(usize),
+
+    /// The word of this index, counted from 0 over the whole image, has more than twelve bits.
+    Word(usize),
 }
 
 /// What may help where an image of so many bytes, or a file of it, is refused; none where nothing is known (this project's profile).
@@ -28,9 +32,25 @@ pub fn image_note(size: usize, fault: &ArchiveFault) -> Option<ImageNote>
     ensures { result ≡ spec.image_note size fault.now }
 {
     match fault {
-        ArchiveFault::Image(_) => layout_note(size),
+        ArchiveFault::Image(fault) => fault_note(size, *fault),
         ArchiveFault::Directory(fault) => directory_note(size, *fault),
         ArchiveFault::Refused(_) => None,
+    }
+}
+
+/// What may help where so many bytes are no image by this fault.
+fn fault_note(size: usize, fault: ImageFault) -> Option<ImageNote>
+    ensures { result ≡ spec.fault_note size fault }
+{
+    match fault {
+        ImageFault::BadWord(number) => match layout_note(size) {
+            Some(note) => Some(note),
+            None => Some(ImageNote::Word(number)),
+        },
+        ImageFault::NotWhole => layout_note(size),
+        ImageFault::TooSmall => layout_note(size),
+        ImageFault::TooLarge => layout_note(size),
+        ImageFault::Memory => layout_note(size),
     }
 }
 
@@ -73,6 +93,22 @@ pub fn size_text(size: usize) -> ArrayString<160>
     text.push_str(
         " bytes are no image: a volume has 8 to 4095 blocks of 512, a disk 1662977 to 3325952 bytes, a DECtape 380292\n",
     );
+    text
+}
+
+/// The text of the note that the word of this index has more than twelve bits, by its place in its block, with the end of its line (this
+/// project's profile). No memory is taken.
+pub fn word_text(number: usize) -> ArrayString<160>
+    ensures { result.bytes ≡ spec.word_text number }
+{
+    let mut text = ArrayString::new();
+    let mut word = itoa::Buffer::new();
+    let mut block = itoa::Buffer::new();
+    text.push_str("note: word ");
+    text.push_str(word.format(number % BLOCK));
+    text.push_str(" of block ");
+    text.push_str(block.format(number / BLOCK));
+    text.push_str(" has more than 12 bits: --lenient reads it without the top ones\n");
     text
 }
 

@@ -6,8 +6,11 @@ ghost use Rattle.outcome.specs.declared.contents.Content.TheVariants.{Image, Tap
 ghost use Rattle.outcome.specs.Notes as spec;
 
 use crate::contents::Content;
+use crate::readings::write_on_readings;
+use crate::reasons::{Reason, write_on_reason};
 use archive_files::TextPlace;
-use script8::readings::MOST;
+use image_kind::ImageKind;
+use shown_text::ShownText;
 use std::fmt;
 
 /// A note that is always the same.
@@ -45,6 +48,15 @@ pub enum PlainNote {
 
     /// Words that have a fault come next.
     FurtherFaults,
+
+    /// A change would make a file a volume.
+    MadeVolume,
+
+    /// It would make it an RK05 disk.
+    MadeDisk,
+
+    /// It would make it a DECtape.
+    MadeDectape,
 }
 
 /// A note on a file of the host.
@@ -72,7 +84,7 @@ pub enum FileNote {
 /// A note on what has a name.
 #[derive(Clone, Copy)]
 pub enum NameNote {
-    /// An input of this name has more bytes than are read.
+    /// An input of this name has more bytes than are read, which is why it is refused.
     TooLong,
 
     /// A file of the host is refused, so none is put.
@@ -87,8 +99,23 @@ pub enum NameNote {
     /// An empty file is not put in place of one that has words.
     Empty,
 
+    /// A file of the host is put as frames, where some are put as texts.
+    PutAsFrames,
+
+    /// A file of a volume is got as frames, where some are got as texts.
+    GotAsFrames,
+
+    /// A file that is not empty would go, which a person is asked about.
+    Replaces,
+
     /// Of two images this one refuses.
     Refuses,
+
+    /// The image has the change of which no line could be printed.
+    HasChange,
+
+    /// The image is as it was, of which no line could be printed.
+    AsItWas,
 
     /// A source can't be read.
     NoSource,
@@ -101,6 +128,9 @@ pub enum NameNote {
 
     /// The tape and the listing would be written to one place.
     OnePlace,
+
+    /// Two names, with `and` between them, lead to one file.
+    OneFile,
 
     /// This is no list of extensions.
     BadExtensions,
@@ -131,6 +161,15 @@ pub enum Note<'a> {
 
     /// The file of this name has so many bytes before the blocks of its volumes, and so many after them.
     OnMargins(&'a str, usize, usize),
+
+    /// Why the file of this name is not read, or not written.
+    OnReason(Reason, &'a str),
+
+    /// So many files beside that of this name were taken away, which writers left there that were ended.
+    OnLeftovers(&'a str, usize),
+
+    /// The file of this name may be read in these two ways.
+    OnReadings(&'a str, ImageKind, ImageKind),
 }
 
 /// The text of a note (this project's profile).
@@ -145,6 +184,9 @@ impl<'a> fmt::Display for Note<'a> {
             Note::OnBlock(block) => write_on_block(*block, f),
             Note::OnText(place) => write_on_text(place.line, place.byte, f),
             Note::OnMargins(name, before, after) => write_on_margins(*name, *before, *after, f),
+            Note::OnReason(why, name) => write_on_reason(*why, *name, f),
+            Note::OnLeftovers(name, count) => write_on_leftovers(*name, *count, f),
+            Note::OnReadings(name, one, other) => write_on_readings(*name, *one, *other, f),
         }
     }
 }
@@ -175,6 +217,12 @@ impl PlainNote {
             PlainNote::FileNames =>
                 "note: a file's name is 1 to 6 letters, digits or escapes (_ and two octal digits), then nothing, or a dot and 1 or 2 more\n",
             PlainNote::FurtherFaults => "note: these words have a fault too:\n",
+            PlainNote::MadeVolume =>
+                "note: with this change the file would be read as a volume: --dectape makes it all the same in a DECtape without more bytes\n",
+            PlainNote::MadeDisk =>
+                "note: with this change the file would be read as an RK05 disk: --plain makes it in a volume all the same\n",
+            PlainNote::MadeDectape =>
+                "note: with this change the file would be read as a DECtape: --plain makes it in a volume all the same\n",
         }
     }
 }
@@ -243,7 +291,7 @@ impl FileNote {
     }
 }
 
-/// Writes the note on what has a name.
+/// Writes the note on what has a name, which is shown with escapes where it isn't graphic.
 fn write_on_name<W: fmt::Write>(
     note: NameNote,
     name: &str,
@@ -251,38 +299,53 @@ fn write_on_name<W: fmt::Write>(
 ) -> fmt::Result
     ensures { DisplaysOnOk W.write_str_gives f.old result (Some (spec.name_text note name.now)) f.new }
 {
+    let (head, tail) = (head_of(note), tail_of(note));
+    let name = ShownText { text: name };
+    write!(f, "{head}{name}{tail}")
+}
+
+/// What stands before the name in a note.
+fn head_of(note: NameNote) -> &'static str
+    ensures { result.now ≡ spec.head_of note }
+{
     match note {
-        NameNote::TooLong => write!(
-            f,
-            "note: {name} has more than {MOST} bytes, and no more are read\n"
-        ),
-        NameNote::NotPut => write!(f, "note: {name} is refused, and no file is put\n"),
-        NameNote::NotDeleted => write!(f, "note: {name} is refused, and no file is taken out\n"),
-        NameNote::NotCopied => write!(f, "note: {name} is refused, and no file is copied\n"),
-        NameNote::Empty => write!(
-            f,
-            "note: {name} is empty, and the volume has a file of its name: --empty puts it all the same\n"
-        ),
-        NameNote::Refuses => write!(f, "note: {name} is the image that refuses\n"),
-        NameNote::NoSource => write!(f, "error: the source {name} can't be read\n"),
-        NameNote::TopBits => write!(
-            f,
-            "note: {name} has the frames of a text, each with its top bit: get IMAGE NAME --text writes the text\n"
-        ),
-        NameNote::OverSource => write!(f, "error: {name} is a source, and would be written over\n"),
-        NameNote::OnePlace => write!(
-            f,
-            "error: the tape and the listing can't both be written to {name}\n"
-        ),
-        NameNote::BadExtensions => write!(
-            f,
-            "error: invalid value '{name}' for '--text-of <LIST>': no extensions of 1 or 2 capital letters or digits with commas between\n"
-        ),
-        NameNote::Pal8 => write!(
-            f,
-            "note: {name} is PAL8, the language of OS/8's assembler: assemble --pal8 takes a source of that\n"
-        ),
-        NameNote::Hint => write!(f, "note: {name}\n"),
+        NameNote::NoSource => "error: the source ",
+        NameNote::OverSource => "error: ",
+        NameNote::OnePlace => "error: the tape and the listing can't both be written to ",
+        NameNote::BadExtensions => "error: invalid value '",
+        _ => "note: ",
+    }
+}
+
+/// What stands after it, with the end of the line.
+fn tail_of(note: NameNote) -> &'static str
+    ensures { result.now ≡ spec.tail_of note }
+{
+    match note {
+        NameNote::TooLong => ": larger than 16777216 bytes\n",
+        NameNote::NotPut => " is refused, and no file is put\n",
+        NameNote::NotDeleted => " is refused, and no file is taken out\n",
+        NameNote::NotCopied => " is refused, and no file is copied\n",
+        NameNote::Empty =>
+            " is empty, and the volume has a file of its name: --empty puts it all the same\n",
+        NameNote::PutAsFrames => " is put as frames: its extension is none of a text's\n",
+        NameNote::GotAsFrames => " is got as frames: its extension is none of a text's\n",
+        NameNote::Replaces =>
+            " is there, and is not empty: y replaces it, and anything else leaves it\n",
+        NameNote::Refuses => " is the image that refuses\n",
+        NameNote::HasChange => " has the change\n",
+        NameNote::AsItWas => " is as it was\n",
+        NameNote::NoSource => " can't be read\n",
+        NameNote::TopBits =>
+            " has the frames of a text, each with its top bit: get IMAGE NAME --text writes the text\n",
+        NameNote::OverSource => " is a source, and would be written over\n",
+        NameNote::OnePlace => "\n",
+        NameNote::OneFile => " are one file\n",
+        NameNote::BadExtensions =>
+            "' for '--text-of <LIST>': no extensions of 1 or 2 capital letters or digits with commas between\n",
+        NameNote::Pal8 =>
+            " is PAL8, the language of OS/8's assembler: assemble --pal8 takes a source of that\n",
+        NameNote::Hint => "\n",
     }
 }
 
@@ -306,6 +369,21 @@ fn write_on_block<W: fmt::Write>(block: usize, f: &mut fmt::Formatter<W>) -> fmt
     )
 }
 
+/// Writes how many files beside another were taken away.
+fn write_on_leftovers<W: fmt::Write>(
+    name: &str,
+    count: usize,
+    f: &mut fmt::Formatter<W>,
+) -> fmt::Result
+    ensures { DisplaysOnOk W.write_str_gives f.old result (Some (spec.leftovers_text name.now count)) f.new }
+{
+    let name = ShownText { text: name };
+    write!(
+        f,
+        "note: files that ended writers left beside {name} are removed: {count} in all\n"
+    )
+}
+
 /// Writes how many bytes of a file are none of its volumes'.
 fn write_on_margins<W: fmt::Write>(
     name: &str,
@@ -315,6 +393,7 @@ fn write_on_margins<W: fmt::Write>(
 ) -> fmt::Result
     ensures { DisplaysOnOk W.write_str_gives f.old result (Some (spec.margins_text name.now before after)) f.new }
 {
+    let name = ShownText { text: name };
     write!(
         f,
         "note: {name} has {before} bytes before its blocks and {after} after them, which are left alone\n"

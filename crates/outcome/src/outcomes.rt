@@ -66,7 +66,7 @@ fn ending_outcome(room: LineRoom, is_data: bool, ending: Ending) -> Outcome
             let note = (note_of_write(left), content);
             refusal(room, is_data, Some(note), &ProgramLine::HostWrite)
         }
-        Ending::FullOutput => full_output(room),
+        Ending::FullOutput | Ending::Unreported => full_output(room),
         Ending::NoReader => silence(room, NO_READER),
         Ending::Misuse => silence(room, MISUSE),
     }

@@ -25,6 +25,8 @@ pub fn gives_data(task: &Task) -> bool
         | Task::Run(..)
         | Task::Create(..)
         | Task::CreateTape(_)
+        | Task::CreateDisk(_)
+        | Task::CreateVolume(_)
         | Task::List(_)
         | Task::ListLong(..)
         | Task::ListSome(_)

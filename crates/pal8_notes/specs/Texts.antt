@@ -1,6 +1,7 @@
 -- What is printed of notes: each as a line, in the manner of compilers.
 use Rattle.std.specs.Prelude.{ℕ, ◌-◌, codes, decimal, List, [], ◌∷◌, ◌++◌}
 use Rattle.std.specs.Borrow.{Bor}
+use Rattle.shown_text.specs.Showing.{shown_text}
 use Rattle.pal_lex.specs.Text.{text_of}
 use Rattle.source_places.specs.Places.{bytes_of}
 use Rattle.pal8_places.specs.declared.options.Options.{Options}
@@ -17,9 +18,9 @@ words_of Apart = codes "palbart ors what stands before and after a blank before 
 words_of Closer = codes "palbart applies the other operators before it ors what a blank joins"
 words_of Tab = codes "palbart reads a tab in a string, or after \", as a blank"
 
--- a note on the line of a source, by the number of this from 1 and the line in it
+-- a note on the line of a source, whose name is shown with escapes where it isn't graphic, by the number of this from 1 and the line in it
 abbrev pub spot_note_text : List (Bor (List ℕ)) → ℕ × ℕ → Difference → List ℕ
-spot_note_text names spot difference = bytes_of names (spot.0 - 1) ++ codes ":" ++ decimal spot.1 ++ codes ": note: " ++ words_of difference ++ codes "\n"
+spot_note_text names spot difference = shown_text (bytes_of names (spot.0 - 1)) ++ codes ":" ++ decimal spot.1 ++ codes ": note: " ++ words_of difference ++ codes "\n"
 
 -- a note on a line of a join, in which the sources but the first begin at these lines
 abbrev pub note_text : List (Bor (List ℕ)) → List ℕ → Note → List ℕ

@@ -8,6 +8,7 @@ use crate::{Difference, Note};
 use pal8_join::join_all;
 use pal8_listing::{later_starts, spot_of};
 use pal8_places::Options;
+use shown_text::put_shown;
 use source_places::{name_of, put_number};
 use std::alloc::{AllocError, Global};
 
@@ -34,7 +35,7 @@ pub fn notes_text(
     Ok(text)
 }
 
-/// Puts a note on the line of a source.
+/// Puts a note on the line of a source, whose name is shown with escapes where it isn't graphic.
 fn put_at(
     text: &mut Vec<u8>,
     names: &[&str],
@@ -44,7 +45,8 @@ fn put_at(
     ensures { OnOk result (text.new.items ≡ text.old.items ++ spot_note_text names.now spot difference) }
 {
     let (source, line) = spot;
-    text.extend_from_slice(name_of(names, source.saturating_sub(1) as usize).as_bytes())?;
+    let name = name_of(names, source.saturating_sub(1) as usize);
+    put_shown(text, name.as_bytes())?;
     text.extend_from_slice(b":")?;
     put_number(text, line)?;
     text.extend_from_slice(b": note: ")?;

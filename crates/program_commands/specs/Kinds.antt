@@ -32,6 +32,7 @@ is_no_tape ending.Failure = false
 is_no_tape (ending.Busy content) = false
 is_no_tape (ending.NotWritten content left) = false
 is_no_tape ending.FullOutput = false
+is_no_tape ending.Unreported = false
 is_no_tape ending.NoReader = false
 is_no_tape ending.Misuse = false
 

@@ -69,8 +69,14 @@ pub enum ProgramLine {
     /// A file of the host is there that is not to be replaced.
     HostExists,
 
+    /// A file of the host that is to be written is one that is read, or is written already.
+    OneFile,
+
     /// Two files of the host have one name on the volume.
     SameName,
+
+    /// Each file of the volume has only so many information words.
+    OnlyWords(usize),
 
     /// The image has only so many blocks.
     OnlyBlocks(usize),
@@ -80,6 +86,12 @@ pub enum ProgramLine {
 
     /// The file holds no volume of a disk or of a DECtape.
     Disk(DiskFault),
+
+    /// The image file may be read in two ways.
+    TwoReadings,
+
+    /// A change would make the image file one that is read in another way.
+    OtherKind,
 
     /// The tape gives no cell a word, so there is nothing to run.
     NothingToRun,
@@ -172,13 +184,21 @@ fn put_line(text: &mut TextLine, line: ProgramLine)
         }
         ProgramLine::Got(name, blocks) => put_blocks(text, b"GOT ", name, blocks),
         ProgramLine::HostExists => put(text, b"? HOST EXISTS"),
+        ProgramLine::OneFile => put(text, b"? HOST ONE FILE"),
         ProgramLine::SameName => put(text, b"? PUT 1 SAME NAME"),
+        ProgramLine::OnlyWords(words) => {
+            put(text, b"? PUT 2 ONLY ");
+            put_number(text, words as u64);
+            put(text, b" WORDS");
+        }
         ProgramLine::OnlyBlocks(blocks) => {
             put(text, b"? BLOCKS 1 ONLY ");
             put_number(text, blocks as u64);
         }
         ProgramLine::Images { count, refused } => put_images(text, count, refused),
         ProgramLine::Disk(fault) => put(text, disk_words(fault)),
+        ProgramLine::TwoReadings => put(text, b"? KIND 1 TWO READINGS"),
+        ProgramLine::OtherKind => put(text, b"? KIND 2 OTHER KIND"),
         ProgramLine::NothingToRun => put(text, b"? TELETYPE 1 NO WORD"),
         ProgramLine::Halted(cell, ac, l) => put_halted(text, cell, ac, l),
         ProgramLine::Unassigned(cell, word) => {

@@ -51,6 +51,9 @@ pub struct IndexForm {
     /// Where in each a volume lies, if they hold more than images.
     pub layout: Option<Layout>,
 
+    /// Whether each is one volume from its first byte, whatever stands in it.
+    pub is_plain: bool,
+
     /// The last of the eight years that dates mean, 1977 to 9999, if it is given.
     pub year: Option<usize>,
 

@@ -11,6 +11,9 @@ pub struct ImageForm {
     /// Where in it, if the file holds more than its image.
     pub layout: Option<Layout>,
 
+    /// Whether it is one volume from its first byte, whatever stands in it.
+    pub is_plain: bool,
+
     /// How many seconds are waited where another program holds the file, 0 to 3600.
     pub wait: usize,
 
@@ -53,7 +56,7 @@ pub enum FileForm {
 /// Which files are texts, where several are got or put.
 #[derive(Drop)]
 pub struct TextsForm {
-    /// Those with an extension that OS/8 uses for texts.
+    /// Those that are named, and of others those with an extension that OS/8 uses for texts.
     pub is_usual: bool,
 
     /// Those with these extensions, each as it was typed.
@@ -131,6 +134,9 @@ pub struct PutOneForm {
     /// Its information words, if any are given.
     pub info: Option<Vec<Word>>,
 
+    /// The year of the date that is given, if one is.
+    pub year: Option<usize>,
+
     /// Whether it is dated by the day on which the file of the host was last changed.
     pub is_dated: bool,
 
@@ -150,6 +156,9 @@ pub struct PutManyForm {
 
     /// The information words of each, if any are given.
     pub info: Option<Vec<Word>>,
+
+    /// The year of the date that is given, if one is.
+    pub year: Option<usize>,
 
     /// Whether each is dated by the day on which the file of the host was last changed.
     pub is_dated: bool,
@@ -221,6 +230,9 @@ pub struct CheckForm {
 
     /// Where in each, if they hold more than images.
     pub layout: Option<Layout>,
+
+    /// Whether each is one volume from its first byte, whatever stands in it.
+    pub is_plain: bool,
 
     /// Whether each fault is reported, and not the first alone.
     pub is_all: bool,

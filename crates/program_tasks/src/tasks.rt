@@ -155,6 +155,12 @@ pub enum Task {
     /// Write a DECtape with an empty volume to a file.
     CreateTape(CreateForm),
 
+    /// Write the file of a disk of two empty volumes.
+    CreateDisk(CreateForm),
+
+    /// Make a volume of a disk that is there an empty one.
+    CreateVolume(ImageForm),
+
     /// List the files of this volume.
     List(ImageForm),
 

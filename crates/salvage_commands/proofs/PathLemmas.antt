@@ -1,16 +1,19 @@
 -- The command that writes pieces to files changes their paths alone.
 use Rattle.std.proofs.Common.{◌≡◌, ◌≢◌, ◌∙◌, ◌∷◌, ◌++◌, ℕ, Bool, true, false, codes, Option, None, Some, Result, Ok, Err, List, [], ap, inl, inr, length, refl, sym}
+use Rattle.std.specs.Global.{Vec}
 use Rattle.std.specs.Str.{bytes_eq}
 use Rattle.std.proofs.lemmas.Slice.Eq.{bytes_eq-Decides}
-use Rattle.hosts.specs.Event.{Event}
+use Rattle.hosts.specs.Event.{Event, Look, MakeFolder, failed_call}
 use Rattle.hosts.specs.Place.{about}
+use Rattle.image_kind.specs.declared.kinds.ImageKind.{ImageKind}
+use Rattle.image_volumes.specs.Keeping.{two_readings}
 use Rattle.image_volumes.specs.Margins.{body_of}
 use Rattle.image_volumes.specs.Volumes.{volumes_in}
 use Rattle.image_volumes.specs.declared.volumes.Volumes.{Volumes}
 use Rattle.image_volumes.specs.declared.volumes.Volumes.TheVariants.{One, Both}
 use Rattle.outcome.specs.Hints.{image_note}
 use Rattle.outcome.specs.declared.endings.Ending.{Ending}
-use Rattle.outcome.specs.declared.endings.Ending.TheVariants.{Line, Fault, Failure, Busy, NotWritten, FullOutput, NoReader, Misuse}
+use Rattle.outcome.specs.declared.endings.Ending.TheVariants.{Line, Fault, Failure, Busy, NotWritten, FullOutput, Unreported, NoReader, Misuse}
 use Rattle.outcome.specs.declared.hints.ImageNote.{ImageNote}
 use Rattle.archive_files.specs.declared.faults.ArchiveFault.{ArchiveFault}
 use Rattle.archive_many.specs.declared.faults.BlocksFault.{BlocksFault}
@@ -20,11 +23,16 @@ use Rattle.image_files.specs.Answers.{Answers, AreLines, Refuses}
 use Rattle.image_files.specs.Notes.{TellsOfImage}
 use Rattle.disk_layouts.specs.declared.layouts.Layout.{Layout}
 use Rattle.lenient_images.specs.Lines.{mended_lines}
+use Rattle.image_files.specs.Judging.{Judges, JudgesBy}
 use Rattle.image_files.specs.Mending.{Mends, TellsLines}
-use Rattle.image_files.specs.Reading.{IsUnread, FindsIn, FindsOne, Looks, LooksAt, LooksIf, LooksImage, reading_of}
+use Rattle.image_files.specs.Reasons.{is_want_of_memory, reason_of_first}
+use Rattle.image_files.proofs.ReasonLemmas.{unless-keeps}
+use Rattle.outcome.specs.declared.reasons.Reason.TheVariants as reason
+use Rattle.image_files.specs.Reading.{IsUnread, FindsIn, FindsOne, Looks, LooksAt, LooksIf, LooksImage, reading_of, IsJudged, JudgesLooked}
 use Rattle.image_files.specs.Saving.{Prints}
 use Rattle.image_files.specs.Answers.{RefusesBlocks}
 use Rattle.image_files.specs.Work.{Then, Purely}
+use Rattle.image_files.specs.declared.mending.ImageReading.{ImageReading}
 use Rattle.volume_salvage.specs.Scanning.{Scans, piece_line, piece_name}
 use Rattle.volume_salvage.specs.declared.pieces.Piece.{Piece}
 use Rattle.volume_salvage.specs.declared.scans.Scan.{Scan}
@@ -58,6 +66,7 @@ prints-stays path bytes old (Err Failure) new p = absurd p
 prints-stays path bytes old (Err (Busy it)) new p = absurd p
 prints-stays path bytes old (Err (NotWritten it left)) new p = absurd p
 prints-stays path bytes old (Err FullOutput) new p = same path p
+prints-stays path bytes old (Err Unreported) new p = absurd p
 prints-stays path bytes old (Err NoReader) new p = same path p
 prints-stays path bytes old (Err Misuse) new p = absurd p
 
@@ -77,7 +86,7 @@ answers-stays path gives size old (Err ending) new (why, gave, p) = refuses-stay
 looks-stays : (path name shown : List ℕ) → Stays path (Looks name shown)
 unfolding IsUnread
 looks-stays path name shown old (Ok bytes) new p = same path p.1
-looks-stays path name shown old (Err ending) new (inl (fault, is, p)) = same path p
+looks-stays path name shown old (Err ending) new (inl (fault, is, p)) = unless-keeps (is_want_of_memory fault) (reason.Fault fault) shown (failed_call Look name fault ∷ old) new p path
 looks-stays path name shown old (Err ending) new (inr (bytes, many, inl (is, ok, p))) = same path p
 looks-stays path name shown old (Err ending) new (inr (bytes, many, inr (is, p))) = same path p
 
@@ -90,18 +99,33 @@ lines-stay : (path lines : List ℕ) (old new : List Event) → TellsLines lines
 lines-stay path [] old new p = same path p
 lines-stay path (c ∷ lines) old new p = same path p.1
 
-mends-stays : (path : List ℕ) (given : Option Layout) (name file : List ℕ) → Stays path (Mends given name file)
-mends-stays path given name file old (Ok bytes) new p = lines-stay path (mended_lines name p.0) old new p.3
-mends-stays path given name file old (Err ending) new p = same path p.1
+mends-stays : (path : List ℕ) (given : Option Layout) (is_plain : Bool) (name file : List ℕ) → Stays path (Mends given is_plain name file)
+mends-stays path given is_plain name file old (Ok bytes) new p = lines-stay path (mended_lines name p.0) old new p.3
+mends-stays path given is_plain name file old (Err ending) new p = same path p.1
 
-looks-if-stays : (path : List ℕ) (is_lenient : Bool) (given : Option Layout) (name : List ℕ) → Stays path (LooksIf is_lenient given name)
-looks-if-stays path true given name = then-stays path (Looks name name) (λ file. Mends given name file.items)
-    (looks-stays path name name) (λ file old between done. mends-stays path given name file.items between)
-looks-if-stays path false given name = looks-stays path name name
+looks-if-stays : (path : List ℕ) (is_lenient : Bool) (given : Option Layout) (is_plain : Bool) (name : List ℕ) → Stays path (LooksIf is_lenient given is_plain name)
+looks-if-stays path true given is_plain name = then-stays path (Looks name name) (λ file. Mends given is_plain name file.items)
+    (looks-stays path name name) (λ file old between done. mends-stays path given is_plain name file.items between)
+looks-if-stays path false given is_plain name = looks-stays path name name
+
+judges-by-stays : (path name : List ℕ) (two : Option (ImageKind × ImageKind)) → Stays path (JudgesBy name two)
+judges-by-stays path name None old (Ok it) new p = same path p
+judges-by-stays path name None old (Err ending) new p = absurd p
+judges-by-stays path name (Some two) old (Ok it) new p = absurd p
+judges-by-stays path name (Some two) old (Err ending) new (inl (is, ok, p)) = same path p
+judges-by-stays path name (Some two) old (Err ending) new (inr (is, p)) = same path p
+
+judged-stays : (path : List ℕ) (reading : ImageReading) (name : List ℕ) (file : Vec ℕ) → Stays path (JudgesLooked reading name file)
+judged-stays path reading name file = then-stays path (Judges name reading.layout reading.is_plain file.items) (λ it. Purely (IsJudged file))
+    (judges-by-stays path name (two_readings reading.layout reading.is_plain file.items)) (λ it old between done new result p. same path p.1)
+
+looks-image-stays : (path : List ℕ) (reading : ImageReading) (name : List ℕ) → Stays path (LooksImage reading name)
+looks-image-stays path reading name = then-stays path (LooksIf reading.is_lenient reading.layout reading.is_plain name) (λ file. JudgesLooked reading name file)
+    (looks-if-stays path reading.is_lenient reading.layout reading.is_plain name) (λ file old between done. judged-stays path reading name file between)
 
 looks-at-stays : (path : List ℕ) (form : ImageForm) → Stays path (LooksAt form)
-looks-at-stays path form = then-stays path (LooksImage (reading_of form) form.file.bytes.items) (λ file. FindsOne form.layout file.items)
-    (looks-if-stays path form.is_lenient form.layout form.file.bytes.items) (λ file old between done. finds-stays path (volumes_in form.layout file.items) (body_of form.layout file.items) between)
+looks-at-stays path form = then-stays path (LooksImage (reading_of form) form.file.bytes.items) (λ file. FindsOne form.layout form.is_plain file.items)
+    (looks-image-stays path (reading_of form) form.file.bytes.items) (λ file old between done. finds-stays path (volumes_in form.layout form.is_plain file.items) (body_of form.layout form.is_plain file.items) between)
 
 gives-stays : (path image : List ℕ) (piece : Piece) → Stays path (GivesPiece image piece)
 gives-stays path image piece old (Ok bytes) new p = same path p.1
@@ -119,7 +143,8 @@ apart laid path false is other = is
 
 lays-stays : (path laid bytes : List ℕ) → path ≢ laid → Stays path (LaysFirst laid bytes)
 lays-stays path laid bytes other old (Ok it) new p = p.only.others path (apart laid path (bytes_eq laid path) refl other)
-lays-stays path laid bytes other old (Err ending) new (why, is, laid_by, cause, number) = laid_by.only.others path (apart laid path (bytes_eq laid path) refl other)
+lays-stays path laid bytes other old (Err ending) new (why, between, is, laid_by, cause, number, told) =
+    unless-keeps (is_want_of_memory why) (reason_of_first why) laid between new told path ∙ laid_by.only.others path (apart laid path (bytes_eq laid path) refl other)
 
 piece-stays : (path folder image : List ℕ) (scan : Scan) (piece : Piece) → path ≢ folder ++ codes "/" ++ piece_name piece → Stays path (WritesPiece folder image scan piece)
 piece-stays path folder image scan piece other =
@@ -144,7 +169,7 @@ each-stays path folder image scan (piece ∷ pieces) none =
 
 folder-stays : (path folder : List ℕ) → Stays path (MakesFolder folder)
 folder-stays path folder old (Ok it) new p = same path p
-folder-stays path folder old (Err ending) new (fault, is, p) = same path p
+folder-stays path folder old (Err ending) new (fault, is, p) = unless-keeps (is_want_of_memory fault) (reason_of_first fault) folder (failed_call MakeFolder folder fault ∷ old) new p path
 
 all-stays : (path folder image : List ℕ) (scan : Scan) → IsOfNone folder path scan.pieces.items → Stays path (WritesAll folder image scan)
 all-stays path folder image scan none =

@@ -1,27 +1,28 @@
 -- The command that makes a new volume of what a damaged one still shows (this project's profile).
-use Rattle.std.specs.Prelude.{◌≡◌, ◌||◌, ℕ, Bool, true, false, not, nat_eq, Option, Result, Ok, Err, List, ◌∷◌, codes, length}
+use Rattle.std.specs.Prelude.{◌≡◌, ◌⊎◌, ◌||◌, ℕ, Bool, true, false, not, nat_eq, Option, Result, Ok, Err, List, ◌∷◌, codes, length}
 use Rattle.hosts.specs.Event.{Event, tell_call}
 use Rattle.disk_layouts.specs.declared.layouts.Layout.{Layout}
 use Rattle.image_volumes.specs.Margins.{margins_in}
 use Rattle.image_volumes.specs.declared.margins.Margins.{Margins}
 use Rattle.program_tasks.specs.declared.forms.ImageForm.{ImageForm}
 use Rattle.outcome.specs.declared.endings.Ending.{Ending}
-use Rattle.outcome.specs.declared.endings.Ending.TheVariants.{Failure, FullOutput, NoReader}
+use Rattle.outcome.specs.declared.endings.Ending.TheVariants.{Failure, Unreported, NoReader}
 use Rattle.image_files.specs.Answers.{Answers, AreLines}
 use Rattle.image_files.specs.Making.{MakesFirst}
+use Rattle.image_files.specs.Judging.{Judges}
 use Rattle.image_files.specs.Reading.{FindsOne, Looks}
-use Rattle.image_files.specs.Saving.{IsDone, Prints}
+use Rattle.image_files.specs.Saving.{IsDone, Reports}
 use Rattle.image_files.specs.Work.{Then, Purely}
 use Rattle.volume_salvage.specs.Salvaging.{Salvages, is_complete, rescued_text}
 
--- lines are printed, and the command ends with the status of a refusal where something is lost
+-- The lines of a new volume are printed, which is made, and the command ends with the status of a refusal where something is lost. So it does
+-- where nobody reads them.
 abbrev pub Finishes : Bool → List ℕ → List Event → Result (Unit {0}) Ending → List Event → Type 0
-Finishes true lines old (Ok it) new = Prints lines old (Ok it) new
+Finishes true lines old (Ok it) new = Reports lines old (Ok it) new
 Finishes false lines old (Ok it) new = ⊥
-Finishes true lines old (Err ending) new = Prints lines old (Err ending) new
-Finishes false lines old (Err Failure) new = Prints lines old (Ok tt) new
-Finishes false lines old (Err FullOutput) new = Prints lines old (Err FullOutput) new
-Finishes false lines old (Err NoReader) new = Prints lines old (Err NoReader) new
+Finishes true lines old (Err ending) new = Reports lines old (Err ending) new
+Finishes false lines old (Err Failure) new = Reports lines old (Ok tt) new ⊎ Reports lines old (Err NoReader) new
+Finishes false lines old (Err Unreported) new = Reports lines old (Err Unreported) new
 Finishes false lines old (Err _) new = ⊥
 
 -- a file has bytes before or after the blocks of its volumes
@@ -42,9 +43,10 @@ RescuesVolume new image =
     Then (Answers (Salvages image) (length image)) (λ salvage. Then (Purely (AreLines (rescued_text salvage))) (λ lines. Then (MakesFirst new salvage.image.items) (λ it. Finishes (is_complete salvage) lines.items)))
 
 -- the one volume in a file of these bytes is rescued
-abbrev pub RescuesFile : List ℕ → Option Layout → List ℕ → List Event → Result (Unit {0}) Ending → List Event → Type 0
-RescuesFile new given file = Then (FindsOne given file) (λ image. Then (TellsMargins (margins_in given file)) (λ it. RescuesVolume new image.items))
+abbrev pub RescuesFile : List ℕ → ImageForm → List ℕ → List Event → Result (Unit {0}) Ending → List Event → Type 0
+RescuesFile new form file =
+    Then (Judges form.file.bytes.items form.layout form.is_plain file) (λ it. Then (FindsOne form.layout form.is_plain file) (λ image. Then (TellsMargins (margins_in form.layout form.is_plain file)) (λ it. RescuesVolume new image.items)))
 
 -- An image file is only looked at.
 abbrev pub RescuesImage : List ℕ → ImageForm → List Event → Result (Unit {0}) Ending → List Event → Type 0
-RescuesImage new form = Then (Looks form.file.bytes.items form.file.bytes.items) (λ file. RescuesFile new form.layout file.items)
+RescuesImage new form = Then (Looks form.file.bytes.items form.file.bytes.items) (λ file. RescuesFile new form file.items)

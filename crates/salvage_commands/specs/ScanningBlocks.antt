@@ -17,6 +17,7 @@ use Rattle.archive_many.specs.Raw.{GetsBlocks}
 use Rattle.archive_many.specs.declared.faults.BlocksFault.{BlocksFault}
 use Rattle.image_files.specs.Answers.{Answers, AreLines}
 use Rattle.image_files.specs.Reading.{LooksAt}
+use Rattle.image_files.specs.Reasons.{TellsFirst}
 use Rattle.image_files.specs.Saving.{Prints, TouchesOnly}
 use Rattle.image_files.specs.Answers.{RefusesBlocks}
 use Rattle.image_files.specs.Work.{Then, Purely}
@@ -47,7 +48,15 @@ abbrev pub ending_of_laid : HostFault → Ending
 ending_of_laid host.Busy = Line HostExists
 ending_of_laid host.Memory = Fault Memory
 ending_of_laid host.Absent = Line HostWrite
-ending_of_laid host.Unwritable = Line HostWrite
+ending_of_laid host.Denied = Line HostWrite
+ending_of_laid host.ReadOnly = Line HostWrite
+ending_of_laid host.Folder = Line HostWrite
+ending_of_laid host.NoFolder = Line HostWrite
+ending_of_laid host.Full = Line HostWrite
+ending_of_laid host.Links = Line HostWrite
+ending_of_laid host.Large = Line HostWrite
+ending_of_laid host.Changed = Line HostWrite
+ending_of_laid host.Pipe = Line HostWrite
 ending_of_laid host.Failed = Line HostWrite
 
 -- a file of these bytes is laid, whole, where none of its name was, or there is none, or the one that was; no other file changes
@@ -57,14 +66,14 @@ pub record LaysBy (result : Result (Unit {0}) HostFault) (path file : List ℕ) 
   pub tells : errors new ≡ errors old
   pub only : TouchesOnly path old new
 
--- since there was one of its name, or a call failed
+-- since there was one of its name, or a call failed; why is printed
 abbrev pub IsCause : List ℕ → List Event → List Event → Type 0
 IsCause path old new = (failures old < failures new) ⊎ (new ≡ there_call path true ∷ old)
 
 abbrev pub LaysFirst : List ℕ → List ℕ → List Event → Result (Unit {0}) Ending → List Event → Type 0
 LaysFirst path file old (Ok it) new = LaysBy (Ok it) path file old new
 LaysFirst path file old (Err ending) new =
-    (fault : HostFault) × (ending ≡ ending_of_laid fault) × LaysBy (Err fault) path file old new × IsCause path old new × (fault_number fault ≡ last_fault new)
+    (fault : HostFault) × (between : List Event) × (ending ≡ ending_of_laid fault) × LaysBy (Err fault) path file old between × IsCause path old between × (fault_number fault ≡ last_fault between) × TellsFirst fault path between new
 
 -- ## All pieces
 
@@ -81,7 +90,7 @@ WritesEach folder image scan (piece ∷ pieces) = Then (WritesPiece folder image
 -- the folder is made, unless there is one of its name
 abbrev pub MakesFolder : List ℕ → List Event → Result (Unit {0}) Ending → List Event → Type 0
 MakesFolder folder old (Ok it) new = new ≡ folder_call folder ∷ old
-MakesFolder folder old (Err ending) new = (fault : HostFault) × (ending ≡ ending_of_laid fault) × (new ≡ failed_call MakeFolder folder fault ∷ old)
+MakesFolder folder old (Err ending) new = (fault : HostFault) × (ending ≡ ending_of_laid fault) × TellsFirst fault folder (failed_call MakeFolder folder fault ∷ old) new
 
 -- before any piece is written
 abbrev pub WritesAll : List ℕ → List ℕ → Scan → List Event → Result (Unit {0}) Ending → List Event → Type 0

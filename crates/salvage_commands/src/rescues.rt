@@ -5,9 +5,8 @@ ghost use Rattle.image_files.specs.Answers.{Answers, AreLines};
 ghost use Rattle.salvage_commands.specs.Rescuing as spec;
 ghost use Rattle.salvage_commands.specs.Rescuing.{Finishes, RescuesFile, RescuesImage, RescuesVolume};
 
-use disk_layouts::Layout;
 use hosts::Host;
-use image_files::{look_file, make_first, one_volume_in, print, refuse_image};
+use image_files::{judge_file, look_file, make_first, one_volume_in, refuse_image, report};
 use image_volumes::{Margins, margins_in};
 use outcome::Ending;
 use program_tasks::ImageForm;
@@ -26,21 +25,23 @@ pub fn rescue_image<H: Host>(
     ensures { RescuesImage new.now form.now (H.history host.old) result (H.history host.new) }
 {
     let file = look_file(host, alloc, form.file.as_str())?;
-    rescue_file(host, alloc, form.layout, file, new)
+    rescue_file(host, alloc, form, file, new)
 }
 
 /// Rescues the one volume in a file of these bytes. A note says that those before and after its blocks are left out.
 fn rescue_file<H: Host>(
     host: &mut H,
     alloc: Global,
-    given: Option<Layout>,
+    form: &ImageForm,
     file: Vec<u8>,
     new: &str,
 ) -> Result<(), Ending>
-    ensures { RescuesFile new.now given file.items (H.history host.old) result (H.history host.new) }
+    ensures { RescuesFile new.now form.now file.items (H.history host.old) result (H.history host.new) }
 {
-    let margins = margins_in(given, &file);
-    let image = one_volume_in(host, alloc, file, given)?;
+    let (given, is_plain) = (form.layout, form.is_plain);
+    judge_file(host, alloc, form.file.as_str(), given, is_plain, &file)?;
+    let margins = margins_in(given, is_plain, &file);
+    let image = one_volume_in(host, alloc, file, given, is_plain)?;
     tell_margins(host, has_margins(margins));
     rescue_volume(host, alloc, &image, new)
 }
@@ -96,13 +97,16 @@ fn lines_of(alloc: Global, salvage: &Salvage) -> Result<Vec<u8>, Ending>
     Ok(lines)
 }
 
-/// Prints the lines of a salvage, and ends the command with the status of a refusal where something is lost.
+/// Prints the lines of a salvage, and ends the command with the status of a refusal where something is lost, also where nobody reads them.
 fn finish<H: Host>(host: &mut H, is_complete: bool, lines: &[u8]) -> Result<(), Ending>
     ensures { Finishes is_complete lines.now (H.history host.old) result (H.history host.new) }
 {
-    print(host, lines)?;
     if is_complete {
-        return Ok(());
+        return report(host, lines);
     }
-    Err(Ending::Failure)
+    match report(host, lines) {
+        Ok(()) => Err(Ending::Failure),
+        Err(Ending::NoReader) => Err(Ending::Failure),
+        Err(_) => Err(Ending::Unreported),
+    }
 }

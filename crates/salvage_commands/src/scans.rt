@@ -6,7 +6,7 @@ ghost use Rattle.salvage_commands.specs.ScanningBlocks.{GivesPiece, IsPath, Lays
 
 use archive_many::{BlocksFault, blocks_of};
 use hosts::{Host, HostFault, lay};
-use image_files::{look_at, print, refuse_image};
+use image_files::{look_at, print, refuse_image, tell_first};
 use outcome::Ending;
 use program_reports::ProgramLine;
 use program_tasks::ImageForm;
@@ -68,17 +68,20 @@ fn write_all<H: Host>(
 ) -> Result<(), Ending>
     ensures { WritesAll folder.now image.now scan.now (H.history host.old) result (H.history host.new) }
 {
-    make_folder(host, folder)?;
+    make_folder(host, alloc, folder)?;
     write_each(host, alloc, folder, image, scan)
 }
 
 /// Makes a folder, unless there is one of its name.
-fn make_folder<H: Host>(host: &mut H, folder: &str) -> Result<(), Ending>
+fn make_folder<H: Host>(host: &mut H, alloc: Global, folder: &str) -> Result<(), Ending>
     ensures { MakesFolder folder.now (H.history host.old) result (H.history host.new) }
 {
     match host.make_folder(folder) {
         Ok(()) => Ok(()),
-        Err(fault) => Err(ending_of(fault)),
+        Err(fault) => {
+            tell_first(host, alloc, folder, fault);
+            Err(ending_of(fault))
+        }
     }
 }
 
@@ -160,7 +163,10 @@ fn lay_first<H: Host>(host: &mut H, alloc: Global, path: &str, bytes: &[u8]) -> 
 {
     match lay(host, alloc, path, bytes, None, false) {
         Ok(()) => Ok(()),
-        Err(fault) => Err(ending_of(fault)),
+        Err(fault) => {
+            tell_first(host, alloc, path, fault);
+            Err(ending_of(fault))
+        }
     }
 }
 
@@ -171,8 +177,16 @@ fn ending_of(fault: HostFault) -> Ending
     match fault {
         HostFault::Busy => Ending::Line(ProgramLine::HostExists),
         HostFault::Memory => Ending::Fault(SessionFault::Memory),
-        HostFault::Absent | HostFault::Unwritable | HostFault::Failed => Ending::Line(
-            ProgramLine::HostWrite,
-        ),
+        HostFault::Absent
+        | HostFault::Denied
+        | HostFault::ReadOnly
+        | HostFault::Folder
+        | HostFault::NoFolder
+        | HostFault::Full
+        | HostFault::Links
+        | HostFault::Large
+        | HostFault::Changed
+        | HostFault::Pipe
+        | HostFault::Failed => Ending::Line(ProgramLine::HostWrite),
     }
 }

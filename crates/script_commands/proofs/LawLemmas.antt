@@ -22,6 +22,9 @@ use Rattle.image_files.specs.Answers.{Answers, Refuses}
 use Rattle.image_files.specs.Laws.{KeepsFiles}
 use Rattle.image_volumes.specs.Margins.{body_by, margins_by}
 use Rattle.image_volumes.specs.Parts.{Parts}
+use Rattle.image_kind.specs.declared.kinds.ImageKind.{ImageKind}
+use Rattle.image_volumes.specs.Keeping.{two_readings}
+use Rattle.image_files.specs.Judging.{JudgesBy}
 use Rattle.image_volumes.specs.Volumes.{script_kind, volumes_with}
 use Rattle.image_volumes.specs.declared.volumes.Volumes.{Volumes}
 use Rattle.image_volumes.specs.declared.volumes.Volumes.TheVariants.{One, Both}
@@ -64,6 +67,13 @@ steps-keep is_typed start (Cuts ∷ earlier) old new path (mid, done, (ok, is)) 
 session-keeps : (form : RunForm) (is_typed : Bool) (image : Image) (session : SessionView) (input : Reading) → form.saving ≡ Never → KeepsFiles (RunsSession form is_typed image session input)
 session-keeps form is_typed image session input never old result new p path = steps-keep is_typed image p.steps old new path p.done (p.never never)
 
+judges-keeps : (name : List ℕ) (two : Option (ImageKind × ImageKind)) → KeepsFiles (JudgesBy name two)
+judges-keeps name None old (Ok it) new p path = same path p
+judges-keeps name None old (Err ending) new p path = absurd p
+judges-keeps name (Some two) old (Ok it) new p path = absurd p
+judges-keeps name (Some two) old (Err ending) new (inl (is, ok, p)) path = same path p
+judges-keeps name (Some two) old (Err ending) new (inr (is, p)) path = same path p
+
 -- what the crates below know of their steps is handed in
 module _
     (looks-keeps : (name shown : List ℕ) → KeepsFiles (Looks name shown))
@@ -75,7 +85,8 @@ module _
 
     reads-keeps : (named : ImageForm) → KeepsFiles (OnlyReads named)
     reads-keeps named = then-keeps _ _ (looks-keeps named.file.bytes.items named.file.bytes.items)
-        (λ file. then-keeps _ _ (finds-keeps (volumes_with named.layout (script_kind file.items)) (body_by (margins_by named.layout (script_kind file.items)) file.items)) (λ bytes. purely-keeps (IsOnlyRead bytes)))
+        (λ file. then-keeps _ _ (judges-keeps named.file.bytes.items (two_readings named.layout named.is_plain file.items))
+        (λ it. then-keeps _ _ (finds-keeps (volumes_with named.layout (script_kind named.is_plain file.items)) (body_by (margins_by named.layout (script_kind named.is_plain file.items)) file.items)) (λ bytes. purely-keeps (IsOnlyRead bytes))))
 
     opens-keeps : (saving : Saving) (named : ImageForm) → saving ≡ Never → KeepsFiles (OpensFor saving named)
     opens-keeps saving named never = subst (λ (s : Saving). KeepsFiles (OpensFor s named)) (sym never) (reads-keeps named)

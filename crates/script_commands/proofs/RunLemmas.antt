@@ -2,7 +2,7 @@
 use Rattle.std.proofs.Common.{◌≡◌, ◌∙◌, ◌++◌, ℕ, Bool, true, false, List, [], ◌∷◌, Option, None, Some, Result, Ok, Err, ap, refl, sym, subst, inl, inr, append-nil, codes}
 use Rattle.std.proofs.lemmas.List.{append_assoc}
 use Rattle.std.specs.Global.{Vec}
-use Rattle.hosts.specs.Event.{Event, Call, Alter, Resolve, Hold, DropSeconds, Look, TakeInput, Alone, Leads, LockBeside, Free, There, MakeFolder, Print, Tell, Terminal, Seconds, Pause, Word, EndOfWords, TimeOf, print_call, tell_call}
+use Rattle.hosts.specs.Event.{Event, Call, Alter, Resolve, Hold, DropSeconds, Look, TakeInput, Alone, Leads, LockBeside, Free, There, MakeFolder, Print, Tell, Terminal, Seconds, Pause, Word, EndOfWords, TimeOf, Same, print_call, tell_call, DropLeftovers}
 use Rattle.hosts.specs.Faults.{pipe_number}
 use Rattle.hosts.specs.Streams.{output, output_text, with_printed, with_text}
 use Rattle.hosts.specs.declared.faults.PrintFault.{PrintFault}
@@ -48,6 +48,8 @@ with_one Pause e before text is = is
 with_one Word e before text is = is
 with_one EndOfWords e before text is = is
 with_one TimeOf e before text is = is
+with_one Same e before text is = is
+with_one DropLeftovers e before text is = is
 
 text_is : (events : List Event) → output_text events ≡ text_of (output events)
 text_is [] = refl

@@ -96,7 +96,7 @@ module _
     (done-s : (start : Image) (before : List Event) (those : List ShownAnswer) → HasDone start before those r last → HasDone start before those s new)
     (image-s : s.image ≡ r.image) (saving-s : s.saving ≡ r.saving) (typed-s : s.is_typed ≡ r.is_typed) (save_ending-s : s.save_ending ≡ r.save_ending) (cut-s : s.is_cut ≡ r.is_cut)
     (text-s : output_text new ++ s.lines.items ≡ output_text last ++ r.lines.items) (waiting-s : s.fault ≡ None → s.lines.items ≡ []) (fault-s : s.fault ≡ None → r.fault ≡ None)
-    (ends : EndsRun form.is_strict s.is_refused s.save_ending s.fault answer result)
+    (ends : EndsRun s.saving form.is_strict s.is_refused s.save_ending s.fault answer result)
   where
     d : HasDone image old shown s new
     d = done-s image old shown (done-r image old shown (done-q image old shown done))
@@ -130,10 +130,11 @@ module _
     saved may none = subst (λ (i : Image). IsImageOf i.bytes.items end.volume.blocks) (sym image-s ∙ d.image (d.why ∙ none))
         (subst (λ (b : List (List ℕ)). IsImageOf r.image.bytes.items b) blocks-are (image-r (λ never. may (sym q-saving ∙ never)) (sym save_ending-s ∙ (d.why ∙ none))))
 
-    ended : EndsRun form.is_strict (has_refusal d.steps) (save_ending d.steps) (print_fault d.steps) answer result
-    ended = subst (λ (b : Bool). EndsRun form.is_strict b (save_ending d.steps) (print_fault d.steps) answer result) d.refused
-        (subst (λ (u : Option Ending). EndsRun form.is_strict s.is_refused u (print_fault d.steps) answer result) d.why
-        (subst (λ (f : Option PrintFault). EndsRun form.is_strict s.is_refused s.save_ending f answer result) d.fault ends))
+    ended : EndsRun form.saving form.is_strict (has_refusal d.steps) (save_ending d.steps) (print_fault d.steps) answer result
+    ended = subst (λ (b : Bool). EndsRun form.saving form.is_strict b (save_ending d.steps) (print_fault d.steps) answer result) d.refused
+        (subst (λ (u : Option Ending). EndsRun form.saving form.is_strict s.is_refused u (print_fault d.steps) answer result) d.why
+        (subst (λ (f : Option PrintFault). EndsRun form.saving form.is_strict s.is_refused s.save_ending f answer result) d.fault
+        (subst (λ (v : Saving). EndsRun v form.is_strict s.is_refused s.save_ending s.fault answer result) s-saving ends)))
 
     pub session_ran : RunsSession form is_typed image session (record { before = input; after = left; has_failed = has_failed }) old result new
     session_ran = record {

@@ -8,7 +8,9 @@ use Rattle.hosts.specs.Streams.{errors, may_replace, output_text}
 use Rattle.hosts.specs.declared.faults.Durability.{Durability}
 use Rattle.hosts.specs.declared.faults.Durability.TheVariants.{Certain, Unknown}
 use Rattle.hosts.specs.declared.faults.PrintFault.{PrintFault}
+use Rattle.image_volumes.specs.Keeping.{keeps_kind}
 use Rattle.image_volumes.specs.Parts.{Parts}
+use Rattle.image_volumes.specs.declared.judging.Judgment.{Judgment}
 use Rattle.outcome.specs.Contents.{content_name}
 use Rattle.outcome.specs.Notes.{file_text, name_text}
 use Rattle.outcome.specs.declared.contents.Content.TheVariants as content
@@ -21,9 +23,11 @@ use Rattle.program_tasks.specs.declared.tasks.Saving.TheVariants.{Never, Always}
 use Rattle.script8.specs.Replies.{answer_lines}
 use Rattle.system_session.specs.ShownAnswers.{ShownAnswer}
 use Rattle.volume_image.specs.Image.{IsImageOf}
+use Rattle.image_files.specs.Reasons.{TellsReason}
 use Rattle.image_files.specs.Saving.{TouchesOnly, Writes}
+use Rattle.outcome.specs.declared.reasons.Reason.TheVariants.{NoRoom}
 use Rattle.image_files.specs.declared.images.Image.{Image}
-use Rattle.script_commands.specs.Steps.{Step, AreDone, AreKept, AreReplies, AreUnsaved, GetsImage, IsFileAround, IsFileOf, StaysUnsaved, changes, has_cut, has_refusal, has_saved, has_unsynced, is_refusal, is_unknown, last_image, or_else, printed_text, reply_text, print_fault, save_ending, once_note}
+use Rattle.script_commands.specs.Steps.{Step, AreDone, AreKept, AreReplies, AreUnsaved, GetsImage, IsFileAround, IsFileOf, IsUnwritten, StaysUnsaved, changes, has_cut, has_refusal, has_saved, has_unsynced, is_refusal, is_unknown, last_image, or_else, printed_text, reply_text, print_fault, save_ending, once_note}
 use Rattle.script_commands.specs.declared.progress.Progress.{Progress}
 
 -- a run that began with an image, after these calls, and was shown these answers, has come so far
@@ -51,14 +55,14 @@ pub record IsFileWritten (is_told : Bool) (path file : List ℕ) (durability : D
   pub only : TouchesOnly path old new
 
 -- the same of a file with these bytes of its volumes, or it has no room for them
-abbrev pub WritesAround : Bool → Option Parts → List ℕ → List ℕ → Result Durability Ending → Option Parts → List Event → List Event → Type 0
-WritesAround is_told before path body (Ok durability) after old new = (file : List ℕ) × IsFileAround before body file after × IsFileWritten is_told path file durability old new
-WritesAround is_told before path body (Err ending) after old new = ((ending ≡ NotWritten content.Image unwritten.AsItWas) × (new ≡ old))
-    ⊎ ((file : List ℕ) × Writes content.Image path file old (Err ending) new)
+abbrev pub WritesAround : Judgment → Bool → Option Parts → List ℕ → List ℕ → List ℕ → Result Durability Ending → Option Parts → List Event → List Event → Type 0
+WritesAround judgment is_told before path name body (Ok durability) after old new = (file : List ℕ) × IsFileAround before body file after × (keeps_kind judgment file ≡ true) × IsFileWritten is_told path file durability old new
+WritesAround judgment is_told before path name body (Err ending) after old new = ((ending ≡ NotWritten content.Image unwritten.AsItWas) × TellsReason NoRoom name old new)
+    ⊎ ((file : List ℕ) × IsUnwritten judgment path name file ending old new)
 
-abbrev pub WritesFile : Bool → List ℕ → List ℕ → Result Durability Ending → List Event → List Event → Type 0
-WritesFile is_told path file (Ok durability) old new = IsFileWritten is_told path file durability old new
-WritesFile is_told path file (Err ending) old new = Writes content.Image path file old (Err ending) new
+abbrev pub WritesFile : Judgment → Bool → List ℕ → List ℕ → List ℕ → Result Durability Ending → List Event → List Event → Type 0
+WritesFile judgment is_told path name file (Ok durability) old new = (keeps_kind judgment file ≡ true) × IsFileWritten is_told path file durability old new
+WritesFile judgment is_told path name file (Err ending) old new = IsUnwritten judgment path name file ending old new
 
 -- the file of an image has another one whole
 pub record IsWritten (is_told : Bool) (before : Image) (bytes : List ℕ) (durability : Durability) (after : Image) (old new : List Event) : Type 0 where
@@ -67,6 +71,8 @@ pub record IsWritten (is_told : Bool) (before : Image) (bytes : List ℕ) (durab
   pub same : after.bytes ≡ before.bytes
   pub file : List ℕ
   pub is : IsFileOf before bytes file after
+  pub judgment : after.judgment ≡ before.judgment
+  pub kind : keeps_kind before.judgment file ≡ true
   pub wrote : IsFileWritten is_told before.place.path.bytes.items file durability old new
 
 abbrev pub WritesImage : Bool → Image → List ℕ → Result Durability Ending → Image → List Event → List Event → Type 0

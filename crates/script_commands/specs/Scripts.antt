@@ -6,7 +6,6 @@ use Rattle.core_load.specs.Core.{zeros}
 use Rattle.cpu8.specs.State.{new_machine}
 use Rattle.debug8.specs.Breaks.{no_breaks}
 use Rattle.os8_dir.specs.Reading.{Sound}
-use Rattle.image_volumes.specs.Volumes.{script_kind}
 use Rattle.volume_image.specs.Image.{IsImageOf}
 use Rattle.volume_image.specs.declared.faults.ImageFault.TheVariants.{NotWhole}
 use Rattle.volume_jobs.specs.Jobs.{no_jobs}
@@ -23,7 +22,7 @@ use Rattle.program_tasks.specs.declared.tasks.RunForm.{RunForm}
 use Rattle.program_tasks.specs.declared.tasks.Saving.{Saving}
 use Rattle.program_tasks.specs.declared.tasks.Saving.TheVariants.{Never, AtEnd, Always}
 use Rattle.outcome.specs.declared.endings.Ending.{Ending}
-use Rattle.outcome.specs.declared.endings.Ending.TheVariants.{Fault, Failure, FullOutput, NoReader}
+use Rattle.outcome.specs.declared.endings.Ending.TheVariants.{Fault, Failure, FullOutput, Unreported, NoReader}
 use Rattle.script8.specs.Reading.{MayReadNoMore, TakesBytes}
 use Rattle.script8.specs.declared.readings.TheConstants.{MOST}
 use Rattle.script8.specs.declared.faults.SessionFault.{SessionFault}
@@ -32,7 +31,8 @@ use Rattle.system_session.specs.Script.{RunsText}
 use Rattle.system_session.specs.Session.{SessionView, state_of}
 use Rattle.system_session.specs.ShownAnswers.{ShownAnswer, ShowsText}
 use Rattle.image_files.specs.Answers.{Answers}
-use Rattle.image_files.specs.Reading.{FindsForScript, Looks, OpensAs}
+use Rattle.image_files.specs.Judging.{Judges}
+use Rattle.image_files.specs.Reading.{FindsForScript, Looks, OpensForScript}
 use Rattle.image_files.specs.Saving.{IsDone}
 use Rattle.image_files.specs.Work.{Then, Purely}
 use Rattle.image_files.specs.declared.images.Image.{Image}
@@ -46,14 +46,14 @@ IsOnlyRead bytes (Ok image) = (image.place.is_held ≡ false) × (image.bytes �
 IsOnlyRead bytes (Err ending) = ⊥
 
 abbrev pub OnlyReads : ImageForm → List Event → Result Image Ending → List Event → Type 0
-OnlyReads form = Then (Looks form.file.bytes.items form.file.bytes.items) (λ file. Then (FindsForScript form.layout file.items) (λ bytes. Purely (IsOnlyRead bytes)))
+OnlyReads form = Then (Looks form.file.bytes.items form.file.bytes.items) (λ file. Then (Judges form.file.bytes.items form.layout form.is_plain file.items) (λ it. Then (FindsForScript form.layout form.is_plain file.items) (λ bytes. Purely (IsOnlyRead bytes))))
 
 -- An image file is held and then read; or it is only read, where the image is never to be saved. A file that may be a volume by its length is
 -- one, whatever it holds.
 abbrev pub OpensFor : Saving → ImageForm → List Event → Result Image Ending → List Event → Type 0
 OpensFor Never form = OnlyReads form
-OpensFor AtEnd form = OpensAs script_kind form
-OpensFor Always form = OpensAs script_kind form
+OpensFor AtEnd form = OpensForScript form
+OpensFor Always form = OpensForScript form
 
 -- memory may be wanted for what a run has beside the image
 abbrev pub IsRoom : {A : Type 0} → Result A Ending → Type 0
@@ -91,25 +91,31 @@ MountsSession is_beside image (Err fault) = (why : ArchiveFault) × IsUnopened i
 
 -- ## The end
 
+-- standard output takes no more: the image file has what the session did, unless it is never to have that
+abbrev pub full_ending : Saving → Ending
+full_ending Never = FullOutput
+full_ending AtEnd = Unreported
+full_ending Always = Unreported
+
 -- how a run ends whose output failed so: nobody reads the pipe that it is, or it takes no more
-abbrev pub ending_of_output : Option PrintFault → Ending
-ending_of_output (Some Abandoned) = NoReader
-ending_of_output (Some Failed) = FullOutput
-ending_of_output None = FullOutput
+abbrev pub ending_of_output : Saving → Option PrintFault → Ending
+ending_of_output saving (Some Abandoned) = NoReader
+ending_of_output saving (Some Failed) = full_ending saving
+ending_of_output saving None = full_ending saving
 
 -- how a run ends: its image could not be saved; or a reply was refused, where that is a fault; or its script broke off
-abbrev pub ending_of : Bool → Option Ending → Option PrintFault → Result (Unit {0}) SessionFault → Option Ending
-ending_of is_fault (Some ending) fault answer = Some ending
-ending_of is_fault None fault (Ok it) = if is_fault then Some Failure else None
-ending_of is_fault None fault (Err Writer) = Some (ending_of_output fault)
-ending_of is_fault None fault (Err why) = Some Failure
+abbrev pub ending_of : Saving → Bool → Option Ending → Option PrintFault → Result (Unit {0}) SessionFault → Option Ending
+ending_of saving is_fault (Some ending) fault answer = Some ending
+ending_of saving is_fault None fault (Ok it) = if is_fault then Some Failure else None
+ending_of saving is_fault None fault (Err Writer) = Some (ending_of_output saving fault)
+ending_of saving is_fault None fault (Err why) = Some Failure
 
 abbrev pub IsEndedBy : Option Ending → Result (Unit {0}) Ending → Type 0
 IsEndedBy None result = IsDone result
 IsEndedBy (Some ending) result = result ≡ Err ending
 
-abbrev pub EndsRun : Bool → Bool → Option Ending → Option PrintFault → Result (Unit {0}) SessionFault → Result (Unit {0}) Ending → Type 0
-EndsRun is_strict is_refused why fault answer = IsEndedBy (ending_of (is_strict && is_refused) why fault answer)
+abbrev pub EndsRun : Saving → Bool → Bool → Option Ending → Option PrintFault → Result (Unit {0}) SessionFault → Result (Unit {0}) Ending → Type 0
+EndsRun saving is_strict is_refused why fault answer = IsEndedBy (ending_of saving (is_strict && is_refused) why fault answer)
 
 -- ## The run
 
@@ -136,7 +142,7 @@ pub record RunsSession (form : RunForm) (is_typed : Bool) (image : Image) (sessi
   pub cause : answer ≡ Err Reader → MayReadNoMore 16777216 input.has_failed input.before input.after
   pub stopped : answer ≡ Err Writer → (save_ending steps ≢ None) ⊎ (print_fault steps ≢ None)
   pub cut : has_cut steps ≡ true → (count : ℕ) × TakesBytes input.before input.after count × (MOST < count)
-  pub ends : EndsRun form.is_strict (has_refusal steps) (save_ending steps) (print_fault steps) answer result
+  pub ends : EndsRun form.saving form.is_strict (has_refusal steps) (save_ending steps) (print_fault steps) answer result
 
 -- A script runs over a session of an image's volume, unless memory is wanted, or the image is refused.
 abbrev pub RunsOver : RunForm → Bool → Image → Reading → List Event → Result (Unit {0}) Ending → List Event → Type 0

@@ -10,6 +10,8 @@ use Rattle.hosts.specs.declared.faults.Durability.TheVariants.{Certain, Unknown}
 use Rattle.hosts.specs.declared.faults.PrintFault.{PrintFault}
 use Rattle.hosts.specs.declared.faults.Unwritten.TheVariants as unwritten
 use Rattle.disk_layouts.specs.Files.{Disk, HasLaid}
+use Rattle.image_volumes.specs.Keeping.{keeps_kind}
+use Rattle.image_volumes.specs.declared.judging.Judgment.{Judgment}
 use Rattle.image_volumes.specs.Parts.{HasBody, Parts, file_of}
 use Rattle.script8.specs.Replies.{answer_lines}
 use Rattle.script8.specs.declared.entries.Entry.{Entry}
@@ -28,7 +30,10 @@ use Rattle.outcome.specs.declared.notes.FileNote.TheVariants.{InPlace}
 use Rattle.outcome.specs.declared.notes.NameNote.TheVariants.{Hint, TooLong}
 use Rattle.system_session.specs.ShownAnswers.{ShownAnswer}
 use Rattle.volume_image.specs.Image.{IsImageOf}
+use Rattle.image_files.specs.Reasons.{TellsReason}
+use Rattle.image_files.specs.Judging.{RefusesKind}
 use Rattle.image_files.specs.Saving.{IsSyncTold, TouchesOnly, Writes}
+use Rattle.outcome.specs.declared.reasons.Reason.{Reason}
 use Rattle.image_files.specs.declared.images.Image.{Image}
 
 -- ## The steps
@@ -204,6 +209,8 @@ pub record GetsImage (has_saved has_unsynced : Bool) (before after : Image) (dur
   pub place : after.place ≡ before.place
   pub file : List ℕ
   pub is : IsFileOf before after.bytes.items file after
+  pub judgment : after.judgment ≡ before.judgment
+  pub kind : keeps_kind before.judgment file ≡ true
   pub kept : KeepsFile (may_replace new) durability file (about before.place.path.bytes.items old) (about before.place.path.bytes.items new)
   pub moments : AnyMomentOf (may_replace new) file (about before.place.path.bytes.items old) (about before.place.path.bytes.items new)
   pub noted : List (Bool × List ℕ)
@@ -211,11 +218,16 @@ pub record GetsImage (has_saved has_unsynced : Bool) (before after : Image) (dur
   pub sync_note : IsSyncToldOnce has_unsynced durability noted (errors new)
   pub only : TouchesOnly before.place.path.bytes.items old new
 
--- An image could not be saved: memory was wanted for it; or the file may not be written, or has no room for it; or a call failed.
+-- a file would be read as something else than it was, or a call failed
+abbrev pub IsUnwritten : Judgment → List ℕ → List ℕ → List ℕ → Ending → List Event → List Event → Type 0
+IsUnwritten judgment path name file ending old new = ((keeps_kind judgment file ≡ false) × RefusesKind judgment.is_plain file old ending new) ⊎ Writes content.Image path name file old (Err ending) new
+
+-- An image could not be saved: memory was wanted for it; or the file may not be written, or has no room for it; or a call failed. Or the file
+-- would be read as something else. Why is printed.
 abbrev pub StaysUnsaved : Image → Ending → List Event → List Event → Type 0
 StaysUnsaved before ending old new = ((ending ≡ Fault Memory) × (new ≡ old))
-    ⊎ (((ending ≡ NotWritten content.Image unwritten.AsItWas) × (new ≡ old))
-    ⊎ ((file : List ℕ) × Writes content.Image before.place.path.bytes.items file old (Err ending) new))
+    ⊎ (((ending ≡ NotWritten content.Image unwritten.AsItWas) × (why : Reason) × TellsReason why before.place.name.bytes.items old new)
+    ⊎ ((file : List ℕ) × IsUnwritten before.judgment before.place.path.bytes.items before.place.name.bytes.items file ending old new))
 
 -- What a step did after earlier ones, from the calls before it to those after it. Where a save failed, none is tried again. All lines
 -- that wait are printed at once.

@@ -12,9 +12,9 @@ ghost use Rattle.script_commands.specs.Steps.{is_unknown, once_note, or_else};
 
 use crate::progress::Progress;
 use hosts::{Durability, Host, Unwritten, save_file};
-use image_files::Image;
-use image_volumes::PartedFile;
-use outcome::{Content, Ending, FileNote};
+use image_files::{Image, refuse_kind, tell_reason};
+use image_volumes::{Judgment, PartedFile, keeps_kind};
+use outcome::{Content, Ending, FileNote, Reason};
 use program_tasks::Saving;
 use script8::SessionFault;
 use std::alloc::Global;
@@ -105,17 +105,39 @@ fn write_image<H: Host>(
 ) -> Result<Durability, Ending>
     ensures { WritesImage is_told image.old bytes.now result image.new (H.history host.old) (H.history host.new) }
 {
+    let name = image.place.name.as_str();
     if !image.place.is_held {
+        tell_reason(host, alloc, name, Reason::Fault(image.place.why));
         return Err(Ending::NotWritten(Content::Image, Unwritten::AsItWas));
     }
     let path = image.place.path.as_str();
+    let judgment = image.judgment;
     match &mut image.disk {
-        None => write_around(host, alloc, path, &mut image.parts, bytes, is_told),
+        None => write_around(
+            host,
+            alloc,
+            path,
+            name,
+            &mut image.parts,
+            bytes,
+            is_told,
+            judgment,
+        ),
         Some(disk) => {
             if !disk.lay(bytes) {
+                tell_reason(host, alloc, name, Reason::NoRoom);
                 return Err(Ending::NotWritten(Content::Image, Unwritten::AsItWas));
             }
-            write_around(host, alloc, path, &mut image.parts, disk.bytes(), is_told)
+            write_around(
+                host,
+                alloc,
+                path,
+                name,
+                &mut image.parts,
+                disk.bytes(),
+                is_told,
+                judgment,
+            )
         }
     }
 }
@@ -125,36 +147,47 @@ fn write_around<H: Host>(
     host: &mut H,
     alloc: Global,
     path: &str,
+    name: &str,
     parts: &mut Option<PartedFile>,
     body: &[u8],
     is_told: bool,
+    judgment: Judgment,
 ) -> Result<Durability, Ending>
-    ensures { WritesAround is_told parts.old path.now body.now result parts.new (H.history host.old) (H.history host.new) }
+    ensures { WritesAround judgment is_told parts.old path.now name.now body.now result parts.new (H.history host.old) (H.history host.new) }
 {
     match parts {
-        None => write_bytes(host, alloc, path, body, is_told),
+        None => write_bytes(host, alloc, path, name, body, is_told, judgment),
         Some(parts) => {
             if !parts.lay(body) {
+                tell_reason(host, alloc, name, Reason::NoRoom);
                 return Err(Ending::NotWritten(Content::Image, Unwritten::AsItWas));
             }
-            write_bytes(host, alloc, path, parts.bytes(), is_told)
+            write_bytes(host, alloc, path, name, parts.bytes(), is_told, judgment)
         }
     }
 }
 
-/// The same of bytes that are the whole file.
+/// The same of bytes that are the whole file, unless it would be read as something else than it was.
 fn write_bytes<H: Host>(
     host: &mut H,
     alloc: Global,
     path: &str,
+    name: &str,
     bytes: &[u8],
     is_told: bool,
+    judgment: Judgment,
 ) -> Result<Durability, Ending>
-    ensures { WritesFile is_told path.now bytes.now result (H.history host.old) (H.history host.new) }
+    ensures { WritesFile judgment is_told path.now name.now bytes.now result (H.history host.old) (H.history host.new) }
 {
+    if !keeps_kind(judgment, bytes) {
+        return Err(refuse_kind(host, judgment.is_plain, bytes));
+    }
     match save_file(host, alloc, path, DIRECTORY, bytes, place_note(is_told)) {
         Ok(durability) => Ok(durability),
-        Err(left) => Err(Ending::NotWritten(Content::Image, left)),
+        Err(fault) => {
+            tell_reason(host, alloc, name, Reason::Fault(fault.why));
+            Err(Ending::NotWritten(Content::Image, fault.state))
+        }
     }
 }
 

@@ -18,8 +18,11 @@ use crate::watching::Run;
 use archive_files::ArchiveFault;
 use archive_files::parts::volume_of;
 use byte_reader::ByteReader;
-use hosts::{Host, PrintFault};
-use image_files::{Image, ImagePlace, look_file, refuse_image, script_volume_in, tell_note};
+use hosts::{Host, HostFault, PrintFault};
+use image_files::{
+    Image, ImagePlace, judge_file, look_file, refuse_image, script_volume_in, tell_note,
+};
+use image_volumes::Judgment;
 use os8_dir::DirFault;
 use outcome::{Ending, NameNote, Note};
 use program_tasks::{ImageForm, RunForm, Saving};
@@ -65,16 +68,31 @@ fn read_image<H: Host>(host: &mut H, alloc: Global, named: &ImageForm) -> Result
     ensures { OnlyReads named.now (H.history host.old) result (H.history host.new) }
 {
     let file = look_file(host, alloc, named.file.as_str())?;
-    let bytes = script_volume_in(host, alloc, file, named.layout)?;
+    judge_file(
+        host,
+        alloc,
+        named.file.as_str(),
+        named.layout,
+        named.is_plain,
+        &file,
+    )?;
+    let bytes = script_volume_in(host, alloc, file, named.layout, named.is_plain)?;
     let place = ImagePlace {
         path: String::new(alloc),
         is_held: false,
+        name: String::new(alloc),
+        why: HostFault::Failed,
     };
     Ok(Image {
         place,
         bytes,
         disk: None,
         parts: None,
+        judgment: Judgment {
+            layout: named.layout,
+            is_plain: named.is_plain,
+            kind: None,
+        },
     })
 }
 
@@ -249,11 +267,11 @@ fn end_script(
     is_strict: bool,
     answer: Result<(), SessionFault>,
 ) -> Result<(), Ending>
-    ensures { EndsRun is_strict progress.is_refused progress.save_ending progress.fault answer result }
+    ensures { EndsRun progress.saving is_strict progress.is_refused progress.save_ending progress.fault answer result }
 {
     let Progress {
         image: _,
-        saving: _,
+        saving,
         is_typed: _,
         lines: _,
         is_place_told: _,
@@ -273,17 +291,27 @@ fn end_script(
             }
             Ok(())
         }
-        Err(SessionFault::Writer) => Err(ending_of_output(fault)),
+        Err(SessionFault::Writer) => Err(ending_of_output(saving, fault)),
         Err(_) => Err(Ending::Failure),
     }
 }
 
 /// How a run ends whose output failed, by why its last print that failed did (this project's profile).
-fn ending_of_output(fault: Option<PrintFault>) -> Ending
-    ensures { result ≡ spec.ending_of_output fault }
+fn ending_of_output(saving: Saving, fault: Option<PrintFault>) -> Ending
+    ensures { result ≡ spec.ending_of_output saving fault }
 {
     match fault {
         Some(PrintFault::Abandoned) => Ending::NoReader,
-        _ => Ending::FullOutput,
+        _ => full_ending(saving),
+    }
+}
+
+/// How a run ends whose output takes no more. Its image is saved then, unless it is never to be.
+fn full_ending(saving: Saving) -> Ending
+    ensures { result ≡ spec.full_ending saving }
+{
+    match saving {
+        Saving::Never => Ending::FullOutput,
+        Saving::AtEnd | Saving::Always => Ending::Unreported,
     }
 }

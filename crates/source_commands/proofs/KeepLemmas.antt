@@ -4,7 +4,7 @@ use Rattle.std.specs.Borrow.{Bor}
 use Rattle.std.specs.Global.{Vec, Global}
 use Rattle.std.specs.Prelude.{String, is_some}
 use Rattle.std.specs.Str.{bytes_eq}
-use Rattle.hosts.specs.Event.{Event, tell_call}
+use Rattle.hosts.specs.Event.{Event, failed_same, tell_call}
 use Rattle.hosts.specs.Place.{about}
 use Rattle.hosts.specs.declared.faults.HostFault.{HostFault}
 use Rattle.hosts.specs.declared.faults.HostFault.TheVariants as host
@@ -17,7 +17,7 @@ use Rattle.outcome.specs.Endings.{ending_of_archive}
 use Rattle.outcome.specs.declared.contents.Content.{Content}
 use Rattle.outcome.specs.declared.contents.Content.TheVariants.{Image as ForImage, Tape, Listing}
 use Rattle.outcome.specs.declared.endings.Ending.{Ending}
-use Rattle.outcome.specs.declared.endings.Ending.TheVariants.{Line, Fault, Failure, Busy, NotWritten, FullOutput, NoReader, Misuse}
+use Rattle.outcome.specs.declared.endings.Ending.TheVariants.{Line, Fault, Failure, Busy, NotWritten, FullOutput, Unreported, NoReader, Misuse}
 use Rattle.outcome.specs.Notes.{name_text}
 use Rattle.outcome.specs.declared.notes.NameNote.{NameNote}
 use Rattle.outcome.specs.declared.notes.NameNote.TheVariants.{NoSource}
@@ -29,14 +29,20 @@ use Rattle.pal8_tape.specs.declared.faults.SourceFault.TheVariants as pal8_is
 use Rattle.pal8_notes.specs.Texts.{notes_text}
 use Rattle.program_tasks.specs.declared.forms.ImageForm.{ImageForm}
 use Rattle.program_tasks.specs.declared.tasks.AssembleForm.{AssembleForm}
+use Rattle.image_files.specs.Reasons.{TellsUnheld, is_untold}
+use Rattle.image_files.proofs.ReasonLemmas.{unless-keeps}
+use Rattle.outcome.specs.declared.reasons.Reason.TheVariants as reason
 use Rattle.image_files.specs.Answers.{AreLines, Refuses}
 use Rattle.image_files.specs.Ending.{TellsLine}
 use Rattle.image_files.specs.Laws.{KeepsFiles}
 use Rattle.image_files.specs.Making.{IsUnheldFile, MakesBy, MakesFile, ending_of_file}
 use Rattle.image_files.specs.Inputs.{TakesInput}
 use Rattle.image_files.specs.Stored.{stored_line}
+use Rattle.image_files.specs.Places.{IsApart}
+use Rattle.image_volumes.specs.Keeping.{keeps_kind}
+use Rattle.image_volumes.specs.declared.judging.Judgment.{Judgment}
 use Rattle.image_files.specs.Reading.{Looks, LooksAt, Opens, hold_calls, with_lock_note}
-use Rattle.image_files.specs.Saving.{Prints, SavesIf, Stores, Writes}
+use Rattle.image_files.specs.Saving.{IsDone, Prints, SavesIf, Stores, Writes, Reports, WritesIf as SavesKept}
 use Rattle.image_files.specs.Work.{Then, Purely}
 use Rattle.image_files.specs.declared.images.Image.{Image}
 use Rattle.source_commands.specs.Assembling.{Assembles, AssemblesAll, AssemblesFrom, AssemblesTo, IsMade, IsTapeOf, ListsTape, Makes, MakesIf, MakesNoted, MakesPal3, MakesPal8, NotesIf, PrintsFaults, RefusesPal8, RefusesSources, TellsAny, options_of}
@@ -44,6 +50,7 @@ use Rattle.source_commands.specs.Clashes.{IsRefused, RefusesClash, clash_of}
 use Rattle.source_commands.specs.Faults.{faults_text, pal8_faults_text}
 use Rattle.source_commands.specs.Laws.{is_refusal}
 use Rattle.source_commands.specs.Outputs.{PutsTape, WritesIf, WritesListing, WritesTape}
+use Rattle.source_commands.specs.Places.{AreApart, IsApartFromInputs, IsApartFromListing, KeepsInputs, KeepsListing, KeepsTape, KeepsTapeAt, input_place, output_place, tape_of}
 use Rattle.source_commands.specs.Sources.{AreLent, AreTexts, GetsText, IsAsked, IsText, NamesIf, ReadsBytes, ReadsEach, ReadsFile, ReadsIf, ReadsMember, ReadsSource, RefusesSource, is_standard, is_unread, source_text}
 use Rattle.source_commands.specs.declared.assembling.Assembled.{Assembled}
 
@@ -66,7 +73,7 @@ clash-refused None old ending new p path = absurd p
 clash-refused (Some clash) old ending new (inl (is, ok, p)) path = same path p
 clash-refused (Some clash) old ending new (inr p) path = same path p.1
 
-clash-keeps : (form : AssembleForm) → KeepsFiles (RefusesClash form)
+pub clash-keeps : (form : AssembleForm) → KeepsFiles (RefusesClash form)
 clash-keeps form old (Ok it) new p path = same path p.1
 clash-keeps form old (Err ending) new p path = clash-refused (clash_of form) old ending new p path
 
@@ -117,7 +124,7 @@ makes-if : (is : Bool) (form : AssembleForm) (sources names : List (Bor (List �
 makes-if true form sources names old result new p path = noted-keeps form sources names old result new p path
 makes-if false form sources names old result new p path = pal3-keeps (is_some form.list) form.is_cross sources names old result new p path
 
-makes-keeps : (form : AssembleForm) (texts : List (List ℕ)) → KeepsFiles (Makes form texts)
+pub makes-keeps : (form : AssembleForm) (texts : List (List ℕ)) → KeepsFiles (Makes form texts)
 makes-keeps form texts = then-keeps (Purely (AreLent texts)) (λ sources. Then (Purely (AreLent (map (λ name. name.bytes.items) form.sources.items))) (λ names. MakesIf form.is_pal8 form sources.items names.items))
     (purely-keeps (AreLent texts)) (λ sources. then-keeps (Purely (AreLent (map (λ name. name.bytes.items) form.sources.items))) (λ names. MakesIf form.is_pal8 form sources.items names.items)
     (purely-keeps (AreLent (map (λ name. name.bytes.items) form.sources.items))) (λ names. makes-if form.is_pal8 form sources.items names.items))
@@ -138,24 +145,45 @@ prints-never bytes old Failure new p is = p
 prints-never bytes old (Busy it) new p is = p
 prints-never bytes old (NotWritten it left) new p is = p
 prints-never bytes old FullOutput new p is = never is
+prints-never bytes old Unreported new p is = p
 prints-never bytes old NoReader new p is = never is
 prints-never bytes old Misuse new p is = p
 
-writes-never : (content : Content) (path file : List ℕ) → Never (Writes content path file)
-writes-never content path file old (Line it) new p is = p
-writes-never content path file old (Fault it) new p is = p
-writes-never content path file old Failure new p is = p
-writes-never content path file old (Busy it) new p is = p
-writes-never content path file old (NotWritten it left) new p is = never is
-writes-never content path file old FullOutput new p is = p
-writes-never content path file old NoReader new p is = p
-writes-never content path file old Misuse new p is = p
+reports-never : (bytes : List ℕ) → Never (Reports bytes)
+reports-never bytes old (Line it) new p is = p
+reports-never bytes old (Fault it) new p is = p
+reports-never bytes old Failure new p is = p
+reports-never bytes old (Busy it) new p is = p
+reports-never bytes old (NotWritten it left) new p is = p
+reports-never bytes old FullOutput new p is = p
+reports-never bytes old Unreported new p is = never is
+reports-never bytes old NoReader new p is = never is
+reports-never bytes old Misuse new p is = p
+
+writes-never : (content : Content) (path name file : List ℕ) → Never (Writes content path name file)
+writes-never content path name file old (Line it) new p is = p
+writes-never content path name file old (Fault it) new p is = p
+writes-never content path name file old Failure new p is = p
+writes-never content path name file old (Busy it) new p is = p
+writes-never content path name file old (NotWritten it left) new p is = never is
+writes-never content path name file old FullOutput new p is = p
+writes-never content path name file old Unreported new p is = p
+writes-never content path name file old NoReader new p is = p
+writes-never content path name file old Misuse new p is = p
 
 file-ending : (content : Content) (fault : HostFault) → is_refusal (ending_of_file content fault) ≡ false
 file-ending content host.Busy = refl
 file-ending content host.Memory = refl
 file-ending content host.Absent = refl
-file-ending content host.Unwritable = refl
+file-ending content host.Denied = refl
+file-ending content host.ReadOnly = refl
+file-ending content host.Folder = refl
+file-ending content host.NoFolder = refl
+file-ending content host.Full = refl
+file-ending content host.Links = refl
+file-ending content host.Large = refl
+file-ending content host.Changed = refl
+file-ending content host.Pipe = refl
 file-ending content host.Failed = refl
 
 archive-ending : (fault : ArchiveFault) → is_refusal (ending_of_archive fault) ≡ false
@@ -176,16 +204,24 @@ unheld-never : (content : Content) (fault : HostFault) (ending : Ending) → IsU
 unheld-never content host.Absent ending p is = absurd p
 unheld-never content host.Busy ending p is = other-ending ending (ending_of_file content host.Busy) (same-ending ending (ending_of_file content host.Busy) p) (file-ending content host.Busy) is
 unheld-never content host.Memory ending p is = other-ending ending (ending_of_file content host.Memory) (same-ending ending (ending_of_file content host.Memory) p) (file-ending content host.Memory) is
-unheld-never content host.Unwritable ending p is = other-ending ending (ending_of_file content host.Unwritable) (same-ending ending (ending_of_file content host.Unwritable) p) (file-ending content host.Unwritable) is
+unheld-never content host.Denied ending p is = other-ending ending (ending_of_file content host.Denied) (same-ending ending (ending_of_file content host.Denied) p) (file-ending content host.Denied) is
+unheld-never content host.ReadOnly ending p is = other-ending ending (ending_of_file content host.ReadOnly) (same-ending ending (ending_of_file content host.ReadOnly) p) (file-ending content host.ReadOnly) is
+unheld-never content host.Folder ending p is = other-ending ending (ending_of_file content host.Folder) (same-ending ending (ending_of_file content host.Folder) p) (file-ending content host.Folder) is
+unheld-never content host.NoFolder ending p is = other-ending ending (ending_of_file content host.NoFolder) (same-ending ending (ending_of_file content host.NoFolder) p) (file-ending content host.NoFolder) is
+unheld-never content host.Full ending p is = other-ending ending (ending_of_file content host.Full) (same-ending ending (ending_of_file content host.Full) p) (file-ending content host.Full) is
+unheld-never content host.Links ending p is = other-ending ending (ending_of_file content host.Links) (same-ending ending (ending_of_file content host.Links) p) (file-ending content host.Links) is
+unheld-never content host.Large ending p is = other-ending ending (ending_of_file content host.Large) (same-ending ending (ending_of_file content host.Large) p) (file-ending content host.Large) is
+unheld-never content host.Changed ending p is = other-ending ending (ending_of_file content host.Changed) (same-ending ending (ending_of_file content host.Changed) p) (file-ending content host.Changed) is
+unheld-never content host.Pipe ending p is = other-ending ending (ending_of_file content host.Pipe) (same-ending ending (ending_of_file content host.Pipe) p) (file-ending content host.Pipe) is
 unheld-never content host.Failed ending p is = other-ending ending (ending_of_file content host.Failed) (same-ending ending (ending_of_file content host.Failed) p) (file-ending content host.Failed) is
 
-by-never : (content : Content) (name file : List ℕ) → Never (MakesBy content (ending_of_file content) name file)
-by-never content name file old ending new (fault, ends, unmade) is = other-ending ending (ending_of_file content fault) ends (file-ending content fault) is
+by-never : (content : Content) (name file : List ℕ) → Never (MakesBy content (ending_of_file content) (TellsUnheld content) name file)
+by-never content name file old ending new (fault, between, ends, unmade, told) is = other-ending ending (ending_of_file content fault) ends (file-ending content fault) is
 
 file-never : (content : Content) (name file : List ℕ) → Never (MakesFile content name file)
-file-never content name file old ending new (inl (path, has, ok, p)) is = writes-never content path file (with_lock_note content has ok (hold_calls name path has old)) ending new p is
+file-never content name file old ending new (inl (path, has, ok, p)) is = writes-never content path name file (with_lock_note content has ok (hold_calls name path has old)) ending new p is
 file-never content name file old ending new (inr (inl (between, idle, failed, absent, p))) is = by-never content name file between ending new p is
-file-never content name file old ending new (inr (inr (fault, unheld, idle, failed, why))) is = unheld-never content fault ending unheld is
+file-never content name file old ending new (inr (inr (fault, between, unheld, idle, failed, why, told))) is = unheld-never content fault ending unheld is
 
 writes-if : (is : Bool) (content : Content) (name bytes : List ℕ) → Never (WritesIf is content name bytes)
 writes-if true content name bytes old ending new p is = prints-never bytes old ending new p is
@@ -204,14 +240,18 @@ listed-never : (form : AssembleForm) (made : Assembled) → Never (Then (WritesL
 listed-never form made old ending new (inl p) is = listing-never form.list made.listing old ending new p is
 listed-never form made old ending new (inr it) is = it.after.0
 
+writes-if-never : (keeps : Bool) (judgment : Judgment) (path name file : List ℕ) → Never (SavesKept keeps judgment path name file)
+writes-if-never true judgment path name file old ending new p is = writes-never ForImage path name file old ending new p is
+writes-if-never false judgment path name file old ending new (ends, ok, p) is = never (rw ends at is)
+
 saves-never : (is_same : Bool) (image : Image) (bytes : List ℕ) → Never (SavesIf is_same image bytes)
 saves-never true image bytes old ending new (done, stays) is = done
-saves-never false image bytes old ending new (inl (refused, cannot, stays)) is = never (rw refused at is)
-saves-never false image bytes old ending new (inr (held, file, laid, p)) is = writes-never ForImage image.place.path.bytes.items file old ending new p is
+saves-never false image bytes old ending new (inl (refused, told)) is = never (rw refused at is)
+saves-never false image bytes old ending new (inr (held, file, laid, p)) is = writes-if-never (keeps_kind image.judgment file) image.judgment image.place.path.bytes.items image.place.name.bytes.items file old ending new p is
 
 stores-never : (image : Image) (bytes lines : List ℕ) → Never (Stores image bytes lines)
 stores-never image bytes lines old ending new (inl p) is = saves-never (bytes_eq image.bytes.items bytes) image bytes old ending new p is
-stores-never image bytes lines old ending new (inr it) is = prints-never lines it.between ending new it.after is
+stores-never image bytes lines old ending new (inr it) is = reports-never lines it.between ending new it.after is
 
 line-never : (made : NewImage) (image : Image) → Never (Then (Purely (AreLines (stored_line made))) (λ line. Stores image made.bytes.items line.items))
 line-never made image old ending new (inl p) is = other-ending ending (Fault Memory) p.0 refl is
@@ -230,10 +270,47 @@ listing-keeps : (list : Option (String Global)) → list ≡ None → (listing :
 listing-keeps None is listing old result new p path = same path p.1
 listing-keeps (Some name) is listing old result new p path = absurd (given is)
 
-made-refused : (form : AssembleForm) (texts : List (Vec ℕ)) (old : List Event) (ending : Ending) (new : List Event) → Then (Makes form (map (λ text. text.items) texts)) (λ made. Then (WritesListing form.list made.listing) (λ it. Purely (IsTapeOf made))) old (Err ending) new
+-- ## What is asked of the host before anything is written
+
+apart-keeps : (content : Content) (output input : List ℕ) → KeepsFiles (IsApart content output input)
+apart-keeps content output input old (Ok it) new p path = same path p
+apart-keeps content output input old (Err ending) new (inl (inl (is, ok, p))) path = same path p
+apart-keeps content output input old (Err ending) new (inl (inr p)) path = same path p.1
+apart-keeps content output input old (Err ending) new (inr (fault, is, p)) path = unless-keeps (is_untold content fault) (reason.Fault fault) output (failed_same output input fault ∷ old) new p path
+
+each-apart : (content : Content) (output : List ℕ) (inputs : List (List ℕ)) → KeepsFiles (AreApart content output inputs)
+each-apart content output [] = purely-keeps IsDone
+each-apart content output (input ∷ inputs) = then-keeps (IsApart content output (input_place input)) (λ it. AreApart content output inputs) (apart-keeps content output (input_place input)) (λ it. each-apart content output inputs)
+
+inputs-apart : (content : Content) (output : List ℕ) (form : AssembleForm) (from : Option ImageForm) → KeepsFiles (IsApartFromInputs content output form from)
+inputs-apart content output form None old result new p path = each-apart content output (map (λ name. name.bytes.items) form.sources.items) old result new p path
+inputs-apart content output form (Some image) old result new p path = apart-keeps content output image.file.bytes.items old result new p path
+
+listing-apart : (form : AssembleForm) (list : Option (String Global)) → KeepsFiles (KeepsListing form list)
+listing-apart form None old result new p path = same path p.1
+listing-apart form (Some name) old result new p path = inputs-apart Listing (output_place name.bytes.items) form form.from old result new p path
+
+from-listing : (tape : List ℕ) (list : Option (String Global)) → KeepsFiles (IsApartFromListing tape list)
+from-listing tape None old result new p path = same path p.1
+from-listing tape (Some name) old result new p path = apart-keeps Tape tape (output_place name.bytes.items) old result new p path
+
+tape-apart : (form : AssembleForm) (tape : Option (List ℕ)) → KeepsFiles (KeepsTape form tape)
+tape-apart form None old result new p path = same path p.1
+tape-apart form (Some tape) old result new p path =
+    then-keeps (IsApartFromInputs Tape tape form form.from) (λ it. IsApartFromListing tape form.list) (inputs-apart Tape tape form form.from) (λ it. from-listing tape form.list) old result new p path
+
+pub inputs-keep : (form : AssembleForm) → KeepsFiles (KeepsInputs form)
+inputs-keep form = then-keeps (KeepsListing form form.list) (λ it. KeepsTape form (tape_of form.onto form.output)) (listing-apart form form.list) (λ it. tape-apart form (tape_of form.onto form.output))
+
+kept-refused : (form : AssembleForm) (made : Assembled) (old : List Event) (ending : Ending) (new : List Event) → Then (KeepsInputs form) (λ it. Then (WritesListing form.list made.listing) (λ it. Purely (IsTapeOf made))) old (Err ending) new
+    → is_refusal ending ≡ true → (path : List ℕ) → about path new ≡ about path old
+kept-refused form made old ending new (inl p) is path = inputs-keep form old (Err ending) new p path
+kept-refused form made old ending new (inr it) is path = absurd (listed-never form made it.between ending new it.after is)
+
+made-refused : (form : AssembleForm) (texts : List (Vec ℕ)) (old : List Event) (ending : Ending) (new : List Event) → Then (Makes form (map (λ text. text.items) texts)) (λ made. Then (KeepsInputs form) (λ it. Then (WritesListing form.list made.listing) (λ it. Purely (IsTapeOf made)))) old (Err ending) new
     → is_refusal ending ≡ true → (path : List ℕ) → about path new ≡ about path old
 made-refused form texts old ending new (inl p) is path = makes-keeps form (map (λ text. text.items) texts) old (Err ending) new p path
-made-refused form texts old ending new (inr it) is path = absurd (listed-never form it.given it.between ending new it.after is)
+made-refused form texts old ending new (inr it) is path = kept-refused form it.given it.between ending new it.after is path ∙ makes-keeps form (map (λ text. text.items) texts) old (Ok it.given) it.between it.done path
 
 module _
     (looks : (name shown : List ℕ) → KeepsFiles (Looks name shown))
@@ -276,7 +353,7 @@ module _
     source-keeps : (volume : Option (List ℕ)) (name : List ℕ) → KeepsFiles (ReadsSource volume name)
     source-keeps volume name = then-keeps (ReadsBytes volume name) (λ bytes. Purely (IsText (source_text volume bytes.items))) (bytes-keep volume name) (λ bytes. purely-keeps (IsText (source_text volume bytes.items)))
 
-    each-keeps : (volume : Option (List ℕ)) (names : List (List ℕ)) (texts : List (Vec ℕ)) → KeepsFiles (ReadsEach volume texts names)
+    pub each-keeps : (volume : Option (List ℕ)) (names : List (List ℕ)) (texts : List (Vec ℕ)) → KeepsFiles (ReadsEach volume texts names)
     each-keeps volume [] texts = purely-keeps (AreTexts texts)
     each-keeps volume (name ∷ names) texts = then-keeps (ReadsSource volume name) (λ text. ReadsEach volume (texts ++ text ∷ []) names) (source-keeps volume name) (λ text. each-keeps volume names (texts ++ text ∷ []))
 
@@ -287,11 +364,12 @@ module _
     tape-keeps (Some name) is tape old result new p path = absurd (given is)
 
     lists-keeps : (volume : Option (List ℕ)) (form : AssembleForm) → form.list ≡ None → KeepsFiles (ListsTape volume form)
-    lists-keeps volume form is = then-keeps (ReadsEach volume [] (map (λ name. name.bytes.items) form.sources.items)) (λ texts. Then (Makes form (map (λ text. text.items) texts.items)) (λ made. Then (WritesListing form.list made.listing) (λ it. Purely (IsTapeOf made))))
+    lists-keeps volume form is = then-keeps (ReadsEach volume [] (map (λ name. name.bytes.items) form.sources.items)) (λ texts. Then (Makes form (map (λ text. text.items) texts.items)) (λ made. Then (KeepsInputs form) (λ it. Then (WritesListing form.list made.listing) (λ it. Purely (IsTapeOf made)))))
         (each-keeps volume (map (λ name. name.bytes.items) form.sources.items) [])
-        (λ texts. then-keeps (Makes form (map (λ text. text.items) texts.items)) (λ made. Then (WritesListing form.list made.listing) (λ it. Purely (IsTapeOf made)))
+        (λ texts. then-keeps (Makes form (map (λ text. text.items) texts.items)) (λ made. Then (KeepsInputs form) (λ it. Then (WritesListing form.list made.listing) (λ it. Purely (IsTapeOf made))))
         (makes-keeps form (map (λ text. text.items) texts.items))
-        (λ made. then-keeps (WritesListing form.list made.listing) (λ it. Purely (IsTapeOf made)) (listing-keeps form.list is made.listing) (λ it. purely-keeps (IsTapeOf made))))
+        (λ made. then-keeps (KeepsInputs form) (λ it. Then (WritesListing form.list made.listing) (λ it. Purely (IsTapeOf made))) (inputs-keep form)
+        (λ it. then-keeps (WritesListing form.list made.listing) (λ it. Purely (IsTapeOf made)) (listing-keeps form.list is made.listing) (λ it. purely-keeps (IsTapeOf made)))))
 
     to-keeps : (volume : Option (List ℕ)) (form : AssembleForm) → form.output ≡ None → form.list ≡ None → KeepsFiles (AssemblesTo volume form)
     to-keeps volume form unnamed is = then-keeps (ListsTape volume form) (λ tape. WritesTape form.output tape.items) (lists-keeps volume form is) (λ tape. tape-keeps form.output unnamed tape.items)

@@ -1,3 +1,4 @@
+mod AskLemmas
 mod KeepLemmas
 mod SignLemmas
 mod SourceLemmas

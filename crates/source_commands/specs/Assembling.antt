@@ -27,6 +27,7 @@ use Rattle.image_files.specs.Saving.{IsDone}
 use Rattle.source_commands.specs.Clashes.{RefusesClash}
 use Rattle.source_commands.specs.Faults.{faults_text, pal8_faults_text}
 use Rattle.source_commands.specs.Outputs.{PutsTape, WritesListing, WritesTape}
+use Rattle.source_commands.specs.Places.{KeepsInputs}
 use Rattle.source_commands.specs.Sources.{AreLent, ReadsEach}
 use Rattle.source_commands.specs.declared.assembling.Assembled.{Assembled}
 
@@ -124,9 +125,9 @@ IsTapeOf made (Ok tape) = tape ≡ made.tape
 IsTapeOf made (Err ending) = ⊥
 
 -- The sources are read in their order, of the volume in an image if there is one, and assembled. Where they have no fault, their listing is
--- written, if one is asked for.
+-- written, if one is asked for. Before that the host says that nothing is written over what was read.
 abbrev pub ListsTape : Option (List ℕ) → AssembleForm → List Event → Result (Vec ℕ) Ending → List Event → Type 0
-ListsTape volume form = Then (ReadsEach volume [] (map (λ name. name.bytes.items) form.sources.items)) (λ texts. Then (Makes form (map (λ text. text.items) texts.items)) (λ made. Then (WritesListing form.list made.listing) (λ it. Purely (IsTapeOf made))))
+ListsTape volume form = Then (ReadsEach volume [] (map (λ name. name.bytes.items) form.sources.items)) (λ texts. Then (Makes form (map (λ text. text.items) texts.items)) (λ made. Then (KeepsInputs form) (λ it. Then (WritesListing form.list made.listing) (λ it. Purely (IsTapeOf made)))))
 
 -- and then the tape is written to a file of the host, or to standard output
 abbrev pub AssemblesTo : Option (List ℕ) → AssembleForm → List Event → Result (Unit {0}) Ending → List Event → Type 0

@@ -4,4 +4,5 @@ pub mod FaultSteps
 pub mod Faults
 pub mod Laws
 pub mod Outputs
+pub mod Places
 pub mod Sources

@@ -30,6 +30,7 @@ is_unread ending.Failure = false
 is_unread (ending.Busy content) = false
 is_unread (ending.NotWritten content left) = false
 is_unread ending.FullOutput = false
+is_unread ending.Unreported = false
 is_unread ending.NoReader = false
 is_unread ending.Misuse = false
 

@@ -6,6 +6,7 @@ ghost use Rattle.source_commands.specs.Assembling as spec;
 use crate::clashes::refuse_clash;
 use crate::faults::{faults_text, pal8_faults_text};
 use crate::outputs::{put_tape, write_listing, write_tape};
+use crate::places::keep_inputs;
 use crate::sources::{names_of, read_sources, slices_of};
 use host_sources::{SourceFault, assemble_sources};
 use hosts::Host;
@@ -101,7 +102,7 @@ fn assemble_to<H: Host>(
     write_tape(host, alloc, &form.output, &tape)
 }
 
-/// The tape of sources, which are read; their listing is written, if it is asked for.
+/// The tape of sources, which are read; their listing is written, if it is asked for. Nothing is written over what was read.
 fn list_tape<H: Host>(
     host: &mut H,
     alloc: Global,
@@ -112,6 +113,7 @@ fn list_tape<H: Host>(
 {
     let texts = read_sources(host, alloc, volume, &form.sources)?;
     let made = assembled_texts(host, alloc, form, &texts)?;
+    keep_inputs(host, alloc, form)?;
     write_listing(host, alloc, &form.list, &made.listing)?;
     Ok(made.tape)
 }

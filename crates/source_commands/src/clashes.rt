@@ -40,7 +40,7 @@ fn refuse_name<H: Host>(host: &mut H, alloc: Global, note: NameNote, name: &str)
 }
 
 /// Where a tape goes that no volume gets.
-fn tape_place(form: &AssembleForm) -> &str
+pub(crate) fn tape_place(form: &AssembleForm) -> &str
     ensures { result.now ≡ spec.tape_place form.now.output }
 {
     match &form.output {

@@ -6,11 +6,11 @@ ghost use Rattle.outcome.specs.declared.endings.Ending.{Ending};
 ghost use Rattle.program_tasks.specs.declared.tasks.AssembleForm.{AssembleForm};
 ghost use Rattle.image_files.specs.Laws.{KeepsFiles};
 ghost use Rattle.source_commands.specs.Assembling.{Assembles};
-ghost use Rattle.source_commands.specs.Laws.{is_refusal};
+ghost use Rattle.source_commands.specs.Laws.{KeepsOrAsks, is_refusal};
 
 use image_files::laws::kept_files;
 
-/// A law: where the words clash, a file can't be read or the sources have a fault, no file of the host is changed.
+/// A law: where the words clash, a file can't be read, the sources have a fault or an output is an input, no file of the host is changed.
 pub fn refused_sources()
     ensures { (form : AssembleForm) (old : List Event) (ending : Ending) (new : List Event) → is_refusal ending ≡ true → Assembles form old (Err ending) new
         → (path : List ℕ) → about path new ≡ about path old }
@@ -21,6 +21,14 @@ pub fn refused_sources()
 /// A law: where no file is named for the tape or the listing, no file of the host is changed, in whichever way the command ends.
 pub fn unchanged_files()
     ensures { (form : AssembleForm) → form.onto ≡ None → form.output ≡ None → form.list ≡ None → KeepsFiles (Assembles form) }
+{
+    kept_files();
+}
+
+/// A law: no file of the host is changed unless the host said that no output is an input, nor the other output. It says so of the files
+/// themselves, whatever their names are. It holds in whichever way the command ends.
+pub fn kept_inputs()
+    ensures { (form : AssembleForm) → KeepsOrAsks form (Assembles form) }
 {
     kept_files();
 }

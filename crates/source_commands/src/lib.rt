@@ -7,6 +7,7 @@ mod clashes;
 mod faults;
 pub mod laws;
 mod outputs;
+mod places;
 mod sources;
 
 pub use assembling::{Assembled, assemble_files};

@@ -1,5 +1,6 @@
 -- How a place of a source, its line and what a fault is about are shown (this project's profile of PAL III).
 use Rattle.std.specs.Prelude.{ℕ, ◌+◌, ◌-◌, ◌/◌, ◌%◌, nat_eq, nat_lt, nat_le, ◌&&◌, ◌||◌, if◌then◌else◌, zero, suc, take, codes, decimal, List, [], ◌∷◌, ◌++◌}
+use Rattle.shown_text.specs.Showing.{shown_text}
 use Rattle.source_places.specs.Spelling.{spelling}
 use Rattle.source_places.specs.declared.places.Place.{Place}
 use Rattle.source_places.specs.declared.subjects.About.{About}
@@ -51,9 +52,9 @@ about_text (Character b) = codes " " ++ character_text b
 
 -- ## A place
 
--- `NAME:LINE:COLUMN: `
+-- `NAME:LINE:COLUMN: `, with the name as it is shown
 abbrev pub place_text : List ℕ → Place → List ℕ
-place_text name place = name ++ codes ":" ++ decimal place.line ++ codes ":" ++ decimal place.column ++ codes ": "
+place_text name place = shown_text name ++ codes ":" ++ decimal place.line ++ codes ":" ++ decimal place.column ++ codes ": "
 
 -- a line with a caret below a column of it, from 1
 abbrev pub with_caret : List ℕ → ℕ → List ℕ

@@ -5,14 +5,15 @@ ghost use Rattle.source_places.specs.Showing.{place_text, with_caret, marked_lin
 use crate::Place;
 use crate::places::first_bytes;
 use crate::showing::{put_below, shown_line};
+use shown_text::put_shown;
 use std::alloc::{AllocError, Global};
 
-/// Puts `NAME:LINE:COLUMN: `: the name of a source, and the line and the column of a place of it, each from 1. They stand so before a fault
-/// (this project's profile).
+/// Puts `NAME:LINE:COLUMN: `: the name of a source, and the line and the column of a place of it, each from 1. The name is shown with escapes
+/// where it isn't graphic. They stand so before a fault (this project's profile).
 pub fn put_place(text: &mut Vec<u8>, name: &str, place: Place) -> Result<(), AllocError>
     ensures { OnOk result (text.new.items ≡ text.old.items ++ place_text name.now place) }
 {
-    text.extend_from_slice(name.as_bytes())?;
+    put_shown(text, name.as_bytes())?;
     text.extend_from_slice(b":")?;
     put_number(text, place.line as u64)?;
     text.extend_from_slice(b":")?;

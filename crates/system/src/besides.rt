@@ -1,44 +1,87 @@
-//! The names beside an image, one of which a new image has until it takes the image's own.
+//! The names beside a file, one of which a new file has until it takes the path.
 
+use crate::files::answer;
+use hosts::HostFault;
 use std::alloc::{AllocError, Global};
 use std::path::Path;
+use std::random::RandomSource;
 
-/// How many characters of an image's own name a name beside it has at most, so it is not too long for a folder.
+/// How many characters of a file's own name a name beside it has at most, so it is not too long for a folder.
 const MOST_OF_NAME: usize = 60;
 
-/// The names beside a file, which no file of a user has: `.NAME.pdp8-000` and so on, in its folder.
+/// How many characters a name beside a file ends with that nobody can guess: there are 2 to the power of 50 such ends.
+const END_LENGTH: usize = 10;
+
+/// The number of characters that are drawn from.
+const LETTERS: u8 = 32;
+
+/// The names beside a file, which no file of a user has: `.NAME.pdp8-` and ten characters, in its folder.
 #[derive(Drop)]
-pub struct Besides {
+pub(crate) struct Besides {
+    folder: String,
+    prefix: String,
     name: String,
 }
 
 impl Besides {
     /// Those of a file with this path. All memory that they need is taken here.
-    pub fn new(alloc: Global, path: &str) -> Result<Besides, AllocError> {
+    pub(crate) fn new(alloc: Global, path: &str) -> Result<Besides, AllocError> {
         let path = Path::new(path);
-        let mut name = folder_of(alloc, path)?;
-        name.push('.')?;
+        let folder = folder_of(alloc, path)?;
+        let mut prefix = String::from_str(alloc, ".")?;
         for it in path.file_name().unwrap_or("").chars().take(MOST_OF_NAME) {
-            name.push(it)?;
+            prefix.push(it)?;
         }
-        name.push_str(".pdp8-000")?;
-        Ok(Besides { name })
+        prefix.push_str(".pdp8-")?;
+        let mut name = String::from_str(alloc, folder.as_str())?;
+        name.push_str(prefix.as_str())?;
+        for _ in 0..END_LENGTH {
+            name.push('-')?;
+        }
+        Ok(Besides {
+            folder,
+            prefix,
+            name,
+        })
     }
 
-    /// The name of a number below 1000.
-    pub fn name(&mut self, number: u16) -> Result<&str, AllocError> {
-        for _ in 0..3 {
+    /// A name that nobody can guess.
+    pub(crate) fn draw<R: RandomSource>(&mut self, rt: &R) -> Result<&str, HostFault> {
+        let mut bytes = [0; END_LENGTH];
+        answer(rt.fill_bytes(&mut bytes))?;
+        for _ in 0..END_LENGTH {
             let _ = self.name.pop();
         }
-        for place in [100, 10, 1] {
-            self.name.push(digit(number / place))?;
+        for byte in &bytes {
+            self.name.push(letter(*byte))?;
         }
         Ok(self.name.as_str())
     }
 
-    /// The name that was given last.
-    pub fn last(&self) -> &str {
+    /// The name that was drawn last.
+    pub(crate) fn last(&self) -> &str {
         self.name.as_str()
+    }
+
+    /// The folder of the file, with the slash that ends it, or nothing.
+    pub(crate) fn folder(&self) -> &str {
+        self.folder.as_str()
+    }
+
+    /// Whether a name in the folder is one of these.
+    pub(crate) fn has(&self, name: &str) -> bool {
+        match name.strip_prefix(self.prefix.as_str()) {
+            Some(end) => end.len() == END_LENGTH && end.bytes().all(is_letter),
+            None => false,
+        }
+    }
+
+    /// Whether a name in the folder is one that earlier versions gave: three digits were its end.
+    pub(crate) fn has_numbered(&self, name: &str) -> bool {
+        match name.strip_prefix(self.prefix.as_str()) {
+            Some(end) => end.len() == 3 && end.bytes().all(is_digit),
+            None => false,
+        }
     }
 }
 
@@ -54,7 +97,19 @@ fn folder_of(alloc: Global, path: Path<'_>) -> Result<String, AllocError> {
     Ok(name)
 }
 
-/// The last decimal digit of a number.
-fn digit(number: u16) -> char {
-    char::from(b'0' + (number % 10) as u8)
+/// A small letter or one of the digits 2 to 7, each for eight bytes.
+fn letter(byte: u8) -> char {
+    let number = byte % LETTERS;
+    if number < 26 {
+        return char::from(b'a' + number);
+    }
+    char::from(b'2' + (number - 26))
+}
+
+fn is_digit(byte: u8) -> bool {
+    byte.is_ascii_digit()
+}
+
+fn is_letter(byte: u8) -> bool {
+    byte.is_ascii_lowercase() || (byte >= b'2' && byte <= b'7')
 }

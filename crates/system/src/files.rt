@@ -1,18 +1,18 @@
 //! Calls of the file system, and what they answer.
 ghost use Rattle.std.specs.Prelude.{◌≤◌, ◌+◌, length, IfOk};
 
-use crate::besides::Besides;
-use hosts::{HostFault, LinkFault, PrintFault, RenameFault, Stream};
+use crate::making::{NEW_MODE, create_new};
+use hosts::{HostFault, LinkFault, PrintFault, RenameFault};
 use std::alloc::{AllocError, Global};
 use std::env::{Env, FillError};
 use std::fs::{self, File, Files, Metadata, OpenOptions, TryLockError};
-use std::io::{self, ErrorKind, Input, IsTerminal, Read, Seek, SeekFrom, Write};
-use std::os::unix::fs::{FileTypeExt, MetadataExt, chown};
+use std::io::{self, ErrorKind, Input, Read, Seek, SeekFrom, Write};
+use std::os::unix::fs::{FileTypeExt, MetadataExt};
 use std::path::{Path, PathBuf};
 use std::thread;
 use std::time::{Clock, Duration, Instant, SystemTime};
 
-/// How many names beside a file are tried, and how often a file is locked anew whose name leads elsewhere meanwhile.
+/// How often a file is locked anew whose name leads elsewhere meanwhile.
 const TRIES: u16 = 1000;
 
 /// How many links are followed at most, as Linux does.
@@ -27,12 +27,19 @@ const FIRST_ROOM: usize = 0o400;
 
 const MOST_DOUBLINGS: u32 = 16;
 
+/// Why a call failed, by the kind of its error.
 pub(crate) fn fault_of(error: &io::Error) -> HostFault {
     match error.kind() {
         ErrorKind::OutOfMemory => HostFault::Memory,
         ErrorKind::NotFound => HostFault::Absent,
         ErrorKind::AlreadyExists => HostFault::Busy,
-        ErrorKind::PermissionDenied | ErrorKind::ReadOnlyFilesystem => HostFault::Unwritable,
+        ErrorKind::PermissionDenied => HostFault::Denied,
+        ErrorKind::ReadOnlyFilesystem => HostFault::ReadOnly,
+        ErrorKind::IsADirectory => HostFault::Folder,
+        ErrorKind::NotADirectory => HostFault::NoFolder,
+        ErrorKind::StorageFull | ErrorKind::QuotaExceeded => HostFault::Full,
+        ErrorKind::FilesystemLoop | ErrorKind::TooManyLinks => HostFault::Links,
+        ErrorKind::FileTooLarge => HostFault::Large,
         _ => HostFault::Failed,
     }
 }
@@ -62,7 +69,7 @@ pub(crate) fn hold_path<R: Files<File = File>>(
     path: &str,
 ) -> Result<(File, bool), HostFault> {
     if is_pipe(rt, path) {
-        return Err(HostFault::Unwritable);
+        return Err(HostFault::Pipe);
     }
     for _ in 0..TRIES {
         let file = answer(open_file(rt, path))?;
@@ -88,7 +95,7 @@ fn open_file<R: Files<File = File>>(rt: &R, path: &str) -> io::Result<File> {
 
 /// The same open file by a number after those of the standard streams. Where one of these is closed, a file that is opened gets its
 /// number, and what is then written to the stream would go into the file.
-fn apart(file: File) -> io::Result<File> {
+pub(crate) fn apart(file: File) -> io::Result<File> {
     file.try_clone()
 }
 
@@ -109,29 +116,8 @@ pub(crate) fn leads_to<R: Files<File = File>>(rt: &R, path: &str, file: &File) -
     }
 }
 
-fn is_same(named: &Metadata, own: &Metadata) -> bool {
+pub(crate) fn is_same(named: &Metadata, own: &Metadata) -> bool {
     named.dev() == own.dev() && named.ino() == own.ino()
-}
-
-/// Takes away the names beside a path that its file has too.
-pub(crate) fn remove_besides<R: Files<File = File>>(
-    rt: &R,
-    file: &File,
-    besides: &mut Besides,
-) -> Result<(), HostFault> {
-    let own = answer(file.metadata())?;
-    if own.nlink() < 2 {
-        return Ok(());
-    }
-    for number in 0..TRIES {
-        let name = besides.name(number)?;
-        if let Ok(named) = fs::symlink_metadata(rt, name)
-            && is_same(&named, &own)
-        {
-            let _ = fs::remove_file(rt, name);
-        }
-    }
-    Ok(())
 }
 
 /// The bytes that are left in a reader, or one byte more than are wanted.
@@ -178,7 +164,7 @@ pub(crate) fn still_bytes(alloc: Global, file: &File, most: usize) -> Result<Vec
     let bytes = bytes_of(alloc, file, most)?;
     let after = answer(file.metadata())?;
     if is_changed(&before, &after) {
-        return Err(HostFault::Failed);
+        return Err(HostFault::Changed);
     }
     Ok(bytes)
 }
@@ -200,61 +186,14 @@ pub(crate) fn stands_alone(file: &File) -> Result<bool, HostFault> {
     }
 }
 
-/// A new file of the first of these names that none has.
-pub(crate) fn made_beside<R: Files<File = File>>(
-    rt: &R,
-    besides: &mut Besides,
-) -> Result<File, HostFault> {
-    for number in 0..TRIES {
-        let name = besides.name(number)?;
-        match create_new(rt, name) {
-            Ok(file) => return Ok(file),
-            Err(error) => match error.kind() {
-                ErrorKind::AlreadyExists => {}
-                _ => return Err(fault_of(&error)),
-            },
-        }
-    }
-    Err(HostFault::Unwritable)
-}
-
-/// A new file of this name, which is taken away again where it can't be given a number of its own.
-pub(crate) fn create_new<R: Files<File = File>>(rt: &R, name: &str) -> io::Result<File> {
-    let file = OpenOptions::new()
-        .read(true)
-        .write(true)
-        .create_new(true)
-        .open(rt, name)?;
-    let numbered = apart(file);
-    if numbered.is_err() {
-        let _ = fs::remove_file(rt, name);
-    }
-    numbered
-}
-
 /// A new empty file of a path that no file has, which is locked.
 pub(crate) fn claim_path<R: Files<File = File>>(rt: &R, path: &str) -> Result<File, HostFault> {
-    let empty = answer(create_new(rt, path))?;
+    let empty = answer(create_new(rt, path, NEW_MODE))?;
     let _has_lock = has_taken_lock(&empty)?;
     if !leads_to(rt, path, &empty) {
         return Err(HostFault::Busy);
     }
     Ok(empty)
-}
-
-/// Gives a file the owner and the permissions of an older one.
-pub(crate) fn take_owner<R: Files<File = File>>(
-    rt: &R,
-    file: &File,
-    name: &str,
-    older: &File,
-) -> io::Result<()> {
-    let old = older.metadata()?;
-    let new = file.metadata()?;
-    if new.uid() != old.uid() || new.gid() != old.gid() {
-        chown(rt, name, Some(old.uid()), Some(old.gid()))?;
-    }
-    file.set_permissions(old.permissions())
 }
 
 /// Writes bytes to an open file from a byte on.
@@ -300,7 +239,7 @@ pub(crate) fn free_path<R: Files<File = File> + AllocGlobal>(
         let _ = path.pop();
         path.push(&text)?;
     }
-    Err(HostFault::Unwritable)
+    Err(HostFault::Links)
 }
 
 /// Whether nothing has this name; else it is that of a link.
@@ -347,7 +286,7 @@ pub(crate) fn folder_made<R: Files<File = File>>(rt: &R, name: &str) -> Result<(
 pub(crate) fn rename_fault(error: &io::Error) -> RenameFault {
     match error.kind() {
         ErrorKind::ResourceBusy => RenameFault::Mount,
-        _ => RenameFault::Failed,
+        _ => RenameFault::Failed(fault_of(error)),
     }
 }
 
@@ -357,7 +296,7 @@ pub(crate) fn link_fault(error: &io::Error) -> LinkFault {
         ErrorKind::PermissionDenied | ErrorKind::Unsupported | ErrorKind::TooManyLinks => {
             LinkFault::NoLinks
         }
-        _ => LinkFault::Failed,
+        _ => LinkFault::Failed(fault_of(error)),
     }
 }
 
@@ -381,22 +320,6 @@ pub(crate) fn input_bytes<R: Input>(
     ensures { IfOk result (λ bytes. length bytes.items ≤ most + 1) }
 {
     bytes_of(alloc, rt.reader(), most)
-}
-
-/// Whether a standard stream is a terminal.
-pub(crate) fn is_terminal<R: Files<File = File> + Input>(rt: &R, stream: Stream) -> bool
-where
-    R::Reader: IsTerminal,
-{
-    let name = match stream {
-        Stream::Input => return rt.reader().is_terminal(),
-        Stream::Output => "/dev/stdout",
-        Stream::Errors => "/dev/stderr",
-    };
-    match OpenOptions::new().write(true).open(rt, name) {
-        Ok(file) => file.is_terminal(),
-        Err(_) => false,
-    }
 }
 
 /// Lets the twentieth part of a second pass.

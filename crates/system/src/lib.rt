@@ -3,7 +3,12 @@
 
 mod besides;
 mod files;
+mod leftovers;
+mod making;
 mod opened;
+mod same;
 mod system;
+mod terminals;
 
 pub use system::System;
+pub use terminals::Outputs;

@@ -4,13 +4,16 @@ ghost use Rattle.std.specs.Prelude.{◌≤◌, ◌+◌, length, IfOk};
 
 use crate::besides::Besides;
 use crate::files::{
-    answer, claim_path, cut_at, has_taken_lock, hold_path, leads_to, link_fault, made_beside,
-    put_at, remove_besides, rename_fault, set_time, stands_alone, still_bytes, take_owner,
+    answer, claim_path, cut_at, has_taken_lock, hold_path, leads_to, link_fault, put_at,
+    rename_fault, set_time, stands_alone, still_bytes,
 };
+use crate::leftovers::{is_named, remove_besides};
+use crate::making::{NEW_MODE, OWN_MODE, made_beside, take_owner};
 use hosts::{HostFault, LinkFault, RenameFault};
 use std::alloc::{AllocError, Global};
 use std::fs::{self, File, Files};
 use std::io::Write;
+use std::random::RandomSource;
 
 /// A path, and the names beside it.
 #[derive(Drop)]
@@ -68,6 +71,17 @@ impl Opened {
         }
     }
 
+    /// Whether the name beside a path is still that of the file that was made there.
+    fn is_beside<R: Files<File = File>>(&self, rt: &R) -> bool {
+        match &self.beside {
+            Some(file) => match file.metadata() {
+                Ok(own) => is_named(rt, self.name_beside(), &own),
+                Err(_) => false,
+            },
+            None => false,
+        }
+    }
+
     pub(crate) fn hold<R: Files<File = File>>(
         &mut self,
         rt: &R,
@@ -81,13 +95,13 @@ impl Opened {
         Ok(has_lock)
     }
 
-    pub(crate) fn drop_seconds<R: Files<File = File>>(
-        &mut self,
+    pub(crate) fn drop_seconds<R: Files<File = File> + AllocGlobal>(
+        &self,
         rt: &R,
         path: &str,
     ) -> Result<(), HostFault> {
-        match (file_of(&self.files, path), &mut self.place) {
-            (Some(file), Some(place)) => remove_besides(rt, file, &mut place.names),
+        match (file_of(&self.files, path), &self.place) {
+            (Some(file), Some(place)) => remove_besides(rt, file, &place.names),
             _ => Err(HostFault::Absent),
         }
     }
@@ -115,24 +129,24 @@ impl Opened {
         }
     }
 
-    pub(crate) fn make_beside<R: Files<File = File>>(
+    pub(crate) fn make_beside<R: Files<File = File> + RandomSource>(
         &mut self,
         rt: &R,
         alloc: Global,
         path: &str,
     ) -> Result<(), HostFault> {
-        let file = made_beside(rt, self.place(alloc, path)?)?;
+        let mode = match file_of(&self.files, path) {
+            Some(_) => OWN_MODE,
+            None => NEW_MODE,
+        };
+        let file = made_beside(rt, self.place(alloc, path)?, mode)?;
         self.beside = Some(file);
         Ok(())
     }
 
-    pub(crate) fn own_beside<R: Files<File = File>>(
-        &self,
-        rt: &R,
-        path: &str,
-    ) -> Result<(), HostFault> {
+    pub(crate) fn own_beside(&self, path: &str) -> Result<(), HostFault> {
         match (&self.beside, file_of(&self.files, path)) {
-            (Some(file), Some(older)) => answer(take_owner(rt, file, self.name_beside(), older)),
+            (Some(file), Some(older)) => take_owner(file, older),
             _ => Err(HostFault::Absent),
         }
     }
@@ -180,6 +194,9 @@ impl Opened {
         rt: &R,
         path: &str,
     ) -> Result<(), RenameFault> {
+        if !self.is_beside(rt) {
+            return Err(RenameFault::Failed(HostFault::Busy));
+        }
         if let Err(error) = fs::rename(rt, self.name_beside(), path) {
             return Err(rename_fault(&error));
         }
@@ -195,6 +212,9 @@ impl Opened {
         rt: &R,
         path: &str,
     ) -> Result<(), LinkFault> {
+        if !self.is_beside(rt) {
+            return Err(LinkFault::Failed(HostFault::Busy));
+        }
         if let Err(error) = fs::hard_link(rt, self.name_beside(), path) {
             return Err(link_fault(&error));
         }

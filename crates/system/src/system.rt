@@ -1,31 +1,42 @@
 //! The system that the program runs in. Each method makes the call that it is named for, and then notes it with its answer. The prover shows
-//! that each method notes itself, and its answer, once. It can't show that the call was made: this file and `files.rt` are read for that.
+//! that each method notes itself, and its answer, once. It can't show that the call was made: the files of this crate are read for that.
 //!
 //! What a reader believes of the calls, in the terms of `hosts`' page of places:
 //! - `resolve`: `realpath`. The path that it gives has no link in it.
 //! - `hold`: `stat`, `open` for reading and writing, a second number for the file, `flock` without waiting, and `stat` and `fstat`, again
 //!   where the path leads to another file by then. While the lock is held no other program that asks for it gets it; so no other program
 //!   that holds what it writes changes the file.
-//! - `drop_seconds`: `lstat` and `unlink` of the names beside the path that have the held file's number. No path's bytes change.
+//! - `drop_seconds`: the folder's names are read. Those beside the path that have the held file's number go, by `lstat` and `unlink`. They end
+//!   as `make_beside` has it, or with three digits, as earlier versions had it. So do leftovers: plain files of one name, of this prefix and length, and of the held file's owner, or empty. `open` and `flock` without waiting
+//!   show that no program holds one. Its name still leads to it then, and it goes before its lock does. No path that a person names changes.
+//!   On a file system without locks nothing goes. A folder that can't be read is left as it is.
+//! - `drop_leftovers`: `realpath` and `stat` of the name, and the same of leftovers beside it; of further names too, if no program holds it.
 //! - `look_held`, `look`, `take_input`: `read` until the end, or one byte past the most that is wanted. It gives what the file had as it was
 //!   read. A file that others replace is read whole, and one that is held is changed by nobody who asks for its lock. Others may write a
 //!   plain file in place. `fstat` before and after the read finds that, and the call fails: the length is another, or the time of the last
 //!   change. Two changes within one tick of the file system's clock have one time.
-//! - `is_alone`, `leads_to_held`, `is_there`, `is_terminal`, `time_of`: `fstat`, `stat`, `lstat`, `isatty`, `stat`, and nothing changes.
-//! - `make_beside`: `open` with `O_CREAT` and `O_EXCL` of `.NAME.pdp8-000` and so on, and a second number for it. No path that a person
-//!   names changes.
-//! - `own_beside`: `fstat`, `chown` where the owner differs, `fchmod`. No byte changes.
-//! - `lock_beside`: `flock` without waiting.
+//! - `is_alone`, `leads_to_held`, `is_there`, `is_terminal`, `time_of`: `fstat`, `stat`, `lstat`, `isatty` of the open stream, `stat`, and nothing
+//!   changes.
+//! - `make_beside`: `getentropy` for the end of a name, `.NAME.pdp8-` and ten characters of 32, so nobody can guess it. `open` of it with
+//!   `O_CREAT` and `O_EXCL` follows no link and takes no file that is there. Then a second number for it, `flock`, and `lstat`: where it was
+//!   taken away meanwhile, another one is made. Where the path has a held file, only the user may open the new one (0600) until `own_beside`,
+//!   before which it has no byte. Else it is a new file, whose bytes are its user's to show. That has 0666 less his mask from the first. No
+//!   path that a person names changes.
+//! - `own_beside`: `fstat`, `fchown` where the owner differs, `fchmod`, all of the open file. No byte changes.
+//! - `lock_beside`: `flock` without waiting, which `make_beside` has done before.
 //! - `write_beside`: `write` until all bytes are written. A failed one may have written some.
 //! - `date_beside`: `futimens`, which sets the time that `stat` gives as that of the last change, or doesn't. No byte changes.
 //! - `sync_beside`: `fsync`. Where it succeeds the disk has the file's bytes; where it fails nothing is known of them.
 //! - `drop_beside`: `unlink` of the name beside.
-//! - `rename`: `rename`, which is done or not done, for every reader and for a crash. A crash after it may leave either file under the path
-//!   until the folder is synced.
-//! - `link_new`: `link`, which fails where the path has a file, and else is done as a rename is. `claim`: `open` with `O_EXCL`, likewise, and
+//! - `rename`: `fstat` and `lstat` of the name beside, which must still be the file's. Then `rename`, which is done or not done, for every
+//!   reader and for a crash. A crash after it may leave either file under the path until the folder is synced. Who may take names out of the
+//!   folder could put another file in its place between the two, as he could under the path itself.
+//! - `link_new`: the same look, and `link`, which fails where the path has a file, and else is done as a rename is. `claim`: `open` with `O_EXCL`, likewise, and
 //!   `flock`. `drop_claim`: `unlink`.
 //! - `sync_folder`: `open` and `fsync` of the folder. Where it succeeds the disk has its names.
 //! - `write_over`: `lseek` and `write`; a crash meanwhile may leave any bytes. `finish_over`: `ftruncate` and `fsync` of a plain file.
+//! - `leads_to_same`: `stat` of both names, through links. Two names with one device and one number have one file. Where neither has a file
+//!   the links are followed as for `free_path`, and the last part of both names is one, and `stat` gives one folder. Nothing changes.
 //! - `free_path`: `lstat` and `readlink` until a name is met that nothing has. `make_folder`: `stat`, and `mkdir` where it finds nothing.
 //! - `print`, `tell`: `write` to 1 and to 2 until all bytes are written. A failed one may have written some.
 //! - `seconds`: the clock that only goes on. `pause`: `clock_nanosleep`. `word`: a word that the program was started with, which the kernel
@@ -33,19 +44,22 @@
 ghost use Rattle.std.specs.Prelude.{◌≡◌, []};
 ghost use Rattle.hosts.specs.Raw.{events_of};
 
-use crate::files;
 use crate::opened::Opened;
+use crate::terminals::{Outputs, is_terminal};
+use crate::{files, leftovers, same};
 use hosts::notes::{
-    ALONE, CLAIM, DATE_BESIDE, DROP_BESIDE, DROP_CLAIM, DROP_SECONDS, END_OF_WORDS, FINISH_OVER,
-    FREE, HOLD, LEADS, LINK_NEW, LOCK_BESIDE, LOOK, MAKE_BESIDE, MAKE_FOLDER, OWN_BESIDE, PAUSE,
-    PRINT, RENAME, RESOLVE, SECONDS, SYNC_BESIDE, SYNC_FOLDER, TAKE_INPUT, TELL, TERMINAL, THERE,
-    TIME_OF, WORD, WRITE_BESIDE, WRITE_OVER, fault_number, number,
+    ALONE, CLAIM, DATE_BESIDE, DROP_BESIDE, DROP_CLAIM, DROP_LEFTOVERS, DROP_SECONDS, END_OF_WORDS,
+    FINISH_OVER, FREE, HOLD, LEADS, LINK_NEW, LOCK_BESIDE, LOOK, MAKE_BESIDE, MAKE_FOLDER,
+    OWN_BESIDE, PAUSE, PRINT, RENAME, RESOLVE, SAME, SECONDS, SYNC_BESIDE, SYNC_FOLDER, TAKE_INPUT,
+    TELL, TERMINAL, THERE, TIME_OF, WORD, WRITE_BESIDE, WRITE_OVER, fault_number, link_number,
+    number, rename_number,
 };
 use hosts::{Host, HostFault, LinkFault, PrintFault, Record, RenameFault, Stream};
 use std::alloc::{AllocError, Global};
 use std::env::Env;
 use std::fs::{self, File, Files};
 use std::io::{Input, IsTerminal};
+use std::random::RandomSource;
 use std::time::{Clock, Instant};
 
 /// The operating system, and the files that are open.
@@ -70,8 +84,18 @@ impl<'a, R: Files<File = File> + AllocGlobal> System<'a, R> {
     }
 }
 
-impl<'a, R: Env + Files<File = File> + Input + Print + Eprint + Clock + AllocGlobal> Host
-    for System<'a, R>
+impl<
+    'a,
+    R: Env
+        + Files<File = File>
+        + Input
+        + Outputs
+        + Print
+        + Eprint
+        + Clock
+        + RandomSource
+        + AllocGlobal,
+> Host for System<'a, R>
 where
     R::Reader: IsTerminal,
 {
@@ -110,6 +134,21 @@ where
             Err(fault) => self.log.note(
                 &[DROP_SECONDS, 0, fault_number(fault)],
                 path.as_bytes(),
+                &[],
+            ),
+        }
+        done
+    }
+
+    fn drop_leftovers(&mut self, alloc: Global, name: &str) -> Result<usize, HostFault> {
+        let done = leftovers::remove_leftovers(self.rt, alloc, name);
+        match &done {
+            Ok(count) => self
+                .log
+                .note(&[DROP_LEFTOVERS, 1, *count as u64], name.as_bytes(), &[]),
+            Err(fault) => self.log.note(
+                &[DROP_LEFTOVERS, 0, fault_number(fault)],
+                name.as_bytes(),
                 &[],
             ),
         }
@@ -155,7 +194,9 @@ where
             Ok(is) => self
                 .log
                 .note(&[ALONE, 1, u64::from(*is)], path.as_bytes(), &[]),
-            Err(_) => self.log.note(&[ALONE, 0, 0], path.as_bytes(), &[]),
+            Err(fault) => self
+                .log
+                .note(&[ALONE, 0, fault_number(fault)], path.as_bytes(), &[]),
         }
         done
     }
@@ -181,23 +222,41 @@ where
     }
 
     fn own_beside(&mut self, path: &str) -> Result<(), HostFault> {
-        let done = self.files.own_beside(self.rt, path);
-        self.log
-            .note(&[OWN_BESIDE, number(&done), 0], path.as_bytes(), &[]);
+        let done = self.files.own_beside(path);
+        match &done {
+            Ok(()) => self.log.note(&[OWN_BESIDE, 1, 0], path.as_bytes(), &[]),
+            Err(fault) => self.log.note(
+                &[OWN_BESIDE, 0, fault_number(fault)],
+                path.as_bytes(),
+                &[],
+            ),
+        }
         done
     }
 
     fn lock_beside(&mut self, path: &str) -> Result<(), HostFault> {
         let done = self.files.lock_beside();
-        self.log
-            .note(&[LOCK_BESIDE, number(&done), 0], path.as_bytes(), &[]);
+        match &done {
+            Ok(()) => self.log.note(&[LOCK_BESIDE, 1, 0], path.as_bytes(), &[]),
+            Err(fault) => self.log.note(
+                &[LOCK_BESIDE, 0, fault_number(fault)],
+                path.as_bytes(),
+                &[],
+            ),
+        }
         done
     }
 
     fn write_beside(&mut self, path: &str, bytes: &[u8]) -> Result<(), HostFault> {
         let done = self.files.write_beside(bytes);
-        self.log
-            .note(&[WRITE_BESIDE, number(&done), 0], path.as_bytes(), bytes);
+        match &done {
+            Ok(()) => self.log.note(&[WRITE_BESIDE, 1, 0], path.as_bytes(), bytes),
+            Err(fault) => self.log.note(
+                &[WRITE_BESIDE, 0, fault_number(fault)],
+                path.as_bytes(),
+                &[],
+            ),
+        }
         done
     }
 
@@ -209,15 +268,27 @@ where
 
     fn sync_beside(&mut self, path: &str) -> Result<(), HostFault> {
         let done = self.files.sync_beside();
-        self.log
-            .note(&[SYNC_BESIDE, number(&done), 0], path.as_bytes(), &[]);
+        match &done {
+            Ok(()) => self.log.note(&[SYNC_BESIDE, 1, 0], path.as_bytes(), &[]),
+            Err(fault) => self.log.note(
+                &[SYNC_BESIDE, 0, fault_number(fault)],
+                path.as_bytes(),
+                &[],
+            ),
+        }
         done
     }
 
     fn drop_beside(&mut self, path: &str) -> Result<(), HostFault> {
         let done = self.files.drop_beside(self.rt);
-        self.log
-            .note(&[DROP_BESIDE, number(&done), 0], path.as_bytes(), &[]);
+        match &done {
+            Ok(()) => self.log.note(&[DROP_BESIDE, 1, 0], path.as_bytes(), &[]),
+            Err(fault) => self.log.note(
+                &[DROP_BESIDE, 0, fault_number(fault)],
+                path.as_bytes(),
+                &[],
+            ),
+        }
         done
     }
 
@@ -225,8 +296,9 @@ where
         let done = self.files.rename(self.rt, path);
         match &done {
             Ok(()) => self.log.note(&[RENAME, 1, 0], path.as_bytes(), &[]),
-            Err(RenameFault::Mount) => self.log.note(&[RENAME, 0, 1], path.as_bytes(), &[]),
-            Err(RenameFault::Failed) => self.log.note(&[RENAME, 0, 0], path.as_bytes(), &[]),
+            Err(fault) => self
+                .log
+                .note(&[RENAME, 0, rename_number(fault)], path.as_bytes(), &[]),
         }
         done
     }
@@ -235,51 +307,77 @@ where
         let done = self.files.link(self.rt, path);
         match &done {
             Ok(()) => self.log.note(&[LINK_NEW, 1, 0], path.as_bytes(), &[]),
-            Err(LinkFault::Exists) => self.log.note(&[LINK_NEW, 0, 1], path.as_bytes(), &[]),
-            Err(LinkFault::NoLinks) => self.log.note(&[LINK_NEW, 0, 2], path.as_bytes(), &[]),
-            Err(LinkFault::Failed) => self.log.note(&[LINK_NEW, 0, 0], path.as_bytes(), &[]),
+            Err(fault) => self
+                .log
+                .note(&[LINK_NEW, 0, link_number(fault)], path.as_bytes(), &[]),
         }
         done
     }
 
     fn claim(&mut self, path: &str) -> Result<(), HostFault> {
         let done = self.files.claim(self.rt, path);
-        self.log
-            .note(&[CLAIM, number(&done), 0], path.as_bytes(), &[]);
+        match &done {
+            Ok(()) => self.log.note(&[CLAIM, 1, 0], path.as_bytes(), &[]),
+            Err(fault) => self
+                .log
+                .note(&[CLAIM, 0, fault_number(fault)], path.as_bytes(), &[]),
+        }
         done
     }
 
     fn drop_claim(&mut self, path: &str) -> Result<(), HostFault> {
         let done = self.files.drop_claim(self.rt, path);
-        self.log
-            .note(&[DROP_CLAIM, number(&done), 0], path.as_bytes(), &[]);
+        match &done {
+            Ok(()) => self.log.note(&[DROP_CLAIM, 1, 0], path.as_bytes(), &[]),
+            Err(fault) => self.log.note(
+                &[DROP_CLAIM, 0, fault_number(fault)],
+                path.as_bytes(),
+                &[],
+            ),
+        }
         done
     }
 
     fn sync_folder(&mut self, path: &str) -> Result<(), HostFault> {
         let done = files::answer(files::folder_synced(self.rt, path));
-        self.log
-            .note(&[SYNC_FOLDER, number(&done), 0], path.as_bytes(), &[]);
+        match &done {
+            Ok(()) => self.log.note(&[SYNC_FOLDER, 1, 0], path.as_bytes(), &[]),
+            Err(fault) => self.log.note(
+                &[SYNC_FOLDER, 0, fault_number(fault)],
+                path.as_bytes(),
+                &[],
+            ),
+        }
         done
     }
 
     fn write_over(&mut self, path: &str, at: usize, bytes: &[u8]) -> Result<(), HostFault> {
         let done = self.files.write_over(path, at, bytes);
-        self.log.note(
-            &[WRITE_OVER, number(&done), at as u64],
-            path.as_bytes(),
-            bytes,
-        );
+        match &done {
+            Ok(()) => self
+                .log
+                .note(&[WRITE_OVER, 1, at as u64], path.as_bytes(), bytes),
+            Err(fault) => self.log.note(
+                &[WRITE_OVER, 0, fault_number(fault)],
+                path.as_bytes(),
+                &[],
+            ),
+        }
         done
     }
 
     fn finish_over(&mut self, path: &str, size: usize) -> Result<(), HostFault> {
         let done = self.files.finish_over(path, size);
-        self.log.note(
-            &[FINISH_OVER, number(&done), size as u64],
-            path.as_bytes(),
-            &[],
-        );
+        match &done {
+            Ok(()) => self
+                .log
+                .note(&[FINISH_OVER, 1, size as u64], path.as_bytes(), &[]),
+            Err(fault) => self.log.note(
+                &[FINISH_OVER, 0, fault_number(fault)],
+                path.as_bytes(),
+                &[],
+            ),
+        }
         done
     }
 
@@ -308,6 +406,19 @@ where
             Err(fault) => self
                 .log
                 .note(&[TIME_OF, 0, fault_number(fault)], name.as_bytes(), &[]),
+        }
+        done
+    }
+
+    fn leads_to_same(&mut self, alloc: Global, one: &str, other: &str) -> Result<bool, HostFault> {
+        let done = same::leads_to_same(self.rt, alloc, one, other);
+        match &done {
+            Ok(is) => self.log.note(&[SAME, 1, u64::from(*is)], one.as_bytes(), other.as_bytes()),
+            Err(fault) => self.log.note(
+                &[SAME, 0, fault_number(fault)],
+                one.as_bytes(),
+                other.as_bytes(),
+            ),
         }
         done
     }
@@ -343,7 +454,7 @@ where
     }
 
     fn is_terminal(&mut self, stream: Stream) -> bool {
-        let is = files::is_terminal(self.rt, stream);
+        let is = is_terminal(self.rt, stream);
         match stream {
             Stream::Input => self.log.note(&[TERMINAL, u64::from(is), 0], &[], &[]),
             Stream::Output => self.log.note(&[TERMINAL, u64::from(is), 1], &[], &[]),

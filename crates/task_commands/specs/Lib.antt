@@ -1,3 +1,5 @@
+pub mod Changed
+pub mod Asking
 pub mod Changes
 pub mod Tasks
 pub mod Words

@@ -1,5 +1,5 @@
 -- What each task does over a host: which command it is, and what is printed at its end (this project's profile).
-use Rattle.std.specs.Prelude.{◌≡◌, ℕ, Bool, true, false, codes, map, Option, None, Some, String, Result, Ok, Err, List}
+use Rattle.std.specs.Prelude.{◌≡◌, ◌⊎◌, ℕ, Bool, true, false, codes, map, Option, None, Some, String, Result, Ok, Err, List}
 use Rattle.std.specs.Global.{Global}
 use Rattle.byte_reader.specs.Readings.{Reading}
 use Rattle.hosts.specs.Event.{Event}
@@ -20,8 +20,8 @@ use Rattle.outcome.specs.declared.endings.Ending.TheVariants.{Fault}
 use Rattle.script8.specs.declared.faults.SessionFault.TheVariants.{Memory}
 use Rattle.image_files.specs.Work.{Then, Purely}
 use Rattle.image_files.specs.Ending.{EndsSo}
-use Rattle.volume_commands.specs.Creating.{CreatesFile, IsBlankImage, IsBlankTapeFile}
-use Rattle.volume_commands.specs.declared.creating.TheConstants.{TAPE_BLOCKS}
+use Rattle.volume_commands.specs.Creating.{CreatesFile, CreatesVolume, IsBlankDisk, IsBlankImage, IsBlankTapeFile}
+use Rattle.volume_commands.specs.declared.creating.TheConstants.{DISK_BLOCKS, TAPE_BLOCKS}
 use Rattle.volume_commands.specs.Changing.{Renames, Squeezes}
 use Rattle.volume_commands.specs.Copying.{Copies}
 use Rattle.volume_commands.specs.Deleting.{Deletes}
@@ -53,7 +53,10 @@ use Rattle.script_commands.specs.Scripts.{OpensFor, RunsOver}
 use Rattle.tape_commands.specs.Profiles.{ProfilesTape}
 use Rattle.tape_commands.specs.Teletypes.{RunsTeletype}
 use Rattle.tape_commands.specs.Traces.{TracesTape}
-use Rattle.task_commands.specs.Changes.{Within, seconds_for}
+use Rattle.task_commands.specs.Changes.{Within, file_for, seconds_for}
+use Rattle.image_files.specs.declared.states.ImageNotes.{ImageNotes}
+use Rattle.task_commands.specs.Changed.{AreNotesFor, image_of}
+use Rattle.task_commands.specs.Asking.{AsksFirst, file_of_form}
 
 -- ## What a task asks of its command
 
@@ -82,7 +85,7 @@ shape_of form = record { is_json = is_json form.form; is_same = form.is_same }
 
 -- how the images of an index are read
 abbrev pub reading_of_index : IndexForm → ImageReading
-reading_of_index form = record { layout = form.layout; is_lenient = form.is_lenient }
+reading_of_index form = record { layout = form.layout; is_plain = form.is_plain; is_lenient = form.is_lenient }
 
 abbrev pub ChoosesStyle : IndexForm → Result IndexStyle Ending → Type 0
 ChoosesStyle form (Ok style) = IsStyle form style
@@ -105,19 +108,21 @@ ScansBlocks (Some folder) image = WritesPieces folder.bytes.items image
 
 -- An image file is opened for a run, which is tried again while another program holds it. Then the input is run as a script over its volume.
 abbrev pub RunsImage : ImageForm → RunForm → Bool → Reading → List Event → Result (Unit {0}) Ending → List Event → Type 0
-RunsImage named form is_typed input = Then (Within named.wait (OpensFor form.saving named)) (λ image. RunsOver form is_typed image input)
+RunsImage named form is_typed input = Then (Within named.wait named.file.bytes.items (OpensFor form.saving named)) (λ image. RunsOver form is_typed image input)
 
--- A task is one command. The keys of a Teletype come from the input, and so does a script, which a person may type at a terminal.
+-- A task is one command. At a terminal a new volume takes the place of a file only where that is answered. The keys of a Teletype come from the input, and so does a script, which a person may type at a terminal.
 abbrev pub DoesTask : Task → Bool → Reading → List Event → Result (Unit {0}) Ending → List Event → Type 0
 DoesTask (task.Tape tape) is_typed input = ListsTape tape
 DoesTask (task.Rim tape form) is_typed input = WritesRim form tape
 DoesTask (task.Source form) is_typed input = WritesSource form
-DoesTask (task.Assemble form) is_typed input = Within (seconds_for form.from) (Assembles form)
+DoesTask (task.Assemble form) is_typed input = Within (seconds_for form.from) (file_for form.from) (Assembles form)
 DoesTask (task.Teletype form) is_typed input = RunsTeletype form input
 DoesTask (task.Trace form) is_typed input = TracesTape form
 DoesTask (task.Profile form) is_typed input = ProfilesTape form
-DoesTask (task.Create form blocks) is_typed input = Within form.wait (CreatesFile (IsBlankImage blocks) form blocks)
-DoesTask (task.CreateTape form) is_typed input = Within form.wait (CreatesFile IsBlankTapeFile form TAPE_BLOCKS)
+DoesTask (task.Create form blocks) is_typed input = Then (AsksFirst is_typed (file_of_form form) input) (λ it. Within form.wait form.file.bytes.items (CreatesFile (IsBlankImage blocks) form blocks))
+DoesTask (task.CreateTape form) is_typed input = Then (AsksFirst is_typed (file_of_form form) input) (λ it. Within form.wait form.file.bytes.items (CreatesFile IsBlankTapeFile form TAPE_BLOCKS))
+DoesTask (task.CreateDisk form) is_typed input = Then (AsksFirst is_typed (file_of_form form) input) (λ it. Within form.wait form.file.bytes.items (CreatesFile IsBlankDisk form DISK_BLOCKS))
+DoesTask (task.CreateVolume image) is_typed input = Then (AsksFirst is_typed (Some image.file.bytes.items) input) (λ it. Within image.wait image.file.bytes.items (CreatesVolume image))
 DoesTask (task.List image) is_typed input = ReportsOne report.Files (reading_of image) image.file.bytes.items
 DoesTask (task.ListLong image year) is_typed input = ReportsOne (report.Places year) (reading_of image) image.file.bytes.items
 DoesTask (task.ListSome form) is_typed input = ListsSome form
@@ -126,24 +131,30 @@ DoesTask (task.GetBin image file) is_typed input = ShowsTape file image
 DoesTask (task.GetMany form) is_typed input = GetsMany form
 DoesTask (task.GetTexts form) is_typed input = PrintsTexts form
 DoesTask (task.GetBlocks form) is_typed input = ShowsBlocks form
-DoesTask (task.Put form) is_typed input = Within form.image.wait (Puts form)
-DoesTask (task.PutMany form) is_typed input = Within form.image.wait (PutsMany form)
-DoesTask (task.Delete form) is_typed input = Within form.image.wait (Deletes form)
-DoesTask (task.Rename image file new) is_typed input = Within image.wait (Renames (wanted_file file) new.bytes.items image)
-DoesTask (task.Copy form) is_typed input = Within form.to.wait (Copies form)
-DoesTask (task.CopyMany form) is_typed input = Within form.to.wait (CopiesMany form)
-DoesTask (task.Squeeze image) is_typed input = Within image.wait (Squeezes image)
+DoesTask (task.Put form) is_typed input = Within form.image.wait form.image.file.bytes.items (Puts form)
+DoesTask (task.PutMany form) is_typed input = Within form.image.wait form.image.file.bytes.items (PutsMany form)
+DoesTask (task.Delete form) is_typed input = Within form.image.wait form.image.file.bytes.items (Deletes form)
+DoesTask (task.Rename image file new) is_typed input = Within image.wait image.file.bytes.items (Renames (wanted_file file) new.bytes.items image)
+DoesTask (task.Copy form) is_typed input = Within form.to.wait form.to.file.bytes.items (Copies form)
+DoesTask (task.CopyMany form) is_typed input = Within form.to.wait form.to.file.bytes.items (CopiesMany form)
+DoesTask (task.Squeeze image) is_typed input = Within image.wait image.file.bytes.items (Squeezes image)
 DoesTask (task.Check form) is_typed input = ChecksImages form
 DoesTask (task.Dump form) is_typed input = Dumps form.span form.is_sixbit form.image
-DoesTask (task.Patch form) is_typed input = Within form.image.wait (PatchesWord (word_patch form) form.image)
+DoesTask (task.Patch form) is_typed input = Within form.image.wait form.image.file.bytes.items (PatchesWord (word_patch form) form.image)
 DoesTask (task.Index form) is_typed input = ListsIndex form
 DoesTask (task.Rescue form) is_typed input = RescuesImage form.new.bytes.items form.image
 DoesTask (task.Scan form) is_typed input = ScansBlocks form.into form.image
 DoesTask (task.Run image form) is_typed input = RunsImage image form is_typed input
 
--- A task is done, and then what its end prints is printed: that is the status.
-pub record RunsTask (task : Task) (is_typed : Bool) (input : Reading) (old new : List Event) (status : ℕ) : Type 0 where
+-- A task is done, and then what its end prints is printed: that is the status. The notes are on the image that it may change.
+pub record EndsTask (task : Task) (is_typed : Bool) (input : Reading) (old new : List Event) (status : ℕ) : Type 0 where
+  pub notes : Option ImageNotes
+  pub are : AreNotesFor (image_of task) notes
   pub work : Result (Unit {0}) Ending
   pub between : List Event
   pub does : DoesTask task is_typed input old work between
-  pub ends : EndsSo (gives_data task) work between new status
+  pub ends : EndsSo (gives_data task) notes work between new status
+
+-- it is done so, unless memory is wanted for the notes first
+abbrev pub RunsTask : Task → Bool → Reading → List Event → List Event → ℕ → Type 0
+RunsTask task is_typed input old new status = EndsTask task is_typed input old new status ⊎ EndsSo (gives_data task) None (Err (Fault Memory)) old new status

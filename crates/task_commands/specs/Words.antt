@@ -1,5 +1,5 @@
 -- What a command line does: the words that ask for a task have it done, and others are refused (this project's profile).
-use Rattle.std.specs.Prelude.{◌≡◌, ◌⊎◌, ℕ, Bool, true, false, Result, Ok, Err, List, ◌∷◌}
+use Rattle.std.specs.Prelude.{◌≡◌, ◌⊎◌, ℕ, Bool, true, false, None, Result, Ok, Err, List, ◌∷◌}
 use Rattle.byte_reader.specs.Readings.{Reading}
 use Rattle.clap.specs.Words.{Text, kind_of}
 use Rattle.clap.specs.declared.error.kind.ErrorKind.{ErrorKind}
@@ -28,7 +28,7 @@ pub record IsShown (old new : List Event) (status : ℕ) : Type 0 where
   pub work : Result (Unit {0}) Ending
   pub between : List Event
   pub prints : Prints text old work between
-  pub ends : EndsSo false work between new status
+  pub ends : EndsSo false None work between new status
 
 -- a text goes to standard error, and nothing else; the status is 2
 pub record IsMisuse (old new : List Event) (status : ℕ) : Type 0 where
@@ -43,7 +43,7 @@ ShowsText false old new status = IsMisuse old new status
 
 -- memory is wanted
 abbrev pub WantsMemory : List Event → List Event → ℕ → Type 0
-WantsMemory = EndsSo false (Err (Fault no_memory))
+WantsMemory = EndsSo false None (Err (Fault no_memory))
 
 -- Words that ask for no task: help is shown, or why they are refused, unless memory is wanted for that.
 abbrev pub RefusesWords : TaskFault → List Event → List Event → ℕ → Type 0

@@ -5,6 +5,8 @@ ghost use Rattle.task_commands.specs.declared.changes.Change.TheVariants as chan
 ghost use Rattle.task_commands.specs.Tasks as spec;
 ghost use Rattle.task_commands.specs.Tasks.{ChoosesStyle, DoesTask, ListsIndex, PrintsTexts, RunsImage, RunsTask, ScansBlocks, word_patch};
 
+use crate::asking::change_asked;
+use crate::changed::notes_for;
 use crate::changes::{Change, change_image, open_within};
 use archive_commands::{WordPatch, dump_blocks};
 use byte_reader::ByteReader;
@@ -28,8 +30,8 @@ use volume_index::IndexStyle;
 use volume_reports::{check_images, list_files, list_places};
 
 /// Does a task, and prints what its end asks for. The answer is the exit status: 0, 1 after a fault, 141 where nobody reads standard output,
-/// and 2 for words that a command refuses (this project's profile). The keys of a Teletype, or a script, are read from the
-/// input; a person may type them at a terminal.
+/// and 2 for words that a command refuses (this project's profile). Where standard output takes no line of a change, standard error says
+/// whether the image has it. The keys of a Teletype, or a script, are read from the input; a person may type them at a terminal.
 pub fn run_task<H: Host, I: ByteReader>(
     host: H,
     alloc: Global,
@@ -41,10 +43,19 @@ pub fn run_task<H: Host, I: ByteReader>(
     ensures { RunsTask task is_typed (reading I.remaining I.has_failed input.old input.new) (H.history host) (H.history result.0) result.1 }
 {
     let is_data = gives_data(&task);
-    let (host, work) = do_task(host, alloc, input, is_typed, task);
-    let mut host = host;
-    let status = end(&mut host, rooms, is_data, work);
-    (host, status)
+    match notes_for(alloc, &task) {
+        Ok(notes) => {
+            let (host, work) = do_task(host, alloc, input, is_typed, task);
+            let mut host = host;
+            let status = end(&mut host, rooms, &notes, is_data, work);
+            (host, status)
+        }
+        Err(error) => {
+            let mut host = host;
+            let status = end(&mut host, rooms, &None, is_data, Err(Ending::from(error)));
+            (host, status)
+        }
+    }
 }
 
 /// Does a task. The host is handed over, since the output of a machine that runs is the host itself, and is given back.
@@ -83,9 +94,21 @@ pub fn do_task<H: Host, I: ByteReader>(
         Task::Scan(form) => scan_image(&mut host, alloc, &form),
         Task::Rescue(form) => rescue_image(&mut host, alloc, &form.image, form.new.as_str()),
         Task::Create(form, blocks) => {
-            change_image(&mut host, alloc, &Change::Create(form, blocks))
+            let change = Change::Create(form, blocks);
+            change_asked(&mut host, alloc, input, is_typed, &change)
         }
-        Task::CreateTape(form) => change_image(&mut host, alloc, &Change::CreateTape(form)),
+        Task::CreateTape(form) => {
+            let change = Change::CreateTape(form);
+            change_asked(&mut host, alloc, input, is_typed, &change)
+        }
+        Task::CreateDisk(form) => {
+            let change = Change::CreateDisk(form);
+            change_asked(&mut host, alloc, input, is_typed, &change)
+        }
+        Task::CreateVolume(image) => {
+            let change = Change::CreateVolume(image);
+            change_asked(&mut host, alloc, input, is_typed, &change)
+        }
         Task::Put(form) => change_image(&mut host, alloc, &Change::Put(form)),
         Task::PutMany(form) => change_image(&mut host, alloc, &Change::PutMany(form)),
         Task::Delete(form) => change_image(&mut host, alloc, &Change::Delete(form)),
@@ -148,6 +171,7 @@ fn list_index<H: Host>(host: &mut H, alloc: Global, form: IndexForm) -> Result<(
     let IndexForm {
         images,
         layout,
+        is_plain,
         year,
         form,
         is_same,
@@ -164,7 +188,11 @@ fn list_index<H: Host>(host: &mut H, alloc: Global, form: IndexForm) -> Result<(
         is_json: is_json(form),
         is_same,
     };
-    let reading = ImageReading { layout, is_lenient };
+    let reading = ImageReading {
+        layout,
+        is_plain,
+        is_lenient,
+    };
     index_images(host, alloc, &style, shape, &images, reading)
 }
 

@@ -5,11 +5,11 @@ ghost use Rattle.task_commands.specs.Words as spec;
 ghost use Rattle.task_commands.specs.Words.{RefusesWords, RunsWords, ShowsText, WantsMemory};
 
 use crate::doing::run_task;
+use crate::refused_words::refused_text;
 use byte_reader::ByteReader;
-use clap::Error;
 use clap::error::ErrorKind;
 use command_line::task;
-use command_refusals::{Refusal, TaskFault};
+use command_refusals::TaskFault;
 use hosts::Host;
 use image_files::{Rooms, end, print};
 use outcome::Ending;
@@ -35,23 +35,30 @@ pub fn run_words<H: Host, I: ByteReader>(
         Ok(task) => run_task(host, alloc, rooms, input, is_typed, task),
         Err(fault) => {
             let mut host = host;
-            let status = refuse_words(&mut host, alloc, rooms, &fault);
+            let status = refuse_words(&mut host, alloc, rooms, words, &fault);
             (host, status)
         }
     }
 }
 
-/// Prints why words ask for nothing, or the help that they ask for, and gives the exit status.
-fn refuse_words<H: Host>(host: &mut H, alloc: Global, rooms: Rooms, fault: &TaskFault) -> u8
+/// Prints why words ask for nothing, or the help that they ask for, and gives the exit status. A word is shown there with escapes where it
+/// isn't graphic.
+fn refuse_words<H: Host>(
+    host: &mut H,
+    alloc: Global,
+    rooms: Rooms,
+    words: &[&str],
+    fault: &TaskFault,
+) -> u8
     ensures { RefusesWords fault.now (H.history host.old) (H.history host.new) result }
 {
     match fault {
         TaskFault::Memory => want_memory(host, rooms, AllocError),
-        TaskFault::Words(error) => match text_of(alloc, error) {
+        TaskFault::Words(error) => match refused_text(alloc, words, fault) {
             Ok(text) => show_text(host, rooms, is_request(error.kind()), text.as_str()),
             Err(error) => want_memory(host, rooms, error),
         },
-        TaskFault::Refused(usage, refusal) => match refusal_text(alloc, usage, refusal) {
+        TaskFault::Refused(_, _) => match refused_text(alloc, words, fault) {
             Ok(text) => show_text(host, rooms, false, text.as_str()),
             Err(error) => want_memory(host, rooms, error),
         },
@@ -62,7 +69,7 @@ fn refuse_words<H: Host>(host: &mut H, alloc: Global, rooms: Rooms, fault: &Task
 fn want_memory<H: Host>(host: &mut H, rooms: Rooms, error: AllocError) -> u8
     ensures { WantsMemory (H.history host.old) (H.history host.new) result }
 {
-    end(host, rooms, false, Err(Ending::from(error)))
+    end(host, rooms, &None, false, Err(Ending::from(error)))
 }
 
 /// Prints help that is asked for on standard output, or another text on standard error, and gives the exit status.
@@ -71,7 +78,7 @@ fn show_text<H: Host>(host: &mut H, rooms: Rooms, is_request: bool, text: &str) 
 {
     if is_request {
         let work = print(host, text.as_bytes());
-        return end(host, rooms, false, work);
+        return end(host, rooms, &None, false, work);
     }
     let _ = host.tell(text);
     MISUSE
@@ -85,18 +92,4 @@ fn is_request(kind: ErrorKind) -> bool
         ErrorKind::DisplayHelp | ErrorKind::DisplayVersion => true,
         _ => false,
     }
-}
-
-/// The text of an error of `clap`.
-fn text_of(alloc: Global, error: &Error) -> Result<String, AllocError> {
-    let text = format!(in alloc; "{error}")?;
-    Ok(text)
-}
-
-/// Why words that `clap` takes are refused, as it says it of those that it refuses itself.
-fn refusal_text(alloc: Global, usage: &str, refusal: &Refusal) -> Result<String, AllocError> {
-    let text = format!(in alloc;
-        "error: {refusal}\n\n{usage}\n\nFor more information, try '--help'.\n"
-    )?;
-    Ok(text)
 }

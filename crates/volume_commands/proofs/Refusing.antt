@@ -12,6 +12,8 @@ use Rattle.archive_files.specs.declared.faults.DeleteFault.TheVariants.{Archive,
 use Rattle.archive_files.specs.declared.faults.RenameFault.{RenameFault}
 use Rattle.archive_files.specs.declared.faults.RenameFault.TheVariants as rename
 use Rattle.archive_files.specs.declared.places.TextPlace.{TextPlace}
+use Rattle.archive_files.specs.declared.putting.NewImage.{NewImage}
+use Rattle.archive_many.specs.Cutting.{CutsFile}
 use Rattle.archive_files.specs.Squeezing.{SqueezesFiles}
 use Rattle.archive_many.specs.Opened.{OpensVolume}
 use Rattle.archive_many.specs.declared.wishes.Wish.{Wish}
@@ -25,14 +27,18 @@ use Rattle.image_files.specs.Answers.{Answers, AreLines}
 use Rattle.volume_commands.specs.Asking.{AreNamed, MeansFile}
 use Rattle.volume_commands.specs.Changing.{Changes, GivesName, RefusesName, Renames, Squeezes}
 use Rattle.volume_commands.specs.Choosing.{AreWished, Chooses, FindsAll, MeansFiles, MeansIf, RefusesWish, TellsRefused, one_of_several, word_at, words_in}
-use Rattle.volume_commands.specs.Copying.{Copies, CopiesFrom, CopiesInto, MakesCopy, RefusesCopy}
+use Rattle.volume_commands.specs.Copying.{Copies, CopiesFrom, CopiesInto, MakesCopy, RefusesCopy, TellsCopy, copied_lines}
 use Rattle.image_files.specs.Pairs.{RefusesIf, is_one_image, is_want_of}
 use Rattle.volume_commands.specs.Deleting.{Deletes, TakesMeant, TakesOut, RefusesFile}
-use Rattle.volume_commands.specs.Putting.{KeepsWords, MakesNew, Puts, PutsInto, TellsIf}
-use Rattle.image_files.specs.Stored.{is_bad_text, TellsPlace, stored_line}
+use Rattle.volume_commands.specs.Putting.{JudgesInfo, JudgesPut, KeepsWords, MakesNew, Puts, PutsInto, TellsIf}
+use Rattle.image_files.specs.Stored.{is_bad_text, TellsPlace, stored_line, words_of}
 use Rattle.image_files.specs.Inputs.{Reads, ReadsIf, TakesInput}
 use Rattle.image_files.specs.Reading.{LooksAt, Opens}
 use Rattle.image_files.specs.Saving.{Stores}
+use Rattle.archive_many.specs.Putting.{given_count, info_words, words_wanted}
+use Rattle.image_files.specs.Information.{TakesWords}
+use Rattle.image_files.specs.Years.{NotesYear}
+use Rattle.image_files.proofs.WordsLemmas.{words-never, year-never}
 use Rattle.image_files.specs.Work.{Then, Purely}
 use Rattle.image_files.specs.declared.images.Image.{Image}
 use Rattle.image_files.specs.Laws.{KeepsFiles, ChangesNothing, LeavesFiles}
@@ -122,10 +128,15 @@ makes-copy-never form wanted from to old (Ok it) new p = same old new p.1
 makes-copy-never form wanted from to old (Err ending) new (inl (why, copies, p)) = refuses-copy form why (length from) (length to) old ending new p
 makes-copy-never form wanted from to old (Err ending) new (inr p) = same old new p.1
 
+tells-copy-never : (from : List ℕ) (wanted : Target) (to : List ℕ) (made : NewImage) → KeepsFiles (TellsCopy from wanted to made)
+tells-copy-never from wanted to made =
+    then-keeps (Answers (CutsFile from wanted to) (length from)) (λ cut. Purely (AreLines (copied_lines made cut))) (answers-never (CutsFile from wanted to) (length from)) (λ cut. purely-keeps (AreLines (copied_lines made cut)))
+
 copies-into : (form : CopyForm) (wanted : Target) (image : Image) (from : List ℕ) → LeavesFiles (CopiesInto form wanted image from)
 copies-into form wanted image from =
-    then-leaves (MakesCopy form wanted from image.bytes.items) (λ made. Then (Purely (AreLines (stored_line made))) (λ line. Stores image made.bytes.items line.items))
-    (makes-copy-never form wanted from image.bytes.items) (λ made. lines-leave image made.bytes.items (stored_line made))
+    then-leaves (MakesCopy form wanted from image.bytes.items) (λ made. Then (TellsCopy from wanted image.bytes.items made) (λ line. Stores image made.bytes.items line.items))
+    (makes-copy-never form wanted from image.bytes.items)
+    (λ made. then-leaves (TellsCopy from wanted image.bytes.items made) (λ line. Stores image made.bytes.items line.items) (tells-copy-never from wanted image.bytes.items made) (λ line. stores-leaves image made.bytes.items line.items))
 
 copies-from : (is : Bool) (form : CopyForm) (wanted : Target) (image : Image) → LeavesFiles (CopiesFrom is form wanted image)
 copies-from true form wanted image = copies-into form wanted image image.bytes.items
@@ -167,10 +178,17 @@ makes-new-never form image bytes date old (Ok it) new p = same old new p.1
 makes-new-never form image bytes date old (Err ending) new (inl (why, puts, p)) = tells-if (is_bad_text why) why bytes (length image) old ending new p
 makes-new-never form image bytes date old (Err ending) new (inr p) = same old new p.1
 
+judges-info-never : (form : PutOneForm) (image : List ℕ) (date : Option ℕ) → KeepsFiles (JudgesInfo form image date)
+judges-info-never form image date = then-keeps (TakesWords (words_wanted (given_count (words_of form.info)) date) image) (λ it. NotesYear image (info_words (words_of form.info)) form.year)
+    (words-never (words_wanted (given_count (words_of form.info)) date) image) (λ it. year-never image (info_words (words_of form.info)) form.year)
+
+judges-never : (form : PutOneForm) (image bytes : List ℕ) (date : Option ℕ) → KeepsFiles (JudgesPut form image bytes date)
+judges-never form image bytes date = then-keeps (KeepsWords form image bytes) (λ it. JudgesInfo form image date) (keeps-words-never form image bytes) (λ it. judges-info-never form image date)
+
 puts-into : (form : PutOneForm) (image : Image) (bytes : List ℕ) (date : Option ℕ) → LeavesFiles (PutsInto form image bytes date)
 puts-into form image bytes date =
-    then-leaves (KeepsWords form image.bytes.items bytes) (λ it. Then (MakesNew form image.bytes.items bytes date) (λ made. Then (Purely (AreLines (stored_line made))) (λ line. Stores image made.bytes.items line.items)))
-    (keeps-words-never form image.bytes.items bytes)
+    then-leaves (JudgesPut form image.bytes.items bytes date) (λ it. Then (MakesNew form image.bytes.items bytes date) (λ made. Then (Purely (AreLines (stored_line made))) (λ line. Stores image made.bytes.items line.items)))
+    (judges-never form image.bytes.items bytes date)
     (λ it. then-leaves (MakesNew form image.bytes.items bytes date) (λ made. Then (Purely (AreLines (stored_line made))) (λ line. Stores image made.bytes.items line.items))
     (makes-new-never form image.bytes.items bytes date) (λ made. lines-leave image made.bytes.items (stored_line made)))
 

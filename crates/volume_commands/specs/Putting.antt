@@ -9,7 +9,7 @@ use Rattle.archive_files.specs.declared.faults.ArchiveFault.{ArchiveFault}
 use Rattle.archive_files.specs.declared.putting.NewImage.{NewImage}
 use Rattle.archive_many.specs.Emptying.{is_among}
 use Rattle.archive_many.specs.Opened.{OpensVolume, files_on}
-use Rattle.archive_many.specs.Putting.{info_or}
+use Rattle.archive_many.specs.Putting.{info_or, info_words, given_count, words_wanted}
 use Rattle.outcome.specs.Endings.{ending_of_archive}
 use Rattle.outcome.specs.Notes.{name_text}
 use Rattle.outcome.specs.declared.notes.NameNote.TheVariants.{Empty}
@@ -17,6 +17,8 @@ use Rattle.outcome.specs.declared.endings.Ending.{Ending}
 use Rattle.outcome.specs.declared.endings.Ending.TheVariants.{Fault}
 use Rattle.program_tasks.specs.declared.forms.PutOneForm.{PutOneForm}
 use Rattle.image_files.specs.Dates.{DatesFile}
+use Rattle.image_files.specs.Information.{TakesWords}
+use Rattle.image_files.specs.Years.{NotesYear}
 use Rattle.image_files.specs.Work.{Then, Purely}
 use Rattle.image_files.specs.Reading.{Opens}
 use Rattle.image_files.specs.Answers.{AreLines, Refuses}
@@ -66,10 +68,18 @@ MakesNew form image bytes date old (Err ending) new =
     ((fault : ArchiveFault) × PutsFile image form.name.bytes.items form.form bytes (info_or date (words_of form.info)) (Err fault) × TellsRefusal fault bytes (length image) old ending new)
     ⊎ ((ending ≡ Fault Memory) × (new ≡ old))
 
-abbrev pub PutsInto : PutOneForm → Image → List ℕ → Option ℕ → List Event → Result (Unit {0}) Ending → List Event → Type 0
-PutsInto form image bytes date = Then (KeepsWords form image.bytes.items bytes) (λ it. Then (MakesNew form image.bytes.items bytes date) (λ made. Then (Purely (AreLines (stored_line made))) (λ line. Stores image made.bytes.items line.items)))
+-- no more information words are given than there is room for, and it is printed how a date will be shown that is shown otherwise
+abbrev pub JudgesInfo : PutOneForm → List ℕ → Option ℕ → List Event → Result (Unit {0}) Ending → List Event → Type 0
+JudgesInfo form image date = Then (TakesWords (words_wanted (given_count (words_of form.info)) date) image) (λ it. NotesYear image (info_words (words_of form.info)) form.year)
 
--- An image file is held and read, and then the file of the host. The image with the file on its volume is saved, and only then its line is
--- printed.
+-- and no older file loses its words
+abbrev pub JudgesPut : PutOneForm → List ℕ → List ℕ → Option ℕ → List Event → Result (Unit {0}) Ending → List Event → Type 0
+JudgesPut form image bytes date = Then (KeepsWords form image bytes) (λ it. JudgesInfo form image date)
+
+abbrev pub PutsInto : PutOneForm → Image → List ℕ → Option ℕ → List Event → Result (Unit {0}) Ending → List Event → Type 0
+PutsInto form image bytes date = Then (JudgesPut form image.bytes.items bytes date) (λ it. Then (MakesNew form image.bytes.items bytes date) (λ made. Then (Purely (AreLines (stored_line made))) (λ line. Stores image made.bytes.items line.items)))
+
+-- An image file is held and read, and then the file of the host. More information words are refused than the files of the volume have. The
+-- image with the file on its volume is saved, and only then its line is printed.
 abbrev pub Puts : PutOneForm → List Event → Result (Unit {0}) Ending → List Event → Type 0
 Puts form = Then (Opens form.image) (λ image. Then (Reads form.file.bytes.items) (λ bytes. Then (DatesFile form.is_dated form.file.bytes.items) (λ date. PutsInto form image bytes.items date)))

@@ -15,7 +15,7 @@ mod showing_parts;
 pub use asking::file_asked;
 pub use changes::{rename_file, squeeze_files};
 pub use copying::copy_file;
-pub use creating::{create_image, create_tape};
+pub use creating::{create_disk, create_image, create_tape, create_volume};
 pub use deleting::delete_files;
 pub use putting::put_file;
 pub use showing::get_file;

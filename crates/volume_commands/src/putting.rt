@@ -1,16 +1,19 @@
 //! The command that puts a file of the host, or standard input, on the volume in an image file.
 ghost use Rattle.std.specs.Prelude.{◌≡◌, option_copied, OnOk, OnErr};
 ghost use Rattle.archive_files.specs.Putting.{PutsFile};
-ghost use Rattle.archive_many.specs.Putting.{info_or};
+ghost use Rattle.archive_many.specs.Putting.{info_or, info_words, given_count, words_wanted};
 ghost use Rattle.image_files.specs.Stored as spec;
-ghost use Rattle.volume_commands.specs.Putting.{Puts, PutsInto, KeepsWords, MakesNew};
+ghost use Rattle.volume_commands.specs.Putting.{JudgesInfo, JudgesPut, Puts, PutsInto, KeepsWords, MakesNew};
 ghost use Rattle.image_files.specs.Stored.{TellsBad, stored_line, words_of};
 ghost use Rattle.volume_commands.specs.PutSteps.{RefusesLoss, FindsFiles, IsNotPut};
 
 use archive_files::{ArchiveFault, NewImage, bad_text_at, put};
 use archive_many::{VolumeFile, empties, open};
 use hosts::Host;
-use image_files::{Image, date_of_file, given_bytes, refuse_image, store, stored_line, tell_note};
+use image_files::{
+    Image, date_of_file, given_bytes, note_year, refuse_image, store, stored_line, take_words,
+    tell_note,
+};
 use name_spelling::typed_name;
 use os8_dir::{FileFault, Name};
 use outcome::{Ending, NameNote, Note};
@@ -25,7 +28,7 @@ pub fn put_file<H: Host>(host: &mut H, alloc: Global, form: &PutOneForm) -> Resu
 {
     let image = Image::open(host, alloc, &form.image)?;
     let bytes = given_bytes(host, alloc, form.file.as_str())?;
-    let date = date_of_file(host, form.file.as_str(), form.is_dated)?;
+    let date = date_of_file(host, alloc, form.file.as_str(), form.is_dated)?;
     put_into(host, alloc, form, image, &bytes, date)
 }
 
@@ -40,10 +43,40 @@ fn put_into<H: Host>(
 ) -> Result<(), Ending>
     ensures { PutsInto form.now image bytes.now date (H.history host.old) result (H.history host.new) }
 {
-    keep_words(host, alloc, form, &image.bytes, bytes)?;
+    let again = date;
+    judge_put(host, alloc, form, &image.bytes, bytes, again)?;
     let new = new_image(host, alloc, form, &image.bytes, bytes, date)?;
     let line = stored_line(alloc, &new)?;
     store(host, alloc, image, &new.bytes, &line)
+}
+
+/// Refuses what would lose words of an older file, or information words that are given. Then it prints how a date will be shown that is shown otherwise.
+fn judge_put<H: Host>(
+    host: &mut H,
+    alloc: Global,
+    form: &PutOneForm,
+    image: &[u8],
+    bytes: &[u8],
+    date: Option<Word>,
+) -> Result<(), Ending>
+    ensures { JudgesPut form.now image.now bytes.now date (H.history host.old) result (H.history host.new) }
+{
+    keep_words(host, alloc, form, image, bytes)?;
+    judge_info(host, alloc, form, image, date)
+}
+
+/// Refuses information words for which there is no room, and prints how a date will be shown that is shown otherwise.
+fn judge_info<H: Host>(
+    host: &mut H,
+    alloc: Global,
+    form: &PutOneForm,
+    image: &[u8],
+    date: Option<Word>,
+) -> Result<(), Ending>
+    ensures { JudgesInfo form.now image.now date (H.history host.old) result (H.history host.new) }
+{
+    take_words(host, alloc, image, words_wanted(form, date))?;
+    note_year(host, alloc, image, info_of(&form.info), form.year)
 }
 
 /// Refuses a text of no byte that would replace a file of the volume, unless that is asked for.
@@ -183,6 +216,36 @@ fn tell_bad_text<H: Host>(host: &mut H, alloc: Global, text: &[u8]) -> Result<()
     match bad_text_at(text) {
         Some(place) => tell_note(host, alloc, Note::OnText(place)),
         None => Ok(()),
+    }
+}
+
+/// How many information words the file is to have: its date alone, or those that are given.
+fn words_wanted(form: &PutOneForm, date: Option<Word>) -> usize
+    ensures { result ≡ words_wanted (given_count (words_of form.now.info)) date }
+{
+    match date {
+        Some(_) => 1,
+        None => given_count(&form.info),
+    }
+}
+
+/// How many information words are given.
+fn given_count(info: &Option<Vec<Word>>) -> usize
+    ensures { result ≡ given_count (words_of info.now) }
+{
+    match info {
+        Some(words) => words.len(),
+        None => 0,
+    }
+}
+
+/// The information words that are given.
+fn info_of(info: &Option<Vec<Word>>) -> &[Word]
+    ensures { result.now ≡ info_words (words_of info.now) }
+{
+    match info {
+        Some(words) => words.as_slice(),
+        None => &[],
     }
 }
 

@@ -1,5 +1,5 @@
 -- Commands that change no file at all.
-use Rattle.std.proofs.Common.{◌≡◌, ◌∙◌, ◌+◌, ◌&&◌, ℕ, Bool, true, false, ap, Option, Some, Result, Ok, Err, List, [], ◌∷◌, length, map, nat_eq}
+use Rattle.std.proofs.Common.{◌≡◌, ◌∙◌, ◌+◌, ◌&&◌, ℕ, Bool, true, false, ap, inl, inr, Option, Some, Result, Ok, Err, List, [], ◌∷◌, length, map, nat_eq}
 use Rattle.std.specs.Global.{Vec}
 use Rattle.disk_layouts.specs.declared.layouts.Layout.{Layout}
 use Rattle.disk_layouts.specs.declared.layouts.Layout.TheVariants.{First, Second}
@@ -8,7 +8,7 @@ use Rattle.image_volumes.specs.Volumes.{volumes_in}
 use Rattle.image_volumes.specs.declared.margins.Margins.{Margins}
 use Rattle.image_volumes.specs.declared.volumes.Volumes.{Volumes}
 use Rattle.image_volumes.specs.declared.volumes.Volumes.TheVariants.{One, Both}
-use Rattle.hosts.specs.Event.{Event}
+use Rattle.hosts.specs.Event.{Event, leftovers_call}
 use Rattle.hosts.specs.Place.{about}
 use Rattle.outcome.specs.declared.endings.Ending.{Ending}
 use Rattle.program_reports.specs.Program.{program_line}
@@ -21,14 +21,15 @@ use Rattle.image_files.specs.Saving.{Prints}
 use Rattle.image_files.specs.Work.{Then, Purely}
 use Rattle.volume_reports.specs.declared.reports.Report.{Report}
 use Rattle.volume_reports.specs.declared.reports.ReportKind.{ReportKind}
-use Rattle.volume_reports.specs.Checking.{ChecksEach, ChecksFiles, ChecksImages, ChecksNext, ChecksSeveral, PrintsCount, kind_of_check, reading_of_check, with_refusal}
+use Rattle.volume_reports.specs.Checking.{ChecksEach, ChecksEachImage, ChecksFiles, ChecksImages, ChecksNext, ChecksSeveral, DropsBeside, DropsEach, PrintsCount, TellsDropped, kind_of_check, reading_of_check, with_refusal}
 use Rattle.image_files.specs.Ending.{EndsSound}
 use Rattle.volume_reports.specs.Reporting.{PrintsNamed, PrintsReport, Reports, TellsRefusal}
 use Rattle.volume_reports.specs.Volumes.{IsVolumeName, ReportsAlone, ReportsAt, ReportsBoth, ReportsBytes, ReportsFile, ReportsNext, ReportsNumbered, ReportsOne, ReportsRead, ReportsVolume, ReportsVolumes, TellsMargins, TellsMarginsIf, has_margins, is_check}
 use Rattle.host_progress.specs.Progressing.{TellsProgress, WithProgress}
 use Rattle.image_files.specs.Laws.{KeepsFiles}
+use Rattle.image_files.specs.Leftovers.{ChoosesImages}
 use Rattle.image_files.proofs.KeepLemmas.{then-keeps, purely-keeps, prints-keeps, looks-image-keeps}
-use Rattle.image_files.proofs.LeaveLemmas.{answers-never}
+use Rattle.image_files.proofs.LeaveLemmas.{answers-never, refuses-never}
 use Rattle.host_progress.proofs.KeepLemmas.{progress-never, with-progress-never}
 
 prints-report-never : (report : Report) → KeepsFiles (PrintsReport report)
@@ -40,8 +41,13 @@ prints-named-never file report =
     (purely-keeps (AreLines (named_lines file report.text.items)))
     (λ lines. then-keeps (Prints lines.items) (λ it. Purely (λ (result : Result Bool Ending). result ≡ Ok report.is_sound)) (prints-keeps lines.items) (λ it. purely-keeps (λ (result : Result Bool Ending). result ≡ Ok report.is_sound)))
 
+at-never : (kind : ReportKind) (layout : Option Layout) (body : List ℕ) → KeepsFiles (ReportsAt kind layout body)
+at-never kind layout body old result new (inl (image, found, inl (report, reports, is, same))) path = ap (λ (events : List Event). about path events) same
+at-never kind layout body old result new (inl (image, found, inr (fault, ending, reports, refuses, told))) path = refuses-never fault (length image.items) old ending new refuses path
+at-never kind layout body old result new (inr (ending, found, told, same)) path = ap (λ (events : List Event). about path events) same
+
 reports-volume-never : (kind : ReportKind) (name : List ℕ) (layout : Option Layout) (body : List ℕ) → KeepsFiles (ReportsVolume kind name layout body)
-reports-volume-never kind name layout body = then-keeps (Purely (ReportsAt kind layout body)) (PrintsNamed name) (purely-keeps (ReportsAt kind layout body)) (prints-named-never name)
+reports-volume-never kind name layout body = then-keeps (ReportsAt kind layout body) (PrintsNamed name) (at-never kind layout body) (prints-named-never name)
 
 numbered-never : (kind : ReportKind) (file : List ℕ) (number : ℕ) (layout : Layout) (body : List ℕ) → KeepsFiles (ReportsNumbered kind file number layout body)
 numbered-never kind file number layout body =
@@ -73,28 +79,28 @@ note-never true name margins old (Err ending) new p path = ap (λ (events : List
 margins-never : (kind : ReportKind) (name : List ℕ) (margins : Margins) → KeepsFiles (TellsMargins kind name margins)
 margins-never kind name margins = note-never (is_check kind && has_margins margins) name margins
 
-bytes-never : (kind : ReportKind) (given : Option Layout) (file bytes : List ℕ) → KeepsFiles (ReportsBytes kind given file bytes)
-bytes-never kind given file bytes =
-    then-keeps (TellsMargins kind file (margins_in given bytes)) (λ it. ReportsFile kind file (volumes_in given bytes) (body_of given bytes)) (margins-never kind file (margins_in given bytes))
-    (λ it. file-never kind file (volumes_in given bytes) (body_of given bytes))
+bytes-never : (kind : ReportKind) (given : Option Layout) (is_plain : Bool) (file bytes : List ℕ) → KeepsFiles (ReportsBytes kind given is_plain file bytes)
+bytes-never kind given is_plain file bytes =
+    then-keeps (TellsMargins kind file (margins_in given is_plain bytes)) (λ it. ReportsFile kind file (volumes_in given is_plain bytes) (body_of given is_plain bytes)) (margins-never kind file (margins_in given is_plain bytes))
+    (λ it. file-never kind file (volumes_in given is_plain bytes) (body_of given is_plain bytes))
 
 pub one-never : (kind : ReportKind) (reading : ImageReading) (file : List ℕ) → KeepsFiles (ReportsOne kind reading file)
 one-never kind reading file =
-    then-keeps (LooksImage reading file) (λ bytes. ReportsBytes kind reading.layout file bytes.items) (looks-image-keeps reading file)
-    (λ bytes. bytes-never kind reading.layout file bytes.items)
+    then-keeps (LooksImage reading file) (λ bytes. ReportsBytes kind reading.layout reading.is_plain file bytes.items) (looks-image-keeps reading file)
+    (λ bytes. bytes-never kind reading.layout reading.is_plain file bytes.items)
 
 volumes-never : (kind : ReportKind) (file : List ℕ) (volumes : Volumes) (body : List ℕ) → KeepsFiles (ReportsVolumes kind file volumes body)
 volumes-never kind file (One layout) body = reports-volume-never kind file layout body
 volumes-never kind file Both body = both-never kind file body
 
-read-never : (kind : ReportKind) (given : Option Layout) (file : List ℕ) (bytes : Result (Vec ℕ) Ending) → KeepsFiles (ReportsRead kind given file bytes)
-read-never kind given file (Ok bytes) =
-    then-keeps (TellsMargins kind file (margins_in given bytes.items)) (λ it. ReportsVolumes kind file (volumes_in given bytes.items) (body_of given bytes.items)) (margins-never kind file (margins_in given bytes.items))
-    (λ it. volumes-never kind file (volumes_in given bytes.items) (body_of given bytes.items))
-read-never kind given file (Err ending) = then-keeps (Purely (TellsRefusal ending)) (PrintsNamed file) (purely-keeps (TellsRefusal ending)) (prints-named-never file)
+read-never : (kind : ReportKind) (given : Option Layout) (is_plain : Bool) (file : List ℕ) (bytes : Result (Vec ℕ) Ending) → KeepsFiles (ReportsRead kind given is_plain file bytes)
+read-never kind given is_plain file (Ok bytes) =
+    then-keeps (TellsMargins kind file (margins_in given is_plain bytes.items)) (λ it. ReportsVolumes kind file (volumes_in given is_plain bytes.items) (body_of given is_plain bytes.items)) (margins-never kind file (margins_in given is_plain bytes.items))
+    (λ it. volumes-never kind file (volumes_in given is_plain bytes.items) (body_of given is_plain bytes.items))
+read-never kind given is_plain file (Err ending) = then-keeps (Purely (TellsRefusal ending)) (PrintsNamed file) (purely-keeps (TellsRefusal ending)) (prints-named-never file)
 
 reports-next-never : (kind : ReportKind) (reading : ImageReading) (file name : List ℕ) → KeepsFiles (ReportsNext kind reading file name)
-reports-next-never kind reading file name old result new (bytes, between, looks, p) = λ path. read-never kind reading.layout name bytes between result new p path ∙ looks-image-keeps reading file old bytes between looks path
+reports-next-never kind reading file name old result new (bytes, between, looks, p) = λ path. read-never kind reading.layout reading.is_plain name bytes between result new p path ∙ looks-image-keeps reading file old bytes between looks path
 
 next-never : (form : CheckForm) (is_told : Bool) (done all : ℕ) (file : List ℕ) → KeepsFiles (ChecksNext form is_told done all file)
 next-never form is_told done all file =
@@ -122,5 +128,24 @@ files-never form [] = several-never form []
 files-never form (file ∷ []) = one-never (kind_of_check form.is_all) (reading_named (reading_of_check form) file) (file_named (reading_of_check form) file)
 files-never form (file ∷ other ∷ files) = several-never form (file ∷ other ∷ files)
 
+dropped-never : (is_none : Bool) (name : List ℕ) (count : ℕ) → KeepsFiles (TellsDropped is_none name count)
+dropped-never true name count old result new p path = ap (λ (events : List Event). about path events) p.1
+dropped-never false name count old (Ok it) new p path = ap (λ (events : List Event). about path events) p.1
+dropped-never false name count old (Err ending) new p path = ap (λ (events : List Event). about path events) p.1
+
+beside-never : (name : List ℕ) → KeepsFiles (DropsBeside name)
+beside-never name old result new (inl p) path = dropped-never (nat_eq p.0 0) name p.0 (leftovers_call name p.0 ∷ old) result new p.1 path
+beside-never name old result new (inr p) path = ap (λ (events : List Event). about path events) p.2
+
+drops-never : (form : CheckForm) (files : List (List ℕ)) → KeepsFiles (DropsEach form files)
+drops-never form [] = purely-keeps (λ (result : Result (Unit {0}) Ending). result ≡ Ok tt)
+drops-never form (file ∷ files) =
+    then-keeps (DropsBeside (file_named (reading_of_check form) file)) (λ it. DropsEach form files) (beside-never (file_named (reading_of_check form) file)) (λ it. drops-never form files)
+
+each-image-never : (form : CheckForm) (files : List (List ℕ)) → KeepsFiles (ChecksEachImage form files)
+each-image-never form files = then-keeps (DropsEach form files) (λ it. ChecksFiles form files) (drops-never form files) (λ it. files-never form files)
+
 pub checks-never : (form : CheckForm) → KeepsFiles (ChecksImages form)
-checks-never form = files-never form (map (λ file. file.bytes.items) form.images.items)
+checks-never form =
+    then-keeps (Purely (ChoosesImages (map (λ file. file.bytes.items) form.images.items))) (λ images. ChecksEachImage form (map (λ image. image.bytes.items) images.items)) (purely-keeps (ChoosesImages (map (λ file. file.bytes.items) form.images.items)))
+    (λ images. each-image-never form (map (λ image. image.bytes.items) images.items))

@@ -1,7 +1,7 @@
 -- A check that ends well has read each image file, and each volume in it is sound.
-use Rattle.std.proofs.Common.{◌≡◌, ◌∙◌, ◌∷◌, ◌+◌, ◌&&◌, ℕ, Bool, true, false, nat_eq, Option, None, Some, Result, Ok, Err, List, [], ap, arith, codes, inl, inr, length, refl, subst, sym}
+use Rattle.std.proofs.Common.{◌≡◌, ◌∙◌, ◌∷◌, ◌+◌, ◌&&◌, ℕ, Bool, true, false, nat_eq, Option, None, Some, Result, Ok, Err, List, [], ap, arith, codes, inl, inr, length, map, refl, subst, sym}
 use Rattle.std.proofs.lemmas.Bool.Decides.{nat_tests}
-use Rattle.hosts.specs.Event.{Event, look_call, print_call, seconds_call, tell_call, terminal_call}
+use Rattle.hosts.specs.Event.{Event, DropLeftovers, failed_call, leftovers_call, look_call, print_call, seconds_call, tell_call, terminal_call}
 use Rattle.hosts.specs.Streams.{read}
 use Rattle.disk_layouts.specs.declared.layouts.Layout.{Layout}
 use Rattle.disk_layouts.specs.declared.layouts.Layout.TheVariants.{First, Second}
@@ -10,21 +10,24 @@ use Rattle.image_volumes.specs.Volumes.{volumes_in}
 use Rattle.image_volumes.specs.declared.margins.Margins.{Margins}
 use Rattle.image_volumes.specs.declared.volumes.Volumes.{Volumes}
 use Rattle.image_volumes.specs.declared.volumes.Volumes.TheVariants.{One, Both}
-use Rattle.outcome.specs.Endings.{ending_of_archive}
-use Rattle.outcome.specs.Notes.{margins_text}
+use Rattle.outcome.specs.Notes.{leftovers_text, margins_text}
 use Rattle.outcome.specs.declared.endings.Ending.{Ending}
 use Rattle.program_reports.specs.declared.programs.ProgramLine.{ProgramLine}
 use Rattle.program_tasks.specs.declared.forms.CheckForm.{CheckForm}
 use Rattle.image_files.specs.Answers.{Answers, AreLines}
 use Rattle.std.specs.Global.{Vec}
 use Rattle.lenient_images.specs.Lines.{mended_lines}
+use Rattle.image_files.specs.Leftovers.{images_among}
+use Rattle.image_kind.specs.declared.kinds.ImageKind.{ImageKind}
+use Rattle.image_volumes.specs.Keeping.{two_readings}
+use Rattle.image_files.specs.Judging.{JudgesBy}
 use Rattle.image_files.specs.Mending.{TellsLines}
-use Rattle.image_files.specs.Reading.{LooksIf, file_named, reading_named}
+use Rattle.image_files.specs.Reading.{JudgesLooked, LooksIf, LooksImage, file_named, reading_named}
 use Rattle.image_files.specs.Saving.{Prints}
 use Rattle.image_files.specs.declared.mending.ImageReading.{ImageReading}
 use Rattle.image_files.specs.Work.{Then, Purely}
 use Rattle.volume_reports.specs.declared.reports.Report.{Report}
-use Rattle.volume_reports.specs.Checking.{ChecksEach, ChecksFiles, ChecksNext, ChecksSeveral, PrintsCount, kind_of_check, reading_of_check, with_refusal}
+use Rattle.volume_reports.specs.Checking.{ChecksEach, ChecksEachImage, ChecksFiles, ChecksImages, ChecksNext, ChecksSeveral, DropsBeside, DropsEach, PrintsCount, TellsDropped, kind_of_check, reading_of_check, with_refusal}
 use Rattle.volume_reports.specs.Laws.{AreSound, AreSoundIn, IsReadAs, IsSoundFile, IsSoundVolume}
 use Rattle.host_progress.specs.Progressing.{BeginsProgress, EndsProgress, TellsDone, progress_text}
 use Rattle.image_files.specs.Ending.{EndsSound}
@@ -64,11 +67,12 @@ abbrev report_or : Report → Result Report Ending → Report
 report_or other (Ok it) = it
 report_or other (Err ending) = other
 
-at-sound : (is_all : Bool) (layout : Option Layout) (body : List ℕ) (report : Report) → ReportsAt (kind_of_check is_all) layout body (Ok report) → report.is_sound ≡ true → IsSoundVolume is_all layout body
-at-sound is_all layout body report (inl (image, found, inl (other, reports, is))) sound =
-    record { image = image; found = found; report = report; reports = subst (λ r. Reports (kind_of_check is_all) image.items (Ok r)) (sym (ap (λ r. report_or report r) is)) reports; sound = sound }
-at-sound is_all layout body report (inl (image, found, inr (fault, reports, told))) sound = absurd (unsound-line (line_in (ending_of_archive fault)) (ending_of_archive fault) report told sound)
-at-sound is_all layout body report (inr (ending, found, told)) sound = absurd (unsound-line (line_in ending) ending report told sound)
+at-sound : (is_all : Bool) (layout : Option Layout) (body : List ℕ) (old : List Event) (report : Report) (new : List Event) → ReportsAt (kind_of_check is_all) layout body old (Ok report) new → report.is_sound ≡ true
+    → IsSoundVolume is_all layout body × (new ≡ old)
+at-sound is_all layout body old report new (inl (image, found, inl (other, reports, is, same))) sound =
+    (record { image = image; found = found; report = report; reports = subst (λ r. Reports (kind_of_check is_all) image.items (Ok r)) (sym (ap (λ r. report_or report r) is)) reports; sound = sound }, same)
+at-sound is_all layout body old report new (inl (image, found, inr (fault, ending, reports, refuses, told))) sound = absurd (unsound-line (line_in ending) ending report told sound)
+at-sound is_all layout body old report new (inr (ending, found, told, same)) sound = absurd (unsound-line (line_in ending) ending report told sound)
 
 named : (name : List ℕ) (report : Report) (old new : List Event) (is_sound : Bool) → PrintsNamed name report old (Ok is_sound) new → (is_sound ≡ report.is_sound) × (read new ≡ read old)
 named name report old new is_sound (inl ends) = absurd ends
@@ -83,7 +87,8 @@ volume-sound : (is_all : Bool) (name : List ℕ) (layout : Option Layout) (body 
 volume-sound is_all name layout body old new is_sound (inl ends) sound = absurd ends
 volume-sound is_all name layout body old new is_sound (inr it) sound =
     let end = named name it.given it.between new is_sound it.after in
-    (at-sound is_all layout body it.given it.done.0 (sym end.0 ∙ sound), end.1 ∙ reads old it.between it.done.1)
+    let at = at-sound is_all layout body old it.given it.between it.done (sym end.0 ∙ sound) in
+    (at.0, end.1 ∙ reads old it.between at.1)
 
 -- ## Both volumes of a disk
 
@@ -151,32 +156,49 @@ lines-read [] old new p = reads old new p
 lines-read (c ∷ lines) old new p = reads (tell_call p.0 (c ∷ lines) ∷ old) new p.1
 
 -- which bytes a file is read as, and that it was read
-looked : (is_lenient : Bool) (given : Option Layout) (name : List ℕ) (old : List Event) (bytes : Vec ℕ) (new : List Event) → LooksIf is_lenient given name old (Ok bytes) new
-    → (file : List ℕ) × IsReadAs is_lenient given file bytes.items × (read new ≡ look_call name file ∷ read old)
-looked false given name old bytes new p = (bytes.items, refl, reads (look_call name bytes.items ∷ old) new p.1)
-looked true given name old bytes new (inl ends) = absurd ends
-looked true given name old bytes new (inr it) = (
+looked : (is_lenient : Bool) (given : Option Layout) (is_plain : Bool) (name : List ℕ) (old : List Event) (bytes : Vec ℕ) (new : List Event) → LooksIf is_lenient given is_plain name old (Ok bytes) new
+    → (file : List ℕ) × IsReadAs is_lenient given is_plain file bytes.items × (read new ≡ look_call name file ∷ read old)
+looked false given is_plain name old bytes new p = (bytes.items, refl, reads (look_call name bytes.items ∷ old) new p.1)
+looked true given is_plain name old bytes new (inl ends) = absurd ends
+looked true given is_plain name old bytes new (inr it) = (
   it.given.items,
   (it.after.0, it.after.1, it.after.2),
   lines-read (mended_lines name it.after.0) it.between new it.after.3 ∙ reads (look_call name it.given.items ∷ old) it.between it.done.1,
 )
 
+-- a file that may be read in one way is judged without a call
+judged-by : (name : List ℕ) (two : Option (ImageKind × ImageKind)) (old new : List Event) → JudgesBy name two old (Ok tt) new → new ≡ old
+judged-by name None old new p = p
+judged-by name (Some two) old new p = absurd p
+
+judged : (reading : ImageReading) (name : List ℕ) (file : Vec ℕ) (old : List Event) (bytes : Vec ℕ) (new : List Event) → JudgesLooked reading name file old (Ok bytes) new → (bytes ≡ file) × (new ≡ old)
+judged reading name file old bytes new (inl ends) = absurd ends
+judged reading name file old bytes new (inr it) = (it.after.0, it.after.1 ∙ judged-by name (two_readings reading.layout reading.is_plain file.items) old it.between it.done)
+
+looked-image : (reading : ImageReading) (name : List ℕ) (old : List Event) (bytes : Vec ℕ) (new : List Event) → LooksImage reading name old (Ok bytes) new
+    → (file : List ℕ) × IsReadAs reading.is_lenient reading.layout reading.is_plain file bytes.items × (read new ≡ look_call name file ∷ read old)
+looked-image reading name old bytes new (inl ends) = absurd ends
+looked-image reading name old bytes new (inr it) =
+    let same = judged reading name it.given it.between bytes new it.after in
+    let file = looked reading.is_lenient reading.layout reading.is_plain name old it.given it.between it.done in
+    (file.0, subst (λ (b : Vec ℕ). IsReadAs reading.is_lenient reading.layout reading.is_plain file.0 b.items) (sym same.0) file.1, reads it.between new same.1 ∙ file.2)
+
 note-read : (is_noted : Bool) (name : List ℕ) (margins : Margins) (old new : List Event) → TellsMarginsIf is_noted name margins old (Ok tt) new → read new ≡ read old
 note-read false name margins old new p = reads old new p.1
 note-read true name margins old new p = reads (tell_call p.0 (margins_text name margins.before margins.after) ∷ old) new p.1
 
-bytes-sound : (is_all : Bool) (given : Option Layout) (file bytes : List ℕ) (old new : List Event) → ReportsBytes (kind_of_check is_all) given file bytes old (Ok tt) new
-    → AreSoundIn is_all (volumes_in given bytes) (body_of given bytes) × (read new ≡ read old)
-bytes-sound is_all given file bytes old new (inl ends) = absurd ends
-bytes-sound is_all given file bytes old new (inr it) =
-    let sound = file-sound is_all file (volumes_in given bytes) (body_of given bytes) it.between new it.after in
-    (sound.0, sound.1 ∙ note-read (is_check (kind_of_check is_all) && has_margins (margins_in given bytes)) file (margins_in given bytes) old it.between it.done)
+bytes-sound : (is_all : Bool) (given : Option Layout) (is_plain : Bool) (file bytes : List ℕ) (old new : List Event) → ReportsBytes (kind_of_check is_all) given is_plain file bytes old (Ok tt) new
+    → AreSoundIn is_all (volumes_in given is_plain bytes) (body_of given is_plain bytes) × (read new ≡ read old)
+bytes-sound is_all given is_plain file bytes old new (inl ends) = absurd ends
+bytes-sound is_all given is_plain file bytes old new (inr it) =
+    let sound = file-sound is_all file (volumes_in given is_plain bytes) (body_of given is_plain bytes) it.between new it.after in
+    (sound.0, sound.1 ∙ note-read (is_check (kind_of_check is_all) && has_margins (margins_in given is_plain bytes)) file (margins_in given is_plain bytes) old it.between it.done)
 
 one-sound : (is_all : Bool) (reading : ImageReading) (name : List ℕ) (old new : List Event) → ReportsOne (kind_of_check is_all) reading name old (Ok tt) new → HasReadSound is_all reading name old new
 one-sound is_all reading name old new (inl ends) = absurd ends
 one-sound is_all reading name old new (inr it) =
-    let sound = bytes-sound is_all reading.layout name it.given.items it.between new it.after in
-    let file = looked reading.is_lenient reading.layout name old it.given it.between it.done in
+    let sound = bytes-sound is_all reading.layout reading.is_plain name it.given.items it.between new it.after in
+    let file = looked-image reading name old it.given it.between it.done in
     (file.0, (it.given.items, file.1, sound.0), sound.1 ∙ file.2)
 
 -- ## Several files
@@ -186,12 +208,12 @@ volumes-sound : (is_all : Bool) (file : List ℕ) (volumes : Volumes) (body : Li
 volumes-sound is_all file (One layout) body old new is_sound reports sound = volume-sound is_all file layout body old new is_sound reports sound
 volumes-sound is_all file Both body old new is_sound reports sound = both-sound is_all file body old new is_sound reports sound
 
-among-sound : (is_all : Bool) (given : Option Layout) (file bytes : List ℕ) (old new : List Event) (is_sound : Bool) → ReportsBytesAmong (kind_of_check is_all) given file bytes old (Ok is_sound) new → is_sound ≡ true
-    → AreSoundIn is_all (volumes_in given bytes) (body_of given bytes) × (read new ≡ read old)
-among-sound is_all given file bytes old new is_sound (inl ends) sound = absurd ends
-among-sound is_all given file bytes old new is_sound (inr it) sound =
-    let are = volumes-sound is_all file (volumes_in given bytes) (body_of given bytes) it.between new is_sound it.after sound in
-    (are.0, are.1 ∙ note-read (is_check (kind_of_check is_all) && has_margins (margins_in given bytes)) file (margins_in given bytes) old it.between it.done)
+among-sound : (is_all : Bool) (given : Option Layout) (is_plain : Bool) (file bytes : List ℕ) (old new : List Event) (is_sound : Bool) → ReportsBytesAmong (kind_of_check is_all) given is_plain file bytes old (Ok is_sound) new → is_sound ≡ true
+    → AreSoundIn is_all (volumes_in given is_plain bytes) (body_of given is_plain bytes) × (read new ≡ read old)
+among-sound is_all given is_plain file bytes old new is_sound (inl ends) sound = absurd ends
+among-sound is_all given is_plain file bytes old new is_sound (inr it) sound =
+    let are = volumes-sound is_all file (volumes_in given is_plain bytes) (body_of given is_plain bytes) it.between new is_sound it.after sound in
+    (are.0, are.1 ∙ note-read (is_check (kind_of_check is_all) && has_margins (margins_in given is_plain bytes)) file (margins_in given is_plain bytes) old it.between it.done)
 
 unread : (file : List ℕ) (ending : Ending) (old new : List Event) (is_sound : Bool) → Then (Purely (TellsRefusal ending)) (PrintsNamed file) old (Ok is_sound) new → is_sound ≡ true → ⊥
 unread file ending old new is_sound (inl ends) sound = ends
@@ -199,8 +221,8 @@ unread file ending old new is_sound (inr it) sound = unsound-line (line_in endin
 
 next-read : (is_all : Bool) (reading : ImageReading) (file name : List ℕ) (old new : List Event) (is_sound : Bool) → ReportsNext (kind_of_check is_all) reading file name old (Ok is_sound) new → is_sound ≡ true → HasReadSound is_all reading file old new
 next-read is_all reading file name old new is_sound (Ok bytes, between, looks, reports) sound =
-    let are = among-sound is_all reading.layout name bytes.items between new is_sound reports sound in
-    let read_as = looked reading.is_lenient reading.layout file old bytes between looks in
+    let are = among-sound is_all reading.layout reading.is_plain name bytes.items between new is_sound reports sound in
+    let read_as = looked-image reading file old bytes between looks in
     (read_as.0, (bytes.items, read_as.1, are.0), are.1 ∙ read_as.2)
 next-read is_all reading file name old new is_sound (Err ending, between, looks, reports) sound = absurd (unread name ending between new is_sound reports sound)
 
@@ -267,3 +289,28 @@ pub files-sound : (form : CheckForm) (names : List (List ℕ)) (old new : List E
 files-sound form [] old new checks = several-sound form [] old new checks
 files-sound form (name ∷ []) old new checks = with-others form name old new (one-sound form.is_all (reading_named (reading_of_check form) name) (file_named (reading_of_check form) name) old new checks) [] (read new) refl
 files-sound form (name ∷ other ∷ names) old new checks = several-sound form (name ∷ other ∷ names) old new checks
+
+-- ## What lies beside them
+
+dropped-reads : (is_none : Bool) (name : List ℕ) (count : ℕ) (old new : List Event) → TellsDropped is_none name count old (Ok tt) new → read new ≡ read old
+dropped-reads true name count old new p = reads old new p.1
+dropped-reads false name count old new p = reads (tell_call p.0 (leftovers_text name count) ∷ old) new p.1
+
+beside-reads : (name : List ℕ) (old new : List Event) → DropsBeside name old (Ok tt) new → read new ≡ read old
+beside-reads name old new (inl p) = dropped-reads (nat_eq p.0 0) name p.0 (leftovers_call name p.0 ∷ old) new p.1
+beside-reads name old new (inr p) = reads (failed_call DropLeftovers name p.0 ∷ old) new p.2
+
+drops-read : (form : CheckForm) (files : List (List ℕ)) (old new : List Event) → DropsEach form files old (Ok tt) new → read new ≡ read old
+drops-read form [] old new p = reads old new p.1
+drops-read form (file ∷ files) old new (inl ends) = absurd ends
+drops-read form (file ∷ files) old new (inr it) = drops-read form files it.between new it.after ∙ beside-reads (file_named (reading_of_check form) file) old it.between it.done
+
+each-image-sound : (form : CheckForm) (files : List (List ℕ)) (old new : List Event) → ChecksEachImage form files old (Ok tt) new → AreSound form files (read old) (read new)
+each-image-sound form files old new (inl ends) = absurd ends
+each-image-sound form files old new (inr it) = subst (λ r. AreSound form files r (read new)) (drops-read form files old it.between it.done) (files-sound form files it.between new it.after)
+
+pub checks-sound : (form : CheckForm) (old new : List Event) → ChecksImages form old (Ok tt) new → AreSound form (images_among (map (λ file. file.bytes.items) form.images.items)) (read old) (read new)
+checks-sound form old new (inl ends) = absurd ends
+checks-sound form old new (inr it) =
+    subst (λ files. AreSound form files (read old) (read new)) it.done.0
+    (subst (λ events. AreSound form (map (λ image. image.bytes.items) it.given.items) (read events) (read new)) it.done.1 (each-image-sound form (map (λ image. image.bytes.items) it.given.items) it.between new it.after))

@@ -31,14 +31,14 @@ AreSoundIn is_all (One layout) body = IsSoundVolume is_all layout body
 AreSoundIn is_all Both body = IsSoundVolume is_all (Some First) body × IsSoundVolume is_all (Some Second) body
 
 -- what a file is read as: its own bytes, or those of the mended file
-abbrev pub IsReadAs : Bool → Option Layout → List ℕ → List ℕ → Type 0
-IsReadAs false given file bytes = bytes ≡ file
-IsReadAs true given file bytes = (it : MendedFile) × IsMended given file it × (bytes ≡ it.bytes.items)
+abbrev pub IsReadAs : Bool → Option Layout → Bool → List ℕ → List ℕ → Type 0
+IsReadAs false given is_plain file bytes = bytes ≡ file
+IsReadAs true given is_plain file bytes = (it : MendedFile) × IsMended given is_plain file it × (bytes ≡ it.bytes.items)
 
 -- each volume in a file of these bytes is
 abbrev pub IsSoundFile : Bool → ImageReading → List ℕ → Type 0
 IsSoundFile is_all reading file =
-    (bytes : List ℕ) × IsReadAs reading.is_lenient reading.layout file bytes × AreSoundIn is_all (volumes_in reading.layout bytes) (body_of reading.layout bytes)
+    (bytes : List ℕ) × IsReadAs reading.is_lenient reading.layout reading.is_plain file bytes × AreSoundIn is_all (volumes_in reading.layout reading.is_plain bytes) (body_of reading.layout reading.is_plain bytes)
 
 -- each of the files that these names mean was read, in their order and nothing else, and each volume in it is sound; by what was read before and after
 abbrev pub AreSound : CheckForm → List (List ℕ) → List Event → List Event → Type 0

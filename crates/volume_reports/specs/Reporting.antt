@@ -1,5 +1,5 @@
 -- The report of an image: what its directory says, or a list of its files.
-use Rattle.std.specs.Prelude.{◌≡◌, ◌⊎◌, ℕ, Bool, true, false, nat_eq, Option, None, Some, Result, Ok, Err, List}
+use Rattle.std.specs.Prelude.{◌≡◌, ◌⊎◌, ℕ, Bool, true, false, nat_eq, Option, None, Some, Result, Ok, Err, List, length}
 use Rattle.std.specs.Global.{Vec}
 use Rattle.hosts.specs.Event.{Event}
 use Rattle.volume_image.specs.Image.{ReadsImage}
@@ -15,11 +15,10 @@ use Rattle.archive_survey.specs.declared.answers.Survey.{Survey}
 use Rattle.archive_commands.specs.Dates.{ListsDates}
 use Rattle.program_reports.specs.Program.{program_line}
 use Rattle.program_reports.specs.declared.programs.ProgramLine.{ProgramLine}
-use Rattle.outcome.specs.Endings.{ending_of_archive}
 use Rattle.outcome.specs.declared.endings.Ending.{Ending}
-use Rattle.outcome.specs.declared.endings.Ending.TheVariants.{Line, Fault, Failure, Busy, NotWritten, FullOutput, NoReader, Misuse}
+use Rattle.outcome.specs.declared.endings.Ending.TheVariants.{Line, Fault, Failure, Busy, NotWritten, FullOutput, Unreported, NoReader, Misuse}
 use Rattle.image_files.specs.Work.{Then, Purely}
-use Rattle.image_files.specs.Answers.{AreLines, named_lines}
+use Rattle.image_files.specs.Answers.{AreLines, Refuses, named_lines}
 use Rattle.image_files.specs.Saving.{Prints}
 use Rattle.volume_reports.specs.declared.reports.Report.{Report}
 use Rattle.volume_reports.specs.declared.reports.ReportKind.{ReportKind}
@@ -73,6 +72,7 @@ line_in Failure = None
 line_in (Busy content) = None
 line_in (NotWritten content left) = None
 line_in FullOutput = None
+line_in Unreported = None
 line_in NoReader = None
 line_in Misuse = None
 
@@ -86,7 +86,7 @@ TellsLine None ending (Err other) = other ≡ ending
 abbrev pub TellsRefusal : Ending → Result Report Ending → Type 0
 TellsRefusal ending = TellsLine (line_in ending) ending
 
--- the report of bytes of an image among others
-abbrev pub ReportsAmong : ReportKind → List ℕ → Result Report Ending → Type 0
-ReportsAmong kind bytes result = ((report : Report) × Reports kind bytes (Ok report) × (result ≡ Ok report))
-    ⊎ ((fault : ArchiveFault) × Reports kind bytes (Err fault) × TellsRefusal (ending_of_archive fault) result)
+-- the report of bytes of an image among others; where it is refused, what may help is printed
+abbrev pub ReportsAmong : ReportKind → List ℕ → List Event → Result Report Ending → List Event → Type 0
+ReportsAmong kind bytes old result new = ((report : Report) × Reports kind bytes (Ok report) × (result ≡ Ok report) × (new ≡ old))
+    ⊎ ((fault : ArchiveFault) × (ending : Ending) × Reports kind bytes (Err fault) × Refuses fault (length bytes) old ending new × TellsRefusal ending result)

@@ -26,13 +26,13 @@ use Rattle.volume_reports.specs.declared.reports.ReportKind.TheVariants as kinds
 -- ## A volume
 
 -- the report of the volume that lies so in bytes without margins; a refusal is reported by its line
-abbrev pub ReportsAt : ReportKind → Option Layout → List ℕ → Result Report Ending → Type 0
-ReportsAt kind layout body result = ((image : Vec ℕ) × FindsVolume layout body (Ok image) × ReportsAmong kind image.items result)
-    ⊎ ((ending : Ending) × FindsVolume layout body (Err ending) × TellsRefusal ending result)
+abbrev pub ReportsAt : ReportKind → Option Layout → List ℕ → List Event → Result Report Ending → List Event → Type 0
+ReportsAt kind layout body old result new = ((image : Vec ℕ) × FindsVolume layout body (Ok image) × ReportsAmong kind image.items old result new)
+    ⊎ ((ending : Ending) × FindsVolume layout body (Err ending) × TellsRefusal ending result × (new ≡ old))
 
 -- its lines are printed with a name before each, and it is answered whether it is sound
 abbrev pub ReportsVolume : ReportKind → List ℕ → Option Layout → List ℕ → List Event → Result Bool Ending → List Event → Type 0
-ReportsVolume kind name layout body = Then (Purely (ReportsAt kind layout body)) (PrintsNamed name)
+ReportsVolume kind name layout body = Then (ReportsAt kind layout body) (PrintsNamed name)
 
 -- the name of a volume of a disk: that of the file, a colon, and its number
 abbrev pub volume_name : List ℕ → ℕ → List ℕ
@@ -87,13 +87,13 @@ ReportsFile kind file (One layout) body = ReportsAlone kind layout body
 ReportsFile kind file Both body = Then (ReportsBoth kind file body) (λ is_sound. Purely (EndsSound is_sound))
 
 -- its bytes beside the volumes are noted, and then these are reported
-abbrev pub ReportsBytes : ReportKind → Option Layout → List ℕ → List ℕ → List Event → Result (Unit {0}) Ending → List Event → Type 0
-ReportsBytes kind given file bytes =
-    Then (TellsMargins kind file (margins_in given bytes)) (λ it. ReportsFile kind file (volumes_in given bytes) (body_of given bytes))
+abbrev pub ReportsBytes : ReportKind → Option Layout → Bool → List ℕ → List ℕ → List Event → Result (Unit {0}) Ending → List Event → Type 0
+ReportsBytes kind given is_plain file bytes =
+    Then (TellsMargins kind file (margins_in given is_plain bytes)) (λ it. ReportsFile kind file (volumes_in given is_plain bytes) (body_of given is_plain bytes))
 
 -- the image file is read first
 abbrev pub ReportsOne : ReportKind → ImageReading → List ℕ → List Event → Result (Unit {0}) Ending → List Event → Type 0
-ReportsOne kind reading file = Then (LooksImage reading file) (λ bytes. ReportsBytes kind reading.layout file bytes.items)
+ReportsOne kind reading file = Then (LooksImage reading file) (λ bytes. ReportsBytes kind reading.layout reading.is_plain file bytes.items)
 
 -- ## One of several
 
@@ -102,16 +102,16 @@ ReportsVolumes kind file (One layout) body = ReportsVolume kind file layout body
 ReportsVolumes kind file Both body = ReportsBoth kind file body
 
 -- its bytes beside the volumes are noted before
-abbrev pub ReportsBytesAmong : ReportKind → Option Layout → List ℕ → List ℕ → List Event → Result Bool Ending → List Event → Type 0
-ReportsBytesAmong kind given file bytes =
-    Then (TellsMargins kind file (margins_in given bytes)) (λ it. ReportsVolumes kind file (volumes_in given bytes) (body_of given bytes))
+abbrev pub ReportsBytesAmong : ReportKind → Option Layout → Bool → List ℕ → List ℕ → List Event → Result Bool Ending → List Event → Type 0
+ReportsBytesAmong kind given is_plain file bytes =
+    Then (TellsMargins kind file (margins_in given is_plain bytes)) (λ it. ReportsVolumes kind file (volumes_in given is_plain bytes) (body_of given is_plain bytes))
 
 -- the volumes of a file that was read are reported; one that can't be read is reported by its line
-abbrev pub ReportsRead : ReportKind → Option Layout → List ℕ → Result (Vec ℕ) Ending → List Event → Result Bool Ending → List Event → Type 0
-ReportsRead kind given file (Ok bytes) = ReportsBytesAmong kind given file bytes.items
-ReportsRead kind given file (Err ending) = Then (Purely (TellsRefusal ending)) (PrintsNamed file)
+abbrev pub ReportsRead : ReportKind → Option Layout → Bool → List ℕ → Result (Vec ℕ) Ending → List Event → Result Bool Ending → List Event → Type 0
+ReportsRead kind given is_plain file (Ok bytes) = ReportsBytesAmong kind given is_plain file bytes.items
+ReportsRead kind given is_plain file (Err ending) = Then (Purely (TellsRefusal ending)) (PrintsNamed file)
 
 -- each line has the name before it by which the file is asked for
 abbrev pub ReportsNext : ReportKind → ImageReading → List ℕ → List ℕ → List Event → Result Bool Ending → List Event → Type 0
 ReportsNext kind reading file name old result new =
-    (bytes : Result (Vec ℕ) Ending) × (between : List Event) × LooksImage reading file old bytes between × ReportsRead kind reading.layout name bytes between result new
+    (bytes : Result (Vec ℕ) Ending) × (between : List Event) × LooksImage reading file old bytes between × ReportsRead kind reading.layout reading.is_plain name bytes between result new

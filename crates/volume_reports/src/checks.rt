@@ -2,26 +2,41 @@
 ghost use Rattle.std.specs.Prelude.{◌≡◌, ◌<◌, length, map};
 ghost use Rattle.image_files.specs.Reading.{file_named, reading_named};
 ghost use Rattle.volume_reports.specs.Checking as spec;
-ghost use Rattle.volume_reports.specs.Checking.{ChecksEach, ChecksFiles, ChecksImages, ChecksNext, ChecksSeveral, PrintsCount};
+ghost use Rattle.volume_reports.specs.Checking.{ChecksEach, ChecksEachImage, ChecksFiles, ChecksImages, ChecksNext, ChecksSeveral, PrintsCount};
 ghost use Rattle.host_progress.specs.Progressing.{WithProgress};
 ghost use Rattle.volume_reports.specs.Volumes.{ReportsOne};
 
+use crate::leftovers::drop_each;
 use crate::reports::ReportKind;
 use crate::volumes::{report_next, report_one};
 use host_progress::Progress;
 use hosts::Host;
-use image_files::{ImageReading, end_sound, image_named, print, program_line};
+use image_files::{ImageReading, end_sound, image_named, images_among, print, program_line};
 use outcome::Ending;
 use program_reports::ProgramLine;
 use program_tasks::CheckForm;
 use std::alloc::Global;
 
 /// Reports on the volumes in image files. Of several volumes each line has the name of its file or volume before it, and of several files the
-/// last line counts them (this project's profile).
+/// last line counts them. What writers that were ended left beside an image is taken away (this project's profile).
 pub fn check_images<H: Host>(host: &mut H, alloc: Global, form: &CheckForm) -> Result<(), Ending>
     ensures { ChecksImages form.now (H.history host.old) result (H.history host.new) }
 {
-    check_files(host, alloc, form, &form.images)
+    let images = images_among(alloc, &form.images)?;
+    check_each_image(host, alloc, form, &images)
+}
+
+/// Reports on the images in these files, after what ended writers left beside them is taken away.
+fn check_each_image<H: Host>(
+    host: &mut H,
+    alloc: Global,
+    form: &CheckForm,
+    files: &[String],
+) -> Result<(), Ending>
+    ensures { ChecksEachImage form.now (map (λ file. file.bytes.items) files.now) (H.history host.old) result (H.history host.new) }
+{
+    drop_each(host, alloc, form, files)?;
+    check_files(host, alloc, form, files)
 }
 
 /// Reports on the images in these files.
@@ -144,11 +159,12 @@ fn kind_of_check(is_all: bool) -> ReportKind
 }
 
 /// How the image files of a check are read.
-fn reading_of(form: &CheckForm) -> ImageReading
+pub(crate) fn reading_of(form: &CheckForm) -> ImageReading
     ensures { result ≡ spec.reading_of_check form.now }
 {
     ImageReading {
         layout: form.layout,
+        is_plain: form.is_plain,
         is_lenient: form.is_lenient,
     }
 }

@@ -4,6 +4,7 @@ ghost use Rattle.hosts.specs.Event.{Event};
 ghost use Rattle.hosts.specs.Streams.{read};
 ghost use Rattle.program_tasks.specs.declared.forms.CheckForm.{CheckForm as Check};
 ghost use Rattle.image_files.specs.Laws.{KeepsFiles};
+ghost use Rattle.image_files.specs.Leftovers.{images_among};
 ghost use Rattle.image_files.specs.declared.mending.ImageReading.{ImageReading as Reading};
 ghost use Rattle.volume_reports.specs.Checking.{ChecksImages};
 ghost use Rattle.volume_reports.specs.Laws.{AreSound};
@@ -20,5 +21,5 @@ pub fn shown_images()
 /// mended each in the mended file.
 pub fn sound_images()
     ensures { (form : Check) (old new : List Event) → ChecksImages form old (Ok tt) new
-        → AreSound form (map (λ file. file.bytes.items) form.images.items) (read old) (read new) }
+        → AreSound form (images_among (map (λ file. file.bytes.items) form.images.items)) (read old) (read new) }
 {}

@@ -3,6 +3,7 @@
 
 mod checks;
 pub mod laws;
+mod leftovers;
 mod reports;
 mod volumes;
 

@@ -58,17 +58,21 @@ pub(crate) fn report_on<H: Host>(
     }
 }
 
-/// The report of an image among others: a refusal by its line.
-pub(crate) fn report_or_line(
+/// The report of an image among others: a refusal by its line. What may help then is printed.
+pub(crate) fn report_or_line<H: Host>(
+    host: &mut H,
     alloc: Global,
     image: &[u8],
     kind: ReportKind,
 ) -> Result<Report, Ending>
-    ensures { ReportsAmong kind image.now result }
+    ensures { ReportsAmong kind image.now (H.history host.old) result (H.history host.new) }
 {
     match report_of(alloc, image, kind) {
         Ok(report) => Ok(report),
-        Err(fault) => refusal_report(alloc, Ending::from(fault)),
+        Err(fault) => {
+            let ending = refuse_image(host, image.len(), fault);
+            refusal_report(alloc, ending)
+        }
     }
 }
 
@@ -83,6 +87,7 @@ pub(crate) fn refusal_report(alloc: Global, ending: Ending) -> Result<Report, En
         Ending::Busy(content) => Err(Ending::Busy(content)),
         Ending::NotWritten(content, left) => Err(Ending::NotWritten(content, left)),
         Ending::FullOutput => Err(Ending::FullOutput),
+        Ending::Unreported => Err(Ending::Unreported),
         Ending::NoReader => Err(Ending::NoReader),
         Ending::Misuse => Err(Ending::Misuse),
     }

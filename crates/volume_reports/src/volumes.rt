@@ -57,7 +57,15 @@ pub(crate) fn report_one<H: Host>(
     ensures { ReportsOne kind reading file.now (H.history host.old) result (H.history host.new) }
 {
     let bytes = look_image(host, alloc, file, reading)?;
-    report_bytes(host, alloc, kind, reading.layout, file, bytes)
+    report_bytes(
+        host,
+        alloc,
+        kind,
+        reading.layout,
+        reading.is_plain,
+        file,
+        bytes,
+    )
 }
 
 /// Reports on the volumes in a file of these bytes, after the note on those that are none of theirs.
@@ -66,13 +74,14 @@ fn report_bytes<H: Host>(
     alloc: Global,
     kind: ReportKind,
     given: Option<Layout>,
+    is_plain: bool,
     file: &str,
     bytes: Vec<u8>,
 ) -> Result<(), Ending>
-    ensures { ReportsBytes kind given file.now bytes.items (H.history host.old) result (H.history host.new) }
+    ensures { ReportsBytes kind given is_plain file.now bytes.items (H.history host.old) result (H.history host.new) }
 {
-    tell_margins(host, alloc, kind, file, margins_in(given, &bytes))?;
-    report_file(host, alloc, kind, given, file, bytes)
+    tell_margins(host, alloc, kind, file, margins_in(given, is_plain, &bytes))?;
+    report_file(host, alloc, kind, given, is_plain, file, bytes)
 }
 
 /// Prints a note on the bytes of a file that are none of its volumes', where it is checked and has such bytes.
@@ -118,14 +127,21 @@ fn report_file<H: Host>(
     alloc: Global,
     kind: ReportKind,
     given: Option<Layout>,
+    is_plain: bool,
     file: &str,
     bytes: Vec<u8>,
 ) -> Result<(), Ending>
-    ensures { ReportsFile kind file.now (meant.volumes_in given bytes.items) (margins.body_of given bytes.items) (H.history host.old) result (H.history host.new) }
+    ensures { ReportsFile kind file.now (meant.volumes_in given is_plain bytes.items) (margins.body_of given is_plain bytes.items) (H.history host.old) result (H.history host.new) }
 {
-    match volumes_in(given, &bytes) {
-        Volumes::One(layout) => report_alone(host, alloc, kind, layout, body_of(given, bytes)),
-        Volumes::Both => report_disk(host, alloc, kind, file, &body_of(given, bytes)),
+    match volumes_in(given, is_plain, &bytes) {
+        Volumes::One(layout) => report_alone(
+            host,
+            alloc,
+            kind,
+            layout,
+            body_of(given, is_plain, bytes),
+        ),
+        Volumes::Both => report_disk(host, alloc, kind, file, &body_of(given, is_plain, bytes)),
     }
 }
 
@@ -223,21 +239,22 @@ fn report_volume<H: Host>(
 ) -> Result<bool, Ending>
     ensures { ReportsVolume kind name.now layout body.items (H.history host.old) result (H.history host.new) }
 {
-    let report = report_at(alloc, kind, layout, body)?;
+    let report = report_at(host, alloc, kind, layout, body)?;
     print_named(host, alloc, name, &report)
 }
 
-/// The report of the volume that lies so in bytes without margins: a refusal by its line.
-fn report_at(
+/// The report of the volume that lies so in bytes without margins: a refusal by its line. What may help then is printed.
+fn report_at<H: Host>(
+    host: &mut H,
     alloc: Global,
     kind: ReportKind,
     layout: Option<Layout>,
     body: Vec<u8>,
 ) -> Result<Report, Ending>
-    ensures { ReportsAt kind layout body.items result }
+    ensures { ReportsAt kind layout body.items (H.history host.old) result (H.history host.new) }
 {
     match volume_in(alloc, body, layout) {
-        Ok(image) => report_or_line(alloc, &image, kind),
+        Ok(image) => report_or_line(host, alloc, &image, kind),
         Err(ending) => refusal_report(alloc, ending),
     }
 }
@@ -255,7 +272,15 @@ pub(crate) fn report_next<H: Host>(
     ensures { ReportsNext kind reading file.now name.now (H.history host.old) result (H.history host.new) }
 {
     match look_image(host, alloc, file, reading) {
-        Ok(bytes) => report_among(host, alloc, kind, reading.layout, name, bytes),
+        Ok(bytes) => report_among(
+            host,
+            alloc,
+            kind,
+            reading.layout,
+            reading.is_plain,
+            name,
+            bytes,
+        ),
         Err(ending) => report_refusal(host, alloc, name, ending),
     }
 }
@@ -267,13 +292,14 @@ fn report_among<H: Host>(
     alloc: Global,
     kind: ReportKind,
     given: Option<Layout>,
+    is_plain: bool,
     file: &str,
     bytes: Vec<u8>,
 ) -> Result<bool, Ending>
-    ensures { ReportsBytesAmong kind given file.now bytes.items (H.history host.old) result (H.history host.new) }
+    ensures { ReportsBytesAmong kind given is_plain file.now bytes.items (H.history host.old) result (H.history host.new) }
 {
-    tell_margins(host, alloc, kind, file, margins_in(given, &bytes))?;
-    report_volumes(host, alloc, kind, given, file, bytes)
+    tell_margins(host, alloc, kind, file, margins_in(given, is_plain, &bytes))?;
+    report_volumes(host, alloc, kind, given, is_plain, file, bytes)
 }
 
 /// Reports on the volumes in one of several files, of these bytes, and answers whether all are sound.
@@ -282,16 +308,24 @@ fn report_volumes<H: Host>(
     alloc: Global,
     kind: ReportKind,
     given: Option<Layout>,
+    is_plain: bool,
     file: &str,
     bytes: Vec<u8>,
 ) -> Result<bool, Ending>
-    ensures { ReportsVolumes kind file.now (meant.volumes_in given bytes.items) (margins.body_of given bytes.items) (H.history host.old) result (H.history host.new) }
+    ensures { ReportsVolumes kind file.now (meant.volumes_in given is_plain bytes.items) (margins.body_of given is_plain bytes.items) (H.history host.old) result (H.history host.new) }
 {
-    match volumes_in(given, &bytes) {
+    match volumes_in(given, is_plain, &bytes) {
         Volumes::One(layout) => {
-            report_volume(host, alloc, kind, file, layout, body_of(given, bytes))
+            report_volume(
+                host,
+                alloc,
+                kind,
+                file,
+                layout,
+                body_of(given, is_plain, bytes),
+            )
         }
-        Volumes::Both => report_both(host, alloc, kind, file, &body_of(given, bytes)),
+        Volumes::Both => report_both(host, alloc, kind, file, &body_of(given, is_plain, bytes)),
     }
 }
 

@@ -37,9 +37,17 @@ reason_text (NoRoom at largest) = no_room_line largest
 reason_text (DirectoryFull at) = codes "? 4.3 DIRECTORY FULL\n"
 reason_text (Failed at) = codes "? 10 MEMORY\n"
 
+-- a file's name, its first block, and its length
+abbrev pub extent_text : ℕ → ℕ → ℕ → List ℕ
+extent_text name place size = text_of name ++ 0o40 ∷ decimal place ++ 0o40 ∷ decimal size ++ 0o12 ∷ []
+
 -- a file's name, its first block in the old volume, and its length
 abbrev pub place_text : FoundFile → List ℕ
-place_text f = text_of f.name ++ 0o40 ∷ decimal f.place ++ 0o40 ∷ decimal f.size ++ 0o12 ∷ []
+place_text f = extent_text f.name f.place f.size
+
+-- the line of a file that lacks some of its information words
+abbrev pub cut_line : ℕ → ℕ → ℕ → List ℕ
+cut_line name place size = codes "CUT FILE " ++ extent_text name place size
 
 -- each is 0
 abbrev pub are_zeros : List ℕ → Bool
@@ -53,7 +61,7 @@ is_whole f = are_zeros (drop 1 f.info)
 -- the line of a file that is left out, or of one that is kept without some of its information words
 abbrev pub file_line : FoundFile → Option Refusal → List ℕ
 file_line f (Some refusal) = reason_text refusal ++ codes "LEFT FILE " ++ place_text f
-file_line f None = if is_whole f then [] else codes "CUT FILE " ++ place_text f
+file_line f None = if is_whole f then [] else cut_line f.name f.place f.size
 
 abbrev pub file_lines : List FoundFile → List (Option Refusal) → List ℕ
 file_lines [] refusals = []

@@ -12,6 +12,7 @@ mod scan_lines;
 mod scans;
 mod words;
 
+pub use lines::put_cut;
 pub use pieces::{Piece, PieceKind, form_of, piece_name};
 pub use salvages::{Salvage, salvage_image};
 pub use scan_lines::MOST_SHOWN;

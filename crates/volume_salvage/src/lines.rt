@@ -2,10 +2,11 @@
 ghost use Rattle.std.specs.Prelude.{◌≡◌, ◌+◌, ◌≤◌, ◌++◌, length, OnOk};
 ghost use Rattle.arrayvec.specs.ArrayVec.{array_vec_len};
 ghost use Rattle.volume_salvage.specs.Salvaging as spec;
-ghost use Rattle.volume_salvage.specs.Salvaging.{file_line, file_lines, place_text, reason_text, rescued_line};
+ghost use Rattle.volume_salvage.specs.Salvaging.{cut_line, extent_text, file_line, file_lines, reason_text, rescued_line};
 
 use archive_survey::FoundFile;
 use name_spelling::put_spelled;
+use os8_dir::Name;
 use rescue::Refusal;
 use script8::text_lines::{TextLine, put, put_number};
 use std::alloc::AllocError;
@@ -39,13 +40,13 @@ fn put_file(file: &FoundFile, refusal: Option<Refusal>, out: &mut Vec<u8>) -> Re
     match refusal {
         Some(refusal) => {
             put_reason(refusal, out)?;
-            put_place(b"LEFT FILE ", file, out)
+            put_place(b"LEFT FILE ", file.name, file.place, file.size, out)
         }
         None => {
             if is_whole(file) {
                 return Ok(());
             }
-            put_place(b"CUT FILE ", file, out)
+            put_cut(file.name, file.place, file.size, out)
         }
     }
 }
@@ -73,18 +74,31 @@ fn put_no_room(largest: usize, out: &mut Vec<u8>) -> Result<(), AllocError>
     out.extend_from_slice(line.as_slice())
 }
 
+/// Appends the line of a file that lacks some of its information words, by its name, its first block and its length.
+pub fn put_cut(name: Name, place: usize, size: usize, out: &mut Vec<u8>) -> Result<(), AllocError>
+    ensures { OnOk result (out.new.items ≡ out.old.items ++ cut_line name place size) }
+{
+    put_place(b"CUT FILE ", name, place, size, out)
+}
+
 /// Appends a line of at most ten bytes and a file's name, first block and length.
-fn put_place(head: &[u8], file: &FoundFile, out: &mut Vec<u8>) -> Result<(), AllocError>
+fn put_place(
+    head: &[u8],
+    name: Name,
+    place: usize,
+    size: usize,
+    out: &mut Vec<u8>,
+) -> Result<(), AllocError>
     requires { length head.now ≤ 10 }
-    ensures { OnOk result (out.new.items ≡ out.old.items ++ (head.now ++ place_text file.now)) }
+    ensures { OnOk result (out.new.items ≡ out.old.items ++ (head.now ++ extent_text name place size)) }
 {
     let mut line = TextLine::new();
     put(&mut line, head);
-    put_spelled(&mut line, file.name);
+    put_spelled(&mut line, name);
     put(&mut line, b" ");
-    put_number(&mut line, file.place as u64);
+    put_number(&mut line, place as u64);
     put(&mut line, b" ");
-    put_number(&mut line, file.size as u64);
+    put_number(&mut line, size as u64);
     put(&mut line, b"\n");
     out.extend_from_slice(line.as_slice())
 }

@@ -1,6 +1,7 @@
 use Rattle.command_table.proofs.Names.{◌&&◌, if◌then◌else◌, ap, codes, false, refl, true, [], ◌∷◌, None, Some, Accepts-accepts}
 use Rattle.clap.specs.declared.builder.value_parser.ValueParser.TheVariants.{Unsigned}
 use Rattle.command_line.specs.Plain.{only_gives, in_place}
+use Rattle.command_line.proofs.GetLemmas.{get-file, get-text, get-tape, get-bin, get-at, get-into, get-lenient, get-all, get-blocks}
 use Rattle.command_line.proofs.EnteredLemmas.{all_taken, taken}
 use Rattle.command_line.proofs.laws.plain_words.Goals as goal
 
@@ -15,7 +16,7 @@ returns c = record {
       let uses = in_place (codes "IMAGE") image ∷ in_place (codes "BLOCKS") blocks ∷ [] in
       taken (codes "create") uses (ap (λ b. if (b && true) && true then Some (only_gives (codes "create") uses) else None) (Accepts-accepts false (Unsigned 8 4095) blocks fit));
   list = λ image text. all_taken _ _ refl;
-  get = λ image file text. all_taken _ _ refl;
+  get = λ image file text. record { each = (get-file image file text, (get-text image file text, (get-tape image file text, (get-bin image file text, (get-at image file text, (get-into image file text, (get-lenient image file text, (get-all image file text, (get-blocks image file text, tt))))))))) };
   put = λ image file text info. all_taken _ _ refl;
   delete = λ image file text. all_taken _ _ refl;
   rename = λ image file new. all_taken _ _ refl;

@@ -1,4 +1,3 @@
-use Rattle.image_kind.specs.Kinds.{kind_of}
 use Rattle.image_files.proofs.KeepLemmas.{input-keeps, looks-at-keeps, looks-image-keeps, looks-keeps, opens-keeps, prints-keeps, refuses-keeps}
 use Rattle.image_files.proofs.laws.kept_files.Goals as goal
 
@@ -12,7 +11,7 @@ pub returns-clause-looks_at : goal.returns-clause-looks_at
 returns-clause-looks_at c = looks-at-keeps
 
 pub returns-clause-opens : goal.returns-clause-opens
-returns-clause-opens c = opens-keeps kind_of
+returns-clause-opens c = opens-keeps
 
 pub returns-clause-input : goal.returns-clause-input
 returns-clause-input c = input-keeps

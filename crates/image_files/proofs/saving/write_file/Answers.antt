@@ -1,7 +1,14 @@
 use Rattle.std.proofs.Common.{refl}
 use Rattle.hosts.specs.Streams.{errors}
 use Rattle.hosts.specs.declared.faults.Durability.TheVariants.{Unknown}
+use Rattle.image_files.proofs.UnsavedLemmas.{unsaved}
 use Rattle.image_files.proofs.saving.write_file.Goals as goal
+
+pub returns-in-Err : goal.returns-in-Err
+returns-in-Err g c =
+    let e = c.in-Err.ensures in
+    unsaved c.args.content c.args.path.now c.args.name.now c.args.bytes.now c.in-Err.fault.state c.in-Err.fault.why (g.H.Host.history c.args.host.now) (g.H.Host.history c.save_noted.new.host) (g.H.Host.history c.tell_reason.new.host)
+    e.saves e.any_moment e.cause e.why e.errors (record { others = e.others; prints = e.output; reads = e.read }) c.tell_reason.ensures
 
 pub returns-in-Unknown : goal.returns-in-Unknown
 returns-in-Unknown g c =

@@ -13,4 +13,4 @@ pub returns-in_err-date-clause-reads : goal.returns-in_err-date-clause-reads
 returns-in_err-date-clause-reads g c = λ files knows. inr (record { given = c.in_ok-name.name; between = g.H.Host.history c.take_name.new.host; done = c.in_ok-name.ensures.takes files knows; after = inr (record { given = c.in_ok-bytes.bytes; between = g.H.Host.history c.look_whole.new.host; done = search rules; after = inl (search rules) }) })
 
 pub returns-clause-reads : goal.returns-clause-reads
-returns-clause-reads g c = λ files knows. inr (record { given = c.in_ok-name.name; between = g.H.Host.history c.take_name.new.host; done = c.in_ok-name.ensures.takes files knows; after = inr (record { given = c.in_ok-bytes.bytes; between = g.H.Host.history c.look_whole.new.host; done = search rules; after = inr (record { given = c.in_ok-date.date; between = g.H.Host.history c.date_next.new.host; done = search rules; after = ((refl, refl, c.put_form.ensures, refl), refl) }) }) })
+returns-clause-reads g c = λ files knows. inr (record { given = c.in_ok-name.name; between = g.H.Host.history c.take_name.new.host; done = c.in_ok-name.ensures.takes files knows; after = inr (record { given = c.in_ok-bytes.bytes; between = g.H.Host.history c.look_whole.new.host; done = search rules; after = inr (record { given = c.in_ok-date.date; between = g.H.Host.history c.date_next.new.host; done = search rules; after = c.new_file.ensures }) }) })

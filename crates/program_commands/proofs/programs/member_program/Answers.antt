@@ -1,10 +1,12 @@
 use Rattle.std.proofs.Common.{rules, subst, inl, inr, refl, true, false, ◌≡◌}
 use Rattle.archive_files.specs.Asking.{target_of}
+use Rattle.image_files.specs.Reading.{LooksAt}
 use Rattle.program_commands.specs.Programs.{TakesIf, is_core_name}
+use Rattle.program_commands.proofs.WorkLemmas.{ends_with}
 use Rattle.program_commands.proofs.programs.member_program.Goals as goal
 
 pub returns-in_err-bytes : goal.returns-in_err-bytes
-returns-in_err-bytes g c = inr (record { given = c.in_ok-asked.asked; between = g.H.Host.history c.args.host.now; done = (c.in_ok-asked.ensures, refl); after = inl (search rules) })
+returns-in_err-bytes g c = inr (record { given = c.in_ok-asked.asked; between = g.H.Host.history c.args.host.now; done = (c.in_ok-asked.ensures, refl); after = inl (ends_with (LooksAt c.args.image.now) (g.H.Host.history c.args.host.now) (g.H.Host.history c.look_at.new.host) _ c.in_err-bytes.field-0.0 c.in_err-bytes.ensures.looks c.from_residual-in_err-bytes.ensures) })
 
 pub returns-then-is_core_name : goal.returns-then-is_core_name
 returns-then-is_core_name g c =

@@ -1,5 +1,5 @@
 use Rattle.task_commands.proofs.doing.do_task.Goals as goal
-use Rattle.task_commands.proofs.doing.do_task.Goals.{in-Profile, in-Tape, in-Rim, in-Source, in-List, in-ListLong, in-ListSome, in-Get, in-GetBin, in-GetMany, in-GetTexts, in-GetBlocks, in-Check, in-Index, in-Dump, in-Scan, in-Rescue, in-Create, in-CreateTape, in-Put, in-PutMany, in-Delete, in-Rename, in-Copy, in-CopyMany, in-Squeeze, in-Patch, in-Assemble}
+use Rattle.task_commands.proofs.doing.do_task.Goals.{in-Profile, in-Tape, in-Rim, in-Source, in-List, in-ListLong, in-ListSome, in-Get, in-GetBin, in-GetMany, in-GetTexts, in-GetBlocks, in-Check, in-Index, in-Dump, in-Scan, in-Rescue, in-Create, in-CreateTape, in-CreateDisk, in-CreateVolume, in-Put, in-PutMany, in-Delete, in-Rename, in-Copy, in-CopyMany, in-Squeeze, in-Patch, in-Assemble}
 
 pub returns-in-Teletype : goal.returns-in-Teletype
 returns-in-Teletype g c = rw c.in-Teletype.is c.run_teletype.ensures
@@ -29,9 +29,11 @@ returns g c = elim c.match-task.branch [
   | in-Dump w ↦ rw (w.in-Dump.is, w.host-is, w.work-is) w.dump_blocks-work.ensures
   | in-Scan w ↦ rw (w.in-Scan.is, w.host-is, w.work-is) w.scan_image-work.ensures
   | in-Rescue w ↦ rw (w.in-Rescue.is, w.host-is, w.work-is) (rw w.as_str.ensures.value at w.rescue_image-work.ensures)
-  | in-Create w ↦ rw (w.in-Create.is, w.host-is, w.work-is) w.change_image-work.ensures
-  | in-CreateTape w ↦ rw (w.in-CreateTape.is, w.host-is, w.work-is) w.change_image-work-in-CreateTape.ensures
-  | in-Put w ↦ rw (w.in-Put.is, w.host-is, w.work-is) w.change_image-work-in-Put.ensures
+  | in-Create w ↦ rw (w.in-Create.is, w.input-is, w.host-is, w.work-is) w.change_asked-work.ensures
+  | in-CreateTape w ↦ rw (w.in-CreateTape.is, w.input-is, w.host-is, w.work-is) w.change_asked-work-in-CreateTape.ensures
+  | in-CreateDisk w ↦ rw (w.in-CreateDisk.is, w.input-is, w.host-is, w.work-is) w.change_asked-work-in-CreateDisk.ensures
+  | in-CreateVolume w ↦ rw (w.in-CreateVolume.is, w.input-is, w.host-is, w.work-is) w.change_asked-work-in-CreateVolume.ensures
+  | in-Put w ↦ rw (w.in-Put.is, w.host-is, w.work-is) w.change_image-work.ensures
   | in-PutMany w ↦ rw (w.in-PutMany.is, w.host-is, w.work-is) w.change_image-work-in-PutMany.ensures
   | in-Delete w ↦ rw (w.in-Delete.is, w.host-is, w.work-is) w.change_image-work-in-Delete.ensures
   | in-Rename w ↦ rw (w.in-Rename.is, w.host-is, w.work-is) (rw w.file_asked.ensures at w.change_image-work-in-Rename.ensures)

@@ -1,0 +1,81 @@
+-- A file that could not be written, or not held, and what was printed of that.
+use Rattle.std.proofs.Common.{◌≡◌, ◌⊎◌, ◌<◌, ℕ, Bool, true, false, List, Result, Err, ◌∷◌, inl, inr, refl}
+use Rattle.hosts.specs.Event.{Event}
+use Rattle.hosts.specs.Faults.{fault_number}
+use Rattle.hosts.specs.Place.{Step, about}
+use Rattle.hosts.specs.Saving.{AnyMomentOf, IsPlaceNoted, IsUnwritten, StaysAsItWas}
+use Rattle.hosts.specs.Streams.{errors, failures, last_fault, may_replace}
+use Rattle.hosts.specs.declared.faults.HostFault.{HostFault}
+use Rattle.hosts.specs.declared.faults.HostFault.TheVariants as host
+use Rattle.hosts.specs.declared.faults.Unwritten.{Unwritten}
+use Rattle.hosts.specs.declared.faults.Unwritten.TheVariants.{AsItWas, InPart}
+use Rattle.outcome.specs.declared.contents.Content.{Content}
+use Rattle.outcome.specs.declared.endings.Ending.{Ending}
+use Rattle.outcome.specs.declared.endings.Ending.TheVariants.{NotWritten}
+use Rattle.outcome.specs.declared.reasons.Reason.TheVariants.{Fault}
+use Rattle.image_files.specs.Making.{IsUnheldFile, ending_of_file}
+use Rattle.image_files.specs.Reasons.{TellsReason}
+use Rattle.image_files.specs.Saving.{IsPlaceTold, TouchesOnly, Writes}
+
+in_place : (is : Bool) (old new : List Step) → IsUnwritten InPart is old new → is ≡ false
+in_place true old new it = absurd it
+in_place false old new it = refl
+
+stays : (is : Bool) (old new : List Step) → IsUnwritten AsItWas is old new → StaysAsItWas old new
+stays true old new it = it
+stays false old new it = absurd it
+
+silent : (is : Bool) (content : Content) (a b : List Step) → IsUnwritten AsItWas is a b → (old new : List (Bool × List ℕ)) → IsPlaceTold is content old new → new ≡ old
+silent true content a b it old new noted = noted
+silent false content a b it old new noted = absurd it
+
+place_told : (is : Bool) (content : Content) (a b : List Step) → IsUnwritten InPart is a b → (old new : List (Bool × List ℕ)) → IsPlaceTold is content old new → (new ≡ old) ⊎ IsPlaceTold false content old new
+place_told true content a b it old new noted = absurd it
+place_told false content a b it old new noted = inr noted
+
+pub unsaved : (content : Content) (path name file : List ℕ) (state : Unwritten) (why : HostFault) (old between new : List Event) → IsUnwritten state (may_replace between) (about path old) (about path between)
+    → AnyMomentOf (may_replace between) file (about path old) (about path between) → failures old < failures between → fault_number why ≡ last_fault between
+    → IsPlaceTold (may_replace between) content (errors old) (errors between) → TouchesOnly path old between → TellsReason (Fault why) name between new
+    → Writes content path name file old (Err (NotWritten content state)) new
+unsaved content path name file AsItWas why old between new saves moments cause number noted only told = (
+  refl,
+  why,
+  between,
+  record {
+    same = stays (may_replace between) (about path old) (about path between) saves;
+    moments = moments;
+    cause = cause;
+    why = number;
+    silent = silent (may_replace between) content (about path old) (about path between) saves (errors old) (errors between) noted;
+    only = only;
+  },
+  told,
+)
+unsaved content path name file InPart why old between new saves moments cause number noted only told = (
+  refl,
+  why,
+  between,
+  record {
+    in_place = in_place (may_replace between) (about path old) (about path between) saves;
+    cause = cause;
+    why = number;
+    place = place_told (may_replace between) content (about path old) (about path between) saves (errors old) (errors between) noted;
+    only = only;
+  },
+  told,
+)
+
+pub unheld : (content : Content) (fault : HostFault) (result : Result (Unit {0}) Ending) → (fault ≡ host.Absent → ⊥) → result ≡ Err (ending_of_file content fault) → IsUnheldFile content fault result
+unheld content host.Absent result other is = absurd (other refl)
+unheld content host.Busy result other is = is
+unheld content host.Memory result other is = is
+unheld content host.Denied result other is = is
+unheld content host.ReadOnly result other is = is
+unheld content host.Folder result other is = is
+unheld content host.NoFolder result other is = is
+unheld content host.Full result other is = is
+unheld content host.Links result other is = is
+unheld content host.Large result other is = is
+unheld content host.Changed result other is = is
+unheld content host.Pipe result other is = is
+unheld content host.Failed result other is = is

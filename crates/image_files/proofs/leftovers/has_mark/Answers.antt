@@ -1,0 +1,6 @@
+use Rattle.std.proofs.Common.{◌∙◌, sym}
+use Rattle.image_files.proofs.LeftoverLemmas.{mark-later}
+use Rattle.image_files.proofs.leftovers.has_mark.Goals as goal
+
+pub loop-rest-preserved : goal.loop-rest-preserved
+loop-rest-preserved c = sym (mark-later c.loop-rest.rest.now c.in-len1-up.len_at_least (sym c.starts_with.ensures.value ∙ c.if-starts_with.false)) ∙ c.loop-rest.invariant

@@ -1,0 +1,5 @@
+use Rattle.shown_text.proofs.ShowLemmas.{shown_is_read}
+use Rattle.shown_text.proofs.laws.one_text.Goals as goal
+
+pub returns : goal.returns
+returns c = shown_is_read

@@ -1,0 +1,49 @@
+//! Bytes as they are shown.
+ghost use Rattle.std.specs.Prelude.{◌≡◌, ◌++◌, OnOk};
+ghost use Rattle.shown_text.specs.Showing.{escape, is_plain, shown_text, shown_byte};
+
+use std::alloc::AllocError;
+
+/// Appends bytes as they are shown in a line. A graphic character of ASCII other than `\`, and the blank, stand as they are, any other byte as
+/// `\` and three octal digits (this project's profile).
+pub fn put_shown(text: &mut Vec<u8>, bytes: &[u8]) -> Result<(), AllocError>
+    ensures { OnOk result (text.new.items ≡ text.old.items ++ shown_text bytes.now) }
+{
+    let mut rest = bytes;
+    while let [byte, others @ ..] = rest {
+        put_byte(text, *byte)?;
+        rest = others;
+    }
+    Ok(())
+}
+
+/// Appends a byte as it is shown.
+fn put_byte(text: &mut Vec<u8>, byte: u8) -> Result<(), AllocError>
+    ensures { OnOk result (text.new.items ≡ text.old.items ++ shown_byte byte) }
+{
+    if is_plain(byte) {
+        text.push(byte)?;
+        return Ok(());
+    }
+    text.extend_from_slice(&escape(byte))?;
+    Ok(())
+}
+
+/// Whether a byte is shown as it is.
+pub(crate) fn is_plain(byte: u8) -> bool
+    ensures { result ≡ is_plain byte }
+{
+    byte >= b' ' && byte < 0o177 && byte != b'\\'
+}
+
+/// What is shown of another byte.
+pub(crate) fn escape(byte: u8) -> [u8; 4]
+    ensures { result ≡ escape byte }
+{
+    [
+        b'\\',
+        b'0' + byte / 0o100 % 8,
+        b'0' + byte / 8 % 8,
+        b'0' + byte % 8,
+    ]
+}
