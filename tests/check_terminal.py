@@ -276,11 +276,11 @@ def creation(folder: str) -> list[str]:
     subprocess.run(["./pdp8", "put", "W", "echo.bin", "--as", "ECHO"], cwd=folder, stdout=subprocess.DEVNULL, check=True)
     old = open(f"{folder}/W", "rb").read()
     note = b"note: W is there, and is not empty: y replaces it, and anything else leaves it\r\n"
-    for words in (("create", "W", "20"), ("create", "W", "--dectape"), ("create", "W", "--rk05"), ("create", "W:2")):
+    for command in ("create W 20", "create W --dectape", "create W --rk05", "create W:2"):
         for answer in (b"n\n", b"\n", b"yes\n", b"Y\n", b" y\n", b"\x04"):
-            said, status = answered(folder, answer, *words)
+            said, status = answered(folder, answer, *command.split())
             kept = open(f"{folder}/W", "rb").read() == old
-            told += [] if said.startswith(note) and said.endswith(b"? HOST EXISTS\r\n") and (status, kept) == (1, True) else [f"{words} answered {answer!r}: {said!r} {status}"]
+            told += [] if said.startswith(note) and said.endswith(b"? HOST EXISTS\r\n") and (status, kept) == (1, True) else [f"{command} answered {answer!r}: {said!r} {status}"]
     said, status = answered(folder, b"y\n", "create", "W", "20")
     told += [] if said.startswith(note) and said.endswith(b"CREATED 20\r\n") and status == 0 else [f"a volume that replaces: {said!r} {status}"]
     told += [] if open(f"{folder}/W", "rb").read() != old else ["a file that may go has stayed"]

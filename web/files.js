@@ -13,6 +13,9 @@ import { blocksOf, fileOf, isVolume, kindOf, targetOf, titleOf, volumesOf, words
 // A file of a volume: where the directory is refused it is found by its blocks. Date and kind are as `index` prints them.
 /** @typedef {{ name: string, first: number, length: number, isByBlocks: boolean, date?: string, kind?: string }} Entry */
 
+// Names of files that the program takes home as texts: where the name says what goes in, these go in as texts.
+const TEXTS = /\.(BA|BI|FT|HL|LS|MA|PA|RA|SB|TX)$/;
+
 // How long a volume is left alone before its files' dates and kinds are asked for, in milliseconds.
 const QUIET = 60;
 
@@ -442,7 +445,8 @@ export class Files {
         const { programs, store, undo } = this.page, volume = this.name, path = `.put/${name}`;
         if (!await this.#mayWrite(volume, name)) return { status: 0, out: new Uint8Array(0), said: `${name} was left as it was\n` };
         if (form === 'name') store.put(path, bytes);
-        const [words, input] = form === 'name' ? [[path, '--text'], ''] : [['-', '--as', name, ...(form === 'text' ? ['--text'] : [])], bytes];
+        const how = form === 'text' || form === 'name' && TEXTS.test(name) ? ['--text'] : [];
+        const [words, input] = form === 'name' ? [[path, ...how], ''] : [['-', '--as', name, ...how], bytes];
         const dated = this.entries.some(it => it.name === name) ? [] : await this.shown.datedWords(name, bytes);
         const answer = await undo.group(fileOf(volume), `putting ${name}`, () => programs.ask(['put', ...wordsOf(volume), ...words, ...dated], input));
         store.remove(path);

@@ -74,9 +74,9 @@ class Folder:
             for name in ("A.TX", "S.PA"):
                 self.run(["put", EVIL + volume, "-", "--as", name, "--text"], b"*200\nHLT\n$\n")
             self.run(["put", EVIL + volume, "-", "--as", "EV"], BYTES * 20)
-        volume = self.read(VOLUME)
-        self.write(WIDE, volume[:5000] + b"\xff\xff" + volume[5002:])
-        self.write(HEADED, b"HEADER" + volume)
+        words = self.read(VOLUME)
+        self.write(WIDE, words[:5000] + b"\xff\xff" + words[5002:])
+        self.write(HEADED, b"HEADER" + words)
         self.write(JUNK, BYTES * 9)
         self.write(FAULTY, b"*200\nTAD " + LINE + b"\n$\n")
         self.write(PLAIN, b"*200\nHLT\n$\n")

@@ -120,7 +120,7 @@ def fault_of(program: str, random: Random) -> str:
         fault = judged_otherwise(program, folder, readings)
         if fault:
             return fault
-        options = random.choice([[], [], [], ["--plain"]])
+        options = ["--plain"] if random.randrange(4) == 0 else []
         if readings and readings[0][0] == "disk":
             options = ["--volume", random.choice("12")]
         files = dict[str, bytes]()
