@@ -38,9 +38,9 @@ def files_of(folder: str) -> list[str]:
 
 def named() -> tuple[list[str], list[str]]:
     """The commands and options that the table of the command line names, but for the hidden ones."""
-    text = source(f"{TOP}/crates/command_table/src/table.rt").code
-    commands = re.findall(r'(?m)^    Verb::\w+, "(\w+)",', text)
-    return commands, [f"--{it}" for it in re.findall(r'(?m)^    "([\w-]+)" (?:\'\w\' )?(?:flag|option) ', text)]
+    table, rows = (source(f"{TOP}/crates/command_table/src/{it}.rt").code for it in ("table", "rows"))
+    commands = re.findall(r'(?m)^    Verb::\w+, "(\w+)",', table)
+    return commands, [f"--{it}" for it in re.findall(r'(?m)^    "([\w-]+)" (?:\'\w\' )?(?:flag|option) ', rows)]
 
 
 def faults(room: str) -> Iterator[list[str]]:

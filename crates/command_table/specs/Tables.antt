@@ -16,7 +16,8 @@ use Rattle.command_table.specs.declared.table.Kind.{Kind}
 use Rattle.command_table.specs.declared.table.Kind.TheVariants.{Word, Value, Words, Size, Flag, Many, Count}
 use Rattle.command_table.specs.declared.table.ArgumentOf.{ArgumentOf}
 use Rattle.command_table.specs.declared.table.EntryOf.{EntryOf}
-use Rattle.command_table.specs.declared.table.TheConstants.{COMMANDS, PAIRS, TAPE, RIM, SOURCE, ASSEMBLE, TELETYPE, TRACE, RUN, CREATE, LIST, GET, PUT, DELETE, RENAME, COPY, SQUEEZE, CHECK, DUMP, PATCH, INDEX, RESCUE, SCAN}
+use Rattle.command_table.specs.declared.table.TheConstants.{COMMANDS, PAIRS}
+use Rattle.command_table.specs.declared.rows.TheConstants.{TAPE, RIM, SOURCE, ASSEMBLE, TELETYPE, TRACE, RUN, CREATE, LIST, GET, PUT, DELETE, RENAME, COPY, SQUEEZE, CHECK, DUMP, PATCH, INDEX, RESCUE, SCAN}
 use Rattle.command_table.specs.declared.table.Verb.{Verb}
 use Rattle.command_table.specs.declared.table.Verb.TheVariants as verb
 use Rattle.std.specs.Borrow.{Bor}

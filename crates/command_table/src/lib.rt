@@ -7,6 +7,7 @@ mod found;
 mod laws;
 mod lists;
 mod numbers;
+mod rows;
 pub mod table;
 mod texts;
 

@@ -3,13 +3,15 @@
 use Rattle.std.specs.Prelude.{ℕ, zero, suc, ◌+◌, ◌-◌, ◌*◌, ◌/◌, ◌%◌, ◌==◌, nat_le, min, Bool, true, false, ◌&&◌, not, if◌then◌else◌, Option, Some, None, List}
 use Rattle.image_kind.specs.Heads.{minus, twelve_bits}
 use Rattle.image_kind.specs.declared.directories.Blocks.{Blocks}
+use Rattle.image_kind.specs.declared.directories.TheConstants.{BLOCK_BYTES, BLOCK_WORDS, TAPE_BLOCK_BYTES}
 
 -- ## Words
 
--- the first byte of word k of block n: blocks lie one after the other, or as on a DECtape, of which each block has 0o200 words and one more
+-- The first byte of word k of block n. Blocks lie one after the other. On a DECtape each block has 0o200 words and one more, so a block of the
+-- volume is two of these.
 abbrev pub byte_of : Blocks → ℕ → ℕ → ℕ
 byte_of blocks n k =
-    if blocks.is_tape then blocks.start + 516 * n + 258 * (k / 0o200) + 2 * (k % 0o200) else blocks.start + 512 * n + 2 * k
+    if blocks.is_tape then blocks.start + TAPE_BLOCK_BYTES * (2 * n + k / 0o200) + 2 * (k % 0o200) else blocks.start + BLOCK_BYTES * n + 2 * k
 
 unfoldable pub word : List ℕ → Blocks → ℕ → ℕ → ℕ
 word bytes blocks n k = twelve_bits bytes (byte_of blocks n k)
@@ -28,7 +30,7 @@ entry_length bytes blocks info n k = minus (word bytes blocks n (k + entry_words
 abbrev pub after_entry : List ℕ → Blocks → ℕ → ℕ → Option (ℕ × ℕ) → Option (ℕ × ℕ)
 after_entry bytes blocks info n None = None
 after_entry bytes blocks info n (Some (k, place)) =
-    if nat_le (k + entry_words bytes blocks info n k) 256 && nat_le (place + entry_length bytes blocks info n k) blocks.count
+    if nat_le (k + entry_words bytes blocks info n k) BLOCK_WORDS && nat_le (place + entry_length bytes blocks info n k) blocks.count
     then Some (k + entry_words bytes blocks info n k, place + entry_length bytes blocks info n k)
     else None
 
@@ -88,7 +90,7 @@ is_file bytes blocks info n k = not (word bytes blocks n k == 0) && not (entry_l
 
 -- the word after an entry
 abbrev pub next_word : List ℕ → Blocks → ℕ → ℕ → ℕ → ℕ
-next_word bytes blocks info n k = min (k + entry_words bytes blocks info n k) 256
+next_word bytes blocks info n k = min (k + entry_words bytes blocks info n k) BLOCK_WORDS
 
 -- how often a name was seen, once more where an entry is its file; 2 is more than once
 abbrev pub count_at : List ℕ → Blocks → ℕ → ℕ → ℕ → ℕ → ℕ → ℕ

@@ -3,11 +3,12 @@
 use Rattle.std.specs.Prelude.{ℕ, ◌+◌, ◌-◌, ◌*◌, ◌/◌, ◌%◌, ◌==◌, nat_le, nat_lt, min, Bool, true, false, ◌&&◌, ◌||◌, if◌then◌else◌, Option, Some, None, List, length}
 use Rattle.disk_layouts.specs.declared.sizes.TheConstants.{DISK, DISK_VOLUME, TAPE}
 use Rattle.image_kind.specs.declared.directories.Blocks.{Blocks}
+use Rattle.image_kind.specs.declared.directories.TheConstants.{BLOCK_BYTES, TAPE_BLOCK_BYTES}
 use Rattle.image_kind.specs.declared.kinds.Form.{Form}
 use Rattle.image_kind.specs.declared.kinds.Form.TheVariants.{Volume, Disk, Dectape}
 use Rattle.image_kind.specs.declared.kinds.ImageKind.{ImageKind}
 use Rattle.image_kind.specs.declared.kinds.Readings.{Readings}
-use Rattle.image_kind.specs.declared.kinds.TheConstants.{LARGEST, BLOCK_BYTES}
+use Rattle.image_kind.specs.declared.kinds.TheConstants.{LARGEST, DISK_BLOCKS, TAPE_BLOCKS}
 use Rattle.image_kind.specs.Directories.{directory_end, is_sound}
 use Rattle.image_kind.specs.Heads.{is_head}
 
@@ -38,7 +39,7 @@ are_blocks size = size % BLOCK_BYTES == 0 && (nat_le (8 * BLOCK_BYTES) size && n
 abbrev pub is_past_disk_volume : List ℕ → Bool
 is_past_disk_volume bytes =
     nat_le (length bytes) DISK_VOLUME
-    || nat_lt 3248 (directory_end bytes (record { is_tape = false; start = 0; count = volume_blocks (length bytes) }))
+    || nat_lt DISK_BLOCKS (directory_end bytes (record { is_tape = false; start = 0; count = volume_blocks (length bytes) }))
 
 -- whole blocks with a whole directory, whatever stands in them
 abbrev pub whole_volume : List ℕ → Option ImageKind
@@ -49,12 +50,12 @@ whole_volume bytes = if (are_blocks (length bytes) && is_volume_at bytes 0) && i
 -- A directory begins in block 1 of one of a disk's volumes, and in the second where a file of this length may be one volume.
 abbrev pub has_disk_head : List ℕ → Bool
 has_disk_head bytes =
-    if is_head bytes (DISK_VOLUME + BLOCK_BYTES) 3248 then true else nat_lt LARGEST (length bytes) && is_head bytes BLOCK_BYTES 3248
+    if is_head bytes (DISK_VOLUME + BLOCK_BYTES) DISK_BLOCKS then true else nat_lt LARGEST (length bytes) && is_head bytes BLOCK_BYTES DISK_BLOCKS
 
 -- a DECtape is of exactly its length; a disk may end early, but not in its first volume
 abbrev pub kind_by_length : List ℕ → Option ImageKind
 kind_by_length bytes =
-    if length bytes == TAPE && is_head bytes 516 737 then kind_with Dectape 0 0
+    if length bytes == TAPE && is_head bytes (2 * TAPE_BLOCK_BYTES) TAPE_BLOCKS then kind_with Dectape 0 0
     else if nat_lt DISK_VOLUME (length bytes) && (nat_le (length bytes) DISK && has_disk_head bytes) then kind_with Disk 0 0
     else None
 
@@ -68,11 +69,11 @@ excess Volume size = if nat_lt size (8 * BLOCK_BYTES) || nat_le (LARGEST + BLOCK
 
 -- that of a disk's volume
 abbrev pub is_disk_volume : List ℕ → ℕ → Bool
-is_disk_volume bytes start = is_sound bytes (record { is_tape = false; start = start; count = 3248 })
+is_disk_volume bytes start = is_sound bytes (record { is_tape = false; start = start; count = DISK_BLOCKS })
 
 -- after so many bytes a whole directory of the form reads through; of a disk that of one of its volumes
 abbrev pub is_form_at : List ℕ → Form → ℕ → Bool
-is_form_at bytes Dectape before = is_sound bytes (record { is_tape = true; start = before; count = 737 })
+is_form_at bytes Dectape before = is_sound bytes (record { is_tape = true; start = before; count = TAPE_BLOCKS })
 is_form_at bytes Disk before = is_disk_volume bytes before || is_disk_volume bytes (before + DISK_VOLUME)
 is_form_at bytes Volume before = is_volume_at bytes before
 

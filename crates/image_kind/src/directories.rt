@@ -22,7 +22,13 @@ pub struct Blocks {
 const MOST_SEGMENTS: u16 = 6;
 
 /// The words of a block.
-const BLOCK_WORDS: u16 = 256;
+pub(crate) const BLOCK_WORDS: u16 = 0o400;
+
+/// The bytes of a block.
+pub(crate) const BLOCK_BYTES: usize = 512;
+
+/// The bytes of a block of a DECtape's file: those of 129 words.
+pub(crate) const TAPE_BLOCK_BYTES: usize = 258;
 
 /// The most information words of an entry (this project's profile).
 const MOST_INFORMATION: u16 = 10;
@@ -44,7 +50,7 @@ pub fn is_sound(bytes: &[u8], blocks: Blocks) -> bool
 /// A byte of a file, 0 after its end.
 fn byte(bytes: &[u8], at: usize) -> u16
     ensures value { result ≡ slice_index bytes.now at }
-    ensures range { result < 256 }
+    ensures range { result < 0o400 }
 {
     if at < bytes.len() {
         return u16::from(bytes[at]);
@@ -64,16 +70,16 @@ pub(crate) fn word(bytes: &[u8], blocks: Blocks, n: u16, k: u16) -> u16
 
 /// The first byte of word k of block n.
 fn byte_of(blocks: Blocks, n: usize, k: usize) -> usize
-    requires block { n < 65536 }
-    requires word { k < 65536 }
+    requires block { n < 0x10000 }
+    requires word { k < 0x10000 }
     ensures value { result ≡ spec.byte_of blocks n k }
     ensures range { result < 10000000000 }
 {
     let start = blocks.start as usize;
     if blocks.is_tape {
-        return start + 516 * n + 258 * (k / 0o200) + 2 * (k % 0o200);
+        return start + TAPE_BLOCK_BYTES * (2 * n + k / 0o200) + 2 * (k % 0o200);
     }
-    start + 512 * n + 2 * k
+    start + BLOCK_BYTES * n + 2 * k
 }
 
 /// Minus a word.
@@ -101,7 +107,7 @@ pub(crate) fn entry_words(bytes: &[u8], blocks: Blocks, info: u16, n: u16, k: u1
 /// How many blocks it has.
 pub(crate) fn entry_length(bytes: &[u8], blocks: Blocks, info: u16, n: u16, k: u16) -> u16
     requires info { info < 0o10000 }
-    requires word { k ≤ 256 }
+    requires word { k ≤ 0o400 }
     ensures value { result ≡ spec.entry_length bytes.now blocks info n k }
     ensures range { result < 0o10000 }
 {
@@ -118,9 +124,9 @@ fn after_entry(
     at: Option<(u16, u16)>,
 ) -> Option<(u16, u16)>
     requires info { info < 0o10000 }
-    requires range { IfSome at (λ at. at.0 ≤ 256) }
+    requires range { IfSome at (λ at. at.0 ≤ 0o400) }
     ensures value { result ≡ spec.after_entry bytes.now blocks info n at }
-    ensures range { IfSome result (λ at. at.0 ≤ 256) }
+    ensures range { IfSome result (λ at. at.0 ≤ 0o400) }
 {
     let (k, place) = at?;
     let end = k + entry_words(bytes, blocks, info, n, k);

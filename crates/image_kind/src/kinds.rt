@@ -1,7 +1,8 @@
 ghost use Rattle.std.specs.Prelude.{◌≡◌, ◌+◌, ◌≤◌, ◌<◌, length};
 ghost use Rattle.image_kind.specs.Kinds as spec;
+ghost use Rattle.image_kind.specs.declared.directories.TheConstants.{BLOCK_BYTES};
 
-use crate::directories::{Blocks, directory_end, is_sound};
+use crate::directories::{BLOCK_BYTES, Blocks, TAPE_BLOCK_BYTES, directory_end, is_sound};
 use crate::heads::is_head;
 use disk_layouts::{DISK, DISK_VOLUME, TAPE};
 
@@ -39,8 +40,11 @@ pub struct Readings {
 /// The bytes of the largest volume.
 const LARGEST: usize = 2096640;
 
-/// Fewer bytes than a block has may stand before or after.
-const BLOCK_BYTES: usize = 512;
+/// The blocks of a volume of a disk.
+const DISK_BLOCKS: u16 = 3248;
+
+/// The blocks of the volume of a DECtape.
+const TAPE_BLOCKS: u16 = 737;
 
 /// What a file holds; none where nothing is known of it.
 pub fn kind_of(bytes: &[u8]) -> Option<ImageKind>
@@ -128,7 +132,7 @@ fn is_past_disk_volume(bytes: &[u8]) -> bool
         start: 0,
         count: volume_blocks(bytes.len()),
     };
-    directory_end(bytes, blocks) > 3248
+    directory_end(bytes, blocks) > DISK_BLOCKS
 }
 
 /// Whole blocks with a whole directory, whatever stands in them.
@@ -145,10 +149,10 @@ fn whole_volume(bytes: &[u8]) -> Option<ImageKind>
 fn has_disk_head(bytes: &[u8]) -> bool
     ensures { result ≡ spec.has_disk_head bytes.now }
 {
-    if is_head(bytes, DISK_VOLUME + BLOCK_BYTES, 3248) {
+    if is_head(bytes, DISK_VOLUME + BLOCK_BYTES, DISK_BLOCKS) {
         return true;
     }
-    bytes.len() > LARGEST && is_head(bytes, BLOCK_BYTES, 3248)
+    bytes.len() > LARGEST && is_head(bytes, BLOCK_BYTES, DISK_BLOCKS)
 }
 
 /// A DECtape of exactly its length, or a disk, which may end early, but not in its first volume.
@@ -156,7 +160,7 @@ fn kind_by_length(bytes: &[u8]) -> Option<ImageKind>
     ensures { result ≡ spec.kind_by_length bytes.now }
 {
     let size = bytes.len();
-    if size == TAPE && is_head(bytes, 516, 737) {
+    if size == TAPE && is_head(bytes, 2 * TAPE_BLOCK_BYTES, TAPE_BLOCKS) {
         return kind_with(Form::Dectape, 0, 0);
     }
     if DISK_VOLUME < size && (size <= DISK && has_disk_head(bytes)) {
@@ -168,7 +172,7 @@ fn kind_by_length(bytes: &[u8]) -> Option<ImageKind>
 /// How many bytes, fewer than a block has, a file of so many has beyond its form's; 0 where it has none, or can't be of the form.
 fn excess(form: Form, size: usize) -> u32
     ensures value { result ≡ spec.excess form size }
-    ensures few { result < 512 }
+    ensures few { result < BLOCK_BYTES }
 {
     let more = match form {
         Form::Dectape => {
@@ -195,7 +199,7 @@ fn excess(form: Form, size: usize) -> u32
 
 /// Whether a whole directory of the form reads through after so many bytes: of a disk that of one of its volumes.
 fn is_form_at(bytes: &[u8], form: Form, before: u32) -> bool
-    requires { before < 512 }
+    requires { before < BLOCK_BYTES }
     ensures { result ≡ spec.is_form_at bytes.now form before }
 {
     match form {
@@ -204,7 +208,7 @@ fn is_form_at(bytes: &[u8], form: Form, before: u32) -> bool
             Blocks {
                 is_tape: true,
                 start: before,
-                count: 737,
+                count: TAPE_BLOCKS,
             },
         ),
         Form::Disk => is_disk_volume(bytes, before)
@@ -222,7 +226,7 @@ fn is_disk_volume(bytes: &[u8], start: u32) -> bool
         Blocks {
             is_tape: false,
             start,
-            count: 3248,
+            count: DISK_BLOCKS,
         },
     )
 }

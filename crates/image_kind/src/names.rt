@@ -2,7 +2,7 @@
 ghost use Rattle.std.specs.Prelude.{◌≡◌, ◌≤◌, ◌<◌};
 ghost use Rattle.image_kind.specs.Directories as spec;
 
-use crate::directories::{Blocks, entry_count, entry_length, entry_words, word};
+use crate::directories::{BLOCK_WORDS, Blocks, entry_count, entry_length, entry_words, word};
 
 /// Whether no two files of a directory of so many information words have the same name.
 pub(crate) fn are_single(bytes: &[u8], blocks: Blocks, info: u16) -> bool
@@ -15,7 +15,7 @@ pub(crate) fn are_single(bytes: &[u8], blocks: Blocks, info: u16) -> bool
 
 /// The name of an entry as one number.
 fn name_at(bytes: &[u8], blocks: Blocks, n: u16, k: u16) -> u64
-    requires { k ≤ 256 }
+    requires { k ≤ 0o400 }
     ensures { result ≡ spec.name_at bytes.now blocks n k }
 {
     let one = u64::from(word(bytes, blocks, n, k));
@@ -28,7 +28,7 @@ fn name_at(bytes: &[u8], blocks: Blocks, n: u16, k: u16) -> u64
 /// Whether an entry is a file.
 fn is_file(bytes: &[u8], blocks: Blocks, info: u16, n: u16, k: u16) -> bool
     requires info { info < 0o10000 }
-    requires word { k ≤ 256 }
+    requires word { k ≤ 0o400 }
     ensures { result ≡ spec.is_file bytes.now blocks info n k }
 {
     word(bytes, blocks, n, k) != 0 && entry_length(bytes, blocks, info, n, k) != 0
@@ -37,17 +37,17 @@ fn is_file(bytes: &[u8], blocks: Blocks, info: u16, n: u16, k: u16) -> bool
 /// The word after an entry.
 fn next_word(bytes: &[u8], blocks: Blocks, info: u16, n: u16, k: u16) -> u16
     requires info { info < 0o10000 }
-    requires word { k ≤ 256 }
+    requires word { k ≤ 0o400 }
     ensures value { result ≡ spec.next_word bytes.now blocks info n k }
-    ensures range { result ≤ 256 }
+    ensures range { result ≤ 0o400 }
 {
-    (k + entry_words(bytes, blocks, info, n, k)).min(256)
+    (k + entry_words(bytes, blocks, info, n, k)).min(BLOCK_WORDS)
 }
 
 /// How often a name was seen, once more where an entry is its file.
 fn count_at(bytes: &[u8], blocks: Blocks, info: u16, n: u16, name: u64, k: u16, times: u8) -> u8
     requires info { info < 0o10000 }
-    requires word { k ≤ 256 }
+    requires word { k ≤ 0o400 }
     requires times { times ≤ 2 }
     ensures value { result ≡ spec.count_at bytes.now blocks info n name k times }
     ensures range { result ≤ 2 }
@@ -122,7 +122,7 @@ fn count_in_segments(bytes: &[u8], blocks: Blocks, info: u16, name: u64, count: 
 /// Whether no other file of the directory has the name of an entry.
 fn is_single(bytes: &[u8], blocks: Blocks, info: u16, n: u16, k: u16) -> bool
     requires info { info < 0o10000 }
-    requires word { k ≤ 256 }
+    requires word { k ≤ 0o400 }
     ensures { result ≡ spec.is_single bytes.now blocks info n k }
 {
     if is_file(bytes, blocks, info, n, k) {

@@ -64,9 +64,9 @@ image_note size (Refused fault) = None
 abbrev pub size_text : ℕ → List ℕ
 size_text size = codes "note: " ++ decimal size ++ codes " bytes are no image: a volume has 8 to 4095 blocks of 512, a disk 1662977 to 3325952 bytes, a DECtape 380292\n"
 
--- that a word has more than twelve bits, by its place in its block of 256
+-- that a word has more than twelve bits, by its place in its block of 0o400
 abbrev pub word_text : ℕ → List ℕ
-word_text number = codes "note: word " ++ decimal (number % 256) ++ codes " of block " ++ decimal (number / 256) ++ codes " has more than 12 bits: --lenient reads it without the top ones\n"
+word_text number = codes "note: word " ++ decimal (number % 0o400) ++ codes " of block " ++ decimal (number / 0o400) ++ codes " has more than 12 bits: --lenient reads it without the top ones\n"
 
 -- a note on an image, with the end of its line
 abbrev pub image_text : ImageNote → List ℕ

@@ -5,4 +5,4 @@ use Rattle.image_kind.proofs.directories.after_entries.Given as goal
 
 -- this is after the entries so far
 abbrev pub invariant-loop-number : goal.invariant-loop-number
-invariant-loop-number l = (l.at ≡ after_entries l.bytes l.blocks l.info l.n l.place l.number) × IfSome l.at (λ at. at.0 ≤ 256)
+invariant-loop-number l = (l.at ≡ after_entries l.bytes l.blocks l.info l.n l.place l.number) × IfSome l.at (λ at. at.0 ≤ 0o400)
