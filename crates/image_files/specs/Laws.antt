@@ -2,6 +2,7 @@
 use Rattle.std.specs.Prelude.{◌≡◌, ℕ, Result, List, Bool, true, false, Err}
 use Rattle.hosts.specs.Event.{Event}
 use Rattle.hosts.specs.Place.{about}
+use Rattle.hosts.specs.Saving.{replacements}
 use Rattle.image_volumes.specs.Keeping.{keeps_kind}
 use Rattle.outcome.specs.declared.contents.Content.TheVariants as content
 use Rattle.outcome.specs.declared.endings.Ending.{Ending}
@@ -32,6 +33,11 @@ ChangesNothing old new = (path : List ℕ) → about path new ≡ about path old
 -- a command that is refused has changed no file
 abbrev pub LeavesFiles : {A : Type 0} → (List Event → Result A Ending → List Event → Type 0) → Type 0
 LeavesFiles command = (old : List Event) (ending : Ending) (new : List Event) → command old (Err ending) new → is_refusal ending ≡ true → ChangesNothing old new
+
+-- no file takes a path that another may have had, in whichever way a command ends
+abbrev pub NeverReplaces : {A : Type 0} → (List Event → Result A Ending → List Event → Type 0) → Type 0
+NeverReplaces {A} command = (old : List Event) (result : Result A Ending) (new : List Event) → command old result new
+    → (path : List ℕ) → replacements (about path new) ≡ replacements (about path old)
 
 -- What a change saves is judged as what was read: the same volumes are meant, in the same place, and the file may be read in no other way.
 pub record HasKeptKind (image : Image) (bytes : List ℕ) (old new : List Event) : Type 0 where

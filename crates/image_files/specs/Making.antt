@@ -3,7 +3,7 @@ use Rattle.std.specs.Prelude.{◌≡◌, ◌⊎◌, ◌<◌, ℕ, Bool, Result, 
 use Rattle.hosts.specs.Event.{Event}
 use Rattle.hosts.specs.Faults.{fault_number}
 use Rattle.hosts.specs.Place.{about}
-use Rattle.hosts.specs.Saving.{Makes, AnyMomentOf}
+use Rattle.hosts.specs.Saving.{Makes, AnyMomentOf, replacements}
 use Rattle.hosts.specs.Streams.{errors, failures, last_fault, asked_name, path_of_name, has_links}
 use Rattle.hosts.specs.declared.faults.Durability.{Durability}
 use Rattle.hosts.specs.declared.faults.HostFault.{HostFault}
@@ -51,13 +51,14 @@ ending_of_first host.Changed = NotWritten Image AsItWas
 ending_of_first host.Pipe = NotWritten Image AsItWas
 ending_of_first host.Failed = NotWritten Image AsItWas
 
--- A file of these bytes is made where the host says that this name has none. It is there whole, on the disk, unless a note says that it is not
+-- A file of these bytes is made where the host says that this name has none, and replaces none. It is there whole, on the disk, unless a note says that it is not
 -- known whether a crash keeps it. At each moment meanwhile a crash left what it might have left before, or the file, whole, where the file
 -- system has further names.
 pub record HasMade (content : Content) (name file : List ℕ) (old new : List Event) : Type 0 where
   pub asked : asked_name new ≡ name
   pub durability : Durability
   pub made : Makes (Ok durability) file (about (path_of_name new) old) (about (path_of_name new) new)
+  pub first : replacements (about (path_of_name new) new) ≡ replacements (about (path_of_name new) old)
   pub moments : AnyMomentOf (has_links new) file (about (path_of_name new) old) (about (path_of_name new) new)
   pub sync : IsSyncTold content durability (errors old) (errors new)
   pub only : TouchesOnly (path_of_name new) old new
@@ -66,6 +67,7 @@ pub record HasMade (content : Content) (name file : List ℕ) (old new : List Ev
 pub record HasNotMade (name file : List ℕ) (fault : HostFault) (old new : List Event) : Type 0 where
   pub asked : asked_name new ≡ name
   pub unmade : Makes (Err fault) file (about (path_of_name new) old) (about (path_of_name new) new)
+  pub first : replacements (about (path_of_name new) new) ≡ replacements (about (path_of_name new) old)
   pub moments : AnyMomentOf (has_links new) file (about (path_of_name new) old) (about (path_of_name new) new)
   pub cause : failures old < failures new
   pub why : fault_number fault ≡ last_fault new

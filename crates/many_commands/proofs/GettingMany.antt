@@ -27,7 +27,8 @@ use Rattle.image_files.specs.Reading.{LooksAt}
 use Rattle.image_files.specs.Saving.{IsDone, Prints}
 use Rattle.image_files.specs.Work.{Then, Purely}
 use Rattle.many_commands.specs.GettingMany.{AreFilesOn, GetsMany, GivesAsked, GivesEach, GivesFile, GivesWish, HasLaid, IsPath, LaysAndTells, LaysFile, MakesFolder, PrintsAnswer, RefusesWord, ReplacesIf, TakesFile, IsHostName, TellsLaid, TellsUnlaid, count_after, line_of_laid, time_of_file, LaysApart, RefusesOver, GivesNoted, NotesGot, TellsGot}
-use Rattle.many_commands.specs.Laws.{ChangesIn, IsIn, NeverReplaces}
+use Rattle.image_files.specs.Laws.{NeverReplaces}
+use Rattle.many_commands.specs.Laws.{ChangesIn, IsIn}
 use Rattle.host_progress.specs.Progressing.{TellsProgress, WithProgress}
 use Rattle.image_files.specs.Ending.{EndsSound}
 use Rattle.many_commands.specs.Texts.{TakesLists, get_form, is_got_noted}

@@ -2,7 +2,6 @@
 use Rattle.std.specs.Prelude.{◌≡◌, ◌⊎◌, ℕ, Result, List}
 use Rattle.hosts.specs.Event.{Event}
 use Rattle.hosts.specs.Place.{about}
-use Rattle.hosts.specs.Saving.{replacements}
 use Rattle.hosts.specs.Streams.{read}
 use Rattle.outcome.specs.declared.endings.Ending.{Ending}
 use Rattle.image_files.specs.Places.{IsSaidApart}
@@ -18,11 +17,6 @@ IsIn folder path = (name : List ℕ) × (path ≡ path_in folder name)
 abbrev pub ChangesIn : {A : Type 0} → List ℕ → (List Event → Result A Ending → List Event → Type 0) → Type 0
 ChangesIn {A} folder command = (old : List Event) (result : Result A Ending) (new : List Event) → command old result new
     → (path : List ℕ) → (IsIn folder path → ⊥) → about path new ≡ about path old
-
--- no file takes a path that another may have had, in whichever way a command ends
-abbrev pub NeverReplaces : {A : Type 0} → (List Event → Result A Ending → List Event → Type 0) → Type 0
-NeverReplaces {A} command = (old : List Event) (result : Result A Ending) (new : List Event) → command old result new
-    → (path : List ℕ) → replacements (about path new) ≡ replacements (about path old)
 
 -- the file of a path is as it was, or the host has said, by the files themselves and not by their names, that it isn't the image
 abbrev pub KeepsImage : {A : Type 0} → List ℕ → (List Event → Result A Ending → List Event → Type 0) → Type 0

@@ -2,9 +2,9 @@
 ghost use Rattle.std.specs.Prelude.{◌≡◌, false};
 ghost use Rattle.program_tasks.specs.declared.forms.GetManyForm.{GetManyForm as GetMany};
 ghost use Rattle.program_tasks.specs.declared.forms.PutManyForm.{PutManyForm as PutMany};
-ghost use Rattle.image_files.specs.Laws.{LeavesFiles};
+ghost use Rattle.image_files.specs.Laws.{LeavesFiles, NeverReplaces};
 ghost use Rattle.many_commands.specs.GettingMany.{GetsMany};
-ghost use Rattle.many_commands.specs.Laws.{ChangesIn, KeepsImage, NeverReplaces};
+ghost use Rattle.many_commands.specs.Laws.{ChangesIn, KeepsImage};
 ghost use Rattle.many_commands.specs.PuttingMany.{PutsMany};
 
 /// A command that is to put several files, and is refused, has changed no file: none is put.

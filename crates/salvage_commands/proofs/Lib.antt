@@ -1,2 +1,3 @@
 mod ScanLemmas
 mod PathLemmas
+mod ReplaceLemmas

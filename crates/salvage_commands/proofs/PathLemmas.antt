@@ -40,25 +40,25 @@ use Rattle.salvage_commands.specs.Laws.{ChangesPiecesAlone, IsOfNone}
 use Rattle.salvage_commands.specs.ScanningBlocks.{GivesPiece, IsPath, LaysFirst, MakesFolder, WritesAll, WritesEach, WritesPiece}
 
 -- a step leaves a path as it was
-abbrev Stays : {A : Type 0} → List ℕ → (List Event → Result A Ending → List Event → Type 0) → Type 0
+abbrev pub Stays : {A : Type 0} → List ℕ → (List Event → Result A Ending → List Event → Type 0) → Type 0
 Stays {A} path step = (old : List Event) (result : Result A Ending) (new : List Event) → step old result new → about path new ≡ about path old
 
 same : {old new : List Event} (path : List ℕ) → new ≡ old → about path new ≡ about path old
 same path is = ap (λ (events : List Event). about path events) is
 
-then-stays : {A B : Type 0} (path : List ℕ) (first : List Event → Result A Ending → List Event → Type 0) (next : A → List Event → Result B Ending → List Event → Type 0)
+pub then-stays : {A B : Type 0} (path : List ℕ) (first : List Event → Result A Ending → List Event → Type 0) (next : A → List Event → Result B Ending → List Event → Type 0)
     → Stays path first → ((a : A) (old between : List Event) → first old (Ok a) between → (result : Result B Ending) (new : List Event) → next a between result new → about path new ≡ about path between)
     → Stays path (Then first next)
 then-stays path first next f n old (Ok r) new (inl ends) = absurd ends
 then-stays path first next f n old (Err e) new (inl ends) = f old (Err e) new ends
 then-stays path first next f n old result new (inr it) = n it.given old it.between it.done result new it.after ∙ f old (Ok it.given) it.between it.done
 
-purely-stays : {A : Type 0} (path : List ℕ) (gives : Result A Ending → Type 0) → Stays path (Purely gives)
+pub purely-stays : {A : Type 0} (path : List ℕ) (gives : Result A Ending → Type 0) → Stays path (Purely gives)
 purely-stays path gives old result new p = same path p.1
 
 -- ## What is printed
 
-prints-stays : (path bytes : List ℕ) → Stays path (Prints bytes)
+pub prints-stays : (path bytes : List ℕ) → Stays path (Prints bytes)
 prints-stays path bytes old (Ok it) new p = same path p
 prints-stays path bytes old (Err (Line it)) new p = absurd p
 prints-stays path bytes old (Err (Fault it)) new p = absurd p
@@ -77,20 +77,20 @@ tells-stays path (Some note) old new p = same path p.1
 refuses-stays : (path : List ℕ) (why : ArchiveFault) (size : ℕ) (old : List Event) (ending : Ending) (new : List Event) → Refuses why size old ending new → about path new ≡ about path old
 refuses-stays path why size old ending new p = tells-stays path (image_note size why) old new p.1
 
-answers-stays : {A : Type 0} (path : List ℕ) (gives : Result A ArchiveFault → Type 0) (size : ℕ) → Stays path (Answers gives size)
+pub answers-stays : {A : Type 0} (path : List ℕ) (gives : Result A ArchiveFault → Type 0) (size : ℕ) → Stays path (Answers gives size)
 answers-stays path gives size old (Ok it) new p = same path p.1
 answers-stays path gives size old (Err ending) new (why, gave, p) = refuses-stays path why size old ending new p
 
 -- ## What is read
 
-looks-stays : (path name shown : List ℕ) → Stays path (Looks name shown)
+pub looks-stays : (path name shown : List ℕ) → Stays path (Looks name shown)
 unfolding IsUnread
 looks-stays path name shown old (Ok bytes) new p = same path p.1
 looks-stays path name shown old (Err ending) new (inl (fault, is, p)) = unless-keeps (is_want_of_memory fault) (reason.Fault fault) shown (failed_call Look name fault ∷ old) new p path
 looks-stays path name shown old (Err ending) new (inr (bytes, many, inl (is, ok, p))) = same path p
 looks-stays path name shown old (Err ending) new (inr (bytes, many, inr (is, p))) = same path p
 
-finds-stays : (path : List ℕ) (volumes : Volumes) (body : List ℕ) → Stays path (FindsIn volumes body)
+pub finds-stays : (path : List ℕ) (volumes : Volumes) (body : List ℕ) → Stays path (FindsIn volumes body)
 finds-stays path (One layout) body old result new p = same path p.1
 finds-stays path Both body old (Ok image) new p = absurd p
 finds-stays path Both body old (Err ending) new (is, ok, p) = same path p
@@ -108,7 +108,7 @@ looks-if-stays path true given is_plain name = then-stays path (Looks name name)
     (looks-stays path name name) (λ file old between done. mends-stays path given is_plain name file.items between)
 looks-if-stays path false given is_plain name = looks-stays path name name
 
-judges-by-stays : (path name : List ℕ) (two : Option (ImageKind × ImageKind)) → Stays path (JudgesBy name two)
+pub judges-by-stays : (path name : List ℕ) (two : Option (ImageKind × ImageKind)) → Stays path (JudgesBy name two)
 judges-by-stays path name None old (Ok it) new p = same path p
 judges-by-stays path name None old (Err ending) new p = absurd p
 judges-by-stays path name (Some two) old (Ok it) new p = absurd p
@@ -123,11 +123,11 @@ looks-image-stays : (path : List ℕ) (reading : ImageReading) (name : List ℕ)
 looks-image-stays path reading name = then-stays path (LooksIf reading.is_lenient reading.layout reading.is_plain name) (λ file. JudgesLooked reading name file)
     (looks-if-stays path reading.is_lenient reading.layout reading.is_plain name) (λ file old between done. judged-stays path reading name file between)
 
-looks-at-stays : (path : List ℕ) (form : ImageForm) → Stays path (LooksAt form)
+pub looks-at-stays : (path : List ℕ) (form : ImageForm) → Stays path (LooksAt form)
 looks-at-stays path form = then-stays path (LooksImage (reading_of form) form.file.bytes.items) (λ file. FindsOne form.layout form.is_plain file.items)
     (looks-image-stays path (reading_of form) form.file.bytes.items) (λ file old between done. finds-stays path (volumes_in form.layout form.is_plain file.items) (body_of form.layout form.is_plain file.items) between)
 
-gives-stays : (path image : List ℕ) (piece : Piece) → Stays path (GivesPiece image piece)
+pub gives-stays : (path image : List ℕ) (piece : Piece) → Stays path (GivesPiece image piece)
 gives-stays path image piece old (Ok bytes) new p = same path p.1
 gives-stays path image piece old (Err ending) new (why, gets, p) = refused why p
   where
@@ -167,7 +167,7 @@ each-stays path folder image scan (piece ∷ pieces) none =
     then-stays path (WritesPiece folder image scan piece) (λ it. WritesEach folder image scan pieces) (piece-stays path folder image scan piece none.0)
     (λ it old between done. each-stays path folder image scan pieces none.1 between)
 
-folder-stays : (path folder : List ℕ) → Stays path (MakesFolder folder)
+pub folder-stays : (path folder : List ℕ) → Stays path (MakesFolder folder)
 folder-stays path folder old (Ok it) new p = same path p
 folder-stays path folder old (Err ending) new (fault, is, p) = unless-keeps (is_want_of_memory fault) (reason_of_first fault) folder (failed_call MakeFolder folder fault ∷ old) new p path
 

@@ -1,8 +1,20 @@
-//! What the command that writes pieces to files leaves as it was.
+//! What the commands that make files of a damaged volume leave as it was.
+ghost use Rattle.std.specs.Prelude.{ℕ, List};
+ghost use Rattle.image_files.specs.Laws.{NeverReplaces};
+ghost use Rattle.program_tasks.specs.declared.forms.ImageForm.{ImageForm};
 ghost use Rattle.salvage_commands.specs.Laws.{ChangesPiecesAlone};
+ghost use Rattle.salvage_commands.specs.Rescuing.{RescuesImage};
+ghost use Rattle.salvage_commands.specs.ScanningBlocks.{WritesPieces};
 
 /// A law: the command that writes each piece of a volume to a file of its own changes no path but those of its pieces, in whichever way it
 /// ends. So the image stays as it was, unless one of these paths is its own.
 pub fn written_pieces()
     ensures { ChangesPiecesAlone }
+{}
+
+/// A law: the commands that make files of what a damaged volume still shows replace no file, in whichever way they end. So no file that was there
+/// has other bytes after them, by whatever name it is given.
+pub fn new_files()
+    ensures pieces { (folder : List ℕ) (form : ImageForm) → NeverReplaces (WritesPieces folder form) }
+    ensures rescue { (new : List ℕ) (form : ImageForm) → NeverReplaces (RescuesImage new form) }
 {}
