@@ -1,3 +1,4 @@
+mod AgainLemmas
 mod EndLemmas
 pub mod KeepLemmas
 pub mod KindLemmas
@@ -5,6 +6,7 @@ pub mod LeaveLemmas
 pub mod LeftoverLemmas
 mod ReadLemmas
 pub mod ReasonLemmas
+mod VolumeLemmas
 pub mod WordsLemmas
 mod UnsavedLemmas
 pub mod WorkLemmas

@@ -1,3 +1,4 @@
+pub mod Again
 pub mod Answers
 pub mod Dates
 pub mod Ending
