@@ -1,2 +1,3 @@
+pub mod GettingBack
 pub mod Looking
 pub mod Refusing

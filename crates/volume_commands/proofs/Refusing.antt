@@ -182,7 +182,7 @@ judges-info-never : (form : PutOneForm) (image : List ℕ) (date : Option ℕ) �
 judges-info-never form image date = then-keeps (TakesWords (words_wanted (given_count (words_of form.info)) date) image) (λ it. NotesYear image (info_words (words_of form.info)) form.year)
     (words-never (words_wanted (given_count (words_of form.info)) date) image) (λ it. year-never image (info_words (words_of form.info)) form.year)
 
-judges-never : (form : PutOneForm) (image bytes : List ℕ) (date : Option ℕ) → KeepsFiles (JudgesPut form image bytes date)
+pub judges-never : (form : PutOneForm) (image bytes : List ℕ) (date : Option ℕ) → KeepsFiles (JudgesPut form image bytes date)
 judges-never form image bytes date = then-keeps (KeepsWords form image bytes) (λ it. JudgesInfo form image date) (keeps-words-never form image bytes) (λ it. judges-info-never form image date)
 
 puts-into : (form : PutOneForm) (image : Image) (bytes : List ℕ) (date : Option ℕ) → LeavesFiles (PutsInto form image bytes date)

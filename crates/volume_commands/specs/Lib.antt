@@ -7,6 +7,7 @@ pub mod Copying
 pub mod Creating
 pub mod DeleteSteps
 pub mod Deleting
+pub mod GettingBack
 pub mod PutSteps
 pub mod Putting
 pub mod Showing

@@ -1,8 +1,10 @@
-//! What the commands on volumes leave as it was, as laws.
-ghost use Rattle.std.specs.Prelude.{ℕ, List};
+//! What the commands on volumes leave as it was, and what they get back, as laws.
+ghost use Rattle.std.specs.Prelude.{◌≡◌, ℕ, false, List, Option, Ok, Result};
+ghost use Rattle.hosts.specs.Event.{Event};
 ghost use Rattle.archive_files.specs.Asking.{Target};
 ghost use Rattle.archive_files.specs.Getting.{Gets};
 ghost use Rattle.char_pack.specs.declared.forms.GetForm.{GetForm as How};
+ghost use Rattle.outcome.specs.declared.endings.Ending.{Ending};
 ghost use Rattle.program_tasks.specs.declared.forms.BlocksForm.{BlocksForm as Blocks};
 ghost use Rattle.program_tasks.specs.declared.forms.CopyForm.{CopyForm as Copy};
 ghost use Rattle.program_tasks.specs.declared.forms.DeleteForm.{DeleteForm as Delete};
@@ -10,12 +12,19 @@ ghost use Rattle.program_tasks.specs.declared.forms.FileForm.{FileForm as File};
 ghost use Rattle.program_tasks.specs.declared.forms.ImageForm.{ImageForm as Image};
 ghost use Rattle.program_tasks.specs.declared.forms.PutOneForm.{PutOneForm as PutOne};
 ghost use Rattle.image_files.specs.Laws.{KeepsFiles, LeavesFiles};
+ghost use Rattle.image_files.specs.Reading.{JudgesOpened};
+ghost use Rattle.image_files.specs.declared.images.Image.{Image as Opened};
+ghost use Rattle.image_files.specs.declared.reading.ImagePlace.{ImagePlace as Held};
 ghost use Rattle.volume_commands.specs.Changing.{Squeezes, Renames};
 ghost use Rattle.volume_commands.specs.Copying.{Copies};
 ghost use Rattle.volume_commands.specs.Deleting.{Deletes};
-ghost use Rattle.volume_commands.specs.Putting.{Puts};
+ghost use Rattle.volume_commands.specs.GettingBack.{IsGotBack, LooksAndShows};
+ghost use Rattle.volume_commands.specs.Putting.{Puts, PutsInto};
 ghost use Rattle.volume_commands.specs.Showing.{Shows, wanted_file};
 ghost use Rattle.volume_commands.specs.ShowingParts.{ShowsBlocks, ShowsTape};
+
+use archive_files::laws::put_is_got;
+use image_files::laws::{found_again, kept_kind};
 
 /// A command that shows what an image has changes no file, in whichever way it ends.
 pub fn shown_files()
@@ -32,3 +41,19 @@ pub fn refused_changes()
     ensures renames { (wanted : Target) (other : List ℕ) (form : Image) → LeavesFiles (Renames wanted other form) }
     ensures squeezes { (form : Image) → LeavesFiles (Squeezes form) }
 {}
+
+/// A file that was put is got back, whatever kind of file its image is in. After a `put` that ended well, `get` of an image file with what the
+/// change left there prints the bytes that were put, or memory is wanted. Frames have zeros to the end of their last block. A tape is the one
+/// that they begin with, and a text has LF alone at the end of each line. What `get` does is to look at the image file, and then at its bytes.
+pub fn file_comes_back()
+    ensures puts { (form : PutOne) (place : Held) (file bytes : List ℕ) (date : Option ℕ) (image : Opened) (opening opened old new : List Event)
+        → JudgesOpened place form.image file opening (Ok image) opened → PutsInto form image bytes date old (Ok tt) new
+        → IsGotBack form image file bytes old new }
+    ensures gets { (file : File) (how : How) (form : Image) (old new : List Event) (result : Result (Unit {0}) Ending) → form.is_lenient ≡ false
+        → Shows (λ bytes. Gets bytes (wanted_file file) how) form old result new
+        → LooksAndShows (λ bytes. Gets bytes (wanted_file file) how) form old result new }
+{
+    put_is_got();
+    found_again();
+    kept_kind();
+}
