@@ -27,6 +27,7 @@ def noted(name: str, why: str, line: str) -> str:
 
 
 FAILED = "input/output error"
+OWNER = "its owner can't be kept"
 
 
 class Room:
@@ -200,11 +201,13 @@ def without_random_bytes_no_file_is_made(room: Room) -> None:
 
 @case
 def an_image_whose_owner_is_not_kept_is_not_written(room: Room) -> None:
-    room.sh("./pdp8 create V 20; chown 65534:65533 V")
-    if os.geteuid() == 0:
-        status, said = room.pdp8("put", "V", "-", "--as", "A", given="A", call="owner", error=errno.EPERM)
-        holds((status, said.split("\n")[-2], room.names()), (1, "? HOST WRITE", ["V"]))
-        holds(room.sh("./pdp8 list V; stat -c %u:%g V"), "FREE 13\n65534:65533\n")
+    room.sh("./pdp8 create V 20; chown 65534:65533 V || chgrp $(id -G | tr ' ' '\\n' | tail -n 1) V")
+    was = os.stat(f"{room.folder}/V")
+    if (was.st_uid, was.st_gid) != (os.geteuid(), os.getegid()):
+        for error, why in {errno.EPERM: OWNER, errno.EACCES: OWNER, errno.EROFS: "read-only file system", errno.EDQUOT: "no space left", errno.EIO: FAILED}.items():
+            said = room.pdp8("put", "V", "-", "--as", "A", given="A", call="owner", error=error)
+            holds((error, said, room.names()), (error, (1, noted("V", why, AS_IT_WAS)), ["V"]))
+        holds(room.sh("./pdp8 list V; stat -c %u:%g V"), f"FREE 13\n{was.st_uid}:{was.st_gid}\n")
 
 
 @case

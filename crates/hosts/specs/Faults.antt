@@ -2,6 +2,8 @@
 use Rattle.std.specs.Prelude.{◌≡◌, ℕ, zero, suc}
 use Rattle.hosts.specs.declared.faults.HostFault.{HostFault}
 use Rattle.hosts.specs.declared.faults.HostFault.TheVariants as host
+use Rattle.hosts.specs.declared.faults.FaultClass.{FaultClass}
+use Rattle.hosts.specs.declared.faults.FaultClass.TheVariants as class
 use Rattle.hosts.specs.declared.faults.RenameFault.{RenameFault}
 use Rattle.hosts.specs.declared.faults.RenameFault.TheVariants as rename
 use Rattle.hosts.specs.declared.faults.LinkFault.{LinkFault}
@@ -26,6 +28,24 @@ fault_number host.Links = 9
 fault_number host.Large = 10
 fault_number host.Changed = 11
 fault_number host.Pipe = 12
+fault_number host.Owner = 13
+
+-- What a fault is to a command: the file is busy, memory is wanted, or it is any other.
+abbrev pub class_of : HostFault → FaultClass
+class_of host.Busy = class.Busy
+class_of host.Memory = class.Memory
+class_of host.Absent = class.Other
+class_of host.Denied = class.Other
+class_of host.ReadOnly = class.Other
+class_of host.Folder = class.Other
+class_of host.NoFolder = class.Other
+class_of host.Full = class.Other
+class_of host.Links = class.Other
+class_of host.Large = class.Other
+class_of host.Changed = class.Other
+class_of host.Pipe = class.Other
+class_of host.Owner = class.Other
+class_of host.Failed = class.Other
 
 -- The fault of a step by which a new file is made. That a file is busy, or memory is wanted, is said of other calls alone: here it is only
 -- known that the step failed.

@@ -1,7 +1,7 @@
 //! Why a call of a host failed, and what a file holds after one.
 ghost use Rattle.std.specs.Prelude.{◌≡◌, ℕ, false};
 ghost use Rattle.hosts.specs.Event.{Alter, Rename};
-ghost use Rattle.hosts.specs.Faults.{fault_number, rename_number, step_number};
+ghost use Rattle.hosts.specs.Faults.{class_of, fault_number, rename_number, step_number};
 ghost use Rattle.hosts.specs.Streams.{with_fault};
 
 use std::alloc::AllocError;
@@ -45,8 +45,48 @@ pub enum HostFault {
     /// It is a pipe, so it can't be changed.
     Pipe,
 
+    /// The owner of the older file can't be given to the new one.
+    Owner,
+
     /// It can't be done for another reason.
     Failed,
+}
+
+/// What a fault is to a command.
+#[derive(Clone, Copy)]
+pub enum FaultClass {
+    /// Another program holds the file, or has made it meanwhile.
+    Busy,
+
+    /// Memory was wanted.
+    Memory,
+
+    /// Any other fault.
+    Other,
+}
+
+impl HostFault {
+    /// What the fault is to a command.
+    pub fn class(self) -> FaultClass
+        ensures { result ≡ class_of self }
+    {
+        match self {
+            HostFault::Busy => FaultClass::Busy,
+            HostFault::Memory => FaultClass::Memory,
+            HostFault::Absent
+            | HostFault::Denied
+            | HostFault::ReadOnly
+            | HostFault::Folder
+            | HostFault::NoFolder
+            | HostFault::Full
+            | HostFault::Links
+            | HostFault::Large
+            | HostFault::Changed
+            | HostFault::Pipe
+            | HostFault::Owner
+            | HostFault::Failed => FaultClass::Other,
+        }
+    }
 }
 
 impl From<AllocError> for HostFault {
@@ -99,6 +139,7 @@ pub(crate) fn step_fault(fault: HostFault) -> HostFault
         HostFault::Large => HostFault::Large,
         HostFault::Changed => HostFault::Changed,
         HostFault::Pipe => HostFault::Pipe,
+        HostFault::Owner => HostFault::Owner,
         HostFault::Failed => HostFault::Failed,
     }
 }

@@ -13,7 +13,8 @@ mod record;
 mod saving;
 
 pub use faults::{
-    Durability, HostFault, LinkFault, PrintFault, RenameFault, SaveFault, Stream, Unwritten,
+    Durability, FaultClass, HostFault, LinkFault, PrintFault, RenameFault, SaveFault, Stream,
+    Unwritten,
 };
 pub use holding::{Held, hold_file};
 pub use host::Host;

@@ -100,6 +100,7 @@ pub fn fault_number(fault: &HostFault) -> u64
         HostFault::Large => 10,
         HostFault::Changed => 11,
         HostFault::Pipe => 12,
+        HostFault::Owner => 13,
     }
 }
 
@@ -130,6 +131,7 @@ fn number_after(fault: HostFault) -> u64
         HostFault::Large => 11,
         HostFault::Changed => 12,
         HostFault::Pipe => 13,
+        HostFault::Owner => 14,
     }
 }
 
@@ -161,5 +163,6 @@ fn number_after_two(fault: HostFault) -> u64
         HostFault::Large => 12,
         HostFault::Changed => 13,
         HostFault::Pipe => 14,
+        HostFault::Owner => 15,
     }
 }

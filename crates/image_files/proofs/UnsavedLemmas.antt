@@ -1,19 +1,16 @@
--- A file that could not be written, or not held, and what was printed of that.
-use Rattle.std.proofs.Common.{◌≡◌, ◌⊎◌, ◌<◌, ℕ, Bool, true, false, List, Result, Err, ◌∷◌, inl, inr, refl}
+-- A file that could not be written, and what was printed of that.
+use Rattle.std.proofs.Common.{◌≡◌, ◌⊎◌, ◌<◌, ℕ, Bool, true, false, List, Err, ◌∷◌, inl, inr, refl}
 use Rattle.hosts.specs.Event.{Event}
 use Rattle.hosts.specs.Faults.{fault_number}
 use Rattle.hosts.specs.Place.{Step, about}
 use Rattle.hosts.specs.Saving.{AnyMomentOf, IsPlaceNoted, IsUnwritten, StaysAsItWas}
 use Rattle.hosts.specs.Streams.{errors, failures, last_fault, may_replace}
 use Rattle.hosts.specs.declared.faults.HostFault.{HostFault}
-use Rattle.hosts.specs.declared.faults.HostFault.TheVariants as host
 use Rattle.hosts.specs.declared.faults.Unwritten.{Unwritten}
 use Rattle.hosts.specs.declared.faults.Unwritten.TheVariants.{AsItWas, InPart}
 use Rattle.outcome.specs.declared.contents.Content.{Content}
-use Rattle.outcome.specs.declared.endings.Ending.{Ending}
 use Rattle.outcome.specs.declared.endings.Ending.TheVariants.{NotWritten}
 use Rattle.outcome.specs.declared.reasons.Reason.TheVariants.{Fault}
-use Rattle.image_files.specs.Making.{IsUnheldFile, ending_of_file}
 use Rattle.image_files.specs.Reasons.{TellsReason}
 use Rattle.image_files.specs.Saving.{IsPlaceTold, TouchesOnly, Writes}
 
@@ -64,18 +61,3 @@ unsaved content path name file InPart why old between new saves moments cause nu
   },
   told,
 )
-
-pub unheld : (content : Content) (fault : HostFault) (result : Result (Unit {0}) Ending) → (fault ≡ host.Absent → ⊥) → result ≡ Err (ending_of_file content fault) → IsUnheldFile content fault result
-unheld content host.Absent result other is = absurd (other refl)
-unheld content host.Busy result other is = is
-unheld content host.Memory result other is = is
-unheld content host.Denied result other is = is
-unheld content host.ReadOnly result other is = is
-unheld content host.Folder result other is = is
-unheld content host.NoFolder result other is = is
-unheld content host.Full result other is = is
-unheld content host.Links result other is = is
-unheld content host.Large result other is = is
-unheld content host.Changed result other is = is
-unheld content host.Pipe result other is = is
-unheld content host.Failed result other is = is

@@ -3,8 +3,10 @@ use Rattle.std.specs.Prelude.{◌≡◌, ◌⊎◌, ◌<◌, ◌≤◌, ℕ, Boo
 use Rattle.std.specs.Global.{Vec}
 use Rattle.std.specs.Str.{bytes_eq}
 use Rattle.hosts.specs.Event.{Event, TakeInput, failed_call, input_call, tell_call}
+use Rattle.hosts.specs.Faults.{class_of}
+use Rattle.hosts.specs.declared.faults.FaultClass.{FaultClass}
+use Rattle.hosts.specs.declared.faults.FaultClass.TheVariants as class
 use Rattle.hosts.specs.declared.faults.HostFault.{HostFault}
-use Rattle.hosts.specs.declared.faults.HostFault.TheVariants as host
 use Rattle.script8.specs.declared.readings.TheConstants.{MOST}
 use Rattle.script8.specs.declared.faults.SessionFault.TheVariants.{Reader, Memory}
 use Rattle.outcome.specs.Notes.{name_text}
@@ -14,20 +16,13 @@ use Rattle.outcome.specs.declared.endings.Ending.TheVariants.{Fault}
 use Rattle.image_files.specs.Reading.{Looks}
 
 -- standard input can't be read
+abbrev pub input_ending : FaultClass → Ending
+input_ending class.Memory = Fault Memory
+input_ending class.Busy = Fault Reader
+input_ending class.Other = Fault Reader
+
 abbrev pub ending_of_input : HostFault → Ending
-ending_of_input host.Memory = Fault Memory
-ending_of_input host.Busy = Fault Reader
-ending_of_input host.Absent = Fault Reader
-ending_of_input host.Denied = Fault Reader
-ending_of_input host.ReadOnly = Fault Reader
-ending_of_input host.Folder = Fault Reader
-ending_of_input host.NoFolder = Fault Reader
-ending_of_input host.Full = Fault Reader
-ending_of_input host.Links = Fault Reader
-ending_of_input host.Large = Fault Reader
-ending_of_input host.Changed = Fault Reader
-ending_of_input host.Pipe = Fault Reader
-ending_of_input host.Failed = Fault Reader
+ending_of_input fault = input_ending (class_of fault)
 
 -- it has more bytes than are read, of which a note is printed unless memory is wanted for it
 abbrev pub IsLongInput : List Event → Ending → List Event → Type 0

@@ -1,11 +1,13 @@
 -- The commands that make a new volume in a file.
-use Rattle.std.specs.Prelude.{◌≡◌, ◌⊎◌, ◌<◌, ℕ, Bool, Result, Ok, Err, List}
+use Rattle.std.specs.Prelude.{◌≡◌, ◌≢◌, ◌⊎◌, ◌<◌, ℕ, Bool, Result, Ok, Err, List}
 use Rattle.hosts.specs.Event.{Event}
-use Rattle.hosts.specs.Faults.{fault_number}
+use Rattle.hosts.specs.Faults.{class_of, fault_number}
 use Rattle.hosts.specs.Place.{about}
 use Rattle.hosts.specs.Saving.{Makes, AnyMomentOf, replacements}
 use Rattle.hosts.specs.Streams.{errors, failures, last_fault, asked_name, path_of_name, has_links}
 use Rattle.hosts.specs.declared.faults.Durability.{Durability}
+use Rattle.hosts.specs.declared.faults.FaultClass.{FaultClass}
+use Rattle.hosts.specs.declared.faults.FaultClass.TheVariants as class
 use Rattle.hosts.specs.declared.faults.HostFault.{HostFault}
 use Rattle.hosts.specs.declared.faults.HostFault.TheVariants as host
 use Rattle.hosts.specs.declared.faults.Unwritten.TheVariants.{AsItWas}
@@ -20,36 +22,22 @@ use Rattle.image_files.specs.Reasons.{TellsFirst, TellsUnheld}
 use Rattle.image_files.specs.Saving.{Writes, IsSyncTold, TouchesOnly}
 
 -- a file for this that is to be written can't be held, or can't be made, and is as it was
+abbrev pub file_ending : Content → FaultClass → Ending
+file_ending content class.Busy = Busy content
+file_ending content class.Memory = Fault Memory
+file_ending content class.Other = NotWritten content AsItWas
+
 abbrev pub ending_of_file : Content → HostFault → Ending
-ending_of_file content host.Busy = Busy content
-ending_of_file content host.Memory = Fault Memory
-ending_of_file content host.Absent = NotWritten content AsItWas
-ending_of_file content host.Denied = NotWritten content AsItWas
-ending_of_file content host.ReadOnly = NotWritten content AsItWas
-ending_of_file content host.Folder = NotWritten content AsItWas
-ending_of_file content host.NoFolder = NotWritten content AsItWas
-ending_of_file content host.Full = NotWritten content AsItWas
-ending_of_file content host.Links = NotWritten content AsItWas
-ending_of_file content host.Large = NotWritten content AsItWas
-ending_of_file content host.Changed = NotWritten content AsItWas
-ending_of_file content host.Pipe = NotWritten content AsItWas
-ending_of_file content host.Failed = NotWritten content AsItWas
+ending_of_file content fault = file_ending content (class_of fault)
 
 -- a file that is to be the first of its name can't be made: there is one, or a call failed
+abbrev pub first_ending : FaultClass → Ending
+first_ending class.Busy = Line line.HostExists
+first_ending class.Memory = Fault Memory
+first_ending class.Other = NotWritten Image AsItWas
+
 abbrev pub ending_of_first : HostFault → Ending
-ending_of_first host.Busy = Line line.HostExists
-ending_of_first host.Memory = Fault Memory
-ending_of_first host.Absent = NotWritten Image AsItWas
-ending_of_first host.Denied = NotWritten Image AsItWas
-ending_of_first host.ReadOnly = NotWritten Image AsItWas
-ending_of_first host.Folder = NotWritten Image AsItWas
-ending_of_first host.NoFolder = NotWritten Image AsItWas
-ending_of_first host.Full = NotWritten Image AsItWas
-ending_of_first host.Links = NotWritten Image AsItWas
-ending_of_first host.Large = NotWritten Image AsItWas
-ending_of_first host.Changed = NotWritten Image AsItWas
-ending_of_first host.Pipe = NotWritten Image AsItWas
-ending_of_first host.Failed = NotWritten Image AsItWas
+ending_of_first fault = first_ending (class_of fault)
 
 -- A file of these bytes is made where the host says that this name has none, and replaces none. It is there whole, on the disk, unless a note says that it is not
 -- known whether a crash keeps it. At each moment meanwhile a crash left what it might have left before, or the file, whole, where the file
@@ -85,8 +73,7 @@ MakesFirst = MakesBy Image ending_of_first TellsFirst
 
 -- by which fault a command ends so, whose file of a name is there and can't be held to be written
 abbrev pub IsUnheldFile : Content → HostFault → Result (Unit {0}) Ending → Type 0
-IsUnheldFile content host.Absent result = ⊥
-IsUnheldFile content fault result = result ≡ Err (ending_of_file content fault)
+IsUnheldFile content fault result = (fault ≢ host.Absent) × (result ≡ Err (ending_of_file content fault))
 
 -- A file of a name, which is for this, is to have these bytes: one that is there is held, and gets them as any image file does. Where there
 -- is none, one is made. Else a call failed by another fault, which is printed, and nothing is changed.

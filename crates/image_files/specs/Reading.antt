@@ -2,9 +2,11 @@
 use Rattle.std.specs.Prelude.{◌≡◌, ◌≢◌, ◌⊎◌, ◌<◌, ◌≤◌, ℕ, ◌%◌, nat_eq, Bool, true, false, if◌then◌else◌, Option, None, Some, Result, Ok, Err, List, ◌∷◌, length}
 use Rattle.std.specs.Global.{Vec}
 use Rattle.hosts.specs.Event.{Event, Look, failed_call, resolve_call, hold_call, drop_seconds_call, look_call, tell_call}
-use Rattle.hosts.specs.Faults.{fault_number}
+use Rattle.hosts.specs.Faults.{class_of, fault_number}
 use Rattle.hosts.specs.Place.{about}
 use Rattle.hosts.specs.Streams.{output, errors, read, failures, last_fault}
+use Rattle.hosts.specs.declared.faults.FaultClass.{FaultClass}
+use Rattle.hosts.specs.declared.faults.FaultClass.TheVariants as class
 use Rattle.hosts.specs.declared.faults.HostFault.{HostFault}
 use Rattle.hosts.specs.declared.faults.HostFault.TheVariants as host
 use Rattle.image_kind.specs.declared.kinds.ImageKind.{ImageKind}
@@ -61,20 +63,13 @@ with_lock_note content true ok old = old
 with_lock_note content false ok old = tell_call ok (file_text NoLock (content_name content)) ∷ old
 
 -- an image can't be held, or can't be read
+abbrev pub image_ending : FaultClass → Ending
+image_ending class.Busy = Busy Image
+image_ending class.Memory = Fault Memory
+image_ending class.Other = Line HostRead
+
 abbrev pub ending_of_image : HostFault → Ending
-ending_of_image host.Busy = Busy Image
-ending_of_image host.Memory = Fault Memory
-ending_of_image host.Absent = Line HostRead
-ending_of_image host.Denied = Line HostRead
-ending_of_image host.ReadOnly = Line HostRead
-ending_of_image host.Folder = Line HostRead
-ending_of_image host.NoFolder = Line HostRead
-ending_of_image host.Full = Line HostRead
-ending_of_image host.Links = Line HostRead
-ending_of_image host.Large = Line HostRead
-ending_of_image host.Changed = Line HostRead
-ending_of_image host.Pipe = Line HostRead
-ending_of_image host.Failed = Line HostRead
+ending_of_image fault = image_ending (class_of fault)
 
 -- by which fault a command ends so, whose image file is not held, nor read
 abbrev pub IsUnheld : HostFault → Ending → Type 0

@@ -1,8 +1,10 @@
 -- Why a file of the host is not read, or not written, as it is printed on standard error (this project's profile).
 use Rattle.std.specs.Prelude.{◌≡◌, ◌⊎◌, ℕ, Bool, true, false, List, ◌∷◌}
 use Rattle.hosts.specs.Event.{Event, tell_call}
+use Rattle.hosts.specs.Faults.{class_of}
+use Rattle.hosts.specs.declared.faults.FaultClass.{FaultClass}
+use Rattle.hosts.specs.declared.faults.FaultClass.TheVariants as class
 use Rattle.hosts.specs.declared.faults.HostFault.{HostFault}
-use Rattle.hosts.specs.declared.faults.HostFault.TheVariants as host
 use Rattle.outcome.specs.Reasons.{reason_text, bare_text}
 use Rattle.outcome.specs.declared.contents.Content.{Content}
 use Rattle.outcome.specs.declared.contents.Content.TheVariants.{Image, Tape, Listing}
@@ -22,20 +24,13 @@ TellsUnless true why name old new = new ≡ old
 TellsUnless false why name old new = TellsReason why name old new
 
 -- want of memory has a line of its own, and no note
+abbrev pub is_memory : FaultClass → Bool
+is_memory class.Memory = true
+is_memory class.Busy = false
+is_memory class.Other = false
+
 abbrev pub is_want_of_memory : HostFault → Bool
-is_want_of_memory host.Memory = true
-is_want_of_memory host.Busy = false
-is_want_of_memory host.Absent = false
-is_want_of_memory host.Denied = false
-is_want_of_memory host.ReadOnly = false
-is_want_of_memory host.Folder = false
-is_want_of_memory host.NoFolder = false
-is_want_of_memory host.Full = false
-is_want_of_memory host.Links = false
-is_want_of_memory host.Large = false
-is_want_of_memory host.Changed = false
-is_want_of_memory host.Pipe = false
-is_want_of_memory host.Failed = false
+is_want_of_memory fault = is_memory (class_of fault)
 
 -- the fault of a call on the file of a name is printed
 abbrev pub TellsFault : HostFault → List ℕ → List Event → List Event → Type 0
@@ -47,40 +42,26 @@ is_told_later Image = true
 is_told_later Tape = false
 is_told_later Listing = false
 
+abbrev pub is_class_untold : Content → FaultClass → Bool
+is_class_untold content class.Busy = is_told_later content
+is_class_untold content class.Memory = true
+is_class_untold content class.Other = false
+
 abbrev pub is_untold : Content → HostFault → Bool
-is_untold content host.Busy = is_told_later content
-is_untold content host.Memory = true
-is_untold content host.Absent = false
-is_untold content host.Denied = false
-is_untold content host.ReadOnly = false
-is_untold content host.Folder = false
-is_untold content host.NoFolder = false
-is_untold content host.Full = false
-is_untold content host.Links = false
-is_untold content host.Large = false
-is_untold content host.Changed = false
-is_untold content host.Pipe = false
-is_untold content host.Failed = false
+is_untold content fault = is_class_untold content (class_of fault)
 
 -- the file of a name, which is for this, can't be held or made by this fault
 abbrev pub TellsUnheld : Content → HostFault → List ℕ → List Event → List Event → Type 0
 TellsUnheld content fault name = TellsUnless (is_untold content fault) (Fault fault) name
 
 -- why a file is not the first of its name: there is one, or a call failed
+abbrev pub first_reason : FaultClass → HostFault → Reason
+first_reason class.Busy fault = Exists
+first_reason class.Memory fault = Fault fault
+first_reason class.Other fault = Fault fault
+
 abbrev pub reason_of_first : HostFault → Reason
-reason_of_first host.Busy = Exists
-reason_of_first host.Memory = Fault host.Memory
-reason_of_first host.Absent = Fault host.Absent
-reason_of_first host.Denied = Fault host.Denied
-reason_of_first host.ReadOnly = Fault host.ReadOnly
-reason_of_first host.Folder = Fault host.Folder
-reason_of_first host.NoFolder = Fault host.NoFolder
-reason_of_first host.Full = Fault host.Full
-reason_of_first host.Links = Fault host.Links
-reason_of_first host.Large = Fault host.Large
-reason_of_first host.Changed = Fault host.Changed
-reason_of_first host.Pipe = Fault host.Pipe
-reason_of_first host.Failed = Fault host.Failed
+reason_of_first fault = first_reason (class_of fault) fault
 
 abbrev pub TellsFirst : HostFault → List ℕ → List Event → List Event → Type 0
 TellsFirst fault name = TellsUnless (is_want_of_memory fault) (reason_of_first fault) name

@@ -4,7 +4,7 @@ ghost use Rattle.image_files.specs.Faults as spec;
 ghost use Rattle.image_files.specs.Making.{ending_of_file, ending_of_first};
 ghost use Rattle.image_files.specs.Reading.{ending_of_image};
 
-use hosts::{HostFault, PrintFault, Unwritten};
+use hosts::{FaultClass, HostFault, PrintFault, Unwritten};
 use outcome::{Content, Ending};
 use program_reports::ProgramLine;
 use script8::SessionFault;
@@ -13,20 +13,10 @@ use script8::SessionFault;
 pub fn ending_of_image(fault: HostFault) -> Ending
     ensures { result ≡ ending_of_image fault }
 {
-    match fault {
-        HostFault::Busy => Ending::Busy(Content::Image),
-        HostFault::Memory => Ending::Fault(SessionFault::Memory),
-        HostFault::Absent
-        | HostFault::Denied
-        | HostFault::ReadOnly
-        | HostFault::Folder
-        | HostFault::NoFolder
-        | HostFault::Full
-        | HostFault::Links
-        | HostFault::Large
-        | HostFault::Changed
-        | HostFault::Pipe
-        | HostFault::Failed => { Ending::Line(ProgramLine::HostRead) }
+    match fault.class() {
+        FaultClass::Busy => Ending::Busy(Content::Image),
+        FaultClass::Memory => Ending::Fault(SessionFault::Memory),
+        FaultClass::Other => Ending::Line(ProgramLine::HostRead),
     }
 }
 
@@ -44,20 +34,10 @@ pub fn ending_of_print(fault: PrintFault) -> Ending
 pub fn ending_of_file(content: Content, fault: HostFault) -> Ending
     ensures { result ≡ ending_of_file content fault }
 {
-    match fault {
-        HostFault::Busy => Ending::Busy(content),
-        HostFault::Memory => Ending::Fault(SessionFault::Memory),
-        HostFault::Absent
-        | HostFault::Denied
-        | HostFault::ReadOnly
-        | HostFault::Folder
-        | HostFault::NoFolder
-        | HostFault::Full
-        | HostFault::Links
-        | HostFault::Large
-        | HostFault::Changed
-        | HostFault::Pipe
-        | HostFault::Failed => { Ending::NotWritten(content, Unwritten::AsItWas) }
+    match fault.class() {
+        FaultClass::Busy => Ending::Busy(content),
+        FaultClass::Memory => Ending::Fault(SessionFault::Memory),
+        FaultClass::Other => Ending::NotWritten(content, Unwritten::AsItWas),
     }
 }
 
@@ -65,19 +45,9 @@ pub fn ending_of_file(content: Content, fault: HostFault) -> Ending
 pub fn ending_of_first(fault: HostFault) -> Ending
     ensures { result ≡ ending_of_first fault }
 {
-    match fault {
-        HostFault::Busy => Ending::Line(ProgramLine::HostExists),
-        HostFault::Memory => Ending::Fault(SessionFault::Memory),
-        HostFault::Absent
-        | HostFault::Denied
-        | HostFault::ReadOnly
-        | HostFault::Folder
-        | HostFault::NoFolder
-        | HostFault::Full
-        | HostFault::Links
-        | HostFault::Large
-        | HostFault::Changed
-        | HostFault::Pipe
-        | HostFault::Failed => { Ending::NotWritten(Content::Image, Unwritten::AsItWas) }
+    match fault.class() {
+        FaultClass::Busy => Ending::Line(ProgramLine::HostExists),
+        FaultClass::Memory => Ending::Fault(SessionFault::Memory),
+        FaultClass::Other => Ending::NotWritten(Content::Image, Unwritten::AsItWas),
     }
 }

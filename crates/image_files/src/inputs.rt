@@ -3,7 +3,7 @@ ghost use Rattle.image_files.specs.Inputs.{Reads, TakesInput};
 
 use crate::notes::tell_note;
 use crate::reading::look_file;
-use hosts::{Host, HostFault};
+use hosts::{FaultClass, Host};
 use outcome::{Ending, NameNote, Note};
 use script8::SessionFault;
 use script8::readings::MOST;
@@ -38,9 +38,9 @@ pub fn input_bytes<H: Host>(host: &mut H, alloc: Global) -> Result<Vec<u8>, Endi
             }
             Ok(bytes)
         }
-        Err(fault) => match fault {
-            HostFault::Memory => Err(Ending::Fault(SessionFault::Memory)),
-            _ => Err(Ending::Fault(SessionFault::Reader)),
+        Err(fault) => match fault.class() {
+            FaultClass::Memory => Err(Ending::Fault(SessionFault::Memory)),
+            FaultClass::Busy | FaultClass::Other => Err(Ending::Fault(SessionFault::Reader)),
         },
     }
 }

@@ -4,7 +4,7 @@ ghost use Rattle.image_files.specs.Reasons as spec;
 ghost use Rattle.image_files.specs.Reasons.{TellsFault, TellsFirst, TellsReason, TellsUnheld};
 
 use crate::notes::{tell, tell_note};
-use hosts::{Host, HostFault};
+use hosts::{FaultClass, Host, HostFault};
 use outcome::{Content, Note, Reason};
 use std::alloc::Global;
 
@@ -57,19 +57,19 @@ pub fn tell_first<H: Host>(host: &mut H, alloc: Global, name: &str, fault: HostF
 fn is_want_of_memory(fault: HostFault) -> bool
     ensures { result ≡ spec.is_want_of_memory fault }
 {
-    match fault {
-        HostFault::Memory => true,
-        _ => false,
+    match fault.class() {
+        FaultClass::Memory => true,
+        FaultClass::Busy | FaultClass::Other => false,
     }
 }
 
 fn is_untold(content: Content, fault: HostFault) -> bool
     ensures { result ≡ spec.is_untold content fault }
 {
-    match fault {
-        HostFault::Busy => is_told_later(content),
-        HostFault::Memory => true,
-        _ => false,
+    match fault.class() {
+        FaultClass::Busy => is_told_later(content),
+        FaultClass::Memory => true,
+        FaultClass::Other => false,
     }
 }
 
@@ -85,8 +85,8 @@ fn is_told_later(content: Content) -> bool
 fn reason_of_first(fault: HostFault) -> Reason
     ensures { result ≡ spec.reason_of_first fault }
 {
-    match fault {
-        HostFault::Busy => Reason::Exists,
-        _ => Reason::Fault(fault),
+    match fault.class() {
+        FaultClass::Busy => Reason::Exists,
+        FaultClass::Memory | FaultClass::Other => Reason::Fault(fault),
     }
 }

@@ -4,13 +4,14 @@ use Rattle.std.specs.Global.{Vec, Global}
 use Rattle.hosts.specs.Event.{Event, MakeFolder, failed_call, failed_same, folder_call, same_call, there_call, tell_call}
 use Rattle.outcome.specs.Notes.{name_text}
 use Rattle.outcome.specs.declared.notes.NameNote.TheVariants.{GotAsFrames}
-use Rattle.hosts.specs.Faults.{fault_number}
+use Rattle.hosts.specs.Faults.{class_of, fault_number}
 use Rattle.hosts.specs.Place.{about}
 use Rattle.hosts.specs.Saving.{Lays, replacements}
 use Rattle.hosts.specs.Streams.{errors, failures, last_fault}
 use Rattle.hosts.specs.Times.{file_time}
+use Rattle.hosts.specs.declared.faults.FaultClass.{FaultClass}
+use Rattle.hosts.specs.declared.faults.FaultClass.TheVariants as class
 use Rattle.hosts.specs.declared.faults.HostFault.{HostFault}
-use Rattle.hosts.specs.declared.faults.HostFault.TheVariants as host
 use Rattle.char_pack.specs.declared.forms.GetForm.{GetForm}
 use Rattle.os8_dates.specs.declared.days.TheConstants.{NO_DATE}
 use Rattle.os8_dates.specs.Days.{time_of_word}
@@ -84,20 +85,13 @@ abbrev pub PrintsAnswer : Bool → List ℕ → List Event → Result Bool Endin
 PrintsAnswer is_there text = Then (Purely (AreLines text)) (λ lines. Then (Prints lines.items) (λ it. Purely (λ result. result ≡ Ok is_there)))
 
 -- the line of a file that is not laid by this fault; want of memory ends the command
+abbrev pub laid_line : FaultClass → Option ProgramLine
+laid_line class.Busy = Some line.HostExists
+laid_line class.Memory = None
+laid_line class.Other = Some line.HostWrite
+
 abbrev pub line_of_laid : HostFault → Option ProgramLine
-line_of_laid host.Busy = Some line.HostExists
-line_of_laid host.Memory = None
-line_of_laid host.Absent = Some line.HostWrite
-line_of_laid host.Denied = Some line.HostWrite
-line_of_laid host.ReadOnly = Some line.HostWrite
-line_of_laid host.Folder = Some line.HostWrite
-line_of_laid host.NoFolder = Some line.HostWrite
-line_of_laid host.Full = Some line.HostWrite
-line_of_laid host.Links = Some line.HostWrite
-line_of_laid host.Large = Some line.HostWrite
-line_of_laid host.Changed = Some line.HostWrite
-line_of_laid host.Pipe = Some line.HostWrite
-line_of_laid host.Failed = Some line.HostWrite
+line_of_laid fault = laid_line (class_of fault)
 
 -- why is printed with its path, and then its line after its name
 abbrev pub TellsUnlaid : Option ProgramLine → HostFault → List ℕ → List ℕ → List Event → Result Bool Ending → List Event → Type 0
@@ -204,20 +198,13 @@ GivesEach form blocks is_told all done are_there (one ∷ wishes) = Then (GivesW
 -- ## The command
 
 -- a folder can't be made
+abbrev pub folder_ending : FaultClass → Ending
+folder_ending class.Memory = Fault Memory
+folder_ending class.Busy = Line line.HostWrite
+folder_ending class.Other = Line line.HostWrite
+
 abbrev pub ending_of_folder : HostFault → Ending
-ending_of_folder host.Memory = Fault Memory
-ending_of_folder host.Busy = Line line.HostWrite
-ending_of_folder host.Absent = Line line.HostWrite
-ending_of_folder host.Denied = Line line.HostWrite
-ending_of_folder host.ReadOnly = Line line.HostWrite
-ending_of_folder host.Folder = Line line.HostWrite
-ending_of_folder host.NoFolder = Line line.HostWrite
-ending_of_folder host.Full = Line line.HostWrite
-ending_of_folder host.Links = Line line.HostWrite
-ending_of_folder host.Large = Line line.HostWrite
-ending_of_folder host.Changed = Line line.HostWrite
-ending_of_folder host.Pipe = Line line.HostWrite
-ending_of_folder host.Failed = Line line.HostWrite
+ending_of_folder fault = folder_ending (class_of fault)
 
 -- the folder is made, unless there is one of its name
 abbrev pub MakesFolder : List ℕ → List Event → Result (Unit {0}) Ending → List Event → Type 0

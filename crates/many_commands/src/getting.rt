@@ -14,7 +14,7 @@ use crate::giving::{give_noted, refuse};
 use crate::texts::take_lists;
 use archive_many::{OpenVolume, VolumeFile, Wish, wishes_of};
 use host_progress::Progress;
-use hosts::{Host, HostFault};
+use hosts::{FaultClass, Host, HostFault};
 use image_files::{end_sound, look_at, open_volume, tell_fault};
 use os8_dir::FileFault;
 use outcome::Ending;
@@ -81,20 +81,9 @@ fn make_folder<H: Host>(host: &mut H, alloc: Global, folder: &str) -> Result<(),
 fn ending_of_folder(fault: HostFault) -> Ending
     ensures { result ≡ ending_of_folder fault }
 {
-    match fault {
-        HostFault::Memory => Ending::Fault(SessionFault::Memory),
-        HostFault::Busy
-        | HostFault::Absent
-        | HostFault::Denied
-        | HostFault::ReadOnly
-        | HostFault::Folder
-        | HostFault::NoFolder
-        | HostFault::Full
-        | HostFault::Links
-        | HostFault::Large
-        | HostFault::Changed
-        | HostFault::Pipe
-        | HostFault::Failed => { Ending::Line(ProgramLine::HostWrite) }
+    match fault.class() {
+        FaultClass::Memory => Ending::Fault(SessionFault::Memory),
+        FaultClass::Busy | FaultClass::Other => Ending::Line(ProgramLine::HostWrite),
     }
 }
 

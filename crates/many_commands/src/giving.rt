@@ -12,7 +12,7 @@ ghost use Rattle.many_commands.specs.Texts.{is_got_noted};
 use crate::texts::{get_form, is_got_noted};
 use archive_files::GetForm;
 use archive_many::{OpenVolume, VolumeFile, host_name};
-use hosts::{Host, HostFault, lay};
+use hosts::{FaultClass, Host, HostFault, lay};
 use image_files::{named_lines, print, program_line, tell_first, tell_note, tell_pair};
 use os8_dates::{NO_DATE, time_of_word};
 use os8_dir::FileFault;
@@ -270,20 +270,10 @@ fn tell_laid<H: Host>(
 fn line_of_laid(fault: HostFault) -> Option<ProgramLine>
     ensures { result ≡ spec.line_of_laid fault }
 {
-    match fault {
-        HostFault::Busy => Some(ProgramLine::HostExists),
-        HostFault::Memory => None,
-        HostFault::Absent
-        | HostFault::Denied
-        | HostFault::ReadOnly
-        | HostFault::Folder
-        | HostFault::NoFolder
-        | HostFault::Full
-        | HostFault::Links
-        | HostFault::Large
-        | HostFault::Changed
-        | HostFault::Pipe
-        | HostFault::Failed => { Some(ProgramLine::HostWrite) }
+    match fault.class() {
+        FaultClass::Busy => Some(ProgramLine::HostExists),
+        FaultClass::Memory => None,
+        FaultClass::Other => Some(ProgramLine::HostWrite),
     }
 }
 

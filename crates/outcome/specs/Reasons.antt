@@ -21,6 +21,7 @@ fault_words host.Links = codes "too many links"
 fault_words host.Large = codes "larger than the file system takes"
 fault_words host.Changed = codes "changed while it was read"
 fault_words host.Pipe = codes "is a pipe"
+fault_words host.Owner = codes "its owner can't be kept"
 
 -- a file is there that is to stay, or it has no room
 abbrev pub reason_words : Reason → List ℕ

@@ -62,6 +62,7 @@ fn fault_words(fault: HostFault) -> &'static str
         HostFault::Large => "larger than the file system takes",
         HostFault::Changed => "changed while it was read",
         HostFault::Pipe => "is a pipe",
+        HostFault::Owner => "its owner can't be kept",
     }
 }
 

@@ -2,12 +2,13 @@
 use Rattle.std.specs.Prelude.{◌≡◌, ◌⊎◌, ◌<◌, ℕ, Result, Ok, Err, codes, String, List, [], ◌∷◌, ◌++◌, length, true}
 use Rattle.std.specs.Global.{Global, Vec}
 use Rattle.hosts.specs.Event.{Event, MakeFolder, failed_call, folder_call, there_call}
-use Rattle.hosts.specs.Faults.{fault_number}
+use Rattle.hosts.specs.Faults.{class_of, fault_number}
 use Rattle.hosts.specs.Place.{about}
 use Rattle.hosts.specs.Saving.{Lays, replacements}
 use Rattle.hosts.specs.Streams.{errors, failures, last_fault}
+use Rattle.hosts.specs.declared.faults.FaultClass.{FaultClass}
+use Rattle.hosts.specs.declared.faults.FaultClass.TheVariants as class
 use Rattle.hosts.specs.declared.faults.HostFault.{HostFault}
-use Rattle.hosts.specs.declared.faults.HostFault.TheVariants as host
 use Rattle.script8.specs.declared.faults.SessionFault.TheVariants.{Memory}
 use Rattle.program_reports.specs.declared.programs.ProgramLine.TheVariants.{HostExists, HostWrite}
 use Rattle.outcome.specs.declared.endings.Ending.{Ending}
@@ -44,20 +45,13 @@ IsPath folder piece (Ok path) = path.bytes.items ≡ folder ++ codes "/" ++ piec
 IsPath folder piece (Err ending) = ending ≡ Fault Memory
 
 -- the folder can't be made, or a file can't be laid: there is one of its name, or a call failed
+abbrev pub laid_ending : FaultClass → Ending
+laid_ending class.Busy = Line HostExists
+laid_ending class.Memory = Fault Memory
+laid_ending class.Other = Line HostWrite
+
 abbrev pub ending_of_laid : HostFault → Ending
-ending_of_laid host.Busy = Line HostExists
-ending_of_laid host.Memory = Fault Memory
-ending_of_laid host.Absent = Line HostWrite
-ending_of_laid host.Denied = Line HostWrite
-ending_of_laid host.ReadOnly = Line HostWrite
-ending_of_laid host.Folder = Line HostWrite
-ending_of_laid host.NoFolder = Line HostWrite
-ending_of_laid host.Full = Line HostWrite
-ending_of_laid host.Links = Line HostWrite
-ending_of_laid host.Large = Line HostWrite
-ending_of_laid host.Changed = Line HostWrite
-ending_of_laid host.Pipe = Line HostWrite
-ending_of_laid host.Failed = Line HostWrite
+ending_of_laid fault = laid_ending (class_of fault)
 
 -- a file of these bytes is laid, whole, where none of its name was, or there is none, or the one that was; no other file changes
 pub record LaysBy (result : Result (Unit {0}) HostFault) (path file : List ℕ) (old new : List Event) : Type 0 where

@@ -5,7 +5,7 @@ ghost use Rattle.image_files.specs.Answers.{Answers, AreLines};
 ghost use Rattle.salvage_commands.specs.ScanningBlocks.{GivesPiece, IsPath, LaysFirst, MakesFolder, ShowsPieces, WritesAll, WritesEach, WritesPiece, WritesPieces, ending_of_laid};
 
 use archive_many::{BlocksFault, blocks_of};
-use hosts::{Host, HostFault, lay};
+use hosts::{FaultClass, Host, HostFault, lay};
 use image_files::{look_at, print, refuse_image, tell_first};
 use outcome::Ending;
 use program_reports::ProgramLine;
@@ -174,19 +174,9 @@ fn lay_first<H: Host>(host: &mut H, alloc: Global, path: &str, bytes: &[u8]) -> 
 fn ending_of(fault: HostFault) -> Ending
     ensures { result ≡ ending_of_laid fault }
 {
-    match fault {
-        HostFault::Busy => Ending::Line(ProgramLine::HostExists),
-        HostFault::Memory => Ending::Fault(SessionFault::Memory),
-        HostFault::Absent
-        | HostFault::Denied
-        | HostFault::ReadOnly
-        | HostFault::Folder
-        | HostFault::NoFolder
-        | HostFault::Full
-        | HostFault::Links
-        | HostFault::Large
-        | HostFault::Changed
-        | HostFault::Pipe
-        | HostFault::Failed => Ending::Line(ProgramLine::HostWrite),
+    match fault.class() {
+        FaultClass::Busy => Ending::Line(ProgramLine::HostExists),
+        FaultClass::Memory => Ending::Fault(SessionFault::Memory),
+        FaultClass::Other => Ending::Line(ProgramLine::HostWrite),
     }
 }

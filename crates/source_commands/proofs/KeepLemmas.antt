@@ -6,8 +6,10 @@ use Rattle.std.specs.Prelude.{String, is_some}
 use Rattle.std.specs.Str.{bytes_eq}
 use Rattle.hosts.specs.Event.{Event, failed_same, tell_call}
 use Rattle.hosts.specs.Place.{about}
+use Rattle.hosts.specs.Faults.{class_of}
+use Rattle.hosts.specs.declared.faults.FaultClass.{FaultClass}
+use Rattle.hosts.specs.declared.faults.FaultClass.TheVariants as class
 use Rattle.hosts.specs.declared.faults.HostFault.{HostFault}
-use Rattle.hosts.specs.declared.faults.HostFault.TheVariants as host
 use Rattle.archive_files.specs.Asking.{Target, target_of}
 use Rattle.archive_files.specs.declared.faults.ArchiveFault.{ArchiveFault}
 use Rattle.archive_files.specs.declared.faults.ArchiveFault.TheVariants as archive
@@ -35,7 +37,7 @@ use Rattle.outcome.specs.declared.reasons.Reason.TheVariants as reason
 use Rattle.image_files.specs.Answers.{AreLines, Refuses}
 use Rattle.image_files.specs.Ending.{TellsLine}
 use Rattle.image_files.specs.Laws.{KeepsFiles}
-use Rattle.image_files.specs.Making.{IsUnheldFile, MakesBy, MakesFile, ending_of_file}
+use Rattle.image_files.specs.Making.{IsUnheldFile, MakesBy, MakesFile, ending_of_file, file_ending}
 use Rattle.image_files.specs.Inputs.{TakesInput}
 use Rattle.image_files.specs.Stored.{stored_line}
 use Rattle.image_files.specs.Places.{IsApart}
@@ -171,20 +173,13 @@ writes-never content path name file old Unreported new p is = p
 writes-never content path name file old NoReader new p is = p
 writes-never content path name file old Misuse new p is = p
 
+class-ending : (content : Content) (of : FaultClass) → is_refusal (file_ending content of) ≡ false
+class-ending content class.Busy = refl
+class-ending content class.Memory = refl
+class-ending content class.Other = refl
+
 file-ending : (content : Content) (fault : HostFault) → is_refusal (ending_of_file content fault) ≡ false
-file-ending content host.Busy = refl
-file-ending content host.Memory = refl
-file-ending content host.Absent = refl
-file-ending content host.Denied = refl
-file-ending content host.ReadOnly = refl
-file-ending content host.Folder = refl
-file-ending content host.NoFolder = refl
-file-ending content host.Full = refl
-file-ending content host.Links = refl
-file-ending content host.Large = refl
-file-ending content host.Changed = refl
-file-ending content host.Pipe = refl
-file-ending content host.Failed = refl
+file-ending content fault = class-ending content (class_of fault)
 
 archive-ending : (fault : ArchiveFault) → is_refusal (ending_of_archive fault) ≡ false
 archive-ending (archive.Image fault) = refl
@@ -201,19 +196,7 @@ same-ending : (ending other : Ending) → refused ending ≡ refused other → e
 same-ending ending other is = cc
 
 unheld-never : (content : Content) (fault : HostFault) (ending : Ending) → IsUnheldFile content fault (Err ending) → is_refusal ending ≡ true → ⊥
-unheld-never content host.Absent ending p is = absurd p
-unheld-never content host.Busy ending p is = other-ending ending (ending_of_file content host.Busy) (same-ending ending (ending_of_file content host.Busy) p) (file-ending content host.Busy) is
-unheld-never content host.Memory ending p is = other-ending ending (ending_of_file content host.Memory) (same-ending ending (ending_of_file content host.Memory) p) (file-ending content host.Memory) is
-unheld-never content host.Denied ending p is = other-ending ending (ending_of_file content host.Denied) (same-ending ending (ending_of_file content host.Denied) p) (file-ending content host.Denied) is
-unheld-never content host.ReadOnly ending p is = other-ending ending (ending_of_file content host.ReadOnly) (same-ending ending (ending_of_file content host.ReadOnly) p) (file-ending content host.ReadOnly) is
-unheld-never content host.Folder ending p is = other-ending ending (ending_of_file content host.Folder) (same-ending ending (ending_of_file content host.Folder) p) (file-ending content host.Folder) is
-unheld-never content host.NoFolder ending p is = other-ending ending (ending_of_file content host.NoFolder) (same-ending ending (ending_of_file content host.NoFolder) p) (file-ending content host.NoFolder) is
-unheld-never content host.Full ending p is = other-ending ending (ending_of_file content host.Full) (same-ending ending (ending_of_file content host.Full) p) (file-ending content host.Full) is
-unheld-never content host.Links ending p is = other-ending ending (ending_of_file content host.Links) (same-ending ending (ending_of_file content host.Links) p) (file-ending content host.Links) is
-unheld-never content host.Large ending p is = other-ending ending (ending_of_file content host.Large) (same-ending ending (ending_of_file content host.Large) p) (file-ending content host.Large) is
-unheld-never content host.Changed ending p is = other-ending ending (ending_of_file content host.Changed) (same-ending ending (ending_of_file content host.Changed) p) (file-ending content host.Changed) is
-unheld-never content host.Pipe ending p is = other-ending ending (ending_of_file content host.Pipe) (same-ending ending (ending_of_file content host.Pipe) p) (file-ending content host.Pipe) is
-unheld-never content host.Failed ending p is = other-ending ending (ending_of_file content host.Failed) (same-ending ending (ending_of_file content host.Failed) p) (file-ending content host.Failed) is
+unheld-never content fault ending (other, p) is = other-ending ending (ending_of_file content fault) (same-ending ending (ending_of_file content fault) p) (file-ending content fault) is
 
 by-never : (content : Content) (name file : List ℕ) → Never (MakesBy content (ending_of_file content) (TellsUnheld content) name file)
 by-never content name file old ending new (fault, between, ends, unmade, told) is = other-ending ending (ending_of_file content fault) ends (file-ending content fault) is

@@ -66,12 +66,22 @@ pub(crate) fn create_new<R: Files<File = File>>(rt: &R, name: &str, mode: u32) -
     numbered
 }
 
-/// Gives an open file the owner and the permissions of an older one.
+/// Gives an open file the owner and the permissions of an older one. That the user may not give it the owner is a reason of its own.
 pub(crate) fn take_owner(file: &File, older: &File) -> Result<(), HostFault> {
     let old = answer(older.metadata())?;
     let new = answer(file.metadata())?;
     if new.uid() != old.uid() || new.gid() != old.gid() {
-        answer(fchown(file, Some(old.uid()), Some(old.gid())))?;
+        if let Err(error) = fchown(file, Some(old.uid()), Some(old.gid())) {
+            return Err(owner_fault(&error));
+        }
     }
     answer(file.set_permissions(old.permissions()))
+}
+
+/// Why a file doesn't get the owner of another one.
+fn owner_fault(error: &io::Error) -> HostFault {
+    match error.kind() {
+        ErrorKind::PermissionDenied => HostFault::Owner,
+        _ => fault_of(error),
+    }
 }

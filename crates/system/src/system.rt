@@ -22,7 +22,8 @@
 //!   taken away meanwhile, another one is made. Where the path has a held file, only the user may open the new one (0600) until `own_beside`,
 //!   before which it has no byte. Else it is a new file, whose bytes are its user's to show. That has 0666 less his mask from the first. No
 //!   path that a person names changes.
-//! - `own_beside`: `fstat`, `fchown` where the owner differs, `fchmod`, all of the open file. No byte changes.
+//! - `own_beside`: `fstat`, `fchown` where the owner or the group differs, `fchmod`, all of the open file. Where `fchown` is not permitted it
+//!   answers that the owner can't be kept. No byte changes.
 //! - `lock_beside`: `flock` without waiting, which `make_beside` has done before.
 //! - `write_beside`: `write` until all bytes are written. A failed one may have written some.
 //! - `date_beside`: `futimens`, which sets the time that `stat` gives as that of the last change, or doesn't. No byte changes.

@@ -1,5 +1,4 @@
 use Rattle.std.proofs.Common.{Err, ap, inl, inr, rules, sym}
-use Rattle.image_files.proofs.UnsavedLemmas.{unheld}
 use Rattle.image_files.proofs.making.make_file.Goals as goal
 
 pub returns-in_default : goal.returns-in_default
@@ -8,7 +7,7 @@ returns-in_default g c =
     inr (inr (
       c.in-Err.fault,
       g.H.Host.history c.hold_file.new.host,
-      unheld c.args.content c.in-Err.fault _ c.in_default.not-Absent (ap (λ it. Err it) c.ending_of_file-in_default.ensures),
+      (c.in_default.not-Absent, ap (λ it. Err it) c.ending_of_file-in_default.ensures),
       record { files = e.files; prints = e.output; tells = e.errors; reads = e.read },
       e.cause,
       sym e.why,
