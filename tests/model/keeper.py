@@ -46,6 +46,16 @@ def word_of_time(seconds: int) -> Optional[int]:
     return day.month << 8 | day.day << 3 | (day.year - 1970) % 8
 
 
+def year_note(seconds: int) -> list[str]:
+    """The note on the day, in UTC, of a time, where a volume that shows 1970 to 1977 shows it as one of another year."""
+    word = word_of_time(seconds)
+    if word is None:
+        return []
+    day = datetime.datetime.fromtimestamp(seconds, datetime.timezone.utc).date().isoformat()
+    shown, own = day_of((word,), 1977)[0], max(int(day[:4]), 1977)
+    return [] if shown == day else [f"note: {day} is shown as {shown}: --year {own} shows it so"]
+
+
 def asked_text(asked: Asked) -> str:
     return f"--at {asked}" if isinstance(asked, int) else asked.decode().upper()
 
@@ -128,6 +138,8 @@ class Keeper:
                 return [*notes, *told], status
         if max([len(info or ()) if it is None else 1 for it in dates]) > before.info:
             return [*notes, f"? PUT 2 ONLY {before.info} WORDS"], 1
+        years = [note for it in times for note in year_note(it)]
+        notes, lines = [*notes, *years], [*lines, *years]
         for at, ((path, content), name) in enumerate(zip(given, names)):
             date = dates[at]
             own = info if date is None else (date,)

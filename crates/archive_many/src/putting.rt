@@ -24,6 +24,9 @@ pub struct NewFile {
 
     /// The word of its date, if it has one of its own, which is then its first information word.
     pub date: Option<Word>,
+
+    /// The year of that date, since a word alone means one of each eight. No file on a volume has it.
+    pub year: Option<u16>,
 }
 
 /// An image with files that were put into it.

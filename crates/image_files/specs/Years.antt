@@ -7,6 +7,7 @@ use Rattle.os8_dates.specs.Dates.{date_in, last_year}
 use Rattle.os8_dates.specs.declared.dates.Date.{Date}
 use Rattle.os8_dates.specs.declared.years.TheConstants.{LAST_YEAR, LEAST_LAST}
 use Rattle.archive_many.specs.Opened.{OpensVolume}
+use Rattle.archive_many.specs.declared.putting.NewFile.{NewFile}
 use Rattle.script8.specs.declared.faults.SessionFault.TheVariants.{Memory}
 use Rattle.outcome.specs.Notes.{name_text}
 use Rattle.outcome.specs.declared.notes.NameNote.TheVariants.{Hint}
@@ -67,3 +68,20 @@ abbrev pub NotesYear : List ℕ → List ℕ → Option ℕ → List Event → R
 NotesYear image [] year = Purely IsDone
 NotesYear image (word ∷ words) None = Purely IsDone
 NotesYear image (word ∷ words) (Some year) = NotesGiven image word (last_for year)
+
+-- ## Dates of files of the host
+
+-- how a date of a year is shown among those up to a last one, if it is shown as one of another year
+abbrev pub TellsDate : ℕ → Option ℕ → Option ℕ → List Event → Result (Unit {0}) Ending → List Event → Type 0
+TellsDate last None year = Purely IsDone
+TellsDate last (Some word) None = Purely IsDone
+TellsDate last (Some word) (Some year) = TellsShown word last (last_for year)
+
+-- each date of these files, in their order
+abbrev pub TellsFiles : ℕ → List NewFile → List Event → Result (Unit {0}) Ending → List Event → Type 0
+TellsFiles last [] = Purely IsDone
+TellsFiles last (file ∷ files) = Then (TellsDate last file.date file.year) (λ it. TellsFiles last files)
+
+-- the volume in an image says which years it shows
+abbrev pub NotesFiles : List ℕ → List NewFile → List Event → Result (Unit {0}) Ending → List Event → Type 0
+NotesFiles image files = Then (Answers (OpensVolume image) (length image)) (λ blocks. TellsFiles (last_year (block_word blocks 0 0o377)) files)

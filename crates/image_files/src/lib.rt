@@ -26,7 +26,7 @@ mod years;
 pub use answers::{
     answer_of, named_lines, open_volume, program_line, put_stored, show_file, stored_line,
 };
-pub use dates::date_of_file;
+pub use dates::{FileDay, date_of_file, word_of_day, year_of_day};
 pub use ending::{Rooms, end, end_sound, tell_line};
 pub use images::Image;
 pub use information::take_words;
@@ -42,4 +42,4 @@ pub use printing::{print, report, store};
 pub use reading::{ImagePlace, look_at, look_file, one_volume_in, script_volume_in, volume_in};
 pub use reasons::{tell_fault, tell_first, tell_reason};
 pub use states::{ChangeState, ImageNotes};
-pub use years::note_year;
+pub use years::{note_files, note_year};

@@ -2,10 +2,11 @@
 ghost use Rattle.std.specs.Prelude.{◌≡◌, ◌≤◌, ◌++◌, codes, decimal, IfOk};
 ghost use Rattle.os8_dates.specs.declared.years.TheConstants.{LAST_YEAR, LEAST_LAST};
 ghost use Rattle.image_files.specs.Years as spec;
-ghost use Rattle.image_files.specs.Years.{NotesGiven, NotesYear, TellsHint, TellsShown, TellsUnless};
+ghost use Rattle.image_files.specs.Years.{NotesFiles, NotesGiven, NotesYear, TellsDate, TellsFiles, TellsHint, TellsShown, TellsUnless};
 
 use crate::answers::open_volume;
 use crate::notes::tell_note;
+use archive_many::NewFile;
 use hosts::Host;
 use os8_dates::{Date, LAST_YEAR, LEAST_LAST, date_of, last_year};
 use outcome::{Ending, NameNote, Note};
@@ -28,6 +29,59 @@ pub fn note_year<H: Host>(
         [word, ..] => match year {
             None => Ok(()),
             Some(year) => note_given(host, alloc, image, *word, last_for(year)),
+        },
+    }
+}
+
+/// Prints how each date of these files will be shown that the volume in an image shows as one of another year.
+pub fn note_files<H: Host>(
+    host: &mut H,
+    alloc: Global,
+    image: &[u8],
+    files: &[NewFile],
+) -> Result<(), Ending>
+    ensures { NotesFiles image.now files.now (H.history host.old) result (H.history host.new) }
+{
+    let volume = open_volume(host, alloc, image)?;
+    tell_files(host, alloc, files, last_year(volume.last_word()))
+}
+
+/// Prints how each date of these files is shown that is of another year than those up to a last one.
+fn tell_files<H: Host>(
+    host: &mut H,
+    alloc: Global,
+    files: &[NewFile],
+    last: u16,
+) -> Result<(), Ending>
+    requires least { LEAST_LAST ≤ last }
+    requires most { last ≤ LAST_YEAR }
+    ensures { TellsFiles last files.now (H.history host.old) result (H.history host.new) }
+{
+    let mut rest = files;
+    while let [file, others @ ..] = rest {
+        tell_date(host, alloc, file.date, file.year, last)?;
+        rest = others;
+    }
+    Ok(())
+}
+
+/// Prints how a date is shown, if it is of another year than those up to a last one.
+fn tell_date<H: Host>(
+    host: &mut H,
+    alloc: Global,
+    date: Option<Word>,
+    year: Option<u16>,
+    last: u16,
+) -> Result<(), Ending>
+    requires least { LEAST_LAST ≤ last }
+    requires most { last ≤ LAST_YEAR }
+    ensures { TellsDate last date year (H.history host.old) result (H.history host.new) }
+{
+    match date {
+        None => Ok(()),
+        Some(word) => match year {
+            None => Ok(()),
+            Some(year) => tell_shown(host, alloc, word, last, last_for(usize::from(year))),
         },
     }
 }

@@ -30,13 +30,13 @@ knows-more old new files file more knows = λ q. more q ∙ ap (λ b. b || nat_e
 
 -- what is wanted to keep a file that was read is wanted for its step
 unkept-date : (texts : TextsForm) (is_dated : Bool) (path : List ℕ) (name : ℕ) (bytes : List ℕ) (old : List Event) (file : NewFile) (new : List Event)
-    → Then (DatesNext is_dated path) (λ date. MakesFile texts path name bytes date) old (Ok file) new → Then (DatesNext is_dated path) (λ date. MakesFile texts path name bytes date) old (Err (Fault Memory)) new
+    → Then (DatesNext is_dated path) (λ day. MakesFile texts path name bytes day) old (Ok file) new → Then (DatesNext is_dated path) (λ day. MakesFile texts path name bytes day) old (Err (Fault Memory)) new
 unkept-date texts is_dated path name bytes old file new (inl ends) = absurd ends
 unkept-date texts is_dated path name bytes old file new (inr it) = inr (record { given = it.given; between = it.between; done = it.done; after = (refl, inr it.after.1) })
 
 unkept-bytes : (texts : TextsForm) (is_dated : Bool) (path : List ℕ) (name : ℕ) (old : List Event) (file : NewFile) (new : List Event)
-    → Then (LooksWhole path) (λ bytes. Then (DatesNext is_dated path) (λ date. MakesFile texts path name bytes.items date)) old (Ok file) new
-    → Then (LooksWhole path) (λ bytes. Then (DatesNext is_dated path) (λ date. MakesFile texts path name bytes.items date)) old (Err (Fault Memory)) new
+    → Then (LooksWhole path) (λ bytes. Then (DatesNext is_dated path) (λ day. MakesFile texts path name bytes.items day)) old (Ok file) new
+    → Then (LooksWhole path) (λ bytes. Then (DatesNext is_dated path) (λ day. MakesFile texts path name bytes.items day)) old (Err (Fault Memory)) new
 unkept-bytes texts is_dated path name old file new (inl ends) = absurd ends
 unkept-bytes texts is_dated path name old file new (inr it) =
     inr (record { given = it.given; between = it.between; done = it.done; after = unkept-date texts is_dated path name it.given.items it.between file new it.after })

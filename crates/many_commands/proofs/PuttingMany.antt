@@ -16,11 +16,11 @@ use Rattle.image_files.specs.Reading.{Opens}
 use Rattle.image_files.specs.Saving.{Stores}
 use Rattle.archive_many.specs.Putting.{given_count, info_words, most_wanted}
 use Rattle.image_files.specs.Information.{TakesWords}
-use Rattle.image_files.specs.Years.{NotesYear}
-use Rattle.image_files.proofs.WordsLemmas.{words-never, year-never}
+use Rattle.image_files.specs.declared.dates.FileDay.{FileDay}
+use Rattle.image_files.proofs.WordsLemmas.{files-never, words-never, year-never}
 use Rattle.image_files.specs.Work.{Then, Purely}
 use Rattle.image_files.specs.declared.images.Image.{Image}
-use Rattle.many_commands.specs.PuttingMany.{AreFiles, DatesNext, FindsFiles, IsNoName, JudgesInfo, JudgesPut, KeepsIf, KeepsWords, LooksWhole, MakesFile, MakesMany, PutsFiles, PutsMany, ReadsEach, ReadsNext, RefusesLoss, RefusesMany, TakesName, TellsEmpty, TellsPath, TellsText, TellsUnread, WantsMemory, has_empty, loss_from, paths_of, stored_lines}
+use Rattle.many_commands.specs.PuttingMany.{AreFiles, DatesNext, FindsFiles, IsNoName, JudgesInfo, JudgesPut, KeepsIf, KeepsWords, LooksWhole, MakesFile, MakesMany, NotesDates, PutsFiles, PutsMany, ReadsEach, ReadsNext, RefusesLoss, RefusesMany, TakesName, TellsEmpty, TellsPath, TellsText, TellsUnread, WantsMemory, has_empty, loss_from, paths_of, stored_lines}
 use Rattle.many_commands.specs.Texts.{TakesLists, TellsBadList, TellsFrames, is_put_noted, lists_of}
 use Rattle.image_files.specs.Laws.{KeepsFiles, ChangesNothing, LeavesFiles}
 use Rattle.image_files.proofs.KeepLemmas.{date-keeps, then-keeps, purely-keeps, looks-keeps}
@@ -60,16 +60,16 @@ tells-frames : (note : NameNote) (is : Bool) (name : List ℕ) (old new : List E
 tells-frames note false name old new p = same old new p
 tells-frames note true name old new (ok, p) = same _ new p
 
-makes-file : (texts : TextsForm) (path : List ℕ) (name : ℕ) (bytes : List ℕ) (date : Option ℕ) → KeepsFiles (MakesFile texts path name bytes date)
-makes-file texts path name bytes date old (Ok file) new (is, p) = tells-frames PutAsFrames (is_put_noted texts name) path old new p
-makes-file texts path name bytes date old (Err ending) new (is, inl p) = same old new p
-makes-file texts path name bytes date old (Err ending) new (is, inr p) = tells-frames PutAsFrames (is_put_noted texts name) path old new p
+makes-file : (texts : TextsForm) (path : List ℕ) (name : ℕ) (bytes : List ℕ) (day : Option FileDay) → KeepsFiles (MakesFile texts path name bytes day)
+makes-file texts path name bytes day old (Ok file) new (is, p) = tells-frames PutAsFrames (is_put_noted texts name) path old new p
+makes-file texts path name bytes day old (Err ending) new (is, inl p) = same old new p
+makes-file texts path name bytes day old (Err ending) new (is, inr p) = tells-frames PutAsFrames (is_put_noted texts name) path old new p
 
 next-never : (texts : TextsForm) (is_dated : Bool) (files : List NewFile) (path : List ℕ) → KeepsFiles (ReadsNext texts is_dated files path)
 next-never texts is_dated files path =
-    then-keeps (TakesName files path) (λ name. Then (LooksWhole path) (λ bytes. Then (DatesNext is_dated path) (λ date. MakesFile texts path name bytes.items date))) (name-never files path)
-    (λ name. then-keeps (LooksWhole path) (λ bytes. Then (DatesNext is_dated path) (λ date. MakesFile texts path name bytes.items date)) (whole-never path)
-    (λ bytes. then-keeps (DatesNext is_dated path) (λ date. MakesFile texts path name bytes.items date) (dated-never is_dated path) (λ date. makes-file texts path name bytes.items date)))
+    then-keeps (TakesName files path) (λ name. Then (LooksWhole path) (λ bytes. Then (DatesNext is_dated path) (λ day. MakesFile texts path name bytes.items day))) (name-never files path)
+    (λ name. then-keeps (LooksWhole path) (λ bytes. Then (DatesNext is_dated path) (λ day. MakesFile texts path name bytes.items day)) (whole-never path)
+    (λ bytes. then-keeps (DatesNext is_dated path) (λ day. MakesFile texts path name bytes.items day) (dated-never is_dated path) (λ day. makes-file texts path name bytes.items day)))
 
 each-never : (texts : TextsForm) (is_dated : Bool) (files : List NewFile) (paths : List (List ℕ)) → KeepsFiles (ReadsEach texts is_dated files paths)
 each-never texts is_dated files [] = purely-keeps (AreFiles files)
@@ -125,9 +125,13 @@ makes-never form files image old (Ok it) new p = same old new p.1
 makes-never form files image old (Err ending) new (fault, puts, inl p) = refuses-many (paths_of form) files fault (length image) old ending new p
 makes-never form files image old (Err ending) new (fault, puts, inr p) = wants-memory (paths_of form) fault old ending new p
 
+notes-dates-never : (is_dated : Bool) (form : PutManyForm) (files : List NewFile) (image : List ℕ) → KeepsFiles (NotesDates is_dated form files image)
+notes-dates-never true form files image = files-never image files
+notes-dates-never false form files image = year-never image (info_words (words_of form.info)) form.year
+
 judges-info-never : (form : PutManyForm) (files : List NewFile) (image : List ℕ) → KeepsFiles (JudgesInfo form files image)
-judges-info-never form files image = then-keeps (TakesWords (most_wanted 0 (given_count (words_of form.info)) files) image) (λ it. NotesYear image (info_words (words_of form.info)) form.year)
-    (words-never (most_wanted 0 (given_count (words_of form.info)) files) image) (λ it. year-never image (info_words (words_of form.info)) form.year)
+judges-info-never form files image = then-keeps (TakesWords (most_wanted 0 (given_count (words_of form.info)) files) image) (λ it. NotesDates form.is_dated form files image)
+    (words-never (most_wanted 0 (given_count (words_of form.info)) files) image) (λ it. notes-dates-never form.is_dated form files image)
 
 judges-never : (form : PutManyForm) (files : List NewFile) (image : List ℕ) → KeepsFiles (JudgesPut form files image)
 judges-never form files image = then-keeps (KeepsWords form files image) (λ it. JudgesInfo form files image) (keeps-never form files image) (λ it. judges-info-never form files image)

@@ -24,9 +24,10 @@ use Rattle.outcome.specs.declared.endings.Ending.{Ending}
 use Rattle.outcome.specs.declared.endings.Ending.TheVariants.{Line, Fault}
 use Rattle.program_tasks.specs.declared.forms.PutManyForm.{PutManyForm}
 use Rattle.program_tasks.specs.declared.forms.TextsForm.{TextsForm}
-use Rattle.image_files.specs.Dates.{DatesFile}
+use Rattle.image_files.specs.Dates.{DatesFile, word_of_day, year_of_day}
+use Rattle.image_files.specs.declared.dates.FileDay.{FileDay}
 use Rattle.image_files.specs.Information.{TakesWords}
-use Rattle.image_files.specs.Years.{NotesYear}
+use Rattle.image_files.specs.Years.{NotesFiles, NotesYear}
 use Rattle.image_files.specs.Work.{Then, Purely}
 use Rattle.image_files.specs.Reading.{Looks, Opens}
 use Rattle.image_files.specs.Answers.{AreLines, Refuses}
@@ -70,23 +71,23 @@ LooksWhole path old (Ok bytes) new = Looks path path old (Ok bytes) new
 LooksWhole path old (Err ending) new = (why : Ending) × (between : List Event) × Looks path path old (Err why) between × TellsUnread path why between ending new
 
 -- a file that is to be put, unless memory is wanted to keep it
-abbrev pub IsNewFile : TextsForm → ℕ → List ℕ → Option ℕ → Result NewFile Ending → Type 0
-IsNewFile texts name bytes date (Ok file) = (file.name ≡ name) × (file.bytes.items ≡ bytes) × (file.form ≡ put_form texts name) × (file.date ≡ date)
-IsNewFile texts name bytes date (Err ending) = ending ≡ Fault Memory
+abbrev pub IsNewFile : TextsForm → ℕ → List ℕ → Option FileDay → Result NewFile Ending → Type 0
+IsNewFile texts name bytes day (Ok file) = (file.name ≡ name) × (file.bytes.items ≡ bytes) × (file.form ≡ put_form texts name) × (file.date ≡ word_of_day day) × (file.year ≡ year_of_day day)
+IsNewFile texts name bytes day (Err ending) = ending ≡ Fault Memory
 
 -- the same, and it is printed where it is put as frames, and others as texts
-abbrev pub MakesFile : TextsForm → List ℕ → ℕ → List ℕ → Option ℕ → List Event → Result NewFile Ending → List Event → Type 0
-MakesFile texts path name bytes date old (Ok file) new = IsNewFile texts name bytes date (Ok file) × TellsFrames PutAsFrames (is_put_noted texts name) path old new
-MakesFile texts path name bytes date old (Err ending) new = IsNewFile texts name bytes date (Err ending) × ((new ≡ old) ⊎ TellsFrames PutAsFrames (is_put_noted texts name) path old new)
+abbrev pub MakesFile : TextsForm → List ℕ → ℕ → List ℕ → Option FileDay → List Event → Result NewFile Ending → List Event → Type 0
+MakesFile texts path name bytes day old (Ok file) new = IsNewFile texts name bytes day (Ok file) × TellsFrames PutAsFrames (is_put_noted texts name) path old new
+MakesFile texts path name bytes day old (Err ending) new = IsNewFile texts name bytes day (Err ending) × ((new ≡ old) ⊎ TellsFrames PutAsFrames (is_put_noted texts name) path old new)
 
 -- the date of a file of the host, where that is asked for; one whose time is not known is reported
-abbrev pub DatesNext : Bool → List ℕ → List Event → Result (Option ℕ) Ending → List Event → Type 0
-DatesNext is_dated path old (Ok date) new = DatesFile is_dated path old (Ok date) new
+abbrev pub DatesNext : Bool → List ℕ → List Event → Result (Option FileDay) Ending → List Event → Type 0
+DatesNext is_dated path old (Ok day) new = DatesFile is_dated path old (Ok day) new
 DatesNext is_dated path old (Err ending) new = (why : Ending) × (between : List Event) × DatesFile is_dated path old (Err why) between × TellsUnread path why between ending new
 
 -- the file of a path, after those of earlier ones
 abbrev pub ReadsNext : TextsForm → Bool → List NewFile → List ℕ → List Event → Result NewFile Ending → List Event → Type 0
-ReadsNext texts is_dated files path = Then (TakesName files path) (λ name. Then (LooksWhole path) (λ bytes. Then (DatesNext is_dated path) (λ date. MakesFile texts path name bytes.items date)))
+ReadsNext texts is_dated files path = Then (TakesName files path) (λ name. Then (LooksWhole path) (λ bytes. Then (DatesNext is_dated path) (λ day. MakesFile texts path name bytes.items day)))
 
 -- these are the files
 abbrev pub AreFiles : List NewFile → Result (Vec NewFile) Ending → Type 0
@@ -175,9 +176,14 @@ stored_lines [] blocks = []
 stored_lines (file ∷ files) [] = []
 stored_lines (file ∷ files) (count ∷ counts) = program_line (line.Stored file.name count) ++ stored_lines files counts
 
--- no more information words are given than there is room for, and it is printed how a date will be shown that is shown otherwise
+-- it is printed how dates of the files, where these are asked for, or else a date that is given will be shown that are shown otherwise
+abbrev pub NotesDates : Bool → PutManyForm → List NewFile → List ℕ → List Event → Result (Unit {0}) Ending → List Event → Type 0
+NotesDates true form files image = NotesFiles image files
+NotesDates false form files image = NotesYear image (info_words (words_of form.info)) form.year
+
+-- and no more information words are given than there is room for
 abbrev pub JudgesInfo : PutManyForm → List NewFile → List ℕ → List Event → Result (Unit {0}) Ending → List Event → Type 0
-JudgesInfo form files image = Then (TakesWords (most_wanted 0 (given_count (words_of form.info)) files) image) (λ it. NotesYear image (info_words (words_of form.info)) form.year)
+JudgesInfo form files image = Then (TakesWords (most_wanted 0 (given_count (words_of form.info)) files) image) (λ it. NotesDates form.is_dated form files image)
 
 -- and no older file loses its words
 abbrev pub JudgesPut : PutManyForm → List NewFile → List ℕ → List Event → Result (Unit {0}) Ending → List Event → Type 0

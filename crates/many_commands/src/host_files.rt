@@ -9,7 +9,7 @@ ghost use Rattle.many_commands.specs.NameSteps.{KnowsNames, has_key};
 use crate::texts::{note_put, put_form};
 use archive_many::{NewFile, volume_name};
 use hosts::Host;
-use image_files::{date_of_file, look_file, tell_note};
+use image_files::{FileDay, date_of_file, look_file, tell_note, word_of_day, year_of_day};
 use os8_dir::{FileFault, Name};
 use outcome::{Ending, NameNote, Note, PlainNote};
 use program_reports::ProgramLine;
@@ -17,7 +17,6 @@ use program_tasks::TextsForm;
 use script8::SessionFault;
 use std::alloc::{AllocError, Global};
 use std::collections::BTreeSet;
-use word12::Word;
 
 /// The files of these paths, which are read in their order.
 pub(crate) fn read_files<H: Host>(
@@ -62,11 +61,11 @@ fn read_next<H: Host>(
 {
     let name = take_name(host, alloc, path, names)?;
     let bytes = look_whole(host, alloc, path)?;
-    let date = date_next(host, alloc, path, is_dated)?;
-    new_file(host, alloc, texts, path, name, bytes, date)
+    let day = date_next(host, alloc, path, is_dated)?;
+    new_file(host, alloc, texts, path, name, bytes, &day)
 }
 
-/// The file of a path that has this name and these bytes. It is printed where it is put as frames, and others as texts.
+/// The file of a path that has this name, these bytes and the date of a day, if there is one. It is printed where it is put as frames, and others as texts.
 fn new_file<H: Host>(
     host: &mut H,
     alloc: Global,
@@ -74,16 +73,17 @@ fn new_file<H: Host>(
     path: &str,
     name: Name,
     bytes: Vec<u8>,
-    date: Option<Word>,
+    day: &Option<FileDay>,
 ) -> Result<NewFile, Ending>
-    ensures { MakesFile texts.now path.now name bytes.items date (H.history host.old) result (H.history host.new) }
+    ensures { MakesFile texts.now path.now name bytes.items day.now (H.history host.old) result (H.history host.new) }
 {
     note_put(host, alloc, texts, path, name)?;
     Ok(NewFile {
         name,
         bytes,
         form: put_form(texts, name),
-        date,
+        date: word_of_day(day),
+        year: year_of_day(day),
     })
 }
 
@@ -161,17 +161,17 @@ fn look_whole<H: Host>(host: &mut H, alloc: Global, path: &str) -> Result<Vec<u8
     }
 }
 
-/// The word of the day on which the file of a path was last changed, where that is asked for. Where it is not known, the path is printed.
+/// The day on which the file of a path was last changed, where that is asked for. Where it is not known, the path is printed.
 fn date_next<H: Host>(
     host: &mut H,
     alloc: Global,
     path: &str,
     is_dated: bool,
-) -> Result<Option<Word>, Ending>
+) -> Result<Option<FileDay>, Ending>
     ensures { DatesNext is_dated path.now (H.history host.old) result (H.history host.new) }
 {
     match date_of_file(host, alloc, path, is_dated) {
-        Ok(date) => Ok(date),
+        Ok(day) => Ok(day),
         Err(why) => Err(tell_unread(host, alloc, path, why)),
     }
 }

@@ -7,7 +7,7 @@ ghost use Rattle.image_files.specs.Answers.{AreLines};
 ghost use Rattle.image_files.specs.Stored as put_spec;
 ghost use Rattle.image_files.specs.Stored.{TellsBad};
 ghost use Rattle.many_commands.specs.PuttingMany as spec;
-ghost use Rattle.many_commands.specs.PuttingMany.{FindsFiles, JudgesInfo, JudgesPut, KeepsIf, KeepsWords, MakesMany, PutsFiles, PutsMany, RefusesLoss, TellsEmpty, TellsPath, TellsText, loss_from, paths_of};
+ghost use Rattle.many_commands.specs.PuttingMany.{FindsFiles, JudgesInfo, JudgesPut, KeepsIf, KeepsWords, MakesMany, NotesDates, PutsFiles, PutsMany, RefusesLoss, TellsEmpty, TellsPath, TellsText, loss_from, paths_of};
 ghost use Rattle.many_commands.specs.PutManySteps.{IsFileRefused, IsNotPut, IsTextRefused};
 
 use crate::host_files::read_files;
@@ -15,7 +15,9 @@ use crate::texts::take_lists;
 use archive_files::bad_text_at;
 use archive_many::{ManyFault, ManyImage, NewFile, VolumeFile, empties, open, put_all};
 use hosts::Host;
-use image_files::{Image, note_year, put_stored, refuse_image, store, take_words, tell_note};
+use image_files::{
+    Image, note_files, note_year, put_stored, refuse_image, store, take_words, tell_note,
+};
 use os8_dir::FileFault;
 use outcome::{Ending, NameNote, Note};
 use program_tasks::PutManyForm;
@@ -74,6 +76,22 @@ fn judge_info<H: Host>(
     ensures { JudgesInfo form.now files.now image.now (H.history host.old) result (H.history host.new) }
 {
     take_words(host, alloc, image, most_wanted(form, files))?;
+    note_dates(host, alloc, form, files, image)
+}
+
+/// Prints how dates of the files, where these are asked for, or else a date that is given will be shown that are shown otherwise.
+fn note_dates<H: Host>(
+    host: &mut H,
+    alloc: Global,
+    form: &PutManyForm,
+    files: &[NewFile],
+    image: &[u8],
+) -> Result<(), Ending>
+    ensures { NotesDates form.now.is_dated form.now files.now image.now (H.history host.old) result (H.history host.new) }
+{
+    if form.is_dated {
+        return note_files(host, alloc, image, files);
+    }
     note_year(host, alloc, image, info_of(&form.info), form.year)
 }
 

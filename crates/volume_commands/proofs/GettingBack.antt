@@ -22,12 +22,14 @@ use Rattle.program_tasks.specs.declared.forms.ImageForm.{ImageForm}
 use Rattle.program_tasks.specs.declared.forms.PutOneForm.{PutOneForm}
 use Rattle.image_files.specs.Again.{AreAlike, IsFoundAgain, LooksAndFinds, LooksIn}
 use Rattle.image_files.specs.Answers.{Answers, AreLines}
+use Rattle.image_files.specs.Dates.{word_of_day}
 use Rattle.image_files.specs.Laws.{ChangesNothing, HasKeptKind}
 use Rattle.image_files.specs.Notes.{TellsOfImage}
 use Rattle.image_files.specs.Reading.{Looks, LooksAt}
 use Rattle.image_files.specs.Saving.{Prints, Saves, SavesIf, Stores}
 use Rattle.image_files.specs.Stored.{stored_line, words_of}
 use Rattle.image_files.specs.Work.{Then, Purely}
+use Rattle.image_files.specs.declared.dates.FileDay.{FileDay}
 use Rattle.image_files.specs.declared.images.Image.{Image}
 use Rattle.volume_commands.specs.GettingBack.{HasAfter, IsGotBack, IsPrinted, LooksAndShows, PrintsOrLacks, ShowsIn}
 use Rattle.volume_commands.specs.Putting.{MakesNew, PutsInto}
@@ -80,10 +82,10 @@ made-stored form image bytes date old between new before (inr it) =
       told = stored.told;
     }
 
-pub has-put : (form : PutOneForm) (image : Image) (bytes : List ℕ) (date : Option ℕ) (old new : List Event) → PutsInto form image bytes date old (Ok tt) new → HasPut form image bytes date old new
-has-put form image bytes date old new (inl ends) = absurd ends
-has-put form image bytes date old new (inr it) =
-    made-stored form image bytes date old it.between new (judges-never form image.bytes.items bytes date old (Ok it.given) it.between it.done) it.after
+pub has-put : (form : PutOneForm) (image : Image) (bytes : List ℕ) (day : Option FileDay) (old new : List Event) → PutsInto form image bytes day old (Ok tt) new → HasPut form image bytes (word_of_day day) old new
+has-put form image bytes day old new (inl ends) = absurd ends
+has-put form image bytes day old new (inr it) =
+    made-stored form image bytes (word_of_day day) old it.between new (judges-never form image.bytes.items bytes day old (Ok it.given) it.between it.done) it.after
 
 -- ## What is printed of an image that is found
 

@@ -1,5 +1,5 @@
 -- Commands that have changed no file where they are refused.
-use Rattle.std.proofs.Common.{ℕ, Bool, true, false, Option, None, Some, Result, Ok, Err, List, inl, inr, length, map, bytes_eq, codes}
+use Rattle.std.proofs.Common.{ℕ, Bool, true, false, Option, None, Some, Result, Ok, Err, List, [], ◌∷◌, inl, inr, length, map, bytes_eq, codes}
 use Rattle.hosts.specs.Event.{Event}
 use Rattle.name_patterns.specs.Patterns.{has_pattern}
 use Rattle.outcome.specs.declared.endings.Ending.{Ending}
@@ -22,7 +22,8 @@ use Rattle.program_tasks.specs.declared.forms.CopyForm.{CopyForm}
 use Rattle.program_tasks.specs.declared.forms.DeleteForm.{DeleteForm}
 use Rattle.program_tasks.specs.declared.forms.ImageForm.{ImageForm}
 use Rattle.program_tasks.specs.declared.forms.PutOneForm.{PutOneForm}
-use Rattle.image_files.specs.Dates.{DatesFile}
+use Rattle.image_files.specs.Dates.{DatesFile, word_of_day}
+use Rattle.image_files.specs.declared.dates.FileDay.{FileDay}
 use Rattle.image_files.specs.Answers.{Answers, AreLines}
 use Rattle.volume_commands.specs.Asking.{AreNamed, MeansFile}
 use Rattle.volume_commands.specs.Changing.{Changes, GivesName, RefusesName, Renames, Squeezes}
@@ -30,14 +31,13 @@ use Rattle.volume_commands.specs.Choosing.{AreWished, Chooses, FindsAll, MeansFi
 use Rattle.volume_commands.specs.Copying.{Copies, CopiesFrom, CopiesInto, MakesCopy, RefusesCopy, TellsCopy, copied_lines}
 use Rattle.image_files.specs.Pairs.{RefusesIf, is_one_image, is_want_of}
 use Rattle.volume_commands.specs.Deleting.{Deletes, TakesMeant, TakesOut, RefusesFile}
-use Rattle.volume_commands.specs.Putting.{JudgesInfo, JudgesPut, KeepsWords, MakesNew, Puts, PutsInto, TellsIf}
+use Rattle.volume_commands.specs.Putting.{JudgesInfo, JudgesPut, KeepsWords, MakesNew, NotesDate, Puts, PutsInto, TellsIf}
 use Rattle.image_files.specs.Stored.{is_bad_text, TellsPlace, stored_line, words_of}
 use Rattle.image_files.specs.Inputs.{Reads, ReadsIf, TakesInput}
 use Rattle.image_files.specs.Reading.{LooksAt, Opens}
 use Rattle.image_files.specs.Saving.{Stores}
 use Rattle.archive_many.specs.Putting.{given_count, info_words, words_wanted}
 use Rattle.image_files.specs.Information.{TakesWords}
-use Rattle.image_files.specs.Years.{NotesYear}
 use Rattle.image_files.proofs.WordsLemmas.{words-never, year-never}
 use Rattle.image_files.specs.Work.{Then, Purely}
 use Rattle.image_files.specs.declared.images.Image.{Image}
@@ -178,22 +178,26 @@ makes-new-never form image bytes date old (Ok it) new p = same old new p.1
 makes-new-never form image bytes date old (Err ending) new (inl (why, puts, p)) = tells-if (is_bad_text why) why bytes (length image) old ending new p
 makes-new-never form image bytes date old (Err ending) new (inr p) = same old new p.1
 
-judges-info-never : (form : PutOneForm) (image : List ℕ) (date : Option ℕ) → KeepsFiles (JudgesInfo form image date)
-judges-info-never form image date = then-keeps (TakesWords (words_wanted (given_count (words_of form.info)) date) image) (λ it. NotesYear image (info_words (words_of form.info)) form.year)
-    (words-never (words_wanted (given_count (words_of form.info)) date) image) (λ it. year-never image (info_words (words_of form.info)) form.year)
+notes-date-never : (form : PutOneForm) (image : List ℕ) (day : Option FileDay) → KeepsFiles (NotesDate form image day)
+notes-date-never form image None = year-never image (info_words (words_of form.info)) form.year
+notes-date-never form image (Some day) = year-never image (day.word ∷ []) (Some day.year)
 
-pub judges-never : (form : PutOneForm) (image bytes : List ℕ) (date : Option ℕ) → KeepsFiles (JudgesPut form image bytes date)
-judges-never form image bytes date = then-keeps (KeepsWords form image bytes) (λ it. JudgesInfo form image date) (keeps-words-never form image bytes) (λ it. judges-info-never form image date)
+judges-info-never : (form : PutOneForm) (image : List ℕ) (day : Option FileDay) → KeepsFiles (JudgesInfo form image day)
+judges-info-never form image day = then-keeps (TakesWords (words_wanted (given_count (words_of form.info)) (word_of_day day)) image) (λ it. NotesDate form image day)
+    (words-never (words_wanted (given_count (words_of form.info)) (word_of_day day)) image) (λ it. notes-date-never form image day)
 
-puts-into : (form : PutOneForm) (image : Image) (bytes : List ℕ) (date : Option ℕ) → LeavesFiles (PutsInto form image bytes date)
-puts-into form image bytes date =
-    then-leaves (JudgesPut form image.bytes.items bytes date) (λ it. Then (MakesNew form image.bytes.items bytes date) (λ made. Then (Purely (AreLines (stored_line made))) (λ line. Stores image made.bytes.items line.items)))
-    (judges-never form image.bytes.items bytes date)
-    (λ it. then-leaves (MakesNew form image.bytes.items bytes date) (λ made. Then (Purely (AreLines (stored_line made))) (λ line. Stores image made.bytes.items line.items))
-    (makes-new-never form image.bytes.items bytes date) (λ made. lines-leave image made.bytes.items (stored_line made)))
+pub judges-never : (form : PutOneForm) (image bytes : List ℕ) (day : Option FileDay) → KeepsFiles (JudgesPut form image bytes day)
+judges-never form image bytes day = then-keeps (KeepsWords form image bytes) (λ it. JudgesInfo form image day) (keeps-words-never form image bytes) (λ it. judges-info-never form image day)
+
+puts-into : (form : PutOneForm) (image : Image) (bytes : List ℕ) (day : Option FileDay) → LeavesFiles (PutsInto form image bytes day)
+puts-into form image bytes day =
+    then-leaves (JudgesPut form image.bytes.items bytes day) (λ it. Then (MakesNew form image.bytes.items bytes (word_of_day day)) (λ made. Then (Purely (AreLines (stored_line made))) (λ line. Stores image made.bytes.items line.items)))
+    (judges-never form image.bytes.items bytes day)
+    (λ it. then-leaves (MakesNew form image.bytes.items bytes (word_of_day day)) (λ made. Then (Purely (AreLines (stored_line made))) (λ line. Stores image made.bytes.items line.items))
+    (makes-new-never form image.bytes.items bytes (word_of_day day)) (λ made. lines-leave image made.bytes.items (stored_line made)))
 
 pub puts-leave : (form : PutOneForm) → LeavesFiles (Puts form)
 puts-leave form =
-    then-leaves (Opens form.image) (λ image. Then (Reads form.file.bytes.items) (λ bytes. Then (DatesFile form.is_dated form.file.bytes.items) (λ date. PutsInto form image bytes.items date))) (opens-never form.image)
-    (λ image. then-leaves (Reads form.file.bytes.items) (λ bytes. Then (DatesFile form.is_dated form.file.bytes.items) (λ date. PutsInto form image bytes.items date)) (reads-if (bytes_eq form.file.bytes.items (codes "-")) form.file.bytes.items)
-    (λ bytes. then-leaves (DatesFile form.is_dated form.file.bytes.items) (λ date. PutsInto form image bytes.items date) (date-keeps form.is_dated form.file.bytes.items) (λ date. puts-into form image bytes.items date)))
+    then-leaves (Opens form.image) (λ image. Then (Reads form.file.bytes.items) (λ bytes. Then (DatesFile form.is_dated form.file.bytes.items) (λ day. PutsInto form image bytes.items day))) (opens-never form.image)
+    (λ image. then-leaves (Reads form.file.bytes.items) (λ bytes. Then (DatesFile form.is_dated form.file.bytes.items) (λ day. PutsInto form image bytes.items day)) (reads-if (bytes_eq form.file.bytes.items (codes "-")) form.file.bytes.items)
+    (λ bytes. then-leaves (DatesFile form.is_dated form.file.bytes.items) (λ day. PutsInto form image bytes.items day) (date-keeps form.is_dated form.file.bytes.items) (λ day. puts-into form image bytes.items day)))

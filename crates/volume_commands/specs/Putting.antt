@@ -16,7 +16,8 @@ use Rattle.outcome.specs.declared.notes.NameNote.TheVariants.{Empty}
 use Rattle.outcome.specs.declared.endings.Ending.{Ending}
 use Rattle.outcome.specs.declared.endings.Ending.TheVariants.{Fault}
 use Rattle.program_tasks.specs.declared.forms.PutOneForm.{PutOneForm}
-use Rattle.image_files.specs.Dates.{DatesFile}
+use Rattle.image_files.specs.Dates.{DatesFile, word_of_day}
+use Rattle.image_files.specs.declared.dates.FileDay.{FileDay}
 use Rattle.image_files.specs.Information.{TakesWords}
 use Rattle.image_files.specs.Years.{NotesYear}
 use Rattle.image_files.specs.Work.{Then, Purely}
@@ -68,18 +69,23 @@ MakesNew form image bytes date old (Err ending) new =
     ((fault : ArchiveFault) × PutsFile image form.name.bytes.items form.form bytes (info_or date (words_of form.info)) (Err fault) × TellsRefusal fault bytes (length image) old ending new)
     ⊎ ((ending ≡ Fault Memory) × (new ≡ old))
 
--- no more information words are given than there is room for, and it is printed how a date will be shown that is shown otherwise
-abbrev pub JudgesInfo : PutOneForm → List ℕ → Option ℕ → List Event → Result (Unit {0}) Ending → List Event → Type 0
-JudgesInfo form image date = Then (TakesWords (words_wanted (given_count (words_of form.info)) date) image) (λ it. NotesYear image (info_words (words_of form.info)) form.year)
+-- it is printed how a day of the file, or else a date that is given, will be shown that is shown otherwise
+abbrev pub NotesDate : PutOneForm → List ℕ → Option FileDay → List Event → Result (Unit {0}) Ending → List Event → Type 0
+NotesDate form image None = NotesYear image (info_words (words_of form.info)) form.year
+NotesDate form image (Some day) = NotesYear image (day.word ∷ []) (Some day.year)
+
+-- and no more information words are given than there is room for
+abbrev pub JudgesInfo : PutOneForm → List ℕ → Option FileDay → List Event → Result (Unit {0}) Ending → List Event → Type 0
+JudgesInfo form image day = Then (TakesWords (words_wanted (given_count (words_of form.info)) (word_of_day day)) image) (λ it. NotesDate form image day)
 
 -- and no older file loses its words
-abbrev pub JudgesPut : PutOneForm → List ℕ → List ℕ → Option ℕ → List Event → Result (Unit {0}) Ending → List Event → Type 0
-JudgesPut form image bytes date = Then (KeepsWords form image bytes) (λ it. JudgesInfo form image date)
+abbrev pub JudgesPut : PutOneForm → List ℕ → List ℕ → Option FileDay → List Event → Result (Unit {0}) Ending → List Event → Type 0
+JudgesPut form image bytes day = Then (KeepsWords form image bytes) (λ it. JudgesInfo form image day)
 
-abbrev pub PutsInto : PutOneForm → Image → List ℕ → Option ℕ → List Event → Result (Unit {0}) Ending → List Event → Type 0
-PutsInto form image bytes date = Then (JudgesPut form image.bytes.items bytes date) (λ it. Then (MakesNew form image.bytes.items bytes date) (λ made. Then (Purely (AreLines (stored_line made))) (λ line. Stores image made.bytes.items line.items)))
+abbrev pub PutsInto : PutOneForm → Image → List ℕ → Option FileDay → List Event → Result (Unit {0}) Ending → List Event → Type 0
+PutsInto form image bytes day = Then (JudgesPut form image.bytes.items bytes day) (λ it. Then (MakesNew form image.bytes.items bytes (word_of_day day)) (λ made. Then (Purely (AreLines (stored_line made))) (λ line. Stores image made.bytes.items line.items)))
 
 -- An image file is held and read, and then the file of the host. More information words are refused than the files of the volume have. The
 -- image with the file on its volume is saved, and only then its line is printed.
 abbrev pub Puts : PutOneForm → List Event → Result (Unit {0}) Ending → List Event → Type 0
-Puts form = Then (Opens form.image) (λ image. Then (Reads form.file.bytes.items) (λ bytes. Then (DatesFile form.is_dated form.file.bytes.items) (λ date. PutsInto form image bytes.items date)))
+Puts form = Then (Opens form.image) (λ image. Then (Reads form.file.bytes.items) (λ bytes. Then (DatesFile form.is_dated form.file.bytes.items) (λ day. PutsInto form image bytes.items day)))

@@ -13,6 +13,7 @@ ghost use Rattle.program_tasks.specs.declared.forms.ImageForm.{ImageForm as Imag
 ghost use Rattle.program_tasks.specs.declared.forms.PutOneForm.{PutOneForm as PutOne};
 ghost use Rattle.image_files.specs.Laws.{KeepsFiles, LeavesFiles};
 ghost use Rattle.image_files.specs.Reading.{JudgesOpened};
+ghost use Rattle.image_files.specs.declared.dates.FileDay.{FileDay as Day};
 ghost use Rattle.image_files.specs.declared.images.Image.{Image as Opened};
 ghost use Rattle.image_files.specs.declared.reading.ImagePlace.{ImagePlace as Held};
 ghost use Rattle.volume_commands.specs.Changing.{Squeezes, Renames};
@@ -46,8 +47,8 @@ pub fn refused_changes()
 /// change left there prints the bytes that were put, or memory is wanted. Frames have zeros to the end of their last block. A tape is the one
 /// that they begin with, and a text has LF alone at the end of each line. What `get` does is to look at the image file, and then at its bytes.
 pub fn file_comes_back()
-    ensures puts { (form : PutOne) (place : Held) (file bytes : List ℕ) (date : Option ℕ) (image : Opened) (opening opened old new : List Event)
-        → JudgesOpened place form.image file opening (Ok image) opened → PutsInto form image bytes date old (Ok tt) new
+    ensures puts { (form : PutOne) (place : Held) (file bytes : List ℕ) (day : Option Day) (image : Opened) (opening opened old new : List Event)
+        → JudgesOpened place form.image file opening (Ok image) opened → PutsInto form image bytes day old (Ok tt) new
         → IsGotBack form image file bytes old new }
     ensures gets { (file : File) (how : How) (form : Image) (old new : List Event) (result : Result (Unit {0}) Ending) → form.is_lenient ≡ false
         → Shows (λ bytes. Gets bytes (wanted_file file) how) form old result new

@@ -3,7 +3,7 @@ ghost use Rattle.std.specs.Prelude.{◌≡◌, option_copied, OnOk, OnErr};
 ghost use Rattle.archive_files.specs.Putting.{PutsFile};
 ghost use Rattle.archive_many.specs.Putting.{info_or, info_words, given_count, words_wanted};
 ghost use Rattle.image_files.specs.Stored as spec;
-ghost use Rattle.volume_commands.specs.Putting.{JudgesInfo, JudgesPut, Puts, PutsInto, KeepsWords, MakesNew};
+ghost use Rattle.volume_commands.specs.Putting.{JudgesInfo, JudgesPut, NotesDate, Puts, PutsInto, KeepsWords, MakesNew};
 ghost use Rattle.image_files.specs.Stored.{TellsBad, stored_line, words_of};
 ghost use Rattle.volume_commands.specs.PutSteps.{RefusesLoss, FindsFiles, IsNotPut};
 
@@ -11,8 +11,8 @@ use archive_files::{ArchiveFault, NewImage, bad_text_at, put};
 use archive_many::{VolumeFile, empties, open};
 use hosts::Host;
 use image_files::{
-    Image, date_of_file, given_bytes, note_year, refuse_image, store, stored_line, take_words,
-    tell_note,
+    FileDay, Image, date_of_file, given_bytes, note_year, refuse_image, store, stored_line,
+    take_words, tell_note, word_of_day,
 };
 use name_spelling::typed_name;
 use os8_dir::{FileFault, Name};
@@ -28,8 +28,8 @@ pub fn put_file<H: Host>(host: &mut H, alloc: Global, form: &PutOneForm) -> Resu
 {
     let image = Image::open(host, alloc, &form.image)?;
     let bytes = given_bytes(host, alloc, form.file.as_str())?;
-    let date = date_of_file(host, alloc, form.file.as_str(), form.is_dated)?;
-    put_into(host, alloc, form, image, &bytes, date)
+    let day = date_of_file(host, alloc, form.file.as_str(), form.is_dated)?;
+    put_into(host, alloc, form, image, &bytes, &day)
 }
 
 /// Puts bytes of the host on the volume in an image, and reports it.
@@ -39,13 +39,12 @@ fn put_into<H: Host>(
     form: &PutOneForm,
     image: Image,
     bytes: &[u8],
-    date: Option<Word>,
+    day: &Option<FileDay>,
 ) -> Result<(), Ending>
-    ensures { PutsInto form.now image bytes.now date (H.history host.old) result (H.history host.new) }
+    ensures { PutsInto form.now image bytes.now day.now (H.history host.old) result (H.history host.new) }
 {
-    let again = date;
-    judge_put(host, alloc, form, &image.bytes, bytes, again)?;
-    let new = new_image(host, alloc, form, &image.bytes, bytes, date)?;
+    judge_put(host, alloc, form, &image.bytes, bytes, day)?;
+    let new = new_image(host, alloc, form, &image.bytes, bytes, word_of_day(day))?;
     let line = stored_line(alloc, &new)?;
     store(host, alloc, image, &new.bytes, &line)
 }
@@ -57,12 +56,12 @@ fn judge_put<H: Host>(
     form: &PutOneForm,
     image: &[u8],
     bytes: &[u8],
-    date: Option<Word>,
+    day: &Option<FileDay>,
 ) -> Result<(), Ending>
-    ensures { JudgesPut form.now image.now bytes.now date (H.history host.old) result (H.history host.new) }
+    ensures { JudgesPut form.now image.now bytes.now day.now (H.history host.old) result (H.history host.new) }
 {
     keep_words(host, alloc, form, image, bytes)?;
-    judge_info(host, alloc, form, image, date)
+    judge_info(host, alloc, form, image, day)
 }
 
 /// Refuses information words for which there is no room, and prints how a date will be shown that is shown otherwise.
@@ -71,12 +70,31 @@ fn judge_info<H: Host>(
     alloc: Global,
     form: &PutOneForm,
     image: &[u8],
-    date: Option<Word>,
+    day: &Option<FileDay>,
 ) -> Result<(), Ending>
-    ensures { JudgesInfo form.now image.now date (H.history host.old) result (H.history host.new) }
+    ensures { JudgesInfo form.now image.now day.now (H.history host.old) result (H.history host.new) }
 {
-    take_words(host, alloc, image, words_wanted(form, date))?;
-    note_year(host, alloc, image, info_of(&form.info), form.year)
+    take_words(host, alloc, image, words_wanted(form, word_of_day(day)))?;
+    note_date(host, alloc, form, image, day)
+}
+
+/// Prints how a day of the file, or else a date that is given, will be shown that is shown otherwise.
+fn note_date<H: Host>(
+    host: &mut H,
+    alloc: Global,
+    form: &PutOneForm,
+    image: &[u8],
+    day: &Option<FileDay>,
+) -> Result<(), Ending>
+    ensures { NotesDate form.now image.now day.now (H.history host.old) result (H.history host.new) }
+{
+    match day {
+        None => note_year(host, alloc, image, info_of(&form.info), form.year),
+        Some(day) => {
+            let year = usize::from(day.year);
+            note_year(host, alloc, image, &[day.word], Some(year))
+        }
+    }
 }
 
 /// Refuses a text of no byte that would replace a file of the volume, unless that is asked for.

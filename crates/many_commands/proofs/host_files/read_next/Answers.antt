@@ -9,8 +9,8 @@ returns-in_err-name-clause-reads g c = λ files knows. inl (ends_with (TakesName
 pub returns-in_err-bytes-clause-reads : goal.returns-in_err-bytes-clause-reads
 returns-in_err-bytes-clause-reads g c = λ files knows. inr (record { given = c.in_ok-name.name; between = g.H.Host.history c.take_name.new.host; done = c.in_ok-name.ensures.takes files knows; after = inl (search rules) })
 
-pub returns-in_err-date-clause-reads : goal.returns-in_err-date-clause-reads
-returns-in_err-date-clause-reads g c = λ files knows. inr (record { given = c.in_ok-name.name; between = g.H.Host.history c.take_name.new.host; done = c.in_ok-name.ensures.takes files knows; after = inr (record { given = c.in_ok-bytes.bytes; between = g.H.Host.history c.look_whole.new.host; done = search rules; after = inl (search rules) }) })
+pub returns-in_err-day-clause-reads : goal.returns-in_err-day-clause-reads
+returns-in_err-day-clause-reads g c = λ files knows. inr (record { given = c.in_ok-name.name; between = g.H.Host.history c.take_name.new.host; done = c.in_ok-name.ensures.takes files knows; after = inr (record { given = c.in_ok-bytes.bytes; between = g.H.Host.history c.look_whole.new.host; done = search rules; after = inl (search rules) }) })
 
 pub returns-clause-reads : goal.returns-clause-reads
-returns-clause-reads g c = λ files knows. inr (record { given = c.in_ok-name.name; between = g.H.Host.history c.take_name.new.host; done = c.in_ok-name.ensures.takes files knows; after = inr (record { given = c.in_ok-bytes.bytes; between = g.H.Host.history c.look_whole.new.host; done = search rules; after = inr (record { given = c.in_ok-date.date; between = g.H.Host.history c.date_next.new.host; done = search rules; after = c.new_file.ensures }) }) })
+returns-clause-reads g c = λ files knows. inr (record { given = c.in_ok-name.name; between = g.H.Host.history c.take_name.new.host; done = c.in_ok-name.ensures.takes files knows; after = inr (record { given = c.in_ok-bytes.bytes; between = g.H.Host.history c.look_whole.new.host; done = search rules; after = inr (record { given = c.in_ok-day.day; between = g.H.Host.history c.date_next.new.host; done = search rules; after = c.new_file.ensures }) }) })

@@ -1,15 +1,16 @@
 use Rattle.archive_files.specs.Getting.{Gets}
+use Rattle.image_files.specs.Dates.{word_of_day}
 use Rattle.volume_commands.specs.Showing.{wanted_file}
 use Rattle.volume_commands.proofs.GettingBack.{got-back, has-it, has-put, looks-first}
 use Rattle.volume_commands.proofs.laws.file_comes_back.Goals as goal
 
 pub returns-clause-puts : goal.returns-clause-puts
-returns-clause-puts c form place file bytes date image opening opened old new judged puts =
+returns-clause-puts c form place file bytes day image opening opened old new judged puts =
     let law = c.put_is_got.ensures in
-    let put = has-put form image bytes date old new puts in
+    let put = has-put form image bytes day old new puts in
     let found = c.found_again.ensures.unsaved form.image place file image opening opened judged in
-    got-back law.frames law.tape law.lines form image file bytes date old new put
-    (has-it form image file bytes date old new put found
+    got-back law.frames law.tape law.lines form image file bytes (word_of_day day) old new put
+    (has-it form image file bytes (word_of_day day) old new put found
     (λ differ. c.kept_kind.ensures image put.made.bytes.items put.begun put.ended differ put.saves)
     (λ kept. c.found_again.ensures.saved form.image place file put.made.bytes.items kept.file image opening opened judged kept.is kept.kind))
 
