@@ -1,9 +1,11 @@
 #!/usr/bin/env python3
 """check_try_edits.py [NAME..]: what tests/try_edits.py makes of a prover's answers, with a stand-in for the prover over a tree of one crate. A wrong
 body counts only where the prover refuses the function that it changes. It fails where it is proved, where the prover can't read it, where it breaks
-the prover off, and where its old text isn't there once. A refusal is kept, and is asked for anew once anything changes that it rests on. NAME takes
-the answers whose names have it, or those that are kept. The last line is 'N passed, M failed'.
+the prover off, and where its old text isn't there once. A refusal is kept, and is asked for anew once anything changes that it rests on. The old texts of the
+wrong bodies of each crate of this tree must be there once. NAME takes the answers whose names have it, or those that are kept. The last line is
+'N passed, M failed'.
 """
+import glob
 import os
 import shutil
 import subprocess
@@ -14,6 +16,7 @@ from typing import Iterator
 TOP = os.path.dirname(os.path.dirname(os.path.abspath(__file__)))
 sys.path.insert(0, TOP)
 from tests.stand_ins import write
+from tests.try_edits import Edit
 SOURCE = """/// The next number.
 pub fn next(n: u8) -> u8
     ensures { result.now ≡ n + 1 }
@@ -105,9 +108,18 @@ def kept_refusals(room: str) -> Iterator[tuple[str, bool]]:
         yield f"and is kept of the changed {file}", tree.tries(lines, REFUSED)[2] and not tree.tries(lines, REFUSED)[2]
 
 
+def own_edits() -> Iterator[tuple[str, bool]]:
+    """That each wrong body of this tree changes what stands there. Most are tried only now and then."""
+    for folder in sorted(glob.glob(f"{TOP}/tests/edits/*/")):
+        edits = [Edit(it) for it in sorted(glob.glob(f"{folder}**/*.edit", recursive=True))]
+        stale = [f"{it.label}: {it.fault}" for it in edits if it.fault]
+        yield f"each wrong body of {os.path.basename(folder[:-1])} changes what stands there: {stale}", not stale
+
+
 def main(names: list[str]) -> int:
     with tempfile.TemporaryDirectory(prefix="pdp8-edits-") as room:
         found = [*answers(room, names), *(kept_refusals(room) if not names or "kept" in names else ())]
+    found += [] if names else own_edits()
     for what, is_so in found:
         if not is_so:
             print(f"check_try_edits: not so: {what}")
