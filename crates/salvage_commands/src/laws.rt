@@ -12,8 +12,8 @@ pub fn written_pieces()
     ensures { ChangesPiecesAlone }
 {}
 
-/// A law: the commands that make files of what a damaged volume still shows replace no file, in whichever way they end. So no file that was there
-/// has other bytes after them, by whatever name it is given.
+/// A law: the commands that make files of what a damaged volume still shows replace no file, in whichever way they end. None of the new files takes
+/// a path that another may have had.
 pub fn new_files()
     ensures pieces { (folder : List ℕ) (form : ImageForm) → NeverReplaces (WritesPieces folder form) }
     ensures rescue { (new : List ℕ) (form : ImageForm) → NeverReplaces (RescuesImage new form) }
