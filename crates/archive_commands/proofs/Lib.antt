@@ -1,4 +1,3 @@
 pub mod DateLemmas
 pub mod DumpLemmas
 pub mod OwnerLemmas
-pub mod WorkLemmas

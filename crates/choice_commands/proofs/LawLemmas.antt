@@ -1,5 +1,5 @@
 -- Commands on chosen files that change no file of the host, or none where they are refused.
-use Rattle.std.proofs.Common.{◌≡◌, ◌∙◌, ◌∷◌, ◌++◌, ℕ, Bool, true, false, Option, None, Some, Result, Ok, Err, List, ap, refl, inl, inr, length, not, is_some, slice_get, bytes_eq}
+use Rattle.std.proofs.Common.{◌≡◌, ◌∙◌, ◌∷◌, ◌++◌, ℕ, Bool, true, false, Option, None, Some, Result, Ok, Err, List, ap, inl, inr, length, not, is_some, slice_get, bytes_eq}
 use Rattle.hosts.specs.Event.{Event, tell_call}
 use Rattle.hosts.specs.Place.{about}
 use Rattle.archive_files.specs.declared.faults.ArchiveFault.{ArchiveFault}
@@ -22,17 +22,20 @@ use Rattle.program_tasks.specs.declared.forms.ImageForm.{ImageForm}
 use Rattle.program_tasks.specs.declared.forms.ListForm.{ListForm}
 use Rattle.image_files.specs.Answers.{Answers, AreLines, Refuses}
 use Rattle.image_files.specs.Pairs.{IsOneRefused, RefusesIf, is_one_image, is_want_of}
-use Rattle.image_files.specs.Laws.{KeepsFiles}
+use Rattle.image_files.specs.Laws.{ChangesNothing, KeepsFiles}
+use Rattle.image_files.proofs.KeepLemmas.{after-keeps, purely-keeps, then-keeps}
+use Rattle.image_files.proofs.LeaveLemmas.{same, told}
 use Rattle.image_volumes.specs.Keeping.{keeps_kind}
 use Rattle.image_volumes.specs.declared.judging.Judgment.{Judgment}
 use Rattle.image_files.specs.Reading.{LooksAt, Opens}
 use Rattle.image_files.specs.Saving.{Prints, Reports, SavesIf, Stores, Writes, WritesIf}
-use Rattle.image_files.specs.Work.{Then, Purely}
+use Rattle.image_files.specs.Work.{After, Then, Purely}
 use Rattle.image_files.specs.declared.images.Image.{Image}
 use Rattle.choice_commands.specs.Copying as copies
 use Rattle.choice_commands.specs.Copying.{CopiesFrom, CopiesInto, CopiesMany, FindsAll, FindsFiles, OpensFrom, PutsFiles, TellsCopies, stored_lines}
 use Rattle.choice_commands.specs.Listing as lists
-use Rattle.choice_commands.specs.Listing.{EndsWhere, ListsSome, ListsWished, ListsWords, refusal_lines}
+use Rattle.image_files.specs.Ending.{EndsSound}
+use Rattle.choice_commands.specs.Listing.{ListsSome, ListsWished, ListsWords, refusal_lines}
 use Rattle.choice_commands.specs.Refusing.{RefusesCopies, RefusesWish, TellsFile, TellsWord}
 use Rattle.choice_commands.specs.Wishing.{AreWished}
 
@@ -47,27 +50,8 @@ OpensKeep = (form : ImageForm) → KeepsFiles (Opens form)
 abbrev pub PrintsKeep : Type 0
 PrintsKeep = (bytes : List ℕ) → KeepsFiles (Prints bytes)
 
-abbrev pub Same : List Event → List Event → Type 0
-Same old new = (path : List ℕ) → about path new ≡ about path old
-
 abbrev pub RefusesKeep : Type 0
 RefusesKeep = (fault : ArchiveFault) (size : ℕ) (old : List Event) (ending : Ending) (new : List Event) → Refuses fault size old ending new → (path : List ℕ) → about path new ≡ about path old
-
-pub same : (old new : List Event) → new ≡ old → Same old new
-same old new is = λ path. ap (λ (events : List Event). about path events) is
-
-pub told : (ok : Bool) (text : List ℕ) (old new : List Event) → new ≡ tell_call ok text ∷ old → Same old new
-told ok text old new is = λ path. ap (λ (events : List Event). about path events) is
-
-pub then-keeps : {A B : Type 0} (first : List Event → Result A Ending → List Event → Type 0) (next : A → List Event → Result B Ending → List Event → Type 0)
-    → KeepsFiles first → ((a : A) → KeepsFiles (next a)) → KeepsFiles (Then first next)
-then-keeps first next f n old (Ok r) new (inl ends) = absurd ends
-then-keeps first next f n old (Err e) new (inl ends) = f old (Err e) new ends
-then-keeps first next f n old (Ok r) new (inr it) = λ path. n it.given it.between (Ok r) new it.after path ∙ f old (Ok it.given) it.between it.done path
-then-keeps first next f n old (Err e) new (inr it) = λ path. n it.given it.between (Err e) new it.after path ∙ f old (Ok it.given) it.between it.done path
-
-pub purely-keeps : {A : Type 0} (gives : Result A Ending → Type 0) → KeepsFiles (Purely gives)
-purely-keeps gives old result new p = same old new p.1
 
 pub answers-keep : RefusesKeep → {A : Type 0} (gives : Result A ArchiveFault → Type 0) (size : ℕ) → KeepsFiles (Answers gives size)
 answers-keep law gives size old (Ok it) new p = same old new p.1
@@ -77,11 +61,12 @@ answers-keep law gives size old (Err ending) new (fault, is, refuses) = law faul
 
 lists-wished : PrintsKeep → RefusesKeep → (form : ListForm) (image : List ℕ) (wishes : List Wish) → KeepsFiles (ListsWished form image wishes)
 lists-wished prints law form image wishes =
-    then-keeps (Answers (ListsWords form image) (length image)) (λ lines. Then (Purely (AreLines (refusal_lines (lists.words_in form) wishes ++ lines.items))) (λ text. Then (Prints text.items) (λ it. Purely (EndsWhere (not (is_some (first_unfound wishes)))))))
+    then-keeps (Answers (ListsWords form image) (length image)) (λ lines. Then (Purely (AreLines (refusal_lines (lists.words_in form) wishes ++ lines.items))) (λ text. Then (After (not (is_some (first_unfound wishes))) (Prints text.items)) (λ it. Purely (EndsSound (not (is_some (first_unfound wishes)))))))
     (answers-keep law (ListsWords form image) (length image))
-    (λ lines. then-keeps (Purely (AreLines (refusal_lines (lists.words_in form) wishes ++ lines.items))) (λ text. Then (Prints text.items) (λ it. Purely (EndsWhere (not (is_some (first_unfound wishes))))))
+    (λ lines. then-keeps (Purely (AreLines (refusal_lines (lists.words_in form) wishes ++ lines.items))) (λ text. Then (After (not (is_some (first_unfound wishes))) (Prints text.items)) (λ it. Purely (EndsSound (not (is_some (first_unfound wishes))))))
     (purely-keeps (AreLines (refusal_lines (lists.words_in form) wishes ++ lines.items)))
-    (λ text. then-keeps (Prints text.items) (λ it. Purely (EndsWhere (not (is_some (first_unfound wishes))))) (prints text.items) (λ it. purely-keeps (EndsWhere (not (is_some (first_unfound wishes)))))))
+    (λ text. then-keeps (After (not (is_some (first_unfound wishes))) (Prints text.items)) (λ it. Purely (EndsSound (not (is_some (first_unfound wishes)))))
+    (after-keeps (not (is_some (first_unfound wishes))) (Prints text.items) (prints text.items)) (λ it. purely-keeps (EndsSound (not (is_some (first_unfound wishes)))))))
 
 pub lists-keep : LooksKeep → PrintsKeep → RefusesKeep → (form : ListForm) → KeepsFiles (ListsSome form)
 lists-keep looks prints law form =
@@ -94,11 +79,11 @@ lists-keep looks prints law form =
 
 -- ## Copies
 
-refuses-if : RefusesKeep → (wants : Bool) (name : List ℕ) (fault : ArchiveFault) (size : ℕ) (old : List Event) (ending : Ending) (new : List Event) → RefusesIf wants name fault size old ending new → Same old new
+refuses-if : RefusesKeep → (wants : Bool) (name : List ℕ) (fault : ArchiveFault) (size : ℕ) (old : List Event) (ending : Ending) (new : List Event) → RefusesIf wants name fault size old ending new → ChangesNothing old new
 refuses-if law true name fault size old ending new p = law fault size old ending new p
 refuses-if law false name fault size old ending new (ok, p) = λ path. law fault size (tell_call ok (name_text note.Refuses name) ∷ old) ending new p path
 
-one-refused : RefusesKeep → (name : List ℕ) (fault : ArchiveFault) (size : ℕ) (old : List Event) (ending : Ending) (new : List Event) → IsOneRefused name fault size old ending new → Same old new
+one-refused : RefusesKeep → (name : List ℕ) (fault : ArchiveFault) (size : ℕ) (old : List Event) (ending : Ending) (new : List Event) → IsOneRefused name fault size old ending new → ChangesNothing old new
 one-refused law name fault size old ending new (inl p) = refuses-if law (is_want_of fault) name fault size old ending new p
 one-refused law name fault size old ending new (inr p) = same old new p.1
 
@@ -106,11 +91,11 @@ opens-from : RefusesKeep → (form : CopyManyForm) (from : List ℕ) → KeepsFi
 opens-from law form from old (Ok blocks) new p = same old new p.1
 opens-from law form from old (Err ending) new (fault, opens, p) = one-refused law form.image.file.bytes.items fault (length from) old ending new p
 
-tells-word : (word : Option (List ℕ)) (old new : List Event) → TellsWord word old new → Same old new
+tells-word : (word : Option (List ℕ)) (old new : List Event) → TellsWord word old new → ChangesNothing old new
 tells-word None old new p = same old new p
 tells-word (Some word) old new (ok, p) = told ok _ old new p
 
-refuses-wish : (words : List (List ℕ)) (one : Wish) (old : List Event) (ending : Ending) (new : List Event) → RefusesWish words one old ending new → Same old new
+refuses-wish : (words : List (List ℕ)) (one : Wish) (old : List Event) (ending : Ending) (new : List Event) → RefusesWish words one old ending new → ChangesNothing old new
 refuses-wish words (wish.File file) old ending new p = absurd p
 refuses-wish words (wish.BadWord place) old ending new p = tells-word (slice_get words place) old new p.1
 refuses-wish words (wish.NotFound place) old ending new p = tells-word (slice_get words place) old new p.1
@@ -127,10 +112,10 @@ finds-files law form from =
     (λ blocks. then-keeps (Purely (AreWished (copies.words_in form) blocks)) (λ wishes. FindsAll (copies.words_in form) wishes.items) (purely-keeps (AreWished (copies.words_in form) blocks))
     (λ wishes. finds-all (copies.words_in form) wishes.items))
 
-tells-file : (file : VolumeFile) (old new : List Event) → TellsFile file old new → Same old new
+tells-file : (file : VolumeFile) (old new : List Event) → TellsFile file old new → ChangesNothing old new
 tells-file file old new (text, names, ok, p) = told ok _ old new p
 
-refuses-copies : RefusesKeep → (form : CopyManyForm) (fault : CopyAllFault) (from to : ℕ) (old : List Event) (ending : Ending) (new : List Event) → RefusesCopies form fault from to old ending new → Same old new
+refuses-copies : RefusesKeep → (form : CopyManyForm) (fault : CopyAllFault) (from to : ℕ) (old : List Event) (ending : Ending) (new : List Event) → RefusesCopies form fault from to old ending new → ChangesNothing old new
 refuses-copies law form (copying.To fault) from to old ending new p = one-refused law form.to.file.bytes.items fault to old ending new p
 refuses-copies law form (copying.Exists file) from to old ending new (inl p) = tells-file file old new p.1
 refuses-copies law form (copying.Exists file) from to old ending new (inr p) = same old new p.1
@@ -159,7 +144,7 @@ IsRefusal NoReader = ⊥
 IsRefusal Misuse = ⊥
 
 abbrev Leaves : {A : Type 0} → (List Event → Result A Ending → List Event → Type 0) → Type 0
-Leaves command = (ending : Ending) → IsRefusal ending → (old new : List Event) → command old (Err ending) new → Same old new
+Leaves command = (ending : Ending) → IsRefusal ending → (old new : List Event) → command old (Err ending) new → ChangesNothing old new
 
 then-leaves : {A B : Type 0} (first : List Event → Result A Ending → List Event → Type 0) (next : A → List Event → Result B Ending → List Event → Type 0)
     → KeepsFiles first → ((a : A) → Leaves (next a)) → Leaves (Then first next)

@@ -1,3 +1,2 @@
-pub mod WorkLemmas
 pub mod LawLemmas
 pub mod TextLaws

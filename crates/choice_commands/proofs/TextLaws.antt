@@ -9,10 +9,12 @@ use Rattle.image_files.specs.Answers.{Answers, AreLines}
 use Rattle.image_files.specs.Laws.{KeepsFiles}
 use Rattle.image_files.specs.Reading.{LooksAt}
 use Rattle.image_files.specs.Saving.{Prints}
-use Rattle.image_files.specs.Work.{Then, Purely}
-use Rattle.choice_commands.specs.Listing.{EndsWhere}
+use Rattle.image_files.specs.Work.{After, Then, Purely}
+use Rattle.image_files.specs.Ending.{EndsSound}
 use Rattle.choice_commands.specs.Texts.{AreAsked, AreSeveral, IsHostName, RefusesWish, ShowsEach, ShowsText, ShowsTexts, ShowsWish, TakesText, TellsNone, head_of, refusal_line}
-use Rattle.choice_commands.proofs.LawLemmas.{LooksKeep, PrintsKeep, RefusesKeep, answers-keep, purely-keeps, same, then-keeps, told}
+use Rattle.image_files.proofs.KeepLemmas.{after-keeps, purely-keeps, then-keeps}
+use Rattle.image_files.proofs.LeaveLemmas.{same, told}
+use Rattle.choice_commands.proofs.LawLemmas.{LooksKeep, PrintsKeep, RefusesKeep, answers-keep}
 
 shows-text : PrintsKeep → (several first : Bool) (blocks : List (List ℕ)) (file : VolumeFile) → KeepsFiles (ShowsText several first blocks file)
 shows-text prints several first blocks file =
@@ -41,22 +43,22 @@ shows-wish prints several first blocks words (wish.Block block) = refuses-wish w
 shows-each : PrintsKeep → (several first there : Bool) (blocks words : List (List ℕ)) (wishes : List Wish) → KeepsFiles (ShowsEach several first there blocks words wishes)
 shows-each prints several first there blocks words [] = purely-keeps (λ result. result ≡ Ok there)
 shows-each prints several first there blocks words (one ∷ wishes) =
-    then-keeps (ShowsWish several first blocks words one) (λ is. ShowsEach several (first && not is) (there && is) blocks words wishes)
-    (shows-wish prints several first blocks words one) (λ is. shows-each prints several (first && not is) (there && is) blocks words wishes)
+    then-keeps (After there (ShowsWish several first blocks words one)) (λ is. ShowsEach several (first && not is) (there && is) blocks words wishes)
+    (after-keeps there (ShowsWish several first blocks words one) (shows-wish prints several first blocks words one)) (λ is. shows-each prints several (first && not is) (there && is) blocks words wishes)
 
 shows-wishes : PrintsKeep → (blocks words : List (List ℕ)) (wishes : List Wish)
-    → KeepsFiles (Then (Purely (AreSeveral wishes)) (λ several. Then (ShowsEach several true true blocks words wishes) (λ there. Purely (EndsWhere there))))
+    → KeepsFiles (Then (Purely (AreSeveral wishes)) (λ several. Then (ShowsEach several true true blocks words wishes) (λ there. Purely (EndsSound there))))
 shows-wishes prints blocks words wishes =
-    then-keeps (Purely (AreSeveral wishes)) (λ several. Then (ShowsEach several true true blocks words wishes) (λ there. Purely (EndsWhere there)))
+    then-keeps (Purely (AreSeveral wishes)) (λ several. Then (ShowsEach several true true blocks words wishes) (λ there. Purely (EndsSound there)))
     (purely-keeps (AreSeveral wishes))
-    (λ several. then-keeps (ShowsEach several true true blocks words wishes) (λ there. Purely (EndsWhere there))
-    (shows-each prints several true true blocks words wishes) (λ there. purely-keeps (EndsWhere there)))
+    (λ several. then-keeps (ShowsEach several true true blocks words wishes) (λ there. Purely (EndsSound there))
+    (shows-each prints several true true blocks words wishes) (λ there. purely-keeps (EndsSound there)))
 
 pub texts-keep : LooksKeep → PrintsKeep → RefusesKeep → (image : ImageForm) (is_all : Bool) (words : List (List ℕ)) (places : List ℕ) → KeepsFiles (ShowsTexts image is_all words places)
 texts-keep looks prints law image is_all words places =
-    then-keeps (LooksAt image) (λ bytes. Then (Answers (OpensVolume bytes.items) (length bytes.items)) (λ blocks. Then (Purely (AreAsked is_all words places blocks)) (λ wishes. Then (Purely (AreSeveral wishes.items)) (λ several. Then (ShowsEach several true true blocks words wishes.items) (λ there. Purely (EndsWhere there))))))
+    then-keeps (LooksAt image) (λ bytes. Then (Answers (OpensVolume bytes.items) (length bytes.items)) (λ blocks. Then (Purely (AreAsked is_all words places blocks)) (λ wishes. Then (Purely (AreSeveral wishes.items)) (λ several. Then (ShowsEach several true true blocks words wishes.items) (λ there. Purely (EndsSound there))))))
     (looks image)
-    (λ bytes. then-keeps (Answers (OpensVolume bytes.items) (length bytes.items)) (λ blocks. Then (Purely (AreAsked is_all words places blocks)) (λ wishes. Then (Purely (AreSeveral wishes.items)) (λ several. Then (ShowsEach several true true blocks words wishes.items) (λ there. Purely (EndsWhere there)))))
+    (λ bytes. then-keeps (Answers (OpensVolume bytes.items) (length bytes.items)) (λ blocks. Then (Purely (AreAsked is_all words places blocks)) (λ wishes. Then (Purely (AreSeveral wishes.items)) (λ several. Then (ShowsEach several true true blocks words wishes.items) (λ there. Purely (EndsSound there)))))
     (answers-keep law (OpensVolume bytes.items) (length bytes.items))
-    (λ blocks. then-keeps (Purely (AreAsked is_all words places blocks)) (λ wishes. Then (Purely (AreSeveral wishes.items)) (λ several. Then (ShowsEach several true true blocks words wishes.items) (λ there. Purely (EndsWhere there))))
+    (λ blocks. then-keeps (Purely (AreAsked is_all words places blocks)) (λ wishes. Then (Purely (AreSeveral wishes.items)) (λ several. Then (ShowsEach several true true blocks words wishes.items) (λ there. Purely (EndsSound there))))
     (purely-keeps (AreAsked is_all words places blocks)) (λ wishes. shows-wishes prints blocks words wishes.items)))

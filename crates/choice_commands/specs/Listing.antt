@@ -1,5 +1,5 @@
 -- The command that lists those files of the volume in an image file whose names are like words.
-use Rattle.std.specs.Prelude.{◌≡◌, ℕ, Bool, true, false, Option, None, Some, Result, Ok, Err, List, [], ◌∷◌, ◌++◌, codes, is_some, not, length, map, slice_get}
+use Rattle.std.specs.Prelude.{ℕ, Bool, true, false, Option, None, Some, Result, List, [], ◌∷◌, ◌++◌, codes, is_some, not, length, map, slice_get}
 use Rattle.std.specs.Global.{Vec}
 use Rattle.shown_text.specs.Showing.{shown_text}
 use Rattle.hosts.specs.Event.{Event}
@@ -15,10 +15,10 @@ use Rattle.archive_many.specs.declared.wishes.Wish.{Wish}
 use Rattle.archive_many.specs.declared.wishes.Wish.TheVariants as wish
 use Rattle.archive_commands.specs.Dates.{ListsChosen}
 use Rattle.outcome.specs.declared.endings.Ending.{Ending}
-use Rattle.outcome.specs.declared.endings.Ending.TheVariants.{Failure}
 use Rattle.program_reports.specs.Prefixes.{with_prefixes}
 use Rattle.program_tasks.specs.declared.forms.ListForm.{ListForm}
-use Rattle.image_files.specs.Work.{Then, Purely}
+use Rattle.image_files.specs.Work.{After, Then, Purely}
+use Rattle.image_files.specs.Ending.{EndsSound}
 use Rattle.image_files.specs.Reading.{LooksAt}
 use Rattle.image_files.specs.Answers.{Answers, AreLines}
 use Rattle.image_files.specs.Saving.{Prints}
@@ -55,17 +55,10 @@ ListsIf false form image = ListsLike (words_in form) image
 abbrev pub ListsWords : ListForm → List ℕ → Result (Vec ℕ) ArchiveFault → Type 0
 ListsWords form = ListsIf form.is_long form
 
--- the command ends well where all is found
-abbrev pub EndsWhere : Bool → Result (Unit {0}) Ending → Type 0
-EndsWhere true (Ok it) = Unit {0}
-EndsWhere true (Err ending) = ⊥
-EndsWhere false (Ok it) = ⊥
-EndsWhere false (Err ending) = ending ≡ Failure
-
 -- the words that ask for no file are printed before the list; the command ends well where each word asks for one
 abbrev pub ListsWished : ListForm → List ℕ → List Wish → List Event → Result (Unit {0}) Ending → List Event → Type 0
 ListsWished form image wishes = Then (Answers (ListsWords form image) (length image)) (λ lines. Then (Purely (AreLines (refusal_lines (words_in form) wishes ++ lines.items)))
-    (λ text. Then (Prints text.items) (λ it. Purely (EndsWhere (not (is_some (first_unfound wishes)))))))
+    (λ text. Then (After (not (is_some (first_unfound wishes))) (Prints text.items)) (λ it. Purely (EndsSound (not (is_some (first_unfound wishes)))))))
 
 -- ## The command
 

@@ -15,12 +15,12 @@ use Rattle.archive_many.specs.declared.wishes.Wish.TheVariants as wish
 use Rattle.outcome.specs.declared.endings.Ending.{Ending}
 use Rattle.outcome.specs.declared.endings.Ending.TheVariants.{Fault}
 use Rattle.program_tasks.specs.declared.forms.ImageForm.{ImageForm}
-use Rattle.image_files.specs.Work.{Then, Purely}
+use Rattle.image_files.specs.Work.{After, Then, Purely}
 use Rattle.image_files.specs.Reading.{LooksAt}
 use Rattle.image_files.specs.Answers.{Answers, AreLines}
-use Rattle.image_files.specs.Ending.{TellsLine}
+use Rattle.image_files.specs.Ending.{EndsSound, TellsLine}
 use Rattle.image_files.specs.Saving.{Prints}
-use Rattle.choice_commands.specs.Listing.{EndsWhere, refusal_for, refusal_of}
+use Rattle.choice_commands.specs.Listing.{refusal_for, refusal_of}
 
 -- ## A text
 
@@ -76,7 +76,7 @@ ShowsWish is_several is_first blocks words (wish.Block block) = RefusesWish word
 -- each text is printed before the next one is made, and it is answered whether all is there
 abbrev pub ShowsEach : Bool → Bool → Bool → List (List ℕ) → List (List ℕ) → List Wish → List Event → Result Bool Ending → List Event → Type 0
 ShowsEach is_several is_first are_there blocks words [] = Purely (λ result. result ≡ Ok are_there)
-ShowsEach is_several is_first are_there blocks words (one ∷ wishes) = Then (ShowsWish is_several is_first blocks words one)
+ShowsEach is_several is_first are_there blocks words (one ∷ wishes) = Then (After are_there (ShowsWish is_several is_first blocks words one))
     (λ is_there. ShowsEach is_several (is_first && not is_there) (are_there && is_there) blocks words wishes)
 
 -- what is asked for of a volume, each file once, unless memory is wanted for that
@@ -94,4 +94,4 @@ AreSeveral wishes (Err ending) = ending ≡ Fault Memory
 abbrev pub ShowsTexts : ImageForm → Bool → List (List ℕ) → List ℕ → List Event → Result (Unit {0}) Ending → List Event → Type 0
 ShowsTexts image is_all words places = Then (LooksAt image) (λ bytes. Then (Answers (OpensVolume bytes.items) (length bytes.items)) (λ blocks.
     Then (Purely (AreAsked is_all words places blocks)) (λ wishes. Then (Purely (AreSeveral wishes.items)) (λ are_several.
-    Then (ShowsEach are_several true true blocks words wishes.items) (λ are_there. Purely (EndsWhere are_there))))))
+    Then (ShowsEach are_several true true blocks words wishes.items) (λ are_there. Purely (EndsSound are_there))))))

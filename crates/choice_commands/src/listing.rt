@@ -3,14 +3,14 @@ ghost use Rattle.std.specs.Prelude.{◌≡◌, ◌++◌, length, map, slice_get,
 ghost use Rattle.script8.specs.Replies.{fault_line};
 ghost use Rattle.script8.specs.declared.faults.SessionFault.TheVariants.{File};
 ghost use Rattle.image_files.specs.Answers.{Answers, AreLines};
-ghost use Rattle.choice_commands.specs.Listing.{EndsWhere, ListsSome, ListsWished, ListsWords, refusal_for, refusal_lines, refusal_of};
+ghost use Rattle.choice_commands.specs.Listing.{ListsSome, ListsWished, ListsWords, refusal_for, refusal_lines, refusal_of};
 
 use crate::wishing::wishes_on;
 use archive_commands::list_chosen;
 use archive_files::ArchiveFault;
 use archive_many::{Wish, first_unfound, list_like};
 use hosts::Host;
-use image_files::{look_at, open_volume, print, refuse_image};
+use image_files::{end_sound, look_at, open_volume, part_after, print, refuse_image};
 use os8_files::FileFault;
 use outcome::Ending;
 use program_reports::with_prefix;
@@ -42,18 +42,9 @@ fn list_wished<H: Host>(
 {
     let lines = lines_of(host, alloc, form, image)?;
     let text = with_refusals(alloc, &form.names, wishes, &lines)?;
-    print(host, &text)?;
-    end_where(first_unfound(wishes).is_none())
-}
-
-/// How a command ends where all is found, or not.
-pub(crate) fn end_where(all_found: bool) -> Result<(), Ending>
-    ensures { EndsWhere all_found result }
-{
-    if all_found {
-        return Ok(());
-    }
-    Err(Ending::Failure)
+    let all_found = first_unfound(wishes).is_none();
+    part_after(all_found, print(host, &text))?;
+    end_sound(all_found)
 }
 
 /// The lines of the files that are listed, and of the free blocks. Where the image is refused, what may help is printed.

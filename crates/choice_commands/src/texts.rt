@@ -5,11 +5,11 @@ ghost use Rattle.choice_commands.specs.Texts as spec;
 ghost use Rattle.choice_commands.specs.Texts.{AreAsked, AreSeveral, IsHostName, RefusesWish, ShowsEach, ShowsText, ShowsTexts, ShowsWish, TakesText};
 
 use crate::copying::files_of;
-use crate::listing::{end_where, put_line, put_word};
+use crate::listing::{put_line, put_word};
 use archive_files::GetForm;
 use archive_many::{OpenVolume, VolumeFile, Wish, host_name, wishes_of};
 use hosts::Host;
-use image_files::{look_at, open_volume, print, tell_line};
+use image_files::{end_sound, look_at, open_volume, part_after, print, tell_line};
 use os8_files::FileFault;
 use outcome::Ending;
 use program_tasks::ImageForm;
@@ -32,7 +32,7 @@ pub fn show_texts<H: Host>(
     let wishes = wishes_in(alloc, &volume, is_all, words, places)?;
     let are_several = are_several(alloc, &wishes)?;
     let are_there = show_each(host, alloc, &volume, words, &wishes, are_several)?;
-    end_where(are_there)
+    end_sound(are_there)
 }
 
 /// What is asked for of a volume.
@@ -73,7 +73,8 @@ fn show_each<H: Host>(
     let mut are_there = true;
     let mut rest = wishes;
     while let [wish, others @ ..] = rest {
-        let is_there = show_wish(host, alloc, volume, words, wish, are_several, is_first)?;
+        let shown = show_wish(host, alloc, volume, words, wish, are_several, is_first);
+        let is_there = part_after(are_there, shown)?;
         is_first = one_without(is_first, is_there);
         are_there = both(are_there, is_there);
         rest = others;

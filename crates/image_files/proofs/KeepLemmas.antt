@@ -31,14 +31,14 @@ use Rattle.image_files.specs.Inputs.{TakesInput}
 use Rattle.image_files.specs.Reading.{IsUnread, FindsIn, FindsOne, Holds, HoldsAt, Looks, LooksAt, LooksIf, LooksImage, MakesOne, hold_calls, looked_name, reading_of, with_lock_note, JudgesForScript, JudgesLooked, JudgesOpened, IsJudged, MakesOf, Opens, OpensForScript, judgment_of, IsUnheldImage}
 use Rattle.image_files.specs.Reasons.{is_untold, is_want_of_memory}
 use Rattle.image_files.specs.Saving.{Prints}
-use Rattle.image_files.specs.Work.{Then, Purely}
+use Rattle.image_files.specs.Work.{After, Then, Purely}
 use Rattle.image_files.specs.declared.images.Image.{Image}
 use Rattle.image_files.specs.declared.mending.ImageReading.{ImageReading}
 use Rattle.image_files.specs.declared.reading.ImagePlace.{ImagePlace}
 use Rattle.image_files.proofs.ReasonLemmas.{unless-keeps}
 use Rattle.outcome.specs.declared.reasons.Reason.TheVariants as reason
 
-same : {old new : List Event} (path : List ℕ) → new ≡ old → about path new ≡ about path old
+pub same : {old new : List Event} (path : List ℕ) → new ≡ old → about path new ≡ about path old
 same path is = ap (λ (events : List Event). about path events) is
 
 pub then-keeps : {A B : Type 0} (first : List Event → Result A Ending → List Event → Type 0) (next : A → List Event → Result B Ending → List Event → Type 0)
@@ -46,6 +46,10 @@ pub then-keeps : {A B : Type 0} (first : List Event → Result A Ending → List
 then-keeps first next f n old (Ok r) new (inl ends) path = absurd ends
 then-keeps first next f n old (Err e) new (inl ends) path = f old (Err e) new ends path
 then-keeps first next f n old result new (inr it) path = n it.given it.between result new it.after path ∙ f old (Ok it.given) it.between it.done path
+
+pub after-keeps : {A : Type 0} (are_sound : Bool) (part : List Event → Result A Ending → List Event → Type 0) → KeepsFiles part → KeepsFiles (After are_sound part)
+after-keeps are_sound part keeps old (Ok it) new p path = keeps old (Ok it) new p path
+after-keeps are_sound part keeps old (Err ended) new (ending, p, is) path = keeps old (Err ending) new p path
 
 pub purely-keeps : {A : Type 0} (gives : Result A Ending → Type 0) → KeepsFiles (Purely gives)
 purely-keeps gives old result new p path = same path p.1

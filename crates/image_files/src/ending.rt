@@ -1,6 +1,9 @@
 //! The end of a command: what the table of outcomes has for it is printed.
 ghost use Rattle.std.specs.Prelude.{◌≡◌};
 ghost use Rattle.image_files.specs.Ending.{EndsInstead, EndsSo, EndsSound, PrintsOutcome, TellsLine, status_unread};
+ghost use Rattle.image_files.specs.Work as work;
+ghost use Rattle.outcome.specs.declared.endings.Ending.TheVariants.{NoReader};
+ghost use Rattle.image_files.specs.Work.{result_after};
 
 use crate::notes::tell;
 use crate::printing::print;
@@ -107,4 +110,41 @@ pub fn end_sound(is_sound: bool) -> Result<(), Ending>
         return Ok(());
     }
     Err(Ending::Failure)
+}
+
+/// What a part of a command's work gave, after other parts that are sound, or not. Where nobody reads any more, a command that refused
+/// something ends with that.
+pub fn part_after<A>(are_sound: bool, given: Result<A, Ending>) -> Result<A, Ending>
+    ensures { result ≡ result_after are_sound given }
+{
+    match given {
+        Ok(it) => Ok(it),
+        Err(ending) => Err(ending_after(are_sound, ending)),
+    }
+}
+
+/// How a command ends by a part of its work that ends so, after other parts that are sound, or not.
+pub fn ending_after(are_sound: bool, ending: Ending) -> Ending
+    ensures { result ≡ work.ending_after are_sound ending }
+{
+    match ending {
+        Ending::NoReader => ending_unread(are_sound),
+        Ending::Line(line) => Ending::Line(line),
+        Ending::Fault(fault) => Ending::Fault(fault),
+        Ending::Failure => Ending::Failure,
+        Ending::Busy(content) => Ending::Busy(content),
+        Ending::NotWritten(content, left) => Ending::NotWritten(content, left),
+        Ending::FullOutput => Ending::FullOutput,
+        Ending::Unreported => Ending::Unreported,
+        Ending::Misuse => Ending::Misuse,
+    }
+}
+
+fn ending_unread(are_sound: bool) -> Ending
+    ensures { result ≡ work.ending_after are_sound NoReader }
+{
+    if are_sound {
+        return Ending::NoReader;
+    }
+    Ending::Failure
 }

@@ -27,7 +27,7 @@ pub use answers::{
     answer_of, named_lines, open_volume, program_line, put_stored, show_file, stored_line,
 };
 pub use dates::{FileDay, date_of_file, word_of_day, year_of_day};
-pub use ending::{Rooms, end, end_sound, tell_line};
+pub use ending::{Rooms, end, end_sound, ending_after, part_after, tell_line};
 pub use images::Image;
 pub use information::take_words;
 pub use inputs::{given_bytes, input_bytes};

@@ -1,5 +1,5 @@
 -- The index of images changes no file.
-use Rattle.std.proofs.Common.{◌≡◌, ◌∙◌, ℕ, ◌+◌, Bool, true, false, Option, None, Result, Ok, Err, List, [], ◌∷◌, length, map, ap, inl, inr}
+use Rattle.std.proofs.Common.{◌≡◌, ◌∙◌, ℕ, ◌+◌, Bool, true, false, not, Option, None, Result, Ok, Err, List, [], ◌∷◌, length, map, inl, inr}
 use Rattle.std.specs.Global.{Vec}
 use Rattle.hosts.specs.Event.{Event}
 use Rattle.hosts.specs.Place.{about}
@@ -15,8 +15,8 @@ use Rattle.image_files.specs.Leftovers.{ChoosesImages}
 use Rattle.image_files.specs.declared.mending.ImageReading.{ImageReading}
 use Rattle.image_files.specs.Reading.{LooksImage, file_named, reading_named}
 use Rattle.image_files.specs.Saving.{Prints}
-use Rattle.image_files.specs.Work.{Then, Purely}
-use Rattle.image_files.proofs.KeepLemmas.{refuses-keeps as image-refused}
+use Rattle.image_files.specs.Work.{After, Purely}
+use Rattle.image_files.proofs.KeepLemmas.{after-keeps, purely-keeps, same, then-keeps, refuses-keeps as image-refused}
 use Rattle.host_progress.specs.Progressing.{BeginsProgress, EndsProgress, TellsDone, TellsProgress}
 use Rattle.index_commands.specs.Columns.{ChoosesColumns, Shows, lines_in}
 use Rattle.index_commands.specs.declared.columns.Columns.{Columns}
@@ -26,18 +26,6 @@ use Rattle.index_commands.specs.declared.found.Found.{Found}
 use Rattle.index_commands.specs.Indexing.{ChecksWord, EndsIndex, Indexes, IndexesAll, IndexesAmong, IndexesImage, IndexesImages, IndexesInColumns, IndexesNext, IndexesRead, IndexesVolume, IndexesVolumes, IndexesWith, ShowsIndex, ending_of_refusal, GivesIndex}
 use Rattle.index_commands.specs.Refusing.{PassesOver, RefusesVolume, prefix_of}
 use Rattle.index_commands.specs.Volumes.{body_of, layouts_in, number_of}
-
-same : {old new : List Event} (path : List ℕ) → new ≡ old → about path new ≡ about path old
-same path is = ap (λ (events : List Event). about path events) is
-
-then-keeps : {A B : Type 0} (first : List Event → Result A Ending → List Event → Type 0) (next : A → List Event → Result B Ending → List Event → Type 0)
-    → KeepsFiles first → ((given : A) → KeepsFiles (next given)) → KeepsFiles (Then first next)
-then-keeps first next f n old (Ok r) new (inl ends) path = absurd ends
-then-keeps first next f n old (Err e) new (inl ends) path = f old (Err e) new ends path
-then-keeps first next f n old result new (inr it) path = n it.given it.between result new it.after path ∙ f old (Ok it.given) it.between it.done path
-
-purely-keeps : {A : Type 0} (gives : Result A Ending → Type 0) → KeepsFiles (Purely gives)
-purely-keeps gives old result new p path = same path p.1
 
 line-keeps : (path line : List ℕ) (old new : List Event) → TellsLine line old new → about path new ≡ about path old
 line-keeps path line old new (inl (utf8, ok, p)) = same path p
@@ -82,7 +70,8 @@ shows-keeps prints columns lines old (Err ending) new (inr p) path = same path p
 
 takes-keeps : PrintsKeep → (is_same : Bool) (columns : Columns) (is_refused : Bool) (kept lines : List ℕ) → KeepsFiles (TakesLines is_same columns is_refused kept lines)
 takes-keeps prints true columns is_refused kept lines = purely-keeps (KeepsLines is_refused kept lines)
-takes-keeps prints false columns is_refused kept lines = then-keeps (Shows columns lines) (λ it. Purely (IsFound is_refused kept)) (shows-keeps prints columns lines) (λ it. purely-keeps (IsFound is_refused kept))
+takes-keeps prints false columns is_refused kept lines =
+    then-keeps (After (not is_refused) (Shows columns lines)) (λ it. Purely (IsFound is_refused kept)) (after-keeps (not is_refused) (Shows columns lines) (shows-keeps prints columns lines)) (λ it. purely-keeps (IsFound is_refused kept))
 
 index-keeps : PrintsKeep → (columns : Columns) (name : List ℕ) (number : Option ℕ) (lines : Result (Vec ℕ) Ending) (is_refused : Bool) (kept : List ℕ) → KeepsFiles (ShowsIndex columns name number lines is_refused kept)
 index-keeps prints columns name number (Ok lines) is_refused kept = takes-keeps prints columns.shape.is_same columns is_refused kept lines.items
@@ -154,8 +143,8 @@ groups-keep prints false columns lines = purely-keeps (λ (result : Result (Unit
 
 end-keeps : PrintsKeep → (columns : Columns) (is_refused : Bool) (kept : List ℕ) → KeepsFiles (EndsIndex columns is_refused kept)
 end-keeps prints columns is_refused kept =
-    then-keeps (ShowsSame columns.shape.is_same columns kept) (λ it. Purely (λ (result : Result (Unit {0}) Ending). result ≡ ending_of_refusal is_refused))
-    (groups-keep prints columns.shape.is_same columns kept) (λ it. purely-keeps (λ (result : Result (Unit {0}) Ending). result ≡ ending_of_refusal is_refused))
+    then-keeps (After (not is_refused) (ShowsSame columns.shape.is_same columns kept)) (λ it. Purely (λ (result : Result (Unit {0}) Ending). result ≡ ending_of_refusal is_refused))
+    (after-keeps (not is_refused) (ShowsSame columns.shape.is_same columns kept) (groups-keep prints columns.shape.is_same columns kept)) (λ it. purely-keeps (λ (result : Result (Unit {0}) Ending). result ≡ ending_of_refusal is_refused))
 
 with-keeps : LooksKeep → PrintsKeep → (style : IndexStyle) (reading : ImageReading) (names : List (List ℕ)) (columns : Columns) → KeepsFiles (IndexesWith style reading names columns)
 with-keeps looks prints style reading names columns =

@@ -1,2 +1,1 @@
-mod IndexLemmas
 mod KeepLemmas

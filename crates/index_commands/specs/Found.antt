@@ -1,12 +1,12 @@
 -- What an index has so far: whether a volume is refused, and the lines that wait until all are known (this project's profile).
-use Rattle.std.specs.Prelude.{◌≡◌, Bool, true, false, ℕ, Result, Ok, Err, List, ◌++◌}
+use Rattle.std.specs.Prelude.{◌≡◌, Bool, true, false, not, ℕ, Result, Ok, Err, List, ◌++◌}
 use Rattle.std.specs.Global.{Vec}
 use Rattle.hosts.specs.Event.{Event}
 use Rattle.script8.specs.declared.faults.SessionFault.TheVariants.{Memory}
 use Rattle.outcome.specs.declared.endings.Ending.{Ending}
 use Rattle.outcome.specs.declared.endings.Ending.TheVariants.{Fault}
 use Rattle.same_files.specs.Same.{IsSame}
-use Rattle.image_files.specs.Work.{Then, Purely}
+use Rattle.image_files.specs.Work.{After, Then, Purely}
 use Rattle.index_commands.specs.declared.columns.Columns.{Columns}
 use Rattle.index_commands.specs.declared.found.Found.{Found}
 use Rattle.index_commands.specs.Columns.{Shows}
@@ -24,7 +24,7 @@ KeepsLines is_refused kept lines (Err ending) = ending ≡ Fault Memory
 -- the lines of a volume wait where those of equal files are wanted, else they are printed
 abbrev pub TakesLines : Bool → Columns → Bool → List ℕ → List ℕ → List Event → Result Found Ending → List Event → Type 0
 TakesLines true columns is_refused kept lines = Purely (KeepsLines is_refused kept lines)
-TakesLines false columns is_refused kept lines = Then (Shows columns lines) (λ it. Purely (IsFound is_refused kept))
+TakesLines false columns is_refused kept lines = Then (After (not is_refused) (Shows columns lines)) (λ it. Purely (IsFound is_refused kept))
 
 -- those of equal files, unless memory is wanted
 abbrev pub FindsSame : List ℕ → Result (Vec ℕ) Ending → Type 0

@@ -1,5 +1,5 @@
 -- The command that writes the index of many images (this project's profile).
-use Rattle.std.specs.Prelude.{◌≡◌, ◌⊎◌, ℕ, ◌+◌, Bool, true, false, codes, Option, None, Result, Ok, Err, List, [], ◌∷◌, length, map}
+use Rattle.std.specs.Prelude.{◌≡◌, ◌⊎◌, ℕ, ◌+◌, Bool, true, false, not, codes, Option, None, Result, Ok, Err, List, [], ◌∷◌, length, map}
 use Rattle.std.specs.Global.{Vec}
 use Rattle.hosts.specs.Event.{Event, tell_call}
 use Rattle.disk_layouts.specs.declared.layouts.Layout.{Layout}
@@ -11,7 +11,7 @@ use Rattle.outcome.specs.declared.endings.Ending.{Ending}
 use Rattle.outcome.specs.declared.endings.Ending.TheVariants.{Failure, Misuse}
 use Rattle.image_files.specs.Leftovers.{ChoosesImages}
 use Rattle.image_files.specs.Answers.{Refuses}
-use Rattle.image_files.specs.Work.{Then, Purely}
+use Rattle.image_files.specs.Work.{After, Then, Purely}
 use Rattle.image_files.specs.declared.mending.ImageReading.{ImageReading}
 use Rattle.image_files.specs.Reading.{LooksImage, file_named, reading_named}
 use Rattle.host_progress.specs.Progressing.{TellsProgress, WithProgress}
@@ -84,7 +84,7 @@ IndexesAll columns style reading names = WithProgress (λ is_told. IndexesImages
 
 -- Where just the lines of equal files are wanted these are printed. The command ends with a refusal where an image was refused.
 abbrev pub EndsIndex : Columns → Bool → List ℕ → List Event → Result (Unit {0}) Ending → List Event → Type 0
-EndsIndex columns is_refused kept = Then (ShowsSame columns.shape.is_same columns kept) (λ it. Purely (λ result. result ≡ ending_of_refusal is_refused))
+EndsIndex columns is_refused kept = Then (After (not is_refused) (ShowsSame columns.shape.is_same columns kept)) (λ it. Purely (λ result. result ≡ ending_of_refusal is_refused))
 
 abbrev pub IndexesWith : IndexStyle → ImageReading → List (List ℕ) → Columns → List Event → Result (Unit {0}) Ending → List Event → Type 0
 IndexesWith style reading names columns = Then (IndexesAll columns style reading names) (λ found. EndsIndex columns found.is_refused found.lines.items)

@@ -4,6 +4,7 @@ ghost use Rattle.index_commands.specs.Found.{FindsSame, KeepsLines, ShowsGroups,
 
 use crate::columns::Columns;
 use hosts::Host;
+use image_files::part_after;
 use outcome::Ending;
 use same_files::same_lines;
 use std::alloc::Global;
@@ -71,7 +72,7 @@ pub(crate) fn take_lines<H: Host>(
     if columns.shape.is_same {
         return found.with_lines(lines);
     }
-    columns.print(host, alloc, lines)?;
+    part_after(!found.is_refused, columns.print(host, alloc, lines))?;
     Ok(found)
 }
 

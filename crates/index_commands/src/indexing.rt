@@ -12,7 +12,7 @@ use archive_many::{ChoiceFault, choose_files};
 use disk_layouts::Layout;
 use host_progress::Progress;
 use hosts::Host;
-use image_files::{ImageReading, image_named, images_among, look_image, refuse_image};
+use image_files::{ImageReading, image_named, images_among, look_image, part_after, refuse_image};
 use image_kind::Form;
 use image_volumes::judged_kind;
 use outcome::Ending;
@@ -93,7 +93,8 @@ fn end_index<H: Host>(
 ) -> Result<(), Ending>
     ensures { EndsIndex columns.now found.now.is_refused found.now.lines.items (H.history host.old) result (H.history host.new) }
 {
-    print_same(host, alloc, columns, &found.lines)?;
+    let same = print_same(host, alloc, columns, &found.lines);
+    part_after(!found.is_refused, same)?;
     ending_of_refusal(found.is_refused)
 }
 

@@ -8,7 +8,7 @@ use Rattle.hosts.specs.declared.faults.HostFault.{HostFault}
 use Rattle.os8_dir.specs.declared.file_faults.FileFault.{FileFault}
 use Rattle.os8_dir.specs.declared.file_faults.FileFault.TheVariants.{BadName, NotFound}
 use Rattle.script8.specs.Replies.{fault_line}
-use Rattle.script8.specs.declared.faults.SessionFault.TheVariants.{File, Memory}
+use Rattle.script8.specs.declared.faults.SessionFault.TheVariants.{File}
 use Rattle.archive_many.specs.Opened.{OpensVolume}
 use Rattle.archive_many.specs.declared.opened.VolumeFile.{VolumeFile}
 use Rattle.archive_many.specs.declared.wishes.Wish.{Wish}
@@ -28,7 +28,7 @@ use Rattle.image_files.specs.Reading.{LooksAt}
 use Rattle.outcome.specs.declared.reasons.Reason.{Reason}
 use Rattle.image_files.specs.Reasons.{TellsReason, TellsUnless, is_want_of_memory, reason_of_first}
 use Rattle.image_files.specs.Saving.{IsDone, Prints}
-use Rattle.image_files.specs.Work.{Then, Purely}
+use Rattle.image_files.specs.Work.{After, Then, Purely}
 use Rattle.image_files.proofs.KeepLemmas.{looks-at-keeps}
 use Rattle.image_files.proofs.LeaveLemmas.{answers-never}
 use Rattle.many_commands.specs.GettingMany.{AreFilesOn, GetsMany, GivesAsked, GivesEach, GivesFile, GivesNoted, GivesWish, HasLaid, IsHostName, IsPath, LaysAndTells, LaysApart, LaysFile, MakesFolder, NotesGot, PrintsAnswer, RefusesOver, RefusesWord, TakesFile, TellsGot, TellsLaid, TellsUnlaid, count_after, line_of_laid, time_of_file}
@@ -83,11 +83,19 @@ then-quiet first next f n old result new (inr it) = record {
 purely-quiet : {A : Type 0} (gives : Result A Ending → Type 0) → Quietly (Purely gives)
 purely-quiet gives old result new p = quiet old p.1 (nothing old)
 
+part-quiet : {A : Type 0} (are_there : Bool) (part : List Event → Result A Ending → List Event → Type 0) → Quietly part → Quietly (After are_there part)
+part-quiet are_there part q old (Ok it) new p = q old (Ok it) new p
+part-quiet are_there part q old (Err ended) new (ending, p, is) = q old (Err ending) new p
+
 then-asking : {A B : Type 0} (image : List ℕ) (first : List Event → Result A Ending → List Event → Type 0) (next : A → List Event → Result B Ending → List Event → Type 0)
     → Asking image first → ((given : A) → Asking image (next given)) → Asking image (Then first next)
 then-asking image first next f n old (Ok r) new (inl ends) = absurd ends
 then-asking image first next f n old (Err e) new (inl ends) = f old (Err e) new ends
 then-asking image first next f n old result new (inr it) = both image old it.between new (f old (Ok it.given) it.between it.done) (n it.given it.between result new it.after)
+
+part-asking : {A : Type 0} (image : List ℕ) (are_there : Bool) (part : List Event → Result A Ending → List Event → Type 0) → Asking image part → Asking image (After are_there part)
+part-asking image are_there part asks old (Ok it) new p = asks old (Ok it) new p
+part-asking image are_there part asks old (Err ended) new (ending, p, is) = asks old (Err ending) new p
 
 quiet-asking : {A : Type 0} (image : List ℕ) (step : List Event → Result A Ending → List Event → Type 0) → Quietly step → Asking image step
 quiet-asking image step q old result new p = quiet-asked image old new (q old result new p)
@@ -114,8 +122,8 @@ prints-quiet bytes old (Err Unreported) new p = absurd p
 
 answer-quiet : (is_there : Bool) (text : List ℕ) → Quietly (PrintsAnswer is_there text)
 answer-quiet is_there text =
-    then-quiet (Purely (AreLines text)) (λ lines. Then (Prints lines.items) (λ it. Purely (λ (result : Result Bool Ending). result ≡ Ok is_there))) (purely-quiet (AreLines text))
-    (λ lines. then-quiet (Prints lines.items) (λ it. Purely (λ (result : Result Bool Ending). result ≡ Ok is_there)) (prints-quiet lines.items) (λ it. purely-quiet (λ (result : Result Bool Ending). result ≡ Ok is_there)))
+    then-quiet (Purely (AreLines text)) (λ lines. Then (After is_there (Prints lines.items)) (λ it. Purely (λ (result : Result Bool Ending). result ≡ Ok is_there))) (purely-quiet (AreLines text))
+    (λ lines. then-quiet (After is_there (Prints lines.items)) (λ it. Purely (λ (result : Result Bool Ending). result ≡ Ok is_there)) (part-quiet is_there (Prints lines.items) (prints-quiet lines.items)) (λ it. purely-quiet (λ (result : Result Bool Ending). result ≡ Ok is_there)))
 
 pair-quiet : (output input : List ℕ) → Quietly (TellsPair output input)
 pair-quiet output input old (Ok it) new (ok, p) = quiet old p (printed old _ (λ path. refl) refl)
@@ -229,7 +237,8 @@ gives-wish form blocks is_told all done (wish.Block block) =
 gives-each : (form : GetManyForm) (blocks : List (List ℕ)) (is_told : Bool) (all done : ℕ) (are_there : Bool) (wishes : List Wish) → Asking form.image.file.bytes.items (GivesEach form blocks is_told all done are_there wishes)
 gives-each form blocks is_told all done are_there [] = purely-asking form.image.file.bytes.items (λ (result : Result Bool Ending). result ≡ Ok are_there)
 gives-each form blocks is_told all done are_there (one ∷ wishes) =
-    then-asking form.image.file.bytes.items (GivesWish form blocks is_told all done one) (λ is_there. GivesEach form blocks is_told all (count_after one done) (are_there && is_there) wishes) (gives-wish form blocks is_told all done one)
+    then-asking form.image.file.bytes.items (After are_there (GivesWish form blocks is_told all done one)) (λ is_there. GivesEach form blocks is_told all (count_after one done) (are_there && is_there) wishes)
+    (part-asking form.image.file.bytes.items are_there (GivesWish form blocks is_told all done one) (gives-wish form blocks is_told all done one))
     (λ is_there. gives-each form blocks is_told all (count_after one done) (are_there && is_there) wishes)
 
 -- ## The command

@@ -9,14 +9,13 @@ use Rattle.hosts.specs.declared.faults.HostFault.{HostFault}
 use Rattle.os8_dir.specs.declared.file_faults.FileFault.{FileFault}
 use Rattle.os8_dir.specs.declared.file_faults.FileFault.TheVariants.{BadName, NotFound}
 use Rattle.script8.specs.Replies.{fault_line}
-use Rattle.script8.specs.declared.faults.SessionFault.TheVariants.{File, Memory}
+use Rattle.script8.specs.declared.faults.SessionFault.TheVariants.{File}
 use Rattle.archive_many.specs.Opened.{OpensVolume}
 use Rattle.archive_many.specs.declared.opened.VolumeFile.{VolumeFile}
 use Rattle.program_reports.specs.Program.{program_line}
 use Rattle.program_reports.specs.declared.programs.ProgramLine.{ProgramLine}
 use Rattle.program_reports.specs.declared.programs.ProgramLine.TheVariants as line
 use Rattle.outcome.specs.declared.endings.Ending.{Ending}
-use Rattle.outcome.specs.declared.endings.Ending.TheVariants.{Fault}
 use Rattle.program_tasks.specs.declared.forms.GetManyForm.{GetManyForm}
 use Rattle.image_files.specs.Answers.{Answers, AreLines, named_lines}
 use Rattle.image_files.specs.Reasons.{is_want_of_memory, reason_of_first}
@@ -25,7 +24,7 @@ use Rattle.outcome.specs.declared.reasons.Reason.TheVariants as reason
 use Rattle.image_files.specs.Places.{TellsPair}
 use Rattle.image_files.specs.Reading.{LooksAt}
 use Rattle.image_files.specs.Saving.{IsDone, Prints}
-use Rattle.image_files.specs.Work.{Then, Purely}
+use Rattle.image_files.specs.Work.{After, Then, Purely}
 use Rattle.many_commands.specs.GettingMany.{AreFilesOn, GetsMany, GivesAsked, GivesEach, GivesFile, GivesWish, HasLaid, IsPath, LaysAndTells, LaysFile, MakesFolder, PrintsAnswer, RefusesWord, ReplacesIf, TakesFile, IsHostName, TellsLaid, TellsUnlaid, count_after, line_of_laid, time_of_file, LaysApart, RefusesOver, GivesNoted, NotesGot, TellsGot}
 use Rattle.image_files.specs.Laws.{NeverReplaces}
 use Rattle.many_commands.specs.Laws.{ChangesIn, IsIn}
@@ -37,7 +36,7 @@ use Rattle.archive_many.specs.declared.wishes.Wish.{Wish}
 use Rattle.archive_many.specs.declared.wishes.Wish.TheVariants as wish
 use Rattle.many_commands.proofs.PuttingMany.{lists-never}
 use Rattle.image_files.specs.Laws.{KeepsFiles, ChangesNothing}
-use Rattle.image_files.proofs.KeepLemmas.{then-keeps as then-never, purely-keeps as purely-never, prints-keeps, looks-at-keeps}
+use Rattle.image_files.proofs.KeepLemmas.{after-keeps as after-never, then-keeps as then-never, purely-keeps as purely-never, prints-keeps, looks-at-keeps}
 use Rattle.image_files.proofs.LeaveLemmas.{same, answers-never}
 use Rattle.host_progress.proofs.KeepLemmas.{begins-never, ends-never, progress-never}
 
@@ -66,6 +65,10 @@ then-keeps form first next f n old result new (inr it) = both form old it.betwee
 
 purely-keeps : {A : Type 0} (form : GetManyForm) (gives : Result A Ending → Type 0) → Keeps form (Purely gives)
 purely-keeps form gives = keeps-never form (Purely gives) (purely-never gives)
+
+after-keeps : {A : Type 0} (form : GetManyForm) (are_there : Bool) (part : List Event → Result A Ending → List Event → Type 0) → Keeps form part → Keeps form (After are_there part)
+after-keeps form are_there part keeps old (Ok it) new p = keeps old (Ok it) new p
+after-keeps form are_there part keeps old (Err ended) new (ending, p, is) = keeps old (Err ending) new p
 
 -- ## A file that is laid
 
@@ -98,8 +101,8 @@ lays-stays form path bytes seconds (Err fault) old new inside p = laid-stays for
 
 pub prints-answer-never : (is_there : Bool) (text : List ℕ) → KeepsFiles (PrintsAnswer is_there text)
 prints-answer-never is_there text =
-    then-never (Purely (AreLines text)) (λ lines. Then (Prints lines.items) (λ it. Purely (λ (result : Result Bool Ending). result ≡ Ok is_there))) (purely-never (AreLines text))
-    (λ lines. then-never (Prints lines.items) (λ it. Purely (λ (result : Result Bool Ending). result ≡ Ok is_there)) (prints-keeps lines.items) (λ it. purely-never (λ (result : Result Bool Ending). result ≡ Ok is_there)))
+    then-never (Purely (AreLines text)) (λ lines. Then (After is_there (Prints lines.items)) (λ it. Purely (λ (result : Result Bool Ending). result ≡ Ok is_there))) (purely-never (AreLines text))
+    (λ lines. then-never (After is_there (Prints lines.items)) (λ it. Purely (λ (result : Result Bool Ending). result ≡ Ok is_there)) (after-never is_there (Prints lines.items) (prints-keeps lines.items)) (λ it. purely-never (λ (result : Result Bool Ending). result ≡ Ok is_there)))
 
 tells-unlaid-never : (said : Option ProgramLine) (fault : HostFault) (name path : List ℕ) → KeepsFiles (TellsUnlaid said fault name path)
 tells-unlaid-never None fault name path old result new p = same old new p.1
@@ -181,7 +184,8 @@ gives-wish form blocks is_told all done (wish.Block block) =
 gives-each : (form : GetManyForm) (blocks : List (List ℕ)) (is_told : Bool) (all done : ℕ) (are_there : Bool) (wishes : List Wish) → Keeps form (GivesEach form blocks is_told all done are_there wishes)
 gives-each form blocks is_told all done are_there [] = purely-keeps form (λ (result : Result Bool Ending). result ≡ Ok are_there)
 gives-each form blocks is_told all done are_there (one ∷ wishes) =
-    then-keeps form (GivesWish form blocks is_told all done one) (λ is_there. GivesEach form blocks is_told all (count_after one done) (are_there && is_there) wishes) (gives-wish form blocks is_told all done one)
+    then-keeps form (After are_there (GivesWish form blocks is_told all done one)) (λ is_there. GivesEach form blocks is_told all (count_after one done) (are_there && is_there) wishes)
+    (after-keeps form are_there (GivesWish form blocks is_told all done one) (gives-wish form blocks is_told all done one))
     (λ is_there. gives-each form blocks is_told all (count_after one done) (are_there && is_there) wishes)
 
 -- ## The command

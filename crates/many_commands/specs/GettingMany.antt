@@ -30,7 +30,7 @@ use Rattle.program_reports.specs.declared.programs.ProgramLine.TheVariants as li
 use Rattle.outcome.specs.declared.endings.Ending.{Ending}
 use Rattle.outcome.specs.declared.endings.Ending.TheVariants.{Line, Fault}
 use Rattle.program_tasks.specs.declared.forms.GetManyForm.{GetManyForm}
-use Rattle.image_files.specs.Work.{Then, Purely}
+use Rattle.image_files.specs.Work.{After, Then, Purely}
 use Rattle.image_files.specs.Places.{TellsPair}
 use Rattle.image_files.specs.Reading.{LooksAt}
 use Rattle.image_files.specs.Answers.{Answers, AreLines, named_lines}
@@ -82,7 +82,7 @@ LaysFile path bytes seconds is_forced old (Err fault) new = HasLaid path bytes s
 
 -- lines are printed, and it is answered whether a file is there
 abbrev pub PrintsAnswer : Bool → List ℕ → List Event → Result Bool Ending → List Event → Type 0
-PrintsAnswer is_there text = Then (Purely (AreLines text)) (λ lines. Then (Prints lines.items) (λ it. Purely (λ result. result ≡ Ok is_there)))
+PrintsAnswer is_there text = Then (Purely (AreLines text)) (λ lines. Then (After is_there (Prints lines.items)) (λ it. Purely (λ result. result ≡ Ok is_there)))
 
 -- the line of a file that is not laid by this fault; want of memory ends the command
 abbrev pub laid_line : FaultClass → Option ProgramLine
@@ -193,7 +193,7 @@ count_after (wish.Block block) done = done
 -- what is asked for is given in its order, and it is answered whether all is there
 abbrev pub GivesEach : GetManyForm → List (List ℕ) → Bool → ℕ → ℕ → Bool → List Wish → List Event → Result Bool Ending → List Event → Type 0
 GivesEach form blocks is_told all done are_there [] = Purely (λ result. result ≡ Ok are_there)
-GivesEach form blocks is_told all done are_there (one ∷ wishes) = Then (GivesWish form blocks is_told all done one) (λ is_there. GivesEach form blocks is_told all (count_after one done) (are_there && is_there) wishes)
+GivesEach form blocks is_told all done are_there (one ∷ wishes) = Then (After are_there (GivesWish form blocks is_told all done one)) (λ is_there. GivesEach form blocks is_told all (count_after one done) (are_there && is_there) wishes)
 
 -- ## The command
 

@@ -15,7 +15,7 @@ use crate::texts::take_lists;
 use archive_many::{OpenVolume, VolumeFile, Wish, wishes_of};
 use host_progress::Progress;
 use hosts::{FaultClass, Host, HostFault};
-use image_files::{end_sound, look_at, open_volume, tell_fault};
+use image_files::{end_sound, look_at, open_volume, part_after, tell_fault};
 use os8_dir::FileFault;
 use outcome::Ending;
 use program_reports::ProgramLine;
@@ -120,7 +120,8 @@ fn give_each<H: Host>(
     let mut are_there = true;
     let mut rest = wishes;
     while let [wish, others @ ..] = rest {
-        let is_there = give_wish(host, alloc, form, volume, wish, progress, done)?;
+        let given = give_wish(host, alloc, form, volume, wish, progress, done);
+        let is_there = part_after(are_there, given)?;
         are_there = both(are_there, is_there);
         done = count_after(wish, done);
         rest = others;

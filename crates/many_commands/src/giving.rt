@@ -13,7 +13,7 @@ use crate::texts::{get_form, is_got_noted};
 use archive_files::GetForm;
 use archive_many::{OpenVolume, VolumeFile, host_name};
 use hosts::{FaultClass, Host, HostFault, lay};
-use image_files::{named_lines, print, program_line, tell_first, tell_note, tell_pair};
+use image_files::{named_lines, part_after, print, program_line, tell_first, tell_note, tell_pair};
 use os8_dates::{NO_DATE, time_of_word};
 use os8_dir::FileFault;
 use outcome::{Ending, NameNote, Note};
@@ -330,6 +330,6 @@ fn print_refused<H: Host>(
     ensures { PrintsAnswer false (named_lines name.now text.now) (H.history host.old) result (H.history host.new) }
 {
     let lines = named_lines(alloc, name, text)?;
-    print(host, &lines)?;
+    part_after(false, print(host, &lines))?;
     Ok(false)
 }

@@ -26,22 +26,11 @@ use Rattle.image_files.specs.Work.{Then, Purely}
 use Rattle.program_commands.specs.Kinds.{RefusesFrames, RefusesTape, is_no_tape}
 use Rattle.program_commands.specs.Kinds as kinds
 use Rattle.image_files.specs.Laws.{KeepsFiles}
+use Rattle.image_files.proofs.KeepLemmas.{purely-keeps, same, then-keeps}
 use Rattle.program_commands.specs.Programs.{IsAsked, IsCoreProgram, IsTapeProgram, ReadsCore, ReadsGiven, ReadsMember, ReadsProgram, RefusesIf, TakesIf, TakesTape, has_no_tape, is_core_name}
 use Rattle.program_commands.specs.Rims.{GetsMember, GivesRim, ReadsFrames, WritesRim}
 use Rattle.program_commands.specs.Sources.{GivesSource, ReadsNames, WritesSource, starts_or}
 use Rattle.program_commands.specs.Tapes.{GivesLines, ListsTape}
-
-same : {old new : List Event} (path : List ℕ) → new ≡ old → about path new ≡ about path old
-same path is = ap (λ (events : List Event). about path events) is
-
-then-keeps : {A B : Type 0} (first : List Event → Result A Ending → List Event → Type 0) (next : A → List Event → Result B Ending → List Event → Type 0)
-    → KeepsFiles first → ((given : A) → KeepsFiles (next given)) → KeepsFiles (Then first next)
-then-keeps first next f n old (Ok r) new (inl ends) path = absurd ends
-then-keeps first next f n old (Err e) new (inl ends) path = f old (Err e) new ends path
-then-keeps first next f n old result new (inr it) path = n it.given it.between result new it.after path ∙ f old (Ok it.given) it.between it.done path
-
-purely-keeps : {A : Type 0} (gives : Result A Ending → Type 0) → KeepsFiles (Purely gives)
-purely-keeps gives old result new p path = same path p.1
 
 tells-keeps : (path : List ℕ) (note : Option PlainNote) (old new : List Event) → Tells note old new → about path new ≡ about path old
 tells-keeps path None old new p = same path p

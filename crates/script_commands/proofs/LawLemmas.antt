@@ -20,6 +20,7 @@ use Rattle.script8.specs.declared.replies.Reply.{Reply}
 use Rattle.system_session.specs.Session.{SessionView}
 use Rattle.image_files.specs.Answers.{Answers, Refuses}
 use Rattle.image_files.specs.Laws.{KeepsFiles}
+use Rattle.image_files.proofs.KeepLemmas.{purely-keeps, same, then-keeps}
 use Rattle.image_volumes.specs.Margins.{body_by, margins_by}
 use Rattle.image_volumes.specs.Parts.{Parts}
 use Rattle.image_kind.specs.declared.kinds.ImageKind.{ImageKind}
@@ -29,23 +30,10 @@ use Rattle.image_volumes.specs.Volumes.{script_kind, volumes_with}
 use Rattle.image_volumes.specs.declared.volumes.Volumes.{Volumes}
 use Rattle.image_volumes.specs.declared.volumes.Volumes.TheVariants.{One, Both}
 use Rattle.image_files.specs.Reading.{FindsIn, Looks}
-use Rattle.image_files.specs.Work.{Then, Purely}
 use Rattle.image_files.specs.declared.images.Image.{Image}
 use Rattle.script_commands.specs.Laws.{IsInPlace, IsKeptBefore, IsOneOf, body_of, file_around, image_file}
 use Rattle.script_commands.specs.Scripts.{IsOnlyRead, MountsSession, is_parted, OnlyReads, OpensFor, RunsScript, RunsSession}
 use Rattle.script_commands.specs.Steps.{Step, Saves, Fails, Replies, Prints, Refuses as RefusesPrint, Shows, Cuts, AreDone, AreKept, AreUnsaved, GetsImage, IsBodyOf, IsFileAround, IsFileOf, changes, has_saved, has_unsynced, last_image, save_ending}
-
-same : {old new : List Event} (path : List ℕ) → new ≡ old → about path new ≡ about path old
-same path is = ap (λ (events : List Event). about path events) is
-
-then-keeps : {A B : Type 0} (first : List Event → Result A Ending → List Event → Type 0) (next : A → List Event → Result B Ending → List Event → Type 0)
-    → KeepsFiles first → ((given : A) → KeepsFiles (next given)) → KeepsFiles (Then first next)
-then-keeps first next f n old (Ok r) new (inl ends) path = absurd ends
-then-keeps first next f n old (Err e) new (inl ends) path = f old (Err e) new ends path
-then-keeps first next f n old result new (inr it) path = n it.given it.between result new it.after path ∙ f old (Ok it.given) it.between it.done path
-
-purely-keeps : {A : Type 0} (gives : Result A Ending → Type 0) → KeepsFiles (Purely gives)
-purely-keeps gives old result new p path = same path p.1
 
 finds-keeps : (volumes : Volumes) (body : List ℕ) → KeepsFiles (FindsIn volumes body)
 finds-keeps (One layout) body old result new p path = same path p.1

@@ -3,4 +3,3 @@ mod LawLemmas
 mod RunLemmas
 mod SaveLemmas
 mod SessionLemmas
-mod WorkLemmas

@@ -24,7 +24,7 @@ use Rattle.script8.specs.Replies.{answer_lines}
 use Rattle.system_session.specs.ShownAnswers.{ShownAnswer}
 use Rattle.volume_image.specs.Image.{IsImageOf}
 use Rattle.image_files.specs.Reasons.{TellsReason}
-use Rattle.image_files.specs.Saving.{TouchesOnly, Writes}
+use Rattle.image_files.specs.Saving.{TouchesOnly}
 use Rattle.outcome.specs.declared.reasons.Reason.TheVariants.{NoRoom}
 use Rattle.image_files.specs.declared.images.Image.{Image}
 use Rattle.script_commands.specs.Steps.{Step, AreDone, AreKept, AreReplies, AreUnsaved, GetsImage, IsFileAround, IsFileOf, IsUnwritten, StaysUnsaved, changes, has_cut, has_refusal, has_saved, has_unsynced, is_refusal, is_unknown, last_image, or_else, printed_text, reply_text, print_fault, save_ending, once_note}

@@ -34,7 +34,7 @@ use Rattle.image_files.specs.Answers.{Answers}
 use Rattle.image_files.specs.Judging.{Judges}
 use Rattle.image_files.specs.Reading.{FindsForScript, Looks, OpensForScript}
 use Rattle.image_files.specs.Saving.{IsDone}
-use Rattle.image_files.specs.Work.{Then, Purely}
+use Rattle.image_files.specs.Work.{Then, Purely, ending_after}
 use Rattle.image_files.specs.declared.images.Image.{Image}
 use Rattle.script_commands.specs.Steps.{Step, AreDone, AreKept, AreReplies, AreUnsaved, has_cut, has_refusal, last_image, printed_text, reply_text, print_fault, save_ending}
 
@@ -103,11 +103,12 @@ ending_of_output saving (Some Abandoned) = NoReader
 ending_of_output saving (Some Failed) = full_ending saving
 ending_of_output saving None = full_ending saving
 
--- how a run ends: its image could not be saved; or a reply was refused, where that is a fault; or its script broke off
+-- How a run ends: its image could not be saved; or a reply was refused, where that is a fault; or its script broke off. Such a reply counts
+-- also where nobody reads any more.
 abbrev pub ending_of : Saving → Bool → Option Ending → Option PrintFault → Result (Unit {0}) SessionFault → Option Ending
 ending_of saving is_fault (Some ending) fault answer = Some ending
 ending_of saving is_fault None fault (Ok it) = if is_fault then Some Failure else None
-ending_of saving is_fault None fault (Err Writer) = Some (ending_of_output saving fault)
+ending_of saving is_fault None fault (Err Writer) = Some (ending_after (not is_fault) (ending_of_output saving fault))
 ending_of saving is_fault None fault (Err why) = Some Failure
 
 abbrev pub IsEndedBy : Option Ending → Result (Unit {0}) Ending → Type 0

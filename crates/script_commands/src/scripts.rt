@@ -20,7 +20,8 @@ use archive_files::parts::volume_of;
 use byte_reader::ByteReader;
 use hosts::{Host, HostFault, PrintFault};
 use image_files::{
-    Image, ImagePlace, judge_file, look_file, refuse_image, script_volume_in, tell_note,
+    Image, ImagePlace, ending_after, judge_file, look_file, refuse_image, script_volume_in,
+    tell_note,
 };
 use image_volumes::Judgment;
 use os8_dir::DirFault;
@@ -284,14 +285,15 @@ fn end_script(
     if let Some(ending) = save_ending {
         return Err(ending);
     }
+    let is_fault = is_strict && is_refused;
     match answer {
         Ok(()) => {
-            if is_strict && is_refused {
+            if is_fault {
                 return Err(Ending::Failure);
             }
             Ok(())
         }
-        Err(SessionFault::Writer) => Err(ending_of_output(saving, fault)),
+        Err(SessionFault::Writer) => Err(ending_after(!is_fault, ending_of_output(saving, fault))),
         Err(_) => Err(Ending::Failure),
     }
 }

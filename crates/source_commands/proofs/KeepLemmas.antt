@@ -37,6 +37,7 @@ use Rattle.outcome.specs.declared.reasons.Reason.TheVariants as reason
 use Rattle.image_files.specs.Answers.{AreLines, Refuses}
 use Rattle.image_files.specs.Ending.{TellsLine}
 use Rattle.image_files.specs.Laws.{KeepsFiles}
+use Rattle.image_files.proofs.KeepLemmas.{purely-keeps, same, then-keeps}
 use Rattle.image_files.specs.Making.{IsUnheldFile, MakesBy, MakesFile, ending_of_file, file_ending}
 use Rattle.image_files.specs.Inputs.{TakesInput}
 use Rattle.image_files.specs.Stored.{stored_line}
@@ -55,18 +56,6 @@ use Rattle.source_commands.specs.Outputs.{PutsTape, WritesIf, WritesListing, Wri
 use Rattle.source_commands.specs.Places.{AreApart, IsApartFromInputs, IsApartFromListing, KeepsInputs, KeepsListing, KeepsTape, KeepsTapeAt, input_place, output_place, tape_of}
 use Rattle.source_commands.specs.Sources.{AreLent, AreTexts, GetsText, IsAsked, IsText, NamesIf, ReadsBytes, ReadsEach, ReadsFile, ReadsIf, ReadsMember, ReadsSource, RefusesSource, is_standard, is_unread, source_text}
 use Rattle.source_commands.specs.declared.assembling.Assembled.{Assembled}
-
-same : {old new : List Event} (path : List ℕ) → new ≡ old → about path new ≡ about path old
-same path is = ap (λ (events : List Event). about path events) is
-
-then-keeps : {A B : Type 0} (first : List Event → Result A Ending → List Event → Type 0) (next : A → List Event → Result B Ending → List Event → Type 0)
-    → KeepsFiles first → ((given : A) → KeepsFiles (next given)) → KeepsFiles (Then first next)
-then-keeps first next f n old (Ok r) new (inl ends) path = absurd ends
-then-keeps first next f n old (Err e) new (inl ends) path = f old (Err e) new ends path
-then-keeps first next f n old result new (inr it) path = n it.given it.between result new it.after path ∙ f old (Ok it.given) it.between it.done path
-
-purely-keeps : {A : Type 0} (gives : Result A Ending → Type 0) → KeepsFiles (Purely gives)
-purely-keeps gives old result new p path = same path p.1
 
 -- ## Words that clash
 

@@ -2,4 +2,3 @@ mod AskLemmas
 mod KeepLemmas
 mod SignLemmas
 mod SourceLemmas
-mod WorkLemmas

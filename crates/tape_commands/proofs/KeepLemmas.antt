@@ -28,6 +28,7 @@ use Rattle.outcome.specs.declared.notes.PlainNote.{PlainNote}
 use Rattle.image_files.specs.Answers.{AreLines}
 use Rattle.image_files.specs.Ending.{TellsLine}
 use Rattle.image_files.specs.Laws.{KeepsFiles}
+use Rattle.image_files.proofs.KeepLemmas.{purely-keeps, same, then-keeps}
 use Rattle.image_files.specs.Notes.{Tells}
 use Rattle.image_files.specs.Saving.{Prints}
 use Rattle.image_files.specs.Work.{Then, Purely}
@@ -39,18 +40,6 @@ use Rattle.tape_commands.specs.Profiles.{GivesProfile, ProfilesTape}
 use Rattle.tape_commands.specs.Runs.{IsReady, ReadsRun, start_or, terminal_of}
 use Rattle.tape_commands.specs.Teletypes.{EndsRun, IsEndOf, ReadsMachine, RunsMachine, RunsTeletype, line_of_end}
 use Rattle.tape_commands.specs.Traces.{EndsTrace, TracesSteps, TracesTape}
-
-same : {old new : List Event} (path : List ℕ) → new ≡ old → about path new ≡ about path old
-same path is = ap (λ (events : List Event). about path events) is
-
-then-keeps : {A B : Type 0} (first : List Event → Result A Ending → List Event → Type 0) (next : A → List Event → Result B Ending → List Event → Type 0)
-    → KeepsFiles first → ((given : A) → KeepsFiles (next given)) → KeepsFiles (Then first next)
-then-keeps first next f n old (Ok r) new (inl ends) path = absurd ends
-then-keeps first next f n old (Err e) new (inl ends) path = f old (Err e) new ends path
-then-keeps first next f n old result new (inr it) path = n it.given it.between result new it.after path ∙ f old (Ok it.given) it.between it.done path
-
-purely-keeps : {A : Type 0} (gives : Result A Ending → Type 0) → KeepsFiles (Purely gives)
-purely-keeps gives old result new p path = same path p.1
 
 tells-keeps : (path : List ℕ) (note : Option PlainNote) (old new : List Event) → Tells note old new → about path new ≡ about path old
 tells-keeps path None old new p = same path p

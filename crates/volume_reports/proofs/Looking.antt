@@ -18,7 +18,7 @@ use Rattle.image_files.specs.Answers.{Answers, AreLines, named_lines}
 use Rattle.image_files.specs.declared.mending.ImageReading.{ImageReading}
 use Rattle.image_files.specs.Reading.{FindsVolume, LooksImage, file_named, reading_named}
 use Rattle.image_files.specs.Saving.{Prints}
-use Rattle.image_files.specs.Work.{Then, Purely}
+use Rattle.image_files.specs.Work.{After, Then, Purely}
 use Rattle.volume_reports.specs.declared.reports.Report.{Report}
 use Rattle.volume_reports.specs.declared.reports.ReportKind.{ReportKind}
 use Rattle.volume_reports.specs.Checking.{ChecksEach, ChecksEachImage, ChecksFiles, ChecksImages, ChecksNext, ChecksSeveral, DropsBeside, DropsEach, PrintsCount, TellsDropped, kind_of_check, reading_of_check, with_refusal}
@@ -28,18 +28,20 @@ use Rattle.volume_reports.specs.Volumes.{IsVolumeName, ReportsAlone, ReportsAt, 
 use Rattle.host_progress.specs.Progressing.{TellsProgress, WithProgress}
 use Rattle.image_files.specs.Laws.{KeepsFiles}
 use Rattle.image_files.specs.Leftovers.{ChoosesImages}
-use Rattle.image_files.proofs.KeepLemmas.{then-keeps, purely-keeps, prints-keeps, looks-image-keeps}
+use Rattle.image_files.proofs.KeepLemmas.{after-keeps, then-keeps, purely-keeps, prints-keeps, looks-image-keeps}
 use Rattle.image_files.proofs.LeaveLemmas.{answers-never, refuses-never}
 use Rattle.host_progress.proofs.KeepLemmas.{progress-never, with-progress-never}
 
 prints-report-never : (report : Report) → KeepsFiles (PrintsReport report)
-prints-report-never report = then-keeps (Prints report.text.items) (λ it. Purely (EndsSound report.is_sound)) (prints-keeps report.text.items) (λ it. purely-keeps (EndsSound report.is_sound))
+prints-report-never report =
+    then-keeps (After report.is_sound (Prints report.text.items)) (λ it. Purely (EndsSound report.is_sound)) (after-keeps report.is_sound (Prints report.text.items) (prints-keeps report.text.items))
+    (λ it. purely-keeps (EndsSound report.is_sound))
 
 prints-named-never : (file : List ℕ) (report : Report) → KeepsFiles (PrintsNamed file report)
 prints-named-never file report =
-    then-keeps (Purely (AreLines (named_lines file report.text.items))) (λ lines. Then (Prints lines.items) (λ it. Purely (λ (result : Result Bool Ending). result ≡ Ok report.is_sound)))
+    then-keeps (Purely (AreLines (named_lines file report.text.items))) (λ lines. Then (After report.is_sound (Prints lines.items)) (λ it. Purely (λ (result : Result Bool Ending). result ≡ Ok report.is_sound)))
     (purely-keeps (AreLines (named_lines file report.text.items)))
-    (λ lines. then-keeps (Prints lines.items) (λ it. Purely (λ (result : Result Bool Ending). result ≡ Ok report.is_sound)) (prints-keeps lines.items) (λ it. purely-keeps (λ (result : Result Bool Ending). result ≡ Ok report.is_sound)))
+    (λ lines. then-keeps (After report.is_sound (Prints lines.items)) (λ it. Purely (λ (result : Result Bool Ending). result ≡ Ok report.is_sound)) (after-keeps report.is_sound (Prints lines.items) (prints-keeps lines.items)) (λ it. purely-keeps (λ (result : Result Bool Ending). result ≡ Ok report.is_sound)))
 
 at-never : (kind : ReportKind) (layout : Option Layout) (body : List ℕ) → KeepsFiles (ReportsAt kind layout body)
 at-never kind layout body old result new (inl (image, found, inl (report, reports, is, same))) path = ap (λ (events : List Event). about path events) same
@@ -57,9 +59,9 @@ numbered-never kind file number layout body =
 
 both-never : (kind : ReportKind) (file body : List ℕ) → KeepsFiles (ReportsBoth kind file body)
 both-never kind file body =
-    then-keeps (ReportsNumbered kind file 1 First body) (λ one. Then (ReportsNumbered kind file 2 Second body) (λ other. Purely (λ (result : Result Bool Ending). result ≡ Ok (one && other))))
+    then-keeps (ReportsNumbered kind file 1 First body) (λ one. Then (After one (ReportsNumbered kind file 2 Second body)) (λ other. Purely (λ (result : Result Bool Ending). result ≡ Ok (one && other))))
     (numbered-never kind file 1 First body)
-    (λ one. then-keeps (ReportsNumbered kind file 2 Second body) (λ other. Purely (λ (result : Result Bool Ending). result ≡ Ok (one && other))) (numbered-never kind file 2 Second body)
+    (λ one. then-keeps (After one (ReportsNumbered kind file 2 Second body)) (λ other. Purely (λ (result : Result Bool Ending). result ≡ Ok (one && other))) (after-keeps one (ReportsNumbered kind file 2 Second body) (numbered-never kind file 2 Second body))
     (λ other. purely-keeps (λ (result : Result Bool Ending). result ≡ Ok (one && other))))
 
 alone-never : (kind : ReportKind) (layout : Option Layout) (body : List ℕ) → KeepsFiles (ReportsAlone kind layout body)
@@ -110,13 +112,14 @@ next-never form is_told done all file =
 each-never : (form : CheckForm) (is_told : Bool) (done all refused : ℕ) (files : List (List ℕ)) → KeepsFiles (ChecksEach form is_told done all refused files)
 each-never form is_told done all refused [] = purely-keeps (λ (result : Result ℕ Ending). result ≡ Ok refused)
 each-never form is_told done all refused (file ∷ files) =
-    then-keeps (ChecksNext form is_told done all file) (λ is_sound. ChecksEach form is_told (done + 1) all (with_refusal is_sound refused) files) (next-never form is_told done all file)
+    then-keeps (After (nat_eq refused 0) (ChecksNext form is_told done all file)) (λ is_sound. ChecksEach form is_told (done + 1) all (with_refusal is_sound refused) files)
+    (after-keeps (nat_eq refused 0) (ChecksNext form is_told done all file) (next-never form is_told done all file))
     (λ is_sound. each-never form is_told (done + 1) all (with_refusal is_sound refused) files)
 
 count-never : (count refused : ℕ) → KeepsFiles (PrintsCount count refused)
 count-never count refused =
-    then-keeps (Purely (AreLines (program_line (line.Images count refused)))) (λ text. Then (Prints text.items) (λ it. Purely (EndsSound (nat_eq refused 0)))) (purely-keeps (AreLines (program_line (line.Images count refused))))
-    (λ text. then-keeps (Prints text.items) (λ it. Purely (EndsSound (nat_eq refused 0))) (prints-keeps text.items) (λ it. purely-keeps (EndsSound (nat_eq refused 0))))
+    then-keeps (Purely (AreLines (program_line (line.Images count refused)))) (λ text. Then (After (nat_eq refused 0) (Prints text.items)) (λ it. Purely (EndsSound (nat_eq refused 0)))) (purely-keeps (AreLines (program_line (line.Images count refused))))
+    (λ text. then-keeps (After (nat_eq refused 0) (Prints text.items)) (λ it. Purely (EndsSound (nat_eq refused 0))) (after-keeps (nat_eq refused 0) (Prints text.items) (prints-keeps text.items)) (λ it. purely-keeps (EndsSound (nat_eq refused 0))))
 
 several-never : (form : CheckForm) (files : List (List ℕ)) → KeepsFiles (ChecksSeveral form files)
 several-never form files =

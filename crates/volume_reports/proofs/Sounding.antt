@@ -25,7 +25,7 @@ use Rattle.image_files.specs.Mending.{TellsLines}
 use Rattle.image_files.specs.Reading.{JudgesLooked, LooksIf, LooksImage, file_named, reading_named}
 use Rattle.image_files.specs.Saving.{Prints}
 use Rattle.image_files.specs.declared.mending.ImageReading.{ImageReading}
-use Rattle.image_files.specs.Work.{Then, Purely}
+use Rattle.image_files.specs.Work.{After, Then, Purely}
 use Rattle.volume_reports.specs.declared.reports.Report.{Report}
 use Rattle.volume_reports.specs.Checking.{ChecksEach, ChecksEachImage, ChecksFiles, ChecksImages, ChecksNext, ChecksSeveral, DropsBeside, DropsEach, PrintsCount, TellsDropped, kind_of_check, reading_of_check, with_refusal}
 use Rattle.volume_reports.specs.Laws.{AreSound, AreSoundIn, IsReadAs, IsSoundFile, IsSoundVolume}
@@ -78,7 +78,7 @@ named : (name : List ℕ) (report : Report) (old new : List Event) (is_sound : B
 named name report old new is_sound (inl ends) = absurd ends
 named name report old new is_sound (inr it) = lines it.after
   where
-    lines : Then (Prints it.given.items) (λ done. Purely (λ (result : Result Bool Ending). result ≡ Ok report.is_sound)) it.between (Ok is_sound) new → (is_sound ≡ report.is_sound) × (read new ≡ read old)
+    lines : Then (After report.is_sound (Prints it.given.items)) (λ done. Purely (λ (result : Result Bool Ending). result ≡ Ok report.is_sound)) it.between (Ok is_sound) new → (is_sound ≡ report.is_sound) × (read new ≡ read old)
     lines (inl ends) = absurd ends
     lines (inr e) = (ap given_or e.after.0, reads e.between new e.after.1 ∙ reads (print_call true 0 it.given.items ∷ it.between) e.between e.done ∙ reads old it.between it.done.1)
 
@@ -107,7 +107,7 @@ numbered-sound is_all file number layout body old new is_sound (inr it) sound =
     (one.0, one.1 ∙ reads old it.between it.done.1)
 
 second-sound : (is_all : Bool) (file body : List ℕ) (one : Bool) (old new : List Event) (is_sound : Bool)
-    → Then (ReportsNumbered (kind_of_check is_all) file 2 Second body) (λ other. Purely (λ (result : Result Bool Ending). result ≡ Ok (one && other))) old (Ok is_sound) new → is_sound ≡ true
+    → Then (After one (ReportsNumbered (kind_of_check is_all) file 2 Second body)) (λ other. Purely (λ (result : Result Bool Ending). result ≡ Ok (one && other))) old (Ok is_sound) new → is_sound ≡ true
     → (one ≡ true) × IsSoundVolume is_all (Some Second) body × (read new ≡ read old)
 second-sound is_all file body one old new is_sound (inl ends) sound = absurd ends
 second-sound is_all file body one old new is_sound (inr it) sound =
@@ -272,7 +272,7 @@ counted : (count refused : ℕ) (old new : List Event) → PrintsCount count ref
 counted count refused old new (inl ends) = absurd ends
 counted count refused old new (inr it) = lines it.after
   where
-    lines : Then (Prints it.given.items) (λ done. Purely (EndsSound (nat_eq refused 0))) it.between (Ok tt) new → (refused ≡ 0) × (read new ≡ read old)
+    lines : Then (After (nat_eq refused 0) (Prints it.given.items)) (λ done. Purely (EndsSound (nat_eq refused 0))) it.between (Ok tt) new → (refused ≡ 0) × (read new ≡ read old)
     lines (inl ends) = absurd ends
     lines (inr e) = (is-zero refused (ends-sound (nat_eq refused 0) e.after.0), reads e.between new e.after.1 ∙ reads (print_call true 0 it.given.items ∷ it.between) e.between e.done ∙ reads old it.between it.done.1)
 

@@ -9,7 +9,7 @@ use Rattle.program_reports.specs.declared.programs.ProgramLine.TheVariants as li
 use Rattle.outcome.specs.declared.endings.Ending.{Ending}
 use Rattle.outcome.specs.declared.endings.Ending.TheVariants.{Fault}
 use Rattle.program_tasks.specs.declared.forms.CheckForm.{CheckForm}
-use Rattle.image_files.specs.Work.{Then, Purely}
+use Rattle.image_files.specs.Work.{After, Then, Purely}
 use Rattle.image_files.specs.Answers.{AreLines}
 use Rattle.image_files.specs.Leftovers.{ChoosesImages}
 use Rattle.image_files.specs.Saving.{Prints}
@@ -43,11 +43,11 @@ with_refusal false refused = refused + 1
 -- the images are reported in their order, and it is counted how many are refused
 abbrev pub ChecksEach : CheckForm → Bool → ℕ → ℕ → ℕ → List (List ℕ) → List Event → Result ℕ Ending → List Event → Type 0
 ChecksEach form is_told done all refused [] = Purely (λ result. result ≡ Ok refused)
-ChecksEach form is_told done all refused (file ∷ files) = Then (ChecksNext form is_told done all file) (λ is_sound. ChecksEach form is_told (done + 1) all (with_refusal is_sound refused) files)
+ChecksEach form is_told done all refused (file ∷ files) = Then (After (nat_eq refused 0) (ChecksNext form is_told done all file)) (λ is_sound. ChecksEach form is_told (done + 1) all (with_refusal is_sound refused) files)
 
 -- the last line counts the images
 abbrev pub PrintsCount : ℕ → ℕ → List Event → Result (Unit {0}) Ending → List Event → Type 0
-PrintsCount count refused = Then (Purely (AreLines (program_line (line.Images count refused)))) (λ line. Then (Prints line.items) (λ it. Purely (EndsSound (nat_eq refused 0))))
+PrintsCount count refused = Then (Purely (AreLines (program_line (line.Images count refused)))) (λ line. Then (After (nat_eq refused 0) (Prints line.items)) (λ it. Purely (EndsSound (nat_eq refused 0))))
 
 abbrev pub ChecksSeveral : CheckForm → List (List ℕ) → List Event → Result (Unit {0}) Ending → List Event → Type 0
 ChecksSeveral form files = Then (WithProgress (λ is_told. ChecksEach form is_told 0 (length files) 0 files)) (PrintsCount (length files))

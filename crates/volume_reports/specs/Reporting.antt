@@ -17,7 +17,7 @@ use Rattle.program_reports.specs.Program.{program_line}
 use Rattle.program_reports.specs.declared.programs.ProgramLine.{ProgramLine}
 use Rattle.outcome.specs.declared.endings.Ending.{Ending}
 use Rattle.outcome.specs.declared.endings.Ending.TheVariants.{Line, Fault, Failure, Busy, NotWritten, FullOutput, Unreported, NoReader, Misuse}
-use Rattle.image_files.specs.Work.{Then, Purely}
+use Rattle.image_files.specs.Work.{After, Then, Purely}
 use Rattle.image_files.specs.Answers.{AreLines, Refuses, named_lines}
 use Rattle.image_files.specs.Saving.{Prints}
 use Rattle.volume_reports.specs.declared.reports.Report.{Report}
@@ -56,11 +56,11 @@ Reports (kinds.Places year) bytes result = IsSoundText (ListsDates year bytes) r
 
 -- the lines of an image are printed
 abbrev pub PrintsReport : Report → List Event → Result (Unit {0}) Ending → List Event → Type 0
-PrintsReport report = Then (Prints report.text.items) (λ it. Purely (EndsSound report.is_sound))
+PrintsReport report = Then (After report.is_sound (Prints report.text.items)) (λ it. Purely (EndsSound report.is_sound))
 
 -- the lines of an image among others are printed, and it is answered whether it is sound
 abbrev pub PrintsNamed : List ℕ → Report → List Event → Result Bool Ending → List Event → Type 0
-PrintsNamed file report = Then (Purely (AreLines (named_lines file report.text.items))) (λ lines. Then (Prints lines.items) (λ it. Purely (λ result. result ≡ Ok report.is_sound)))
+PrintsNamed file report = Then (Purely (AreLines (named_lines file report.text.items))) (λ lines. Then (After report.is_sound (Prints lines.items)) (λ it. Purely (λ result. result ≡ Ok report.is_sound)))
 
 -- ## An image among others
 

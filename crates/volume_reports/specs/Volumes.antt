@@ -15,7 +15,7 @@ use Rattle.outcome.specs.declared.endings.Ending.{Ending}
 use Rattle.outcome.specs.declared.endings.Ending.TheVariants.{Fault}
 use Rattle.image_files.specs.Answers.{Answers, AreLines}
 use Rattle.image_files.specs.Reading.{FindsVolume, LooksImage}
-use Rattle.image_files.specs.Work.{Then, Purely}
+use Rattle.image_files.specs.Work.{After, Then, Purely}
 use Rattle.image_files.specs.declared.mending.ImageReading.{ImageReading}
 use Rattle.image_files.specs.Ending.{EndsSound}
 use Rattle.volume_reports.specs.Reporting.{PrintsNamed, PrintsReport, Reports, ReportsAmong, TellsRefusal}
@@ -50,7 +50,7 @@ ReportsNumbered kind file number layout body =
 -- both volumes of a disk, one after the other
 abbrev pub ReportsBoth : ReportKind → List ℕ → List ℕ → List Event → Result Bool Ending → List Event → Type 0
 ReportsBoth kind file body =
-    Then (ReportsNumbered kind file 1 First body) (λ one. Then (ReportsNumbered kind file 2 Second body) (λ other. Purely (λ result. result ≡ Ok (one && other))))
+    Then (ReportsNumbered kind file 1 First body) (λ one. Then (After one (ReportsNumbered kind file 2 Second body)) (λ other. Purely (λ result. result ≡ Ok (one && other))))
 
 -- ## Bytes that are none of the volumes'
 

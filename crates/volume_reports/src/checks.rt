@@ -11,7 +11,9 @@ use crate::reports::ReportKind;
 use crate::volumes::{report_next, report_one};
 use host_progress::Progress;
 use hosts::Host;
-use image_files::{ImageReading, end_sound, image_named, images_among, print, program_line};
+use image_files::{
+    ImageReading, end_sound, image_named, images_among, part_after, print, program_line,
+};
 use outcome::Ending;
 use program_reports::ProgramLine;
 use program_tasks::CheckForm;
@@ -110,7 +112,8 @@ fn check_each<H: Host>(
     let mut refused = 0;
     let mut rest = files;
     while let [file, others @ ..] = rest {
-        let is_sound = check_next(host, alloc, form, file.as_str(), progress, done)?;
+        let next = check_next(host, alloc, form, file.as_str(), progress, done);
+        let is_sound = part_after(refused == 0, next)?;
         refused = with_refusal(is_sound, refused);
         done += 1;
         rest = others;
@@ -179,6 +182,6 @@ fn print_count<H: Host>(
     ensures { PrintsCount count refused (H.history host.old) result (H.history host.new) }
 {
     let line = program_line(alloc, &ProgramLine::Images { count, refused })?;
-    print(host, &line)?;
+    part_after(refused == 0, print(host, &line))?;
     end_sound(refused == 0)
 }

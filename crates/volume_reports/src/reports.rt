@@ -13,7 +13,7 @@ use archive_commands::list_dated;
 use archive_files::{ArchiveFault, check, list};
 use archive_survey::survey;
 use hosts::Host;
-use image_files::{end_sound, named_lines, print, refuse_image};
+use image_files::{end_sound, named_lines, part_after, print, refuse_image};
 use outcome::Ending;
 use program_reports::{ProgramLine, put_program};
 use script8::SessionFault;
@@ -177,7 +177,7 @@ fn fault_of_image(fault: ImageFault) -> ArchiveFault
 pub(crate) fn print_report<H: Host>(host: &mut H, report: &Report) -> Result<(), Ending>
     ensures { PrintsReport report.now (H.history host.old) result (H.history host.new) }
 {
-    print(host, &report.text)?;
+    part_after(report.is_sound, print(host, &report.text))?;
     end_sound(report.is_sound)
 }
 
@@ -191,6 +191,6 @@ pub(crate) fn print_named<H: Host>(
     ensures { PrintsNamed name.now report.now (H.history host.old) result (H.history host.new) }
 {
     let lines = named_lines(alloc, name, &report.text)?;
-    print(host, &lines)?;
+    part_after(report.is_sound, print(host, &lines))?;
     Ok(report.is_sound)
 }

@@ -16,7 +16,7 @@ use crate::reports::{
 };
 use disk_layouts::Layout;
 use hosts::Host;
-use image_files::{ImageReading, end_sound, look_image, tell_note, volume_in};
+use image_files::{ImageReading, end_sound, look_image, part_after, tell_note, volume_in};
 use image_volumes::{Margins, Volumes, body_of, margins_in, volumes_in};
 use outcome::{Ending, Note};
 use program_tasks::ImageForm;
@@ -185,7 +185,8 @@ fn report_both<H: Host>(
     ensures { ReportsBoth kind file.now body.now (H.history host.old) result (H.history host.new) }
 {
     let one = report_numbered(host, alloc, kind, file, 1, Layout::First, body)?;
-    let other = report_numbered(host, alloc, kind, file, 2, Layout::Second, body)?;
+    let second = report_numbered(host, alloc, kind, file, 2, Layout::Second, body);
+    let other = part_after(one, second)?;
     Ok(are_both(one, other))
 }
 

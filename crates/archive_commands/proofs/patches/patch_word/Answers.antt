@@ -1,6 +1,6 @@
 use Rattle.std.proofs.Common.{ℕ, Err, List, rules, inl, inr, refl, subst}
 use Rattle.archive_commands.specs.Patching.{GivesPatched}
-use Rattle.archive_commands.proofs.WorkLemmas.{ends_with}
+use Rattle.image_files.proofs.WorkLemmas.{ends_with}
 use Rattle.archive_commands.proofs.patches.patch_word.Goals as goal
 
 pub returns-in_err-bytes : goal.returns-in_err-bytes

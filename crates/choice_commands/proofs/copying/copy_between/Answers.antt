@@ -2,7 +2,7 @@ use Rattle.std.proofs.Common.{ℕ, Err, List, inl, inr, subst}
 use Rattle.archive_many.specs.declared.opened.VolumeFile.{VolumeFile}
 use Rattle.choice_commands.specs.Copying.{FindsFiles, PutsFiles, TellsCopies}
 use Rattle.image_files.specs.Reading.{LooksAt}
-use Rattle.choice_commands.proofs.WorkLemmas.{ends_with}
+use Rattle.image_files.proofs.WorkLemmas.{ends_with}
 use Rattle.choice_commands.proofs.copying.copy_between.Goals as goal
 
 pub returns-in_err-from : goal.returns-in_err-from

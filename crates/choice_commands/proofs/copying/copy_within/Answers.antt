@@ -1,7 +1,7 @@
 use Rattle.std.proofs.Common.{ℕ, Err, List, inl, inr, subst}
 use Rattle.archive_many.specs.declared.opened.VolumeFile.{VolumeFile}
 use Rattle.choice_commands.specs.Copying.{FindsFiles, PutsFiles, TellsCopies}
-use Rattle.choice_commands.proofs.WorkLemmas.{ends_with}
+use Rattle.image_files.proofs.WorkLemmas.{ends_with}
 use Rattle.choice_commands.proofs.copying.copy_within.Goals as goal
 
 pub returns-in_err-files : goal.returns-in_err-files

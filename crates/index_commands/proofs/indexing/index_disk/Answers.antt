@@ -1,7 +1,7 @@
 use Rattle.std.proofs.Common.{Some, inl, inr, refl}
 use Rattle.disk_layouts.specs.declared.layouts.Layout.TheVariants.{Second}
 use Rattle.index_commands.specs.Indexing.{IndexesVolume}
-use Rattle.index_commands.proofs.IndexLemmas.{ends_with}
+use Rattle.image_files.proofs.WorkLemmas.{ends_with}
 use Rattle.index_commands.proofs.indexing.index_disk.Goals as goal
 
 pub returns-in_err-second : goal.returns-in_err-second

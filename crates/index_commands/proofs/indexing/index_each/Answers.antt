@@ -1,6 +1,6 @@
 use Rattle.std.proofs.Common.{◌∙◌, inl, inr, length, map, refl, subst, sym, Ok}
 use Rattle.index_commands.specs.Indexing.{IndexesImages, IndexesNext}
-use Rattle.index_commands.proofs.IndexLemmas.{count-more, ends_with, first-and-others, no_item}
+use Rattle.image_files.proofs.WorkLemmas.{count-more, ends_with, first-and-others, no_item}
 use Rattle.index_commands.proofs.indexing.index_each.Goals as goal
 
 pub returns-in_err-found-clause-indexes : goal.returns-in_err-found-clause-indexes

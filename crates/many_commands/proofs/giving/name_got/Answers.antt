@@ -1,4 +1,4 @@
-use Rattle.std.proofs.Common.{rules, inl, inr, refl}
+use Rattle.std.proofs.Common.{inr, refl}
 use Rattle.many_commands.proofs.giving.name_got.Goals as goal
 
 pub returns : goal.returns

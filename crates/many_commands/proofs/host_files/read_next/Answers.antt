@@ -1,4 +1,4 @@
-use Rattle.std.proofs.Common.{rules, inl, inr, refl}
+use Rattle.std.proofs.Common.{rules, inl, inr}
 use Rattle.many_commands.specs.PuttingMany.{TakesName}
 use Rattle.image_files.proofs.WorkLemmas.{ends_with}
 use Rattle.many_commands.proofs.host_files.read_next.Goals as goal

@@ -1,4 +1,4 @@
-use Rattle.std.proofs.Common.{rules, inl, inr, refl}
+use Rattle.std.proofs.Common.{inl, inr}
 use Rattle.archive_many.specs.Putting.{given_count, most_wanted}
 use Rattle.image_files.specs.Information.{TakesWords}
 use Rattle.image_files.specs.Stored.{words_of}

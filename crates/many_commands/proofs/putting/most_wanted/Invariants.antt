@@ -1,4 +1,4 @@
-use Rattle.std.proofs.Common.{◌≡◌, ◌++◌, length}
+use Rattle.std.proofs.Common.{◌≡◌, length}
 use Rattle.archive_many.specs.Putting as spec
 use Rattle.many_commands.proofs.putting.most_wanted.Given as goal
 

@@ -2,7 +2,7 @@ use Rattle.std.proofs.Common.{rules, subst, inl, inr, refl, true, false, ◌≡�
 use Rattle.archive_files.specs.Asking.{target_of}
 use Rattle.image_files.specs.Reading.{LooksAt}
 use Rattle.program_commands.specs.Programs.{TakesIf, is_core_name}
-use Rattle.program_commands.proofs.WorkLemmas.{ends_with}
+use Rattle.image_files.proofs.WorkLemmas.{ends_with}
 use Rattle.program_commands.proofs.programs.member_program.Goals as goal
 
 pub returns-in_err-bytes : goal.returns-in_err-bytes

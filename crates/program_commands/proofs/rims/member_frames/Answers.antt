@@ -1,6 +1,6 @@
 use Rattle.std.proofs.Common.{inl, inr, refl}
 use Rattle.image_files.specs.Reading.{LooksAt}
-use Rattle.program_commands.proofs.WorkLemmas.{ends_with}
+use Rattle.image_files.proofs.WorkLemmas.{ends_with}
 use Rattle.program_commands.proofs.rims.member_frames.Goals as goal
 
 pub returns-in_err-bytes : goal.returns-in_err-bytes

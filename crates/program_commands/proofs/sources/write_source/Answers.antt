@@ -1,6 +1,6 @@
 use Rattle.std.proofs.Common.{rules, inl, inr, option_map}
 use Rattle.program_commands.specs.Sources.{GivesSource, starts_or}
-use Rattle.program_commands.proofs.WorkLemmas.{ends_with}
+use Rattle.image_files.proofs.WorkLemmas.{ends_with}
 use Rattle.program_commands.proofs.sources.write_source.Goals as goal
 
 pub returns-in_err-program : goal.returns-in_err-program

@@ -1,6 +1,6 @@
 use Rattle.std.proofs.Common.{rules, inl, inr}
 use Rattle.program_commands.specs.Tapes.{GivesLines}
-use Rattle.program_commands.proofs.WorkLemmas.{ends_with}
+use Rattle.image_files.proofs.WorkLemmas.{ends_with}
 use Rattle.program_commands.proofs.tapes.list_tape.Goals as goal
 
 pub returns-in_err-text : goal.returns-in_err-text

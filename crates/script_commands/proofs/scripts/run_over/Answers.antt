@@ -2,7 +2,7 @@ use Rattle.std.proofs.Common.{inl, inr, length, refl}
 use Rattle.image_files.specs.Answers.{Answers}
 use Rattle.image_files.specs.Work.{Purely}
 use Rattle.script_commands.specs.Scripts.{IsRoom, MountsSession, is_parted}
-use Rattle.script_commands.proofs.WorkLemmas.{ends_with}
+use Rattle.image_files.proofs.WorkLemmas.{ends_with}
 use Rattle.script_commands.proofs.scripts.run_over.Goals as goal
 
 pub returns-in_err-rooms : goal.returns-in_err-rooms

@@ -1,6 +1,6 @@
 use Rattle.std.proofs.Common.{inl, inr, refl, rules, map}
 use Rattle.source_commands.specs.Assembling.{Makes}
-use Rattle.source_commands.proofs.WorkLemmas.{ends_with}
+use Rattle.image_files.proofs.WorkLemmas.{ends_with}
 use Rattle.source_commands.proofs.assembling.list_tape.Goals as goal
 
 pub returns-in_err-made : goal.returns-in_err-made

@@ -1,7 +1,7 @@
 use Rattle.std.proofs.Common.{Ok, inl, inr, map, refl, subst, sym}
 use Rattle.image_files.specs.Places.{IsApart}
 use Rattle.source_commands.specs.Places.{AreApart, input_place}
-use Rattle.source_commands.proofs.WorkLemmas.{ends_with, first-and-others, no_item}
+use Rattle.image_files.proofs.WorkLemmas.{ends_with, first-and-others, no_item}
 use Rattle.source_commands.proofs.places.keep_each.Goals as goal
 
 pub returns-in_err-keep_source : goal.returns-in_err-keep_source

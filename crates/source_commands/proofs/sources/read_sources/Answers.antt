@@ -3,7 +3,7 @@ use Rattle.script8.specs.declared.faults.SessionFault.TheVariants.{Memory}
 use Rattle.outcome.specs.declared.endings.Ending.TheVariants.{Fault}
 use Rattle.source_commands.specs.Sources.{ReadsEach, ReadsSource}
 use Rattle.source_commands.proofs.SourceLemmas.{unkept}
-use Rattle.source_commands.proofs.WorkLemmas.{ends_with, first-and-others, no_item}
+use Rattle.image_files.proofs.WorkLemmas.{ends_with, first-and-others, no_item}
 use Rattle.source_commands.proofs.sources.read_sources.Goals as goal
 
 pub returns-in_err-text : goal.returns-in_err-text

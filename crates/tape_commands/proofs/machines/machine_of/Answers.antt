@@ -1,6 +1,6 @@
 use Rattle.std.proofs.Common.{inl, inr, refl}
 use Rattle.tape_commands.specs.Machines.{FindsStart, LoadsCore}
-use Rattle.tape_commands.proofs.WorkLemmas.{ends_with}
+use Rattle.image_files.proofs.WorkLemmas.{ends_with}
 use Rattle.tape_commands.proofs.machines.machine_of.Goals as goal
 
 pub returns-in_err-core : goal.returns-in_err-core

@@ -2,7 +2,7 @@ use Rattle.std.proofs.Common.{inl, inr, refl, unwrap_or}
 use Rattle.image_files.specs.Work.{Purely}
 use Rattle.tape_commands.specs.Profiles.{GivesProfile}
 use Rattle.tape_commands.specs.Runs.{terminal_of}
-use Rattle.tape_commands.proofs.WorkLemmas.{ends_with}
+use Rattle.image_files.proofs.WorkLemmas.{ends_with}
 use Rattle.tape_commands.proofs.profiles.profile_tape.Goals as goal
 
 pub returns-in_err-text : goal.returns-in_err-text

@@ -4,7 +4,7 @@ use Rattle.bin_tape.specs.Tape.{IsTape}
 use Rattle.tape_commands.specs.Machines.{Stands}
 use Rattle.tape_commands.specs.Runs.{start_or}
 use Rattle.tape_commands.proofs.RunLemmas.{stands_tape}
-use Rattle.tape_commands.proofs.WorkLemmas.{ends_with}
+use Rattle.image_files.proofs.WorkLemmas.{ends_with}
 use Rattle.tape_commands.proofs.runs.read_run.Goals as goal
 
 pub returns-in_err-machine : goal.returns-in_err-machine
