@@ -139,10 +139,11 @@ abbrev pub with_replacement : Change → Bool → Bool → ℕ → ℕ
 with_replacement Rename true false before = before + 1
 with_replacement Rename true true before = before
 with_replacement Rename false is before = before
+with_replacement WriteOver ok is before = before + 1
 with_replacement _ ok is before = before
 
--- How often a file took the path where another may have had it. A rename does that, unless an empty file has just taken the path as one that
--- no file had.
+-- How often a file took the path where another may have had it, or was to be written over in its place. A rename takes it so, unless an empty
+-- file has just taken the path as one that no file had.
 abbrev pub replacements : List Step → ℕ
 replacements [] = 0
 replacements (s ∷ earlier) = with_replacement s.change s.ok (has_claim earlier) (replacements earlier)

@@ -1,5 +1,5 @@
 -- What the steps of a save do. No contract of a public function cites these.
-use Rattle.std.specs.Prelude.{◌≡◌, ℕ, ◌<◌, Bool, true, false, List, ◌∷◌, Option, None, Some, Result, Ok, Err}
+use Rattle.std.specs.Prelude.{◌≡◌, ℕ, ◌<◌, Bool, false, List, ◌∷◌, Option, None, Some, Result, Ok, Err}
 use Rattle.std.specs.Str.{bytes_eq}
 use Rattle.hosts.specs.Event.{Event, make_call, own_call, lock_call, write_call, sync_call, date_call}
 use Rattle.hosts.specs.Place.{Place, Step, about, replay, ever}

@@ -34,7 +34,7 @@ ChangesNothing old new = (path : List ℕ) → about path new ≡ about path old
 abbrev pub LeavesFiles : {A : Type 0} → (List Event → Result A Ending → List Event → Type 0) → Type 0
 LeavesFiles command = (old : List Event) (ending : Ending) (new : List Event) → command old (Err ending) new → is_refusal ending ≡ true → ChangesNothing old new
 
--- no file takes a path that another may have had, in whichever way a command ends
+-- no file takes a path that another may have had, and none is to be written over, in whichever way a command ends
 abbrev pub NeverReplaces : {A : Type 0} → (List Event → Result A Ending → List Event → Type 0) → Type 0
 NeverReplaces {A} command = (old : List Event) (result : Result A Ending) (new : List Event) → command old result new
     → (path : List ℕ) → replacements (about path new) ≡ replacements (about path old)
