@@ -1,5 +1,5 @@
 -- A note on a file of the host changes none, and leaves what was printed on standard output.
-use Rattle.std.proofs.Common.{◌≡◌, ℕ, Bool, true, false, List, ◌∷◌, ap}
+use Rattle.std.proofs.Common.{◌≡◌, ℕ, Bool, true, false, List, ap}
 use Rattle.hosts.specs.Event.{Event}
 use Rattle.hosts.specs.Place.{about}
 use Rattle.hosts.specs.Streams.{output}

@@ -1,9 +1,9 @@
 -- A file that could not be written, and what was printed of that.
-use Rattle.std.proofs.Common.{◌≡◌, ◌⊎◌, ◌<◌, ℕ, Bool, true, false, List, Err, ◌∷◌, inl, inr, refl}
+use Rattle.std.proofs.Common.{◌≡◌, ◌⊎◌, ◌<◌, ℕ, Bool, true, false, List, Err, inr, refl}
 use Rattle.hosts.specs.Event.{Event}
 use Rattle.hosts.specs.Faults.{fault_number}
 use Rattle.hosts.specs.Place.{Step, about}
-use Rattle.hosts.specs.Saving.{AnyMomentOf, IsPlaceNoted, IsUnwritten, StaysAsItWas}
+use Rattle.hosts.specs.Saving.{AnyMomentOf, IsUnwritten, StaysAsItWas}
 use Rattle.hosts.specs.Streams.{errors, failures, last_fault, may_replace}
 use Rattle.hosts.specs.declared.faults.HostFault.{HostFault}
 use Rattle.hosts.specs.declared.faults.Unwritten.{Unwritten}

@@ -1,5 +1,5 @@
 -- The commands on tapes change no file.
-use Rattle.std.proofs.Common.{◌≡◌, ◌∙◌, ℕ, Bool, true, false, option_map, Option, None, Some, Result, Ok, Err, List, ap, inl, inr, length}
+use Rattle.std.proofs.Common.{◌≡◌, ℕ, Bool, true, false, option_map, Option, None, Some, Result, Ok, Err, List, inl, inr, length}
 use Rattle.std.specs.Global.{Vec, Global}
 use Rattle.std.specs.Prelude.{String}
 use Rattle.hosts.specs.Event.{Event}

@@ -53,7 +53,7 @@ use Rattle.source_commands.specs.Clashes.{IsRefused, RefusesClash, clash_of}
 use Rattle.source_commands.specs.Faults.{faults_text, pal8_faults_text}
 use Rattle.source_commands.specs.Laws.{is_refusal}
 use Rattle.source_commands.specs.Outputs.{PutsTape, WritesIf, WritesListing, WritesTape}
-use Rattle.source_commands.specs.Places.{AreApart, IsApartFromInputs, IsApartFromListing, KeepsInputs, KeepsListing, KeepsTape, KeepsTapeAt, input_place, output_place, tape_of}
+use Rattle.source_commands.specs.Places.{AreApart, IsApartFromInputs, IsApartFromListing, KeepsInputs, KeepsListing, KeepsTape, input_place, output_place, tape_of}
 use Rattle.source_commands.specs.Sources.{AreLent, AreTexts, GetsText, IsAsked, IsText, NamesIf, ReadsBytes, ReadsEach, ReadsFile, ReadsIf, ReadsMember, ReadsSource, RefusesSource, is_standard, is_unread, source_text}
 use Rattle.source_commands.specs.declared.assembling.Assembled.{Assembled}
 

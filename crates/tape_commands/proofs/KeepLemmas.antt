@@ -1,5 +1,5 @@
 -- The commands on machines change no file.
-use Rattle.std.proofs.Common.{◌≡◌, ◌∙◌, ℕ, Bool, true, false, nat_eq, unwrap_or, Option, None, Some, Result, Ok, Err, List, ap, inl, inr}
+use Rattle.std.proofs.Common.{◌≡◌, ◌∙◌, ℕ, Bool, true, false, nat_eq, unwrap_or, Option, None, Some, Result, Ok, Err, List, inl, inr}
 use Rattle.bin_tape.specs.Items.{Item, words_of}
 use Rattle.bin_tape.specs.Tape.{IsTape}
 use Rattle.byte_reader.specs.Readings.{Reading}

@@ -1,4 +1,4 @@
-use Rattle.std.proofs.Common.{rules, inl, inr, refl}
+use Rattle.std.proofs.Common.{rules, inr, refl}
 use Rattle.image_files.proofs.information.take_some.Goals as goal
 
 pub returns : goal.returns

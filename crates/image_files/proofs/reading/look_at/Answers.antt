@@ -1,4 +1,4 @@
-use Rattle.std.proofs.Common.{inl, inr, rules, ◌∙◌}
+use Rattle.std.proofs.Common.{inl, inr, rules}
 use Rattle.image_files.proofs.reading.look_at.Goals as goal
 
 pub returns-clause-looks : goal.returns-clause-looks

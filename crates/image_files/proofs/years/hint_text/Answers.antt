@@ -1,4 +1,3 @@
-use Rattle.std.proofs.Common.{rules}
 use Rattle.image_files.proofs.years.hint_text.Goals as goal
 
 -- src/years.rt:141:1

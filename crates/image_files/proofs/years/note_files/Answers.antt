@@ -1,4 +1,4 @@
-use Rattle.std.proofs.Common.{rules, inl, inr, refl}
+use Rattle.std.proofs.Common.{rules, inr}
 use Rattle.image_files.proofs.years.note_files.Goals as goal
 
 pub returns : goal.returns

@@ -1,4 +1,4 @@
-use Rattle.std.proofs.Common.{rules, inl, inr}
+use Rattle.std.proofs.Common.{inl, inr}
 use Rattle.program_commands.specs.Tapes.{GivesLines}
 use Rattle.image_files.proofs.WorkLemmas.{ends_with}
 use Rattle.program_commands.proofs.tapes.list_tape.Goals as goal

@@ -1,4 +1,4 @@
-use Rattle.std.proofs.Common.{◌∙◌, Ok, Err, rules, inl, inr}
+use Rattle.std.proofs.Common.{◌∙◌, Ok, rules, inl, inr}
 use Rattle.image_files.proofs.KeepLemmas.{holds-keeps, looks-keeps, judges-keeps}
 use Rattle.image_files.proofs.ReadLemmas.{held-output, judges-output, looks-output, unread-files, unread-output, unheld-files, unheld-output}
 use Rattle.image_files.proofs.images.Image.open.Goals as goal
