@@ -8,7 +8,6 @@ its linker make a WebAssembly module of either and of web/runtime.c. The foot of
 of the program, the toolchain, runtime.c or this file has changed. --proved refuses to make the other page.
 """
 import glob
-import hashlib
 import os
 import shutil
 import subprocess
@@ -19,8 +18,10 @@ from typing import Callable
 sys.dont_write_bytecode = True
 TOP = os.path.dirname(os.path.dirname(os.path.abspath(__file__)))
 sys.path.insert(0, TOP)
-from build.crates import kit, toolchain
 from build.proved import PROGRAM, Wanted
+from build.prover import words_for
+from build.sums import sum_of
+from build.toolchain import kit, toolchain
 from build.unproved import Build, ready
 from build.working import Progress, lock, toolchain_with
 
@@ -53,10 +54,7 @@ class Page:
 
     def sum(self) -> str:
         """The sum of all that the module is made of."""
-        whole = hashlib.sha256((self.wanted.sums[PROGRAM] if self.library else Build(PROGRAM).sum).encode())
-        for path in (f"{TOP}/web/runtime.c", os.path.abspath(__file__)):
-            whole.update(open(path, "rb").read())
-        return whole.hexdigest()
+        return sum_of("page", TOP, [self.wanted.sums[PROGRAM] if self.library else Build(PROGRAM).sum], [])
 
     def is_current(self) -> bool:
         kept = f"{self.folder}/sum"
@@ -71,7 +69,7 @@ class Page:
 
     def object_of_proof(self, library: Callable[[str], str]) -> list[str]:
         """Compiles what was proved, over its libraries."""
-        words = [f"{toolchain()}/bin/rattle", "build", *self.wanted.all.words(PROGRAM, library)]
+        words = [f"{toolchain()}/bin/rattle", "build", *words_for(self.wanted.all, PROGRAM, library)]
         words += ["--jobs", str(len(os.sched_getaffinity(0))), "--cpu=x86-64", "-o", f"{self.work}/{PROGRAM}.o"]
         with toolchain_with(STAND_IN.format(module=f"{self.work}/{PROGRAM}.bc", clang=self.clang())) as tools:
             self.run([*words, "--toolchain", tools], f"{TOP}/crates/{PROGRAM}")

@@ -10,7 +10,6 @@ it proved again. What is proved is shown on standard error; the log of a crate t
 """
 import hashlib
 import os
-import shlex
 import shutil
 import subprocess
 import sys
@@ -19,7 +18,9 @@ import time
 sys.dont_write_bytecode = True
 TOP = os.path.dirname(os.path.dirname(os.path.abspath(__file__)))
 sys.path.insert(0, TOP)
-from build.crates import Crates, kit, toolchain
+from build.crates import Crates
+from build.prover import has_proved, library_command, program_command, words_for
+from build.toolchain import kit, toolchain
 from build.unproved import Build
 from build.working import Group, Progress, heed_signals, lock, toolchain_with
 
@@ -76,6 +77,12 @@ class Wanted:
         left = "" if os.path.exists(self.own_library(name)) else f" {os.stat(f'{self.library(name)}/format').st_mtime_ns}"
         return f"{self.sums[name]}{left}"
 
+    def sum_now(self, name: str) -> str:
+        """The sum of a crate as it stands now, over those below it as they stood."""
+        now = Crates()
+        now.sums = {it: known for it, known in self.sums.items() if it != name}
+        return now.sum(name)
+
     def is_proved(self, name: str, note: str = "sum") -> bool:
         """Whether the crate was proved as it stands here."""
         try:
@@ -102,13 +109,10 @@ class Wanted:
 
     def command(self, name: str, jobs: int, tools: str) -> list[str]:
         """What proves a crate, in its folder, and compiles the program by the toolchain in the folder `tools`."""
-        words = [f"{toolchain()}/bin/rattle", "build", *self.all.words(name, self.library), "--jobs", str(jobs)]
+        words = words_for(self.all, name, self.library)
         if name != self.program:
-            return [*words, "--statements", "-o", self.own_library(name)]
-        built = [*words, "--toolchain", tools, "-o", f"{self.kept(name)}/{name}.o"]
-        link = [f"{toolchain()}/bin/rattle-link", "--target", "x86_64-unknown-linux-gnu", "--toolchain", tools, "-o", f"{self.kept(name)}/{name}"]
-        link += [f"{self.kept(name)}/{name}.o", *(f"{toolchain()}/c/{it}" for it in ("libos_c.a", "liblibc_c.a"))]
-        return ["sh", "-c", f"{shlex.join(built)} && {shlex.join(link)}"]
+            return library_command(words, jobs, self.own_library(name))
+        return program_command(words, jobs, f"{self.kept(name)}/{name}", tools)
 
     def chain(self, name: str) -> float:
         """The seconds of the longest chain of crates from this one up to the program."""
@@ -132,8 +136,12 @@ class Proof:
         return self.run.poll() is not None
 
     def has_proved(self) -> bool:
-        """Whether the crate is proved, which is then noted."""
-        if self.run.returncode:
+        """Whether the crate is proved, which is then noted. A source that has changed meanwhile was perhaps not what was proved."""
+        if not has_proved(self.run.returncode):
+            return False
+        if self.wanted.sum_now(self.name) != self.wanted.sums[self.name]:
+            with open(self.log, "a", encoding="utf-8") as log:
+                log.write("a source has changed while it was proved; the next call proves it anew\n")
             return False
         if self.name == self.wanted.program:
             os.replace(f"{self.wanted.kept(self.name)}/{self.name}", self.wanted.made)

@@ -15,8 +15,8 @@ from typing import IO, cast
 sys.dont_write_bytecode = True
 TOP = os.path.dirname(os.path.dirname(os.path.abspath(__file__)))
 sys.path.insert(0, TOP)
-from build.crates import kit
 from build.proved import MADE, PROGRAM, Wanted
+from build.toolchain import kit
 
 TEXT = """{version}: a PDP-8 programming system, proved
 

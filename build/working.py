@@ -12,7 +12,7 @@ import tempfile
 import time
 from typing import Any, Iterator
 
-from build.crates import toolchain
+from build.toolchain import toolchain
 
 
 class Progress:

@@ -40,6 +40,7 @@ TEXTS: list[Words] = [("tests/check_definitions.py",), ("tests/check_headline.py
 TEXTS += [("tests/check_links.py",), ("tests/check_documents.py",), ("tests/check_names.py",), ("tests/check_octal_numbers.py",)]
 TEXTS += [("tests/page/check_types.py",), ("tests/check_tools.py",), ("tests/check_gate.py",)]
 TEXTS += [("tests/check_try_edits.py",), ("tests/try_defects.py",)]
+TEXTS += [("tests/check_sums.py",)]
 RUNS: list[Words] = [("tests/run_sessions.py",), ("tests/model/compare_scripts.py",), ("tests/model/compare_host_commands.py",), ("tests/model/compare_archives.py",)]
 RUNS += [("tests/check_terminal.py",), ("tests/check_killed_writers.py",), ("tests/calls/check_failing_calls.py",), ("tests/check_damaged_images.py",)]
 RUNS += [("tests/hosts/check_races.py",)]
