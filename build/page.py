@@ -99,6 +99,9 @@ class Page:
             os.symlink(self.clang(), f"{tools}/wasm-ld")
             self.run([f"{tools}/wasm-ld", *LINK, "-o", self.made, *words, f"{self.work}/runtime.o"])
         shutil.rmtree(self.work)
+        if Page(Wanted(), self.library).sum() != of:
+            print("page: a source has changed while it was made; the next call makes it anew", file=sys.stderr)
+            sys.exit(70)
         with open(f"{self.folder}/sum", "w", encoding="utf-8") as kept:
             kept.write(of)
 
