@@ -1,9 +1,9 @@
 #!/usr/bin/env python3
 """check_types.py [NAME..]: checks the types of the page's JavaScript, which its comments give (JSDoc), by TypeScript's checker, with all that
 `--strict` asks for. It checks the page, its worker, its service worker, and what its tests share. Of the tests themselves it asks for no types of
-parameters. The elements of the page are known by their ids: those of index.html. Each file of JavaScript counts as one. NAME takes those that are
-checked with the file of this name. The last line is 'N passed, M failed'. Where the checker isn't there, Debian's node-typescript, all is skipped,
-which fails where CI is set.
+parameters. The elements of the page are known by their ids: those of index.html. Each file of JavaScript counts as one, and each of web/ and of
+tests/page/ must be one. NAME takes those that are checked with the file of this name. The last line is 'N passed, M failed'. Where the checker isn't
+there, Debian's node-typescript, all is skipped, which fails where CI is set.
 """
 import glob
 import os
@@ -19,13 +19,18 @@ WEB = f"{TOP}/web"
 HOW = ["tsc", "--noEmit", "--allowJs", "--checkJs", "--strict", "--target", "es2022", "--module", "es2022", "--moduleResolution", "node", "--skipDefaultLibCheck"]
 TAGS = {"a": "Anchor", "button": "Button", "canvas": "Canvas", "details": "Details", "dialog": "Dialog", "form": "Form", "input": "Input"}
 TAGS |= {"ol": "OList", "p": "Paragraph", "pre": "Pre", "select": "Select", "table": "Table", "textarea": "TextArea"}
+LOOSE = ["--noImplicitAny", "false"]
+NODE = (f"{HERE}/node.d.ts", f"{HERE}/globals.d.ts")
+# The tests' files that are checked with what they share.
+APART = ("browser.mjs", "tools.mjs", "server.mjs", "host.mjs")
 # What is checked together: a library, further words, and the files where the checker begins; it follows what these import.
 PARTS: list[tuple[str, list[str], list[str]]] = [
     ("es2022,dom,dom.iterable", [], [f"{WEB}/page.js", f"{WEB}/types.d.ts"]),
     ("es2022,webworker", [], [f"{WEB}/worker.js", f"{WEB}/worker.d.ts"]),
     ("es2022,webworker", [], [f"{WEB}/sw.js"]),
-    ("es2022", [], [f"{HERE}/browser.mjs", f"{HERE}/tools.mjs", f"{HERE}/node.d.ts"]),
-    ("es2022", ["--noImplicitAny", "false"], [*(f"{HERE}/{it}.mjs" for it in "disks figures firefox losses panel panes shelf speeds undone waits whole".split()), f"{HERE}/node.d.ts"]),
+    ("es2022", [], [f"{HERE}/browser.mjs", f"{HERE}/tools.mjs", *NODE]),
+    ("es2022,webworker", LOOSE, [f"{HERE}/server.mjs", f"{HERE}/host.mjs", f"{HERE}/node.d.ts", f"{WEB}/worker.d.ts"]),
+    ("es2022", LOOSE, [*sorted(it for it in glob.glob(f"{HERE}/*.mjs") if os.path.basename(it) not in APART), *NODE]),
 ]
 
 
@@ -63,14 +68,14 @@ def main(names: list[str]) -> int:
     with tempfile.TemporaryDirectory(prefix="pdp8-types-") as room:
         with open(f"{room}/ids.d.ts", "w", encoding="utf-8") as laid:
             laid.write(ids())
-        for part in [it for it in PARTS if not names or os.path.basename(it[2][0]) in names]:
+        for part in [it for it in PARTS if not names or any(os.path.basename(file) in names for file in it[2])]:
             some, faults = checked(room, *part)
             seen |= some
             for file, lines in faults.items():
                 wrong.setdefault(file, []).extend(it for it in lines if it not in wrong.get(file, []))
     for lines in wrong.values():
         print(*lines, sep="\n")
-    for file in sorted(set(glob.glob(f"{WEB}/*.js")) - seen) if not names else ():
+    for file in sorted({*glob.glob(f"{WEB}/*.js"), *glob.glob(f"{HERE}/*.mjs")} - seen) if not names else ():
         print(f"check_types: {os.path.basename(file)} was not checked")
         wrong[file] = []
     print(f"{len(seen - wrong.keys())} passed, {len(wrong)} failed")

@@ -97,10 +97,10 @@ class Stream {
     constructor(pid, number) {
         const path = `/proc/${pid}/fd/${number}`;
         const told = readFileSync(`/proc/${pid}/fdinfo/${number}`, 'latin1');
-        const flags = parseInt(/^flags:\s*(\d+)/m.exec(told)[1], 8);
+        const flags = parseInt(/^flags:\s*(\d+)/m.exec(told)?.[1] ?? '', 8);
         this.file = openSync(path, (number ? O_WRONLY | flags & O_APPEND : O_RDONLY) | O_NONBLOCK);
         const stat = fstatSync(this.file, { bigint: true });
-        this.at = stat.isFile() ? Number(/^pos:\s*(\d+)/m.exec(told)[1]) : null;
+        this.at = stat.isFile() ? Number(/^pos:\s*(\d+)/m.exec(told)?.[1]) : null;
         this.appends = (flags & O_APPEND) !== 0;
         this.number = `${stat.dev}:${stat.ino}`;
     }
@@ -111,7 +111,7 @@ class Stream {
             try {
                 return act();
             } catch (error) {
-                if (error.code !== 'EAGAIN') throw error;
+                if (/** @type {{ code?: string }} */ (error).code !== 'EAGAIN') throw error;
                 Atomics.wait(clock, 0, 0, 1);
             }
     }
@@ -130,7 +130,7 @@ class Stream {
                 done += count;
                 if (this.at !== null) this.at = this.appends ? fstatSync(this.file).size : this.at + count;
             } catch (error) {
-                throw error.code === 'EPIPE' ? new Closed() : error;
+                throw /** @type {{ code?: string }} */ (error).code === 'EPIPE' ? new Closed() : error;
             }
     }
 }

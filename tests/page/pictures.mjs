@@ -14,7 +14,7 @@ const NARROW = { width: 390, height: 844 };
 /** @typedef {import('./tools.mjs').Page} Page */
 
 // The page at this size, and in light.
-/** @param {Page} page @param {string} url @param {{ width: number, height: number }} [size] */
+/** @param {Page} page @param {string} url @param {{ width: number, height: number }} size */
 async function begins(page, url, { width, height } = { width: 1120, height: 780 }) {
     mkdirSync(to, { recursive: true });
     await page.go(url);

@@ -16,7 +16,7 @@ const idle = [];
 function thread() {
     const free = idle.pop();
     if (free) return free;
-    const it = { worker: new Worker(new URL('host.mjs', import.meta.url), { workerData: module }), told: null };
+    const it = { worker: new Worker(new URL('host.mjs', import.meta.url), { workerData: module }), told: /** @param {string | null} _answer */ _answer => {} };
     it.worker.on('message', answer => it.told(answer));
     it.worker.on('error', error => {
         console.log(`server: ${error.stack}`);
