@@ -314,5 +314,5 @@ def definitions(crate: str, file: str) -> Definitions:
 
 def definition_files() -> list[tuple[str, str]]:
     """The files of definitions, each with its crate."""
-    found = sorted(glob.glob(f"{TOP}/crates/*/specs/*.antt"))
-    return [(path.split("/")[-3], os.path.basename(path)[:-5]) for path in found]
+    found = sorted(glob.glob(f"{TOP}/crates/*/specs/**/*.antt", recursive=True))
+    return [(crate_of(path), os.path.relpath(path, f"{TOP}/crates/{crate_of(path)}/specs")[:-5]) for path in found]

@@ -1,14 +1,18 @@
 #!/usr/bin/env python3
-"""try_defects.py [NAME..]: plants the defects of tests/defects/*.defect, or those whose names have NAME, one by one in a copy of the tree. The
-check that a defect names must find it: it must fail with a line that has the wanted text. Before that each check must pass in the copy as
-it stands. The last line is 'N passed, M failed'.
+"""try_defects.py [--day DAY] [--seconds N] [NAME..]: plants the defects of tests/defects/*.defect, or those whose names have NAME, one by one in a copy
+of the tree. The check that a defect names must find it: it must fail with a line that has the wanted text. Before that each check must pass in the
+copy as it stands. A check may take N seconds. Some defects go into any file of a kind: into which one, the day decides, which is today's date or DAY,
+as 2026-11-29. It is printed, so that a day can be tried again. The last line is 'N passed, M failed'.
 
 A defect is a text of lines `WORD: REST`. Those that begin with `#` say what is wrong.
 
     run: WORDS      the check that must find it, with its words
     needs: COMMAND  the defect is left out where there is no such command, unless CI is set
-    finds: TEXT     what one line of the check's output must have
-    file: FILE      the file that the next lines change
+    finds: TEXT     what one line of the check's output must have; of several such lines all must be in it
+    file: FILE      the file that the next lines change, or
+    file: any PATTERN .. [but REGEX]
+                    one of the files that a pattern finds and REGEX doesn't, in which each of the next lines can be followed. In the lines of the
+                    defect {file} is this file, {crate} its second folder, {name} its name, {below} its path below the second folder
     old: TEXT       a text that stands there once, and
     new: TEXT       what stands there in its place
     add: TEXT       one more line at the file's end; the file is made where there is none
@@ -16,8 +20,11 @@ A defect is a text of lines `WORD: REST`. Those that begin with `#` say what is 
     mode: MODE      the file gets these rights, in octal
     remove:         the file or the folder is deleted
 """
+import argparse
 import concurrent.futures
+import datetime
 import glob
+import hashlib
 import os
 import queue
 import re
@@ -25,12 +32,13 @@ import shutil
 import subprocess
 import sys
 import tempfile
-from dataclasses import dataclass, field
+from dataclasses import dataclass, field, replace
 
 TOP = os.path.dirname(os.path.dirname(os.path.abspath(__file__)))
 # What a check reads of the tree: no built files, nothing of the version control.
 APART = shutil.ignore_patterns(".git", "target", "out", "__pycache__", ".mypy_cache", ".pytest_cache")
 SECONDS = 300
+DAY = datetime.datetime.now(datetime.timezone.utc).date().isoformat()
 
 
 class BadDefect(Exception):
@@ -43,7 +51,7 @@ class Defect:
 
     name: str
     words: list[str] = field(default_factory=list)
-    finds: str = ""
+    finds: list[str] = field(default_factory=list)
     needs: str = ""
     changes: list[tuple[str, str, str]] = field(default_factory=list)
 
@@ -58,7 +66,7 @@ def read_defect(path: str) -> Defect:
             if word == "run":
                 defect.words = rest.split()
             elif word == "finds":
-                defect.finds = rest
+                defect.finds.append(rest)
             elif word == "needs":
                 defect.needs = rest
             elif word == "file":
@@ -95,12 +103,48 @@ def changed(text: str, how: str, what: str, file: str) -> str:
     return text.replace(how, what)
 
 
+def can_be_changed(path: str, changes: list[tuple[str, str]]) -> bool:
+    """Whether each of these changes can be made to a file of the tree."""
+    with open(f"{TOP}/{path}", encoding="utf-8") as there:
+        text = there.read()
+    try:
+        for how, what in changes:
+            text = changed(text, how, what, path)
+    except BadDefect:
+        return False
+    return True
+
+
+def drawn(defect: Defect, day: str) -> Defect:
+    """A defect, with a file of the day in place of `any` file."""
+    kind = next((file for file, _, _ in defect.changes if file.startswith("any ")), "")
+    if not kind:
+        return defect
+    patterns, _, but = kind.removeprefix("any ").partition(" but ")
+    found = {os.path.relpath(it, TOP) for pattern in patterns.split() for it in glob.glob(f"{TOP}/{pattern}", recursive=True) if os.path.isfile(it)}
+    changes = [(how, what) for file, how, what in defect.changes if file == kind]
+    fits = [it for it in sorted(found) if not (but and re.search(but, it)) and can_be_changed(it, changes)]
+    if not fits:
+        raise BadDefect(f"{defect.name}: no file fits {kind}")
+    path = fits[int(hashlib.sha256(f"{day} {defect.name}".encode()).hexdigest(), 16) % len(fits)]
+    parts = path.split("/")
+    names = {"{file}": path, "{crate}": parts[min(1, len(parts) - 1)], "{name}": parts[-1], "{below}": "/".join(parts[2:])}
+
+    def filled(text: str) -> str:
+        for name, value in names.items():
+            text = text.replace(name, value)
+        return text
+
+    print(f"try_defects: {defect.name} goes into {path} of {len(fits)} files (--day {day})")
+    laid = [(path if file == kind else file, filled(how), filled(what)) for file, how, what in defect.changes]
+    return replace(defect, words=[*map(filled, defect.words)], finds=[*map(filled, defect.finds)], changes=laid)
+
+
 class Tree:
     """A copy of the tree, which shares its files with the first copy. A defect's files are written anew and are put back."""
 
-    def __init__(self, folder: str, first: str) -> None:
-        self.top = folder
-        self.first = first
+    def __init__(self, folder: str, first: str, seconds: float = SECONDS) -> None:
+        self.top, self.first, self.seconds = folder, first, seconds
         shutil.copytree(first, folder, copy_function=os.link)
 
     def path(self, file: str) -> str:
@@ -145,7 +189,7 @@ class Tree:
     def run(self, words: list[str]) -> tuple[int, str]:
         """The status of a check in this copy, and what it prints."""
         env = {**os.environ, "PYTHONDONTWRITEBYTECODE": "1"}
-        ran = subprocess.run(words, cwd=self.top, env=env, timeout=SECONDS, stdin=subprocess.DEVNULL, stdout=subprocess.PIPE, stderr=subprocess.STDOUT)
+        ran = subprocess.run(words, cwd=self.top, env=env, timeout=self.seconds, stdin=subprocess.DEVNULL, stdout=subprocess.PIPE, stderr=subprocess.STDOUT)
         return ran.returncode, ran.stdout.decode(errors="replace")
 
 
@@ -170,25 +214,25 @@ def why_not_found(tree: Tree, defect: Defect) -> str:
         tree.mend(defect)
     if status == 0 or re.search(r"(?m)^\d+ passed, 0 failed\n\Z", printed):
         return f"{defect.name}: {' '.join(defect.words)} does not find it: status {status}, {printed[-200:]!r}"
-    if defect.finds not in printed:
-        return f"{defect.name}: {' '.join(defect.words)} fails, but prints no line with {defect.finds!r}:\n{printed[-2000:]}"
+    if not any(all(it in line for it in defect.finds) for line in printed.split("\n")):
+        return f"{defect.name}: {' '.join(defect.words)} fails, but prints no line with {' and '.join(map(repr, defect.finds))}:\n{printed[-2000:]}"
     return ""
 
 
-def defects_of(names: list[str]) -> list[Defect]:
-    """The defects, or those of them whose names have one of these."""
+def defects_of(names: list[str], day: str = DAY) -> list[Defect]:
+    """The defects, or those of them whose names have one of these, as they are on a day."""
     every = [read_defect(path) for path in sorted(glob.glob(f"{TOP}/tests/defects/*.defect"))]
     every = [it for it in every if not it.needs or shutil.which(it.needs) or os.environ.get("CI")]
-    return [it for it in every if not names or any(name in it.name for name in names)]
+    return [drawn(it, day) for it in every if not names or any(name in it.name for name in names)]
 
 
-def faults(defects: list[Defect], room: str) -> list[str]:
+def faults(defects: list[Defect], room: str, seconds: float) -> list[str]:
     """What is wrong: one text for each check and each defect, empty where it is as it should be."""
     lanes = len(os.sched_getaffinity(0))
     shutil.copytree(TOP, f"{room}/first", ignore=APART, symlinks=True)
     trees: queue.Queue[Tree] = queue.Queue()
     for number in range(lanes):
-        trees.put(Tree(f"{room}/{number}", f"{room}/first"))
+        trees.put(Tree(f"{room}/{number}", f"{room}/first", seconds))
 
     def tried(work: "list[str] | Defect") -> str:
         tree = trees.get()
@@ -202,14 +246,19 @@ def faults(defects: list[Defect], room: str) -> list[str]:
         return list(pool.map(tried, [*checks, *defects]))
 
 
-def main(names: list[str]) -> int:
+def main(words: list[str]) -> int:
+    parser = argparse.ArgumentParser(description=__doc__, formatter_class=argparse.RawDescriptionHelpFormatter)
+    parser.add_argument("--day", default=DAY)
+    parser.add_argument("--seconds", type=float, default=SECONDS)
+    parser.add_argument("names", nargs="*")
+    given = parser.parse_args(words)
     try:
-        defects = defects_of(names)
+        defects = defects_of(given.names, given.day)
     except BadDefect as bad:
         print(f"try_defects: {bad}\n0 passed, 1 failed")
         return 1
     with tempfile.TemporaryDirectory(prefix="pdp8-defects-") as room:
-        found = faults(defects, room)
+        found = faults(defects, room, given.seconds)
     for fault in filter(None, found):
         print(f"try_defects: {fault}")
     failed = sum(map(bool, found))
