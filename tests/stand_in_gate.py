@@ -8,6 +8,7 @@ import sys
 from dataclasses import dataclass
 from typing import Iterable
 
+from tests import gate
 from tests.stand_ins import write
 
 TOP = os.path.dirname(os.path.dirname(os.path.abspath(__file__)))
@@ -59,6 +60,9 @@ class StandInGate:
         for check in checks:
             if check != "tests/gate.py":
                 write(f"{self.top}/{check}", PART.format(part=check))
+        # what each part counts, of each gate
+        rows = [f"{name} | {' '.join(words)} | {1 + (words == gate.RT_CI)}\n" for name in ("whole", "quick") for it in gate.parts(name == "quick") for words in it]
+        write(f"{self.top}/tests/counts.txt", "".join(rows))
         write(f"{self.top}/crates.txt", "low:\npdp8: low\n")
         for file in ("low/src/lib.rt", "low/src/deep/deeper/more.rt", "pdp8/src/main.rt"):
             write(f"{self.top}/crates/{file}", "")
