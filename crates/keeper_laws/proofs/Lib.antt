@@ -1,0 +1,5 @@
+mod ChangeLemmas
+mod OpenLemmas
+mod PutLemmas
+mod RefuseLemmas
+mod StoreLemmas

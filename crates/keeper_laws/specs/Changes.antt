@@ -1,0 +1,49 @@
+-- What it means that the volume in an image file is squeezed, or has a new name of a file, or fewer files.
+use Rattle.std.specs.Prelude.{◌≡◌, ℕ, Bool, false, List, ◌∷◌, Ok}
+use Rattle.hosts.specs.Event.{Event, look_call}
+use Rattle.hosts.specs.Streams.{output, read}
+use Rattle.name_patterns.specs.Patterns.{has_pattern}
+use Rattle.archive_files.specs.Asking.{Target}
+use Rattle.archive_files.specs.Deleting.{DeletesFiles}
+use Rattle.archive_files.specs.Renaming.{RenamesFile}
+use Rattle.archive_files.specs.Squeezing.{SqueezesFiles}
+use Rattle.archive_files.specs.declared.deleting.DeletedImage.{DeletedImage}
+use Rattle.program_reports.specs.Program.{program_line}
+use Rattle.program_reports.specs.declared.programs.ProgramLine.TheVariants as line
+use Rattle.program_tasks.specs.declared.forms.DeleteForm.{DeleteForm}
+use Rattle.program_tasks.specs.declared.forms.ImageForm.{ImageForm}
+use Rattle.image_files.specs.declared.images.Image.{Image}
+use Rattle.volume_commands.specs.Asking.{wanted_files}
+use Rattle.volume_commands.specs.Choosing.{words_in}
+use Rattle.volume_commands.specs.Deleting.{deleted_lines}
+use Rattle.keeper_laws.specs.Changed.{GetsVolume, IsOpened}
+
+-- A volume is changed. The image file was read, and nothing else. It has the volume now that its bytes give. The lines that report this were to
+-- be printed, and nothing else. Whether they were is `ok`.
+pub record HasChanged {A : Type 0} (gives : List ℕ → A → Type 0) (image_of lines_of : A → List ℕ) (form : ImageForm) (ok : Bool) (old new : List Event) : Type 0 where
+  pub image : Image
+  pub path : List ℕ
+  pub was : List ℕ
+  pub opened : IsOpened form path was image old
+  pub reads : read new ≡ look_call path was ∷ read old
+  pub made : A
+  pub gave : gives image.bytes.items made
+  pub has : GetsVolume form image path was (image_of made) old new
+  pub prints : output new ≡ (ok, lines_of made) ∷ output old
+
+-- its files are moved together
+abbrev pub HasSqueezed : ImageForm → Bool → List Event → List Event → Type 0
+HasSqueezed = HasChanged (λ image made. SqueezesFiles image (Ok made)) (λ made. made.bytes.items) (λ made. program_line (line.Squeezed made.move_count))
+
+-- one of its files has another name
+abbrev pub HasRenamed : Target → List ℕ → ImageForm → Bool → List Event → List Event → Type 0
+HasRenamed wanted other =
+    HasChanged (λ image made. RenamesFile image wanted other (Ok made)) (λ made. made.bytes.items) (λ made. program_line (line.Renamed made.old_name made.new_name))
+
+-- the files that are meant; where no word is a pattern they are those of the names and of the blocks
+abbrev pub DeletesMeant : DeleteForm → List ℕ → DeletedImage → Type 0
+DeletesMeant form image made = (files : List Target) × (has_pattern (words_in form) ≡ false → files ≡ wanted_files form) × DeletesFiles image files (Ok made)
+
+-- it is without the files that are meant
+abbrev pub HasDeleted : DeleteForm → Bool → List Event → List Event → Type 0
+HasDeleted form = HasChanged (DeletesMeant form) (λ made. made.bytes.items) (λ made. deleted_lines made.names.items) form.image

@@ -1,0 +1,4 @@
+pub mod Changed
+pub mod Changes
+pub mod Ended
+pub mod Stored

@@ -1,0 +1,4 @@
+//! What a keeper of images may rely on, as laws over the commands on volumes.
+#![tactic(auto)]
+
+pub mod laws;
