@@ -1,9 +1,10 @@
 -- The commands that change the volume in an image file and read nothing else.
-use Rattle.std.proofs.Common.{◌≡◌, ◌∙◌, ◌⊎◌, ℕ, Bool, true, false, Result, Ok, Err, List, [], refl, subst, inl, inr, length, map, true≢false}
+use Rattle.std.proofs.Common.{◌≡◌, ◌∙◌, ◌⊎◌, ℕ, Bool, true, false, Option, None, Some, Result, Ok, Err, List, [], ap, refl, subst, inl, inr, length, map, true≢false}
 use Rattle.std.specs.Global.{Vec}
 use Rattle.hosts.specs.Event.{Event}
+use Rattle.hosts.specs.Streams.{output}
 use Rattle.name_patterns.specs.Patterns.{has_pattern}
-use Rattle.archive_files.specs.Asking.{Target, target_of}
+use Rattle.archive_files.specs.Asking.{Target, AtBlock, target_of}
 use Rattle.archive_files.specs.Renaming.{RenamesFile}
 use Rattle.archive_files.specs.Squeezing.{SqueezesFiles}
 use Rattle.archive_files.specs.declared.asking.Asked.{Asked}
@@ -28,12 +29,12 @@ use Rattle.image_files.specs.Work.{Follows, Then, Purely}
 use Rattle.image_files.specs.declared.images.Image.{Image}
 use Rattle.volume_commands.specs.Asking.{AreNamed, wanted_files}
 use Rattle.volume_commands.specs.Changing.{Changes, GivesName, RefusesName, Renames, Squeezes}
-use Rattle.volume_commands.specs.Choosing.{AreWished, FindsAll, MeansFiles, MeansIf, RefusesWish, words_in}
+use Rattle.volume_commands.specs.Choosing.{AreWished, FindsAll, MeansFiles, MeansIf, RefusesWish, TellsRefused, one_of_several, word_at, words_in}
 use Rattle.volume_commands.specs.Deleting.{Deletes, RefusesFile, TakesMeant, TakesOut, deleted_lines}
 use Rattle.keeper_laws.specs.Changes.{DeletesMeant, HasChanged, HasDeleted, HasRenamed, HasSqueezed}
 use Rattle.keeper_laws.specs.Ended.{EndsAs}
 use Rattle.keeper_laws.proofs.OpenLemmas.{FindsSaved, FindsUnsaved, HasOpened, has-opened, still}
-use Rattle.keeper_laws.proofs.RefuseLemmas.{IsRefusal, OnlyRefuses, answers-refuse, ends-so, lines-refuse, opens-refuses, reaches, refuses-refused, then-refuses}
+use Rattle.keeper_laws.proofs.RefuseLemmas.{IsRefused, OnlyRefuses, answers-refuse, answers-silent, ends-so, lines-refuse, opens-refuses, purely-silent, reaches, refused-after, refuses-refused, then-refuses}
 use Rattle.keeper_laws.proofs.StoreLemmas.{IsReady, by-refusal, by-store}
 
 -- a step that gives this asks nothing of the host where it succeeds
@@ -50,12 +51,12 @@ module _ {A : Type 0} (answers : List ℕ → List Event → Result A Ending →
       gave : gives image.bytes.items made
       is_ready : IsReady form [] image (image_of made) (lines_of made) old result new
 
-    ready : (old : List Event) (result : Result (Unit {0}) Ending) (new : List Event) → Changes answers image_of lines_of form old result new → IsMade old result new ⊎ IsRefusal result
+    ready : (old : List Event) (result : Result (Unit {0}) Ending) (new : List Event) → Changes answers image_of lines_of form old result new → IsMade old result new ⊎ IsRefused result old new
     ready old result new p = go (reaches (Opens form) (λ image. Then (answers image.bytes.items) (λ made. Then (Purely (AreLines (lines_of made))) (λ lines. Stores image (image_of made) lines.items))) (opens-refuses form) old result new p)
       where
         line : (image : Image) (one : List Event) → HasOpened form old image one → (made : A) (two : List Event) → gives image.bytes.items made × (two ≡ one)
-            → Follows (Purely (AreLines (lines_of made))) (λ lines. Stores image (image_of made) lines.items) two result new ⊎ IsRefusal result → IsMade old result new ⊎ IsRefusal result
-        line image one o made two gave (inr refused) = inr refused
+            → Follows (Purely (AreLines (lines_of made))) (λ lines. Stores image (image_of made) lines.items) two result new ⊎ IsRefused result two new → IsMade old result new ⊎ IsRefused result old new
+        line image one o made two (gave, same) (inr refused) = inr (refused-after result old two new (ap output same ∙ o.quiet.prints) refused)
         line image one o made two (gave, same) (inl l) = inl (record {
           image = image;
           made = made;
@@ -70,13 +71,13 @@ module _ {A : Type 0} (answers : List ℕ → List Event → Result A Ending →
         })
 
         given : (image : Image) (one : List Event) → HasOpened form old image one
-            → Follows (answers image.bytes.items) (λ made. Then (Purely (AreLines (lines_of made))) (λ lines. Stores image (image_of made) lines.items)) one result new ⊎ IsRefusal result → IsMade old result new ⊎ IsRefusal result
-        given image one o (inr refused) = inr refused
+            → Follows (answers image.bytes.items) (λ made. Then (Purely (AreLines (lines_of made))) (λ lines. Stores image (image_of made) lines.items)) one result new ⊎ IsRefused result one new → IsMade old result new ⊎ IsRefused result old new
+        given image one o (inr refused) = inr (refused-after result old one new o.quiet.prints refused)
         given image one o (inl a) = line image one o a.given a.between (gives_still image.bytes.items one a.given a.between a.done)
             (reaches (Purely (AreLines (lines_of a.given))) (λ lines. Stores image (image_of a.given) lines.items) (lines-refuse (lines_of a.given)) a.between result new a.after)
 
-        go : Follows (Opens form) (λ image. Then (answers image.bytes.items) (λ made. Then (Purely (AreLines (lines_of made))) (λ lines. Stores image (image_of made) lines.items))) old result new ⊎ IsRefusal result
-            → IsMade old result new ⊎ IsRefusal result
+        go : Follows (Opens form) (λ image. Then (answers image.bytes.items) (λ made. Then (Purely (AreLines (lines_of made))) (λ lines. Stores image (image_of made) lines.items))) old result new ⊎ IsRefused result old new
+            → IsMade old result new ⊎ IsRefused result old new
         go (inr refused) = inr refused
         go (inl it) = given it.given it.between (has-opened form old it.given it.between it.done)
             (reaches (answers it.given.bytes.items) (λ made. Then (Purely (AreLines (lines_of made))) (λ lines. Stores it.given (image_of made) lines.items)) (refuses it.given.bytes.items) it.between result new it.after)
@@ -85,7 +86,7 @@ module _ {A : Type 0} (answers : List ℕ → List Event → Result A Ending →
         → Changes answers image_of lines_of form old result new → EndsAs form (HasChanged gives image_of lines_of form) result old new
     change-ends saves stays leaves old result new p = go result (ready old result new p) p
       where
-        go : (result : Result (Unit {0}) Ending) → IsMade old result new ⊎ IsRefusal result → Changes answers image_of lines_of form old result new → EndsAs form (HasChanged gives image_of lines_of form) result old new
+        go : (result : Result (Unit {0}) Ending) → IsMade old result new ⊎ IsRefused result old new → Changes answers image_of lines_of form old result new → EndsAs form (HasChanged gives image_of lines_of form) result old new
         go result (inl m) p = by-store saves stays form [] m.image (image_of m.made) (lines_of m.made) (HasChanged gives image_of lines_of form) old result new m.is_ready (λ ok has reads prints. record {
           image = m.image;
           path = m.is_ready.start.path;
@@ -98,7 +99,7 @@ module _ {A : Type 0} (answers : List ℕ → List Event → Result A Ending →
           prints = prints;
         })
         go (Ok it) (inr refused) p = absurd refused
-        go (Err ending) (inr refused) p = by-refusal form (HasChanged gives image_of lines_of form) old ending new refused (leaves old ending new p refused)
+        go (Err ending) (inr refused) p = by-refusal form (HasChanged gives image_of lines_of form) old ending new refused.0 (leaves old ending new p refused.0, refused.1)
 
 -- ## The commands
 
@@ -111,9 +112,9 @@ squeeze-ends saves stays form leaves =
     change-ends (λ image. Answers (SqueezesFiles image) (length image)) (λ image made. SqueezesFiles image (Ok made)) (λ made. made.bytes.items) (λ made. program_line (line.Squeezed made.move_count)) form
     (λ image. answers-refuse (SqueezesFiles image) (length image)) (λ image. answers-still (SqueezesFiles image) (length image)) saves stays leaves
 
-name-refused : (fault : RenameFault) (size : ℕ) (old : List Event) (ending : Ending) (new : List Event) → RefusesName fault size old ending new → is_refusal ending ≡ true
+name-refused : (fault : RenameFault) (size : ℕ) (old : List Event) (ending : Ending) (new : List Event) → RefusesName fault size old ending new → (is_refusal ending ≡ true) × (output new ≡ output old)
 name-refused (rename.Archive fault) size old ending new p = refuses-refused fault size old ending new p
-name-refused rename.Exists size old ending new p = ends-so ending _ p.0 refl
+name-refused rename.Exists size old ending new p = (ends-so ending _ p.0 refl, ap output p.1)
 
 pub rename-ends : FindsSaved → FindsUnsaved → (wanted : Target) (other : List ℕ) (form : ImageForm) → LeavesFiles (Renames wanted other form) → (old : List Event) (result : Result (Unit {0}) Ending) (new : List Event)
     → Renames wanted other form old result new → EndsAs form (HasRenamed wanted other form) result old new
@@ -121,33 +122,40 @@ rename-ends saves stays wanted other form leaves =
     change-ends (GivesName wanted other) (λ image made. RenamesFile image wanted other (Ok made)) (λ made. made.bytes.items) (λ made. program_line (line.Renamed made.old_name made.new_name)) form
     (λ image old ending new p. name-refused p.0 (length image) old ending new p.2) (λ image old made new p. p) saves stays leaves
 
-file-refused : (wanted : List Target) (fault : DeleteFault) (size : ℕ) (old : List Event) (ending : Ending) (new : List Event) → RefusesFile wanted fault size old ending new → is_refusal ending ≡ true
+told-silent : (wanted : Option Target) (old new : List Event) → TellsRefused wanted old new → output new ≡ output old
+told-silent None old new p = ap output p
+told-silent (Some wanted) old new p = ap output p.1
+
+file-refused : (wanted : List Target) (fault : DeleteFault) (size : ℕ) (old : List Event) (ending : Ending) (new : List Event) → RefusesFile wanted fault size old ending new
+    → (is_refusal ending ≡ true) × (output new ≡ output old)
 file-refused wanted (Archive fault) size old ending new p = refuses-refused fault size old ending new p
-file-refused wanted (Name place fault) size old ending new p = ends-so ending _ p.0 refl
+file-refused wanted (Name place fault) size old ending new p = (ends-so ending _ p.0 refl, told-silent (one_of_several wanted place) old new p.1)
 
 out-refuses : (wanted : List Target) (image : List ℕ) → OnlyRefuses (TakesOut wanted image)
 out-refuses wanted image old ending new (inl (why, deletes, p)) = file-refused wanted why (length image) old ending new p
-out-refuses wanted image old ending new (inr p) = ends-so ending _ p.0 refl
+out-refuses wanted image old ending new (inr p) = (ends-so ending _ p.0 refl, ap output p.1)
 
-wish-refused : (form : DeleteForm) (one : Wish) (old : List Event) (ending : Ending) (new : List Event) → RefusesWish form one old ending new → is_refusal ending ≡ true
+wish-refused : (form : DeleteForm) (one : Wish) (old : List Event) (ending : Ending) (new : List Event) → RefusesWish form one old ending new
+    → (is_refusal ending ≡ true) × (output new ≡ output old)
 wish-refused form (wish.File file) old ending new p = absurd p
-wish-refused form (wish.BadWord place) old ending new p = ends-so ending _ p.0 refl
-wish-refused form (wish.NotFound place) old ending new p = ends-so ending _ p.0 refl
-wish-refused form (wish.Block block) old ending new p = ends-so ending _ p.0 refl
+wish-refused form (wish.BadWord place) old ending new p = (ends-so ending _ p.0 refl, told-silent (word_at form place) old new p.1)
+wish-refused form (wish.NotFound place) old ending new p = (ends-so ending _ p.0 refl, told-silent (word_at form place) old new p.1)
+wish-refused form (wish.Block block) old ending new p = (ends-so ending _ p.0 refl, told-silent (Some (AtBlock block)) old new p.1)
 
 finds-refuses : (form : DeleteForm) (wishes : List Wish) → OnlyRefuses (FindsAll form wishes)
 finds-refuses form wishes old ending new (inl (one, first, p)) = wish-refused form one old ending new p
-finds-refuses form wishes old ending new (inr p) = ends-so ending _ p.0 refl
+finds-refuses form wishes old ending new (inr p) = (ends-so ending _ p.0 refl, ap output p.1)
 
 wished-refuses : (form : DeleteForm) (blocks : List (List ℕ)) → OnlyRefuses (Purely (AreWished form blocks))
-wished-refuses form blocks old ending new p = ends-so ending _ p.0 refl
+wished-refuses form blocks old ending new p = (ends-so ending _ p.0 refl, ap output p.1)
 
 named-refuses : (form : DeleteForm) → OnlyRefuses (Purely (AreNamed form))
-named-refuses form old ending new p = ends-so ending _ p.0 refl
+named-refuses form old ending new p = (ends-so ending _ p.0 refl, ap output p.1)
 
 means-refuses : (is : Bool) (form : DeleteForm) (image : List ℕ) → OnlyRefuses (MeansIf is form image)
-means-refuses true form image = then-refuses (Answers (OpensVolume image) (length image)) (λ blocks. Then (Purely (AreWished form blocks)) (λ wishes. FindsAll form wishes.items)) (answers-refuse (OpensVolume image) (length image))
-    (λ blocks. then-refuses (Purely (AreWished form blocks)) (λ wishes. FindsAll form wishes.items) (wished-refuses form blocks) (λ wishes. finds-refuses form wishes.items))
+means-refuses true form image = then-refuses (Answers (OpensVolume image) (length image)) (λ blocks. Then (Purely (AreWished form blocks)) (λ wishes. FindsAll form wishes.items))
+    (answers-refuse (OpensVolume image) (length image)) (answers-silent (OpensVolume image) (length image))
+    (λ blocks. then-refuses (Purely (AreWished form blocks)) (λ wishes. FindsAll form wishes.items) (wished-refuses form blocks) (purely-silent (AreWished form blocks)) (λ wishes. finds-refuses form wishes.items))
 means-refuses false form image = named-refuses form
 
 -- the files that were meant are asked for without a call
@@ -174,5 +182,6 @@ meant-still form image old made new (inr it) = (
 pub delete-ends : FindsSaved → FindsUnsaved → (form : DeleteForm) → LeavesFiles (Deletes form) → (old : List Event) (result : Result (Unit {0}) Ending) (new : List Event) → Deletes form old result new
     → EndsAs form.image (HasDeleted form) result old new
 delete-ends saves stays form leaves = change-ends (TakesMeant form) (DeletesMeant form) (λ made. made.bytes.items) (λ made. deleted_lines made.names.items) form.image
-    (λ image. then-refuses (MeansFiles form image) (λ files. TakesOut (map target_of files.items) image) (means-refuses (has_pattern (words_in form)) form image) (λ files. out-refuses (map target_of files.items) image))
+    (λ image. then-refuses (MeansFiles form image) (λ files. TakesOut (map target_of files.items) image) (means-refuses (has_pattern (words_in form)) form image)
+    (λ old files new p. ap output (means-still (has_pattern (words_in form)) form image old files new p)) (λ files. out-refuses (map target_of files.items) image))
     (λ image. meant-still form image) saves stays leaves

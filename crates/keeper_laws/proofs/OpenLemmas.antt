@@ -58,7 +58,7 @@ quiet-then first second old mid new a b = record {
 
 -- ## An image file that is opened
 
-held : (name : List ℕ) (place : ImagePlace) (is_held : Bool) (old new : List Event) → HoldsAt name place is_held old new → IsQuiet [] old new
+pub held : (name : List ℕ) (place : ImagePlace) (is_held : Bool) (old new : List Event) → HoldsAt name place is_held old new → IsQuiet [] old new
 held name place true old new (true, ok, p) =
     subst (λ (n : List Event). IsQuiet [] old n) (sym p) (record { files = λ path. refl; prints = refl; warns = equal (warnings (errors old)); reads = refl })
 held name place true old new (false, ok, p) =

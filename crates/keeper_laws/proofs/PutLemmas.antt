@@ -1,13 +1,14 @@
 -- One file that is put.
-use Rattle.std.proofs.Common.{◌≡◌, ◌∙◌, ◌⊎◌, ℕ, Bool, true, false, if◌then◌else◌, Option, None, Some, Result, Ok, Err, List, [], ◌∷◌, refl, sym, subst, inl, inr, length, codes, nat_eq, true≢false}
+use Rattle.std.proofs.Common.{ap, ◌≡◌, ◌∙◌, ◌⊎◌, ℕ, Bool, true, false, if◌then◌else◌, Option, None, Some, Result, Ok, Err, List, [], ◌∷◌, refl, sym, subst, inl, inr, length, codes, nat_eq, true≢false}
 use Rattle.std.specs.Global.{Vec}
 use Rattle.std.specs.Str.{bytes_eq}
 use Rattle.hosts.specs.Event.{Event, input_call, look_call}
-use Rattle.hosts.specs.Streams.{errors}
+use Rattle.hosts.specs.Streams.{errors, output}
 use Rattle.os8_dates.specs.Dates.{date_in, last_year}
 use Rattle.os8_dates.specs.declared.dates.Date.{Date}
 use Rattle.volume_image.specs.Image.{block_word}
 use Rattle.archive_files.specs.Putting.{PutsFile}
+use Rattle.archive_files.specs.declared.places.TextPlace.{TextPlace}
 use Rattle.archive_files.specs.declared.putting.NewImage.{NewImage}
 use Rattle.archive_files.specs.declared.faults.ArchiveFault.{ArchiveFault}
 use Rattle.archive_many.specs.Opened.{OpensVolume, information_on}
@@ -22,7 +23,7 @@ use Rattle.image_files.specs.Inputs.{Reads, ReadsIf}
 use Rattle.image_files.specs.Laws.{LeavesFiles, is_refusal}
 use Rattle.image_files.specs.Reading.{Opens}
 use Rattle.image_files.specs.Saving.{IsDone, Stores}
-use Rattle.image_files.specs.Stored.{is_bad_text, stored_line, words_of}
+use Rattle.image_files.specs.Stored.{TellsPlace, is_bad_text, stored_line, words_of}
 use Rattle.image_files.specs.Work.{Follows, Then, Purely}
 use Rattle.image_files.specs.Years.{NotesYear, TellsShown, TellsUnless, is_same_year, last_for}
 use Rattle.image_files.specs.declared.images.Image.{Image}
@@ -31,7 +32,7 @@ use Rattle.keeper_laws.specs.Changed.{warnings}
 use Rattle.keeper_laws.specs.Ended.{EndsAs}
 use Rattle.keeper_laws.specs.Stored.{HasStored, given_call}
 use Rattle.keeper_laws.proofs.OpenLemmas.{FindsSaved, FindsUnsaved, HasOpened, IsQuiet, after-note, equal, has-opened, quiet-then, still}
-use Rattle.keeper_laws.proofs.RefuseLemmas.{IsRefusal, OnlyRefuses, answers-refuse, archive-refused, dates-refuses, ends-so, lines-refuse, opens-refuses, reaches, reads-refuses, refuses-refused, then-refuses}
+use Rattle.keeper_laws.proofs.RefuseLemmas.{IsRefused, IsSilent, OnlyRefuses, answers-refuse, archive-refused, dates-refuses, ends-so, lines-refuse, opens-refuses, reaches, reads-refuses, refused-after, refuses-refused, then-refuses}
 use Rattle.keeper_laws.proofs.StoreLemmas.{IsReady, by-refusal, by-store}
 
 -- ## What is read
@@ -78,13 +79,17 @@ purely-quiet gives old it new p = still old new p.1
 answers-quiet : {A : Type 0} (gives : Result A ArchiveFault → Type 0) (size : ℕ) → StaysQuiet (Answers gives size)
 answers-quiet gives size old it new p = still old new p.1
 
+-- so standard output gets nothing
+silent : {A : Type 0} (step : List Event → Result A Ending → List Event → Type 0) → StaysQuiet step → IsSilent step
+silent step quiet old it new p = (quiet old it new p).prints
+
 done-refuses : OnlyRefuses (Purely IsDone)
 done-refuses old ending new p = absurd p.0
 
 -- ## Information words and dates
 
 fits-refuses : (wanted count : ℕ) → OnlyRefuses (Purely (FitsWords wanted count))
-fits-refuses wanted count old ending new p = ends-so ending _ p.0.1 refl
+fits-refuses wanted count old ending new p = (ends-so ending _ p.0.1 refl, ap output p.1)
 
 takes-quiet : (none : Bool) (wanted : ℕ) (image : List ℕ) → StaysQuiet (TakesIf none wanted image)
 takes-quiet true wanted image = purely-quiet IsDone
@@ -94,7 +99,8 @@ takes-quiet false wanted image = then-quiet (Answers (OpensVolume image) (length
 takes-refuses : (none : Bool) (wanted : ℕ) (image : List ℕ) → OnlyRefuses (TakesIf none wanted image)
 takes-refuses true wanted image = done-refuses
 takes-refuses false wanted image = then-refuses (Answers (OpensVolume image) (length image)) (λ blocks. Purely (FitsWords wanted (information_on blocks)))
-    (answers-refuse (OpensVolume image) (length image)) (λ blocks. fits-refuses wanted (information_on blocks))
+    (answers-refuse (OpensVolume image) (length image)) (silent (Answers (OpensVolume image) (length image)) (answers-quiet (OpensVolume image) (length image)))
+    (λ blocks. fits-refuses wanted (information_on blocks))
 
 hint-quiet : (same : Bool) (word : ℕ) (wanted shown : Option Date) (own : ℕ) → StaysQuiet (TellsUnless same word wanted shown own)
 hint-quiet true word wanted shown own old it new p = still old new p.1
@@ -102,7 +108,7 @@ hint-quiet false word wanted shown own old it new (ok, p) = after-note ok _ old 
 
 hint-refuses : (same : Bool) (word : ℕ) (wanted shown : Option Date) (own : ℕ) → OnlyRefuses (TellsUnless same word wanted shown own)
 hint-refuses true word wanted shown own old ending new p = absurd p.0
-hint-refuses false word wanted shown own old ending new p = ends-so ending _ p.0 refl
+hint-refuses false word wanted shown own old ending new p = (ends-so ending _ p.0 refl, ap output p.1)
 
 year-quiet : (image info : List ℕ) (year : Option ℕ) → StaysQuiet (NotesYear image info year)
 year-quiet image [] year = purely-quiet IsDone
@@ -115,7 +121,7 @@ year-refuses : (image info : List ℕ) (year : Option ℕ) → OnlyRefuses (Note
 year-refuses image [] year = done-refuses
 year-refuses image (word ∷ words) None = done-refuses
 year-refuses image (word ∷ words) (Some year) = then-refuses (Answers (OpensVolume image) (length image)) (λ blocks. TellsShown word (last_year (block_word blocks 0 0o377)) (last_for year))
-    (answers-refuse (OpensVolume image) (length image))
+    (answers-refuse (OpensVolume image) (length image)) (silent (Answers (OpensVolume image) (length image)) (answers-quiet (OpensVolume image) (length image)))
     (λ blocks. let own = date_in (last_for year) word in let shown = date_in (last_year (block_word blocks 0 0o377)) word in hint-refuses (is_same_year own shown) word own shown (last_for year))
 
 date-quiet : (form : PutOneForm) (image : List ℕ) (day : Option FileDay) → StaysQuiet (NotesDate form image day)
@@ -132,9 +138,9 @@ keeps-quiet : (form : PutOneForm) (image bytes : List ℕ) → StaysQuiet (Keeps
 keeps-quiet form image bytes old it new p = still old new p.1
 
 keeps-refuses : (form : PutOneForm) (image bytes : List ℕ) → OnlyRefuses (KeepsWords form image bytes)
-keeps-refuses form image bytes old ending new (inl (loss, is, ok, p)) = ends-so ending _ is refl
+keeps-refuses form image bytes old ending new (inl (loss, is, ok, p)) = (ends-so ending _ is refl, ap output p)
 keeps-refuses form image bytes old ending new (inr (inl (why, opens, p))) = refuses-refused why (length image) old ending new p
-keeps-refuses form image bytes old ending new (inr (inr p)) = ends-so ending _ p.0 refl
+keeps-refuses form image bytes old ending new (inr (inr p)) = (ends-so ending _ p.0 refl, ap output p.1)
 
 judges-quiet : (form : PutOneForm) (image bytes : List ℕ) (day : Option FileDay) → StaysQuiet (JudgesPut form image bytes day)
 judges-quiet form image bytes day =
@@ -145,16 +151,21 @@ judges-quiet form image bytes day =
 judges-refuses : (form : PutOneForm) (image bytes : List ℕ) (day : Option FileDay) → OnlyRefuses (JudgesPut form image bytes day)
 judges-refuses form image bytes day =
     let wanted = words_wanted (given_count (words_of form.info)) (word_of_day day) in
-    then-refuses (KeepsWords form image bytes) (λ it. JudgesInfo form image day) (keeps-refuses form image bytes)
-    (λ it. then-refuses (TakesWords wanted image) (λ done. NotesDate form image day) (takes-refuses (nat_eq wanted 0) wanted image) (λ done. date-refuses form image day))
+    then-refuses (KeepsWords form image bytes) (λ it. JudgesInfo form image day) (keeps-refuses form image bytes) (silent (KeepsWords form image bytes) (keeps-quiet form image bytes))
+    (λ it. then-refuses (TakesWords wanted image) (λ done. NotesDate form image day) (takes-refuses (nat_eq wanted 0) wanted image) (silent (TakesWords wanted image) (takes-quiet (nat_eq wanted 0) wanted image)) (λ done. date-refuses form image day))
 
-tells-refused : (is : Bool) (why : ArchiveFault) (bytes : List ℕ) (size : ℕ) (old : List Event) (ending : Ending) (new : List Event) → TellsIf is why bytes size old ending new → is_refusal ending ≡ true
-tells-refused true why bytes size old ending new p = ends-so ending _ p.0 (archive-refused why)
+place-silent : (place : Option TextPlace) (old new : List Event) → TellsPlace place old new → output new ≡ output old
+place-silent None old new p = ap output p
+place-silent (Some place) old new p = ap output p.1
+
+tells-refused : (is : Bool) (why : ArchiveFault) (bytes : List ℕ) (size : ℕ) (old : List Event) (ending : Ending) (new : List Event) → TellsIf is why bytes size old ending new
+    → (is_refusal ending ≡ true) × (output new ≡ output old)
+tells-refused true why bytes size old ending new (is, (place, finds, p)) = (ends-so ending _ is (archive-refused why), place-silent place old new p)
 tells-refused false why bytes size old ending new p = refuses-refused why size old ending new p
 
 makes-refuses : (form : PutOneForm) (image bytes : List ℕ) (date : Option ℕ) → OnlyRefuses (MakesNew form image bytes date)
 makes-refuses form image bytes date old ending new (inl (why, puts, p)) = tells-refused (is_bad_text why) why bytes (length image) old ending new p
-makes-refuses form image bytes date old ending new (inr p) = ends-so ending _ p.0 refl
+makes-refuses form image bytes date old ending new (inr p) = (ends-so ending _ p.0 refl, ap output p.1)
 
 -- ## The steps before the save
 
@@ -171,7 +182,7 @@ record IsMade (form : PutOneForm) (old : List Event) (result : Result (Unit {0})
 module _ (form : PutOneForm) (old : List Event) (result : Result (Unit {0}) Ending) (new : List Event)
   where
     abbrev Made : Type 0
-    Made = IsMade form old result new ⊎ IsRefusal result
+    Made = IsMade form old result new ⊎ IsRefused result old new
 
     -- what comes after the new volume is made
     abbrev Lines : Image → NewImage → List Event → Result (Unit {0}) Ending → List Event → Type 0
@@ -179,8 +190,8 @@ module _ (form : PutOneForm) (old : List Event) (result : Result (Unit {0}) Endi
 
     lines : (image : Image) (one mid last : List Event) (bytes : Vec ℕ) (day : Option FileDay) → HasOpened form.image old image one → IsQuiet (given_call form.file.bytes.items bytes.items ∷ []) one mid
         → (form.is_dated ≡ false → word_of_day day ≡ None) → (made : NewImage) → PutsFile image.bytes.items form.name.bytes.items form.form bytes.items (info_or (word_of_day day) (words_of form.info)) (Ok made)
-        → last ≡ mid → Follows (Purely (AreLines (stored_line made))) (λ line. Stores image made.bytes.items line.items) last result new ⊎ IsRefusal result → Made
-    lines image one mid last bytes day o quiet never made puts same (inr refused) = inr refused
+        → last ≡ mid → Follows (Purely (AreLines (stored_line made))) (λ line. Stores image made.bytes.items line.items) last result new ⊎ IsRefused result last new → Made
+    lines image one mid last bytes day o quiet never made puts same (inr refused) = inr (refused-after result old last new (ap output same ∙ quiet.prints ∙ o.quiet.prints) refused)
     lines image one mid last bytes day o quiet never made puts same (inl l) = inl (record {
       image = image;
       given = bytes.items;
@@ -199,21 +210,21 @@ module _ (form : PutOneForm) (old : List Event) (result : Result (Unit {0}) Endi
     })
 
     new-image : (image : Image) (one mid : List Event) (bytes : Vec ℕ) (day : Option FileDay) → HasOpened form.image old image one → IsQuiet (given_call form.file.bytes.items bytes.items ∷ []) one mid
-        → (form.is_dated ≡ false → word_of_day day ≡ None) → Follows (MakesNew form image.bytes.items bytes.items (word_of_day day)) (Lines image) mid result new ⊎ IsRefusal result → Made
-    new-image image one mid bytes day o quiet never (inr refused) = inr refused
+        → (form.is_dated ≡ false → word_of_day day ≡ None) → Follows (MakesNew form image.bytes.items bytes.items (word_of_day day)) (Lines image) mid result new ⊎ IsRefused result mid new → Made
+    new-image image one mid bytes day o quiet never (inr refused) = inr (refused-after result old mid new (quiet.prints ∙ o.quiet.prints) refused)
     new-image image one mid bytes day o quiet never (inl m) = lines image one mid m.between bytes day o quiet never m.given m.done.0 m.done.1
         (reaches (Purely (AreLines (stored_line m.given))) (λ line. Stores image m.given.bytes.items line.items) (lines-refuse (stored_line m.given)) m.between result new m.after)
 
     put-into : (image : Image) (one three : List Event) (bytes : Vec ℕ) (day : Option FileDay) → HasOpened form.image old image one → IsQuiet (given_call form.file.bytes.items bytes.items ∷ []) one three
-        → (form.is_dated ≡ false → word_of_day day ≡ None) → Follows (JudgesPut form image.bytes.items bytes.items day) (λ it. Then (MakesNew form image.bytes.items bytes.items (word_of_day day)) (Lines image)) three result new ⊎ IsRefusal result → Made
-    put-into image one three bytes day o quiet never (inr refused) = inr refused
+        → (form.is_dated ≡ false → word_of_day day ≡ None) → Follows (JudgesPut form image.bytes.items bytes.items day) (λ it. Then (MakesNew form image.bytes.items bytes.items (word_of_day day)) (Lines image)) three result new ⊎ IsRefused result three new → Made
+    put-into image one three bytes day o quiet never (inr refused) = inr (refused-after result old three new (quiet.prints ∙ o.quiet.prints) refused)
     put-into image one three bytes day o quiet never (inl j) = new-image image one j.between bytes day o
         (quiet-then (given_call form.file.bytes.items bytes.items ∷ []) [] one three j.between quiet (judges-quiet form image.bytes.items bytes.items day three j.given j.between j.done)) never
         (reaches (MakesNew form image.bytes.items bytes.items (word_of_day day)) (Lines image) (makes-refuses form image.bytes.items bytes.items (word_of_day day)) j.between result new j.after)
 
     dated : (image : Image) (one two : List Event) (bytes : Vec ℕ) → HasOpened form.image old image one → IsQuiet (given_call form.file.bytes.items bytes.items ∷ []) one two
-        → Follows (DatesFile form.is_dated form.file.bytes.items) (λ day. PutsInto form image bytes.items day) two result new ⊎ IsRefusal result → Made
-    dated image one two bytes o quiet (inr refused) = inr refused
+        → Follows (DatesFile form.is_dated form.file.bytes.items) (λ day. PutsInto form image bytes.items day) two result new ⊎ IsRefused result two new → Made
+    dated image one two bytes o quiet (inr refused) = inr (refused-after result old two new (quiet.prints ∙ o.quiet.prints) refused)
     dated image one two bytes o quiet (inl d) = put-into image one d.between bytes d.given o
         (quiet-then (given_call form.file.bytes.items bytes.items ∷ []) [] one two d.between quiet (dates form.is_dated form.file.bytes.items two d.given d.between d.done))
         (undated form.is_dated form.file.bytes.items two d.given d.between d.done)
@@ -221,12 +232,12 @@ module _ (form : PutOneForm) (old : List Event) (result : Result (Unit {0}) Endi
         (judges-refuses form image.bytes.items bytes.items d.given) d.between result new d.after)
 
     given : (image : Image) (one : List Event) → HasOpened form.image old image one
-        → Follows (Reads form.file.bytes.items) (λ bytes. Then (DatesFile form.is_dated form.file.bytes.items) (λ day. PutsInto form image bytes.items day)) one result new ⊎ IsRefusal result → Made
-    given image one o (inr refused) = inr refused
+        → Follows (Reads form.file.bytes.items) (λ bytes. Then (DatesFile form.is_dated form.file.bytes.items) (λ day. PutsInto form image bytes.items day)) one result new ⊎ IsRefused result one new → Made
+    given image one o (inr refused) = inr (refused-after result old one new o.quiet.prints refused)
     given image one o (inl r) = dated image one r.between r.given o (reads-if (bytes_eq form.file.bytes.items (codes "-")) form.file.bytes.items one r.given r.between r.done)
         (reaches (DatesFile form.is_dated form.file.bytes.items) (λ day. PutsInto form image r.given.items day) (dates-refuses form.is_dated form.file.bytes.items) r.between result new r.after)
 
-    opened : Follows (Opens form.image) (λ image. Then (Reads form.file.bytes.items) (λ bytes. Then (DatesFile form.is_dated form.file.bytes.items) (λ day. PutsInto form image bytes.items day))) old result new ⊎ IsRefusal result → Made
+    opened : Follows (Opens form.image) (λ image. Then (Reads form.file.bytes.items) (λ bytes. Then (DatesFile form.is_dated form.file.bytes.items) (λ day. PutsInto form image bytes.items day))) old result new ⊎ IsRefused result old new → Made
     opened (inr refused) = inr refused
     opened (inl it) = given it.given it.between (has-opened form.image old it.given it.between it.done)
         (reaches (Reads form.file.bytes.items) (λ bytes. Then (DatesFile form.is_dated form.file.bytes.items) (λ day. PutsInto form it.given bytes.items day))
@@ -241,7 +252,7 @@ pub put-ends : FindsSaved → FindsUnsaved → ((form : PutOneForm) → LeavesFi
     → Puts form old result new → EndsAs form.image (HasStored form) result old new
 put-ends saves stays leaves form old result new p = go result (ready form old result new p) p
   where
-    go : (result : Result (Unit {0}) Ending) → IsMade form old result new ⊎ IsRefusal result → Puts form old result new → EndsAs form.image (HasStored form) result old new
+    go : (result : Result (Unit {0}) Ending) → IsMade form old result new ⊎ IsRefused result old new → Puts form old result new → EndsAs form.image (HasStored form) result old new
     go result (inl m) p = by-store saves stays form.image (given_call form.file.bytes.items m.given ∷ []) m.image m.made.bytes.items (stored_line m.made) (HasStored form) old result new m.is_ready (λ ok has reads prints. record {
       image = m.image;
       path = m.is_ready.start.path;
@@ -257,4 +268,4 @@ put-ends saves stays leaves form old result new p = go result (ready form old re
       prints = prints;
     })
     go (Ok it) (inr refused) p = absurd refused
-    go (Err ending) (inr refused) p = by-refusal form.image (HasStored form) old ending new refused (leaves form old ending new p refused)
+    go (Err ending) (inr refused) p = by-refusal form.image (HasStored form) old ending new refused.0 (leaves form old ending new p refused.0, refused.1)

@@ -23,9 +23,9 @@ use Rattle.image_files.specs.Reading.{looked_name}
 use Rattle.image_files.specs.Saving.{HasSaved, IsFileWith, IsPlaceTold, IsSyncTold, Reports, SavesIf, Stores, TellsCannot, TouchesOnly, Writes, WritesIf}
 use Rattle.image_files.specs.declared.images.Image.{Image}
 use Rattle.image_files.specs.declared.reading.ImagePlace.{ImagePlace}
-use Rattle.image_files.proofs.ReasonLemmas.{reason-keeps}
+use Rattle.image_files.proofs.ReasonLemmas.{reason-keeps, unless-output}
 use Rattle.keeper_laws.specs.Changed.{Becomes, GetsVolume, warnings}
-use Rattle.keeper_laws.specs.Ended.{AllStay, EndsAs, MayHoldAPart}
+use Rattle.keeper_laws.specs.Ended.{AllStay, DoesNothing, EndsAs, MayHoldAPart}
 use Rattle.keeper_laws.proofs.OpenLemmas.{FindsSaved, FindsUnsaved, HasOpened, IsQuiet, quiet-then}
 
 -- ## A file that is saved
@@ -156,6 +156,7 @@ record IsPart (image : Image) (old new : List Event) : Type 0 where
   is_held : image.place.is_held ≡ true
   in_place : may_replace new ≡ false
   others : (other : List ℕ) → bytes_eq image.place.path.bytes.items other ≡ false → about other new ≡ about other old
+  prints : output new ≡ output old
 
 -- what each ending of it means
 abbrev EndsStore : Image → List ℕ → List ℕ → List ℕ → Result (Unit {0}) Ending → List Event → List Event → Type 0
@@ -164,7 +165,7 @@ EndsStore image was bytes line (Err Unreported) old new = IsStored image was byt
 EndsStore image was bytes line (Err NoReader) old new = IsStored image was bytes line false old new
 EndsStore image was bytes line (Err (NotWritten it AsItWas)) old new = AllStay old new
 EndsStore image was bytes line (Err (NotWritten it InPart)) old new = IsPart image old new
-EndsStore image was bytes line (Err (Line it)) old new = ChangesNothing old new
+EndsStore image was bytes line (Err (Line it)) old new = DoesNothing old new
 EndsStore image was bytes line (Err (Fault it)) old new = ⊥
 EndsStore image was bytes line (Err Failure) old new = ⊥
 EndsStore image was bytes line (Err (Busy it)) old new = ⊥
@@ -176,15 +177,21 @@ unchanged old new is start = subst (λ (n : List Step). IsAsItWas (replay start 
 
 -- a note after it leaves each file
 told-stay : (why : Reason) (name : List ℕ) (old mid new : List Event) → TellsReason why name mid new → AllStay old mid → AllStay old new
-told-stay why name old mid new told stay path = subst (λ (s : List Step). StaysAsItWas (about path old) s) (sym (reason-keeps why name mid new told path)) (stay path)
+told-stay why name old mid new told stay = record {
+  files = λ path. subst (λ (s : List Step). StaysAsItWas (about path old) s) (sym (reason-keeps why name mid new told path)) (stay.files path);
+  prints = unless-output false why name mid new told ∙ stay.prints;
+}
 
 -- where the file of one path is as it was, and no other was changed
 all-stay : (path : List ℕ) (old new : List Event) → StaysAsItWas (about path old) (about path new) → TouchesOnly path old new → AllStay old new
-all-stay path old new stays only other = go (bytes_eq path other) refl
+all-stay path old new stays only = record { files = λ other. go other (bytes_eq path other) refl; prints = only.prints }
   where
-    go : (is : Bool) → bytes_eq path other ≡ is → StaysAsItWas (about other old) (about other new)
-    go true same = subst (λ (p : List ℕ). StaysAsItWas (about p old) (about p new)) ((bytes_eq-Decides path other).0 same) stays
-    go false apart = unchanged (about other old) (about other new) (only.others other apart)
+    go : (other : List ℕ) (is : Bool) → bytes_eq path other ≡ is → StaysAsItWas (about other old) (about other new)
+    go other true same = subst (λ (p : List ℕ). StaysAsItWas (about p old) (about p new)) ((bytes_eq-Decides path other).0 same) stays
+    go other false apart = unchanged (about other old) (about other new) (only.others other apart)
+
+idle-stay : (events : List Event) → AllStay events events
+idle-stay events = record { files = λ path. unchanged (about path events) (about path events) refl; prints = refl }
 
 told-place : (why : Reason) (name : List ℕ) (mid new : List Event) → TellsReason why name mid new → may_replace new ≡ may_replace mid
 told-place why name mid new (text, ok, is, p) = ap may_replace p
@@ -197,6 +204,7 @@ writes-ends image was bytes line file old (NotWritten it InPart) new is_held (is
   is_held = is_held;
   in_place = told-place (reason.Fault fault) image.place.name.bytes.items mid new told ∙ u.in_place;
   others = λ other apart. reason-keeps (reason.Fault fault) image.place.name.bytes.items mid new told other ∙ u.only.others other apart;
+  prints = unless-output false (reason.Fault fault) image.place.name.bytes.items mid new told ∙ u.only.prints;
 }
 writes-ends image was bytes line file old (Line it) new is_held p = absurd p
 writes-ends image was bytes line file old (Fault it) new is_held p = absurd p
@@ -212,12 +220,12 @@ kept-ends : (keeps : Bool) (image : Image) (was bytes line file : List ℕ) (old
     → WritesIf keeps image.judgment image.place.path.bytes.items image.place.name.bytes.items file old (Err ending) new → EndsStore image was bytes line (Err ending) old new
 kept-ends true image was bytes line file old ending new is_held p = writes-ends image was bytes line file old ending new is_held p
 kept-ends false image was bytes line file old ending new is_held (is, ok, p) =
-    subst (λ (e : Ending). EndsStore image was bytes line (Err e) old new) (sym is) (λ path. ap (λ (n : List Event). about path n) p)
+    subst (λ (e : Ending). EndsStore image was bytes line (Err e) old new) (sym is) (λ path. ap (λ (n : List Event). about path n) p, ap output p)
 
 -- an image that can't be saved
 cannot-stay : (image : Image) (bytes : List ℕ) (old new : List Event) → TellsCannot image bytes old new → AllStay old new
-cannot-stay image bytes old new (inl (is_held, told)) = told-stay (reason.Fault image.place.why) image.place.name.bytes.items old old new told (λ path. unchanged (about path old) (about path old) refl)
-cannot-stay image bytes old new (inr (cannot, told)) = told-stay reason.NoRoom image.place.name.bytes.items old old new told (λ path. unchanged (about path old) (about path old) refl)
+cannot-stay image bytes old new (inl (is_held, told)) = told-stay (reason.Fault image.place.why) image.place.name.bytes.items old old new told (idle-stay old)
+cannot-stay image bytes old new (inr (cannot, told)) = told-stay reason.NoRoom image.place.name.bytes.items old old new told (idle-stay old)
 
 unsaved : (is : Bool) (image : Image) (was bytes line : List ℕ) (old : List Event) (ending : Ending) (new : List Event) → SavesIf is image bytes old (Err ending) new → EndsStore image was bytes line (Err ending) old new
 unsaved true image was bytes line old ending new p = absurd p.0
@@ -288,11 +296,15 @@ part-ends form image calls old opened_at mid new o quiet part =
       path = o.path;
       held = o.opened.held;
       in_place = part.in_place;
+      prints = part.prints ∙ quiet.prints;
       others = λ other apart. part.others other (subst (λ (p : List ℕ). bytes_eq p other ≡ false) path_is apart) ∙ quiet.files other;
     }
 
 stays-after : (calls old mid new : List Event) → IsQuiet calls old mid → AllStay mid new → AllStay old new
-stays-after calls old mid new quiet stays path = subst (λ (s : List Step). StaysAsItWas s (about path new)) (quiet.files path) (stays path)
+stays-after calls old mid new quiet stay = record {
+  files = λ path. subst (λ (s : List Step). StaysAsItWas s (about path new)) (quiet.files path) (stay.files path);
+  prints = stay.prints ∙ quiet.prints;
+}
 
 -- how the change that was to be stored has ended
 pub by-store : FindsSaved → FindsUnsaved → (form : ImageForm) (calls : List Event) (image : Image) (bytes line : List ℕ) (done : Bool → List Event → List Event → Type 0)
@@ -318,7 +330,7 @@ by-store saves stays form calls image bytes line done old result new r f = go re
     go (Err NoReader) s = made false s
     go (Err (NotWritten it AsItWas)) s = stays-after whole old r.mid new quiet s
     go (Err (NotWritten it InPart)) s = part-ends form image whole old r.opened_at r.mid new r.start quiet s
-    go (Err (Line it)) s = λ path. s path ∙ quiet.files path
+    go (Err (Line it)) s = (λ path. s.0 path ∙ quiet.files path, s.1 ∙ quiet.prints)
     go (Err (Fault it)) s = absurd s
     go (Err Failure) s = absurd s
     go (Err (Busy it)) s = absurd s
@@ -326,7 +338,7 @@ by-store saves stays form calls image bytes line done old result new r f = go re
     go (Err Misuse) s = absurd s
 
 -- how one that was refused has ended
-pub by-refusal : (form : ImageForm) (done : Bool → List Event → List Event → Type 0) (old : List Event) (ending : Ending) (new : List Event) → is_refusal ending ≡ true → ChangesNothing old new
+pub by-refusal : (form : ImageForm) (done : Bool → List Event → List Event → Type 0) (old : List Event) (ending : Ending) (new : List Event) → is_refusal ending ≡ true → DoesNothing old new
     → EndsAs form done (Err ending) old new
 by-refusal form done old (Line it) new is stays = stays
 by-refusal form done old (Fault it) new is stays = stays

@@ -4,7 +4,7 @@ use Rattle.std.specs.Str.{bytes_eq}
 use Rattle.hosts.specs.Event.{Event}
 use Rattle.hosts.specs.Place.{about}
 use Rattle.hosts.specs.Saving.{StaysAsItWas}
-use Rattle.hosts.specs.Streams.{may_replace}
+use Rattle.hosts.specs.Streams.{may_replace, output}
 use Rattle.hosts.specs.declared.faults.Unwritten.TheVariants.{AsItWas, InPart}
 use Rattle.outcome.specs.declared.endings.Ending.{Ending}
 use Rattle.outcome.specs.declared.endings.Ending.TheVariants.{Line, Fault, Failure, Busy, NotWritten, FullOutput, Unreported, NoReader, Misuse}
@@ -13,30 +13,36 @@ use Rattle.image_files.specs.Laws.{ChangesNothing}
 use Rattle.image_files.specs.declared.reading.ImagePlace.{ImagePlace}
 use Rattle.keeper_laws.specs.Changed.{IsHeldAt}
 
--- each file is as it was, and a crash leaves what it might have left before
-abbrev pub AllStay : List Event → List Event → Type 0
-AllStay old new = (path : List ℕ) → StaysAsItWas (about path old) (about path new)
+-- no file is changed, and no line of a change is printed
+abbrev pub DoesNothing : List Event → List Event → Type 0
+DoesNothing old new = ChangesNothing old new × (output new ≡ output old)
 
--- The image file that is asked for, which could only be written in its place, may hold a part of the new bytes. No other file is changed.
+-- Each file is as it was, and a crash leaves what it might have left before. No line of a change is printed.
+pub record AllStay (old new : List Event) : Type 0 where
+  pub files : (path : List ℕ) → StaysAsItWas (about path old) (about path new)
+  pub prints : output new ≡ output old
+
+-- The image file that is asked for, which could only be written in its place, may hold a part of the new bytes. No other file is changed, and
+-- no line of a change is printed.
 pub record MayHoldAPart (form : ImageForm) (old new : List Event) : Type 0 where
   pub place : ImagePlace
   pub path : List ℕ
   pub held : IsHeldAt form place path old
   pub in_place : may_replace new ≡ false
   pub others : (other : List ℕ) → bytes_eq path other ≡ false → about other new ≡ about other old
+  pub prints : output new ≡ output old
 
 -- What is to be done is done where the command ends well, and where only its line can't be printed. A refusal changes nothing. An image that
--- could not be written is as it was, or the ending says that it may hold a part. No change ends as one whose image is as it was, but whose line
--- is not taken.
+-- could not be written is as it was, or the ending says that it may hold a part. No change ends as one that is as it was and has a line to print.
 abbrev pub EndsAs : ImageForm → (Bool → List Event → List Event → Type 0) → Result (Unit {0}) Ending → List Event → List Event → Type 0
 EndsAs form done (Ok it) old new = done true old new
 EndsAs form done (Err Unreported) old new = done false old new
 EndsAs form done (Err NoReader) old new = done false old new
 EndsAs form done (Err (NotWritten it AsItWas)) old new = AllStay old new
 EndsAs form done (Err (NotWritten it InPart)) old new = MayHoldAPart form old new
-EndsAs form done (Err (Line it)) old new = ChangesNothing old new
-EndsAs form done (Err (Fault it)) old new = ChangesNothing old new
-EndsAs form done (Err Failure) old new = ChangesNothing old new
-EndsAs form done (Err (Busy it)) old new = ChangesNothing old new
-EndsAs form done (Err Misuse) old new = ChangesNothing old new
+EndsAs form done (Err (Line it)) old new = DoesNothing old new
+EndsAs form done (Err (Fault it)) old new = DoesNothing old new
+EndsAs form done (Err Failure) old new = DoesNothing old new
+EndsAs form done (Err (Busy it)) old new = DoesNothing old new
+EndsAs form done (Err Misuse) old new = DoesNothing old new
 EndsAs form done (Err FullOutput) old new = ⊥
