@@ -1,4 +1,5 @@
 mod ChangeLemmas
+mod CopyLemmas
 mod OpenLemmas
 mod PutLemmas
 mod RefuseLemmas

@@ -71,7 +71,7 @@ held name place false old new (idle, failed, why, may) = record {
   reads = idle.reads;
 }
 
-judged : (name : List ℕ) (two : Option (ImageKind × ImageKind)) (old : List Event) (it : Unit {0}) (new : List Event) → JudgesBy name two old (Ok it) new → new ≡ old
+pub judged : (name : List ℕ) (two : Option (ImageKind × ImageKind)) (old : List Event) (it : Unit {0}) (new : List Event) → JudgesBy name two old (Ok it) new → new ≡ old
 judged name None old it new p = p
 judged name (Some two) old it new p = absurd p
 

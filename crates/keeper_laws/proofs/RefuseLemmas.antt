@@ -117,12 +117,12 @@ looks-refuses name shown old ending new (inl (fault, is, p)) =
 looks-refuses name shown old ending new (inr (bytes, many, inl (is, ok, p))) = (ends-so ending _ is refl, ap output p)
 looks-refuses name shown old ending new (inr (bytes, many, inr (is, p))) = (ends-so ending _ is refl, ap output p)
 
-judges-by : (name : List ℕ) (two : Option (ImageKind × ImageKind)) → OnlyRefuses (JudgesBy name two)
+pub judges-by : (name : List ℕ) (two : Option (ImageKind × ImageKind)) → OnlyRefuses (JudgesBy name two)
 judges-by name None old ending new p = absurd p
 judges-by name (Some two) old ending new (inl (is, ok, p)) = (ends-so ending _ is refl, ap output p)
 judges-by name (Some two) old ending new (inr (is, p)) = (ends-so ending _ is refl, ap output p)
 
-no-volume : (layout : Option Layout) (file : List ℕ) (ending : Ending) → IsNoVolume layout file ending → is_refusal ending ≡ true
+pub no-volume : (layout : Option Layout) (file : List ℕ) (ending : Ending) → IsNoVolume layout file ending → is_refusal ending ≡ true
 no-volume None file ending is = absurd is
 no-volume (Some layout) file (Line it) is = refl
 no-volume (Some layout) file (Fault it) is = refl
@@ -139,7 +139,7 @@ makes-refuses place judgment (One layout) margins file old ending new (inl none,
 makes-refuses place judgment (One layout) margins file old ending new (inr (unlike, is), stays) = (ends-so ending _ is refl, ap output stays)
 makes-refuses place judgment Both margins file old ending new (is, ok, p) = (ends-so ending _ is refl, ap output p)
 
-judges-silent : (name : List ℕ) (two : Option (ImageKind × ImageKind)) → IsSilent (JudgesBy name two)
+pub judges-silent : (name : List ℕ) (two : Option (ImageKind × ImageKind)) → IsSilent (JudgesBy name two)
 judges-silent name None old it new p = ap output p
 judges-silent name (Some two) old it new p = absurd p
 

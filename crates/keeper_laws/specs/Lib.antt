@@ -1,4 +1,5 @@
 pub mod Changed
 pub mod Changes
+pub mod Copied
 pub mod Ended
 pub mod Stored
