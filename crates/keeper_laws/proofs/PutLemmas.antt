@@ -1,5 +1,5 @@
 -- One file that is put.
-use Rattle.std.proofs.Common.{ap, ◌≡◌, ◌∙◌, ◌⊎◌, ℕ, Bool, true, false, if◌then◌else◌, Option, None, Some, Result, Ok, Err, List, [], ◌∷◌, refl, sym, subst, inl, inr, length, codes, nat_eq, true≢false}
+use Rattle.std.proofs.Common.{ap, ◌≡◌, ◌∙◌, ◌⊎◌, ℕ, Bool, true, false, if◌then◌else◌, Option, None, Some, Result, Ok, Err, List, [], ◌∷◌, refl, sym, subst, inl, inr, length, codes, nat_eq}
 use Rattle.std.specs.Global.{Vec}
 use Rattle.std.specs.Str.{bytes_eq}
 use Rattle.hosts.specs.Event.{Event, input_call, look_call}
@@ -30,7 +30,7 @@ use Rattle.image_files.specs.declared.images.Image.{Image}
 use Rattle.volume_commands.specs.Putting.{JudgesInfo, JudgesPut, KeepsWords, MakesNew, NotesDate, Puts, PutsInto, TellsIf}
 use Rattle.keeper_laws.specs.Changed.{warnings}
 use Rattle.keeper_laws.specs.Ended.{EndsAs}
-use Rattle.keeper_laws.specs.Stored.{HasStored, given_call}
+use Rattle.keeper_laws.specs.Stored.{HasStored, IsDayFor, given_call}
 use Rattle.keeper_laws.proofs.OpenLemmas.{FindsSaved, FindsUnsaved, HasOpened, IsQuiet, after-note, equal, has-opened, quiet-then, still}
 use Rattle.keeper_laws.proofs.RefuseLemmas.{IsRefused, IsSilent, OnlyRefuses, answers-refuse, archive-refused, dates-refuses, ends-so, lines-refuse, opens-refuses, reaches, reads-refuses, refused-after, refuses-refused, then-refuses}
 use Rattle.keeper_laws.proofs.StoreLemmas.{IsReady, by-refusal, by-store}
@@ -54,13 +54,12 @@ dates true name old day new (seconds, is, p) =
 abbrev SameDay : Result (Option FileDay) Ending → Result (Option FileDay) Ending → Type 0
 SameDay one two = one ≡ two
 
-no-day : (day : Option FileDay) → SameDay (Ok day) (Ok None) → word_of_day day ≡ None
-no-day None is = refl
-no-day (Some day) is = cc
+no-day : (day : Option FileDay) → SameDay (Ok day) (Ok None) → day ≡ None
+no-day day is = cc
 
-undated : (is_dated : Bool) (name : List ℕ) (old : List Event) (day : Option FileDay) (new : List Event) → DatesFile is_dated name old (Ok day) new → is_dated ≡ false → word_of_day day ≡ None
-undated false name old day new p never = no-day day p.0
-undated true name old day new p never = absurd (true≢false never)
+is-day : (is_dated : Bool) (name : List ℕ) (old : List Event) (day : Option FileDay) (new : List Event) → DatesFile is_dated name old (Ok day) new → IsDayFor is_dated day
+is-day false name old day new p = no-day day p.0
+is-day true name old day new (seconds, is, p) = (seconds, is)
 
 -- ## Steps that are quiet where they succeed
 
@@ -173,10 +172,10 @@ makes-refuses form image bytes date old ending new (inr p) = (ends-so ending _ p
 record IsMade (form : PutOneForm) (old : List Event) (result : Result (Unit {0}) Ending) (new : List Event) : Type 0 where
   image : Image
   given : List ℕ
-  date : Option ℕ
-  undated : form.is_dated ≡ false → date ≡ None
+  day : Option FileDay
+  dated : IsDayFor form.is_dated day
   made : NewImage
-  puts : PutsFile image.bytes.items form.name.bytes.items form.form given (info_or date (words_of form.info)) (Ok made)
+  puts : PutsFile image.bytes.items form.name.bytes.items form.form given (info_or (word_of_day day) (words_of form.info)) (Ok made)
   is_ready : IsReady form.image (given_call form.file.bytes.items given ∷ []) image made.bytes.items (stored_line made) old result new
 
 module _ (form : PutOneForm) (old : List Event) (result : Result (Unit {0}) Ending) (new : List Event)
@@ -189,14 +188,14 @@ module _ (form : PutOneForm) (old : List Event) (result : Result (Unit {0}) Endi
     Lines image made = Then (Purely (AreLines (stored_line made))) (λ line. Stores image made.bytes.items line.items)
 
     lines : (image : Image) (one mid last : List Event) (bytes : Vec ℕ) (day : Option FileDay) → HasOpened form.image old image one → IsQuiet (given_call form.file.bytes.items bytes.items ∷ []) one mid
-        → (form.is_dated ≡ false → word_of_day day ≡ None) → (made : NewImage) → PutsFile image.bytes.items form.name.bytes.items form.form bytes.items (info_or (word_of_day day) (words_of form.info)) (Ok made)
+        → IsDayFor form.is_dated day → (made : NewImage) → PutsFile image.bytes.items form.name.bytes.items form.form bytes.items (info_or (word_of_day day) (words_of form.info)) (Ok made)
         → last ≡ mid → Follows (Purely (AreLines (stored_line made))) (λ line. Stores image made.bytes.items line.items) last result new ⊎ IsRefused result last new → Made
-    lines image one mid last bytes day o quiet never made puts same (inr refused) = inr (refused-after result old last new (ap output same ∙ quiet.prints ∙ o.quiet.prints) refused)
-    lines image one mid last bytes day o quiet never made puts same (inl l) = inl (record {
+    lines image one mid last bytes day o quiet is_day made puts same (inr refused) = inr (refused-after result old last new (ap output same ∙ quiet.prints ∙ o.quiet.prints) refused)
+    lines image one mid last bytes day o quiet is_day made puts same (inl l) = inl (record {
       image = image;
       given = bytes.items;
-      date = word_of_day day;
-      undated = never;
+      day = day;
+      dated = is_day;
       made = made;
       puts = puts;
       is_ready = record {
@@ -210,16 +209,16 @@ module _ (form : PutOneForm) (old : List Event) (result : Result (Unit {0}) Endi
     })
 
     new-image : (image : Image) (one mid : List Event) (bytes : Vec ℕ) (day : Option FileDay) → HasOpened form.image old image one → IsQuiet (given_call form.file.bytes.items bytes.items ∷ []) one mid
-        → (form.is_dated ≡ false → word_of_day day ≡ None) → Follows (MakesNew form image.bytes.items bytes.items (word_of_day day)) (Lines image) mid result new ⊎ IsRefused result mid new → Made
-    new-image image one mid bytes day o quiet never (inr refused) = inr (refused-after result old mid new (quiet.prints ∙ o.quiet.prints) refused)
-    new-image image one mid bytes day o quiet never (inl m) = lines image one mid m.between bytes day o quiet never m.given m.done.0 m.done.1
+        → IsDayFor form.is_dated day → Follows (MakesNew form image.bytes.items bytes.items (word_of_day day)) (Lines image) mid result new ⊎ IsRefused result mid new → Made
+    new-image image one mid bytes day o quiet is_day (inr refused) = inr (refused-after result old mid new (quiet.prints ∙ o.quiet.prints) refused)
+    new-image image one mid bytes day o quiet is_day (inl m) = lines image one mid m.between bytes day o quiet is_day m.given m.done.0 m.done.1
         (reaches (Purely (AreLines (stored_line m.given))) (λ line. Stores image m.given.bytes.items line.items) (lines-refuse (stored_line m.given)) m.between result new m.after)
 
     put-into : (image : Image) (one three : List Event) (bytes : Vec ℕ) (day : Option FileDay) → HasOpened form.image old image one → IsQuiet (given_call form.file.bytes.items bytes.items ∷ []) one three
-        → (form.is_dated ≡ false → word_of_day day ≡ None) → Follows (JudgesPut form image.bytes.items bytes.items day) (λ it. Then (MakesNew form image.bytes.items bytes.items (word_of_day day)) (Lines image)) three result new ⊎ IsRefused result three new → Made
-    put-into image one three bytes day o quiet never (inr refused) = inr (refused-after result old three new (quiet.prints ∙ o.quiet.prints) refused)
-    put-into image one three bytes day o quiet never (inl j) = new-image image one j.between bytes day o
-        (quiet-then (given_call form.file.bytes.items bytes.items ∷ []) [] one three j.between quiet (judges-quiet form image.bytes.items bytes.items day three j.given j.between j.done)) never
+        → IsDayFor form.is_dated day → Follows (JudgesPut form image.bytes.items bytes.items day) (λ it. Then (MakesNew form image.bytes.items bytes.items (word_of_day day)) (Lines image)) three result new ⊎ IsRefused result three new → Made
+    put-into image one three bytes day o quiet is_day (inr refused) = inr (refused-after result old three new (quiet.prints ∙ o.quiet.prints) refused)
+    put-into image one three bytes day o quiet is_day (inl j) = new-image image one j.between bytes day o
+        (quiet-then (given_call form.file.bytes.items bytes.items ∷ []) [] one three j.between quiet (judges-quiet form image.bytes.items bytes.items day three j.given j.between j.done)) is_day
         (reaches (MakesNew form image.bytes.items bytes.items (word_of_day day)) (Lines image) (makes-refuses form image.bytes.items bytes.items (word_of_day day)) j.between result new j.after)
 
     dated : (image : Image) (one two : List Event) (bytes : Vec ℕ) → HasOpened form.image old image one → IsQuiet (given_call form.file.bytes.items bytes.items ∷ []) one two
@@ -227,7 +226,7 @@ module _ (form : PutOneForm) (old : List Event) (result : Result (Unit {0}) Endi
     dated image one two bytes o quiet (inr refused) = inr (refused-after result old two new (quiet.prints ∙ o.quiet.prints) refused)
     dated image one two bytes o quiet (inl d) = put-into image one d.between bytes d.given o
         (quiet-then (given_call form.file.bytes.items bytes.items ∷ []) [] one two d.between quiet (dates form.is_dated form.file.bytes.items two d.given d.between d.done))
-        (undated form.is_dated form.file.bytes.items two d.given d.between d.done)
+        (is-day form.is_dated form.file.bytes.items two d.given d.between d.done)
         (reaches (JudgesPut form image.bytes.items bytes.items d.given) (λ it. Then (MakesNew form image.bytes.items bytes.items (word_of_day d.given)) (Lines image))
         (judges-refuses form image.bytes.items bytes.items d.given) d.between result new d.after)
 
@@ -260,8 +259,8 @@ put-ends saves stays leaves form old result new p = go result (ready form old re
       opened = m.is_ready.start.opened;
       given = m.given;
       reads = reads;
-      date = m.date;
-      undated = m.undated;
+      day = m.day;
+      dated = m.dated;
       stored = m.made;
       puts = m.puts;
       has = has;
