@@ -30,8 +30,8 @@ abbrev pub IsSource : Bool → ImageForm → Image → List Event → List ℕ �
 IsSource true form image calls from = (calls ≡ []) × (from ≡ image.bytes.items)
 IsSource false form image calls from = IsFoundBy form calls from
 
--- A file is copied. The image file that gets it was read, then the other one, if it is another, and nothing else. It has its volume with just
--- the copy besides now. The lines that report this were to be printed, and nothing else. Whether they were is `ok`.
+-- A file is copied. The image file that gets it was read, then the other one, if it is another, and nothing else. It has its volume now with
+-- the copy, and with each other file as it was. The lines that report this were to be printed, and nothing else. Whether they were is `ok`.
 pub record HasCopied (form : CopyForm) (ok : Bool) (old new : List Event) : Type 0 where
   pub image : Image
   pub path : List ℕ

@@ -33,7 +33,8 @@ pub record MayHoldAPart (form : ImageForm) (old new : List Event) : Type 0 where
   pub prints : output new ≡ output old
 
 -- What is to be done is done where the command ends well, and where only its line can't be printed. A refusal changes nothing. An image that
--- could not be written is as it was, or the ending says that it may hold a part. No change ends as one that is as it was and has a line to print.
+-- could not be written is as it was, or the ending says that it may hold a part. None ends by a full output, as
+-- commands that only print do.
 abbrev pub EndsAs : ImageForm → (Bool → List Event → List Event → Type 0) → Result (Unit {0}) Ending → List Event → List Event → Type 0
 EndsAs form done (Ok it) old new = done true old new
 EndsAs form done (Err Unreported) old new = done false old new

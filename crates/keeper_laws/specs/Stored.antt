@@ -22,8 +22,8 @@ abbrev pub IsDayFor : Bool → Option FileDay → Type 0
 IsDayFor false day = day ≡ None
 IsDayFor true day = (seconds : ℕ) × (day ≡ day_of_time seconds)
 
--- A file is stored. The image file was read, then the file that is put, and nothing else. The image file has its volume with just this file
--- besides now, under its name. The line STORED was to be printed, and nothing else. Whether it was is `ok`.
+-- A file is stored. The image file was read, then the file that is put, and nothing else. The image file has its volume now with this file
+-- under its name, and with each other file as it was. The line STORED was to be printed, and nothing else. Whether it was is `ok`.
 pub record HasStored (form : PutOneForm) (ok : Bool) (old new : List Event) : Type 0 where
   pub image : Image
   pub path : List ℕ
