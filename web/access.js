@@ -7,8 +7,6 @@ import { Lines } from './program.js';
 /** @typedef {{ registers: Registers, cell: number, word: number, pointer: number | null }} Before */
 /** @typedef {(...lines: string[]) => Promise<string[] | null>} Ask */
 
-const LOOKS = /^(EXAMINE|REGISTERS|PRINTED|BREAK)/, ROW = 1000000, MOST_STEPS = 300 * ROW, MOST_LINES = 200000;
-
 /** @param {string} reply */
 const registersOf = reply => /** @type {Registers} */ (JSON.parse(reply));
 /** @param {string} reply */
@@ -71,15 +69,10 @@ function skipsAt(word, ac, link) {
     return isMet !== ((word & 0o10) !== 0);
 }
 
-// What a machine's lamps MA and MB show, and the lines that bring another machine to where it is. They are those that it was given, and lines for the
-// steps that it made.
+// What a machine's lamps MA and MB show. After a break it is found out by another machine, which the journal's lines bring there.
 export class Accesses {
     /** @type {Access | null} */
     last = null;
-    /** @type {string[] | null} */
-    #lines = [];
-    #due = 0;
-    #steps = 0;
     #turn = 0;
 
     // Takes what is shown, null where it isn't known.
@@ -89,56 +82,30 @@ export class Accesses {
         this.last = access;
     }
 
-    // Begins anew, with a new machine.
-    clear() {
-        this.set(null);
-        [this.#lines, this.#due, this.#steps] = [[], 0, 0];
-    }
-
-    // Sees lines that were given, with their replies.
-    /** @param {string[]} lines @param {string[] | null} replies */
-    see(lines, replies) {
-        for (const [k, line] of lines.entries()) {
-            if (!this.#lines || LOOKS.test(line)) continue;
-            const isStep = /^(GO|STEP) /.test(line), made = isStep ? Number(/^STEPS (\d+)/.exec(replies?.[k] ?? '')?.[1] ?? NaN) : 0;
-            this.#steps += made;
-            if (!isStep) this.#lines.push(...goes(this.#due), line);
-            this.#due = isStep ? this.#due + made : 0;
-            if (!(this.#steps <= MOST_STEPS) || this.#lines.length > MOST_LINES) this.#lines = null;
-        }
-    }
-
     // Finds out what the last step used, by the reply to the line that ended with it. After a break the machine is run once more, up to there.
-    /** @param {Page['programs']} programs @param {string} image @param {Ask} ask @param {string} reply */
-    async find(programs, image, ask, reply) {
+    /** @param {Page['programs']} programs @param {string} image @param {Ask} ask @param {string} reply @param {import('./journal.js').Journal} journal */
+    async find(programs, image, ask, reply, journal) {
         const [, steps, why, cell] = reply.split(' '), next = Number.parseInt(cell, 8);
         if (steps === '0') return;
         this.set(null);
-        const turn = this.#turn, [told] = why === 'UNASSIGNED' ? await ask(examine(next)) ?? [] : [];
-        const found = told ? { address: next, word: wordIn(told) } : why === 'HALT' ? await halted(ask, next) ?? await this.#again(programs, image)
-            : why === 'BREAK' ? await this.#again(programs, image) : null;
+        const turn = this.#turn, [told] = why === 'UNASSIGNED' ? await ask(examine(next)) ?? [] : [], again = () => lastStep(programs, image, journal.beforeLast);
+        const found = told ? { address: next, word: wordIn(told) } : why === 'HALT' ? await halted(ask, next) ?? await again()
+            : why === 'BREAK' ? await again() : null;
         if (turn === this.#turn) this.last = found;
-    }
-
-    // The last step once more, by another machine.
-    /** @param {Page['programs']} programs @param {string} image @returns {Promise<Access | null>} */
-    async #again(programs, image) {
-        if (!this.#lines || !this.#due) return null;
-        const given = [...this.#lines, ...goes(this.#due - 1)], lines = await Lines.begin(programs, ['run', '--look', image]);
-        /** @type {Ask} */
-        const ask = (...them) => lines.ask(...them);
-        if (given.length) await ask(...given);
-        const state = await before(ask);
-        await ask('STEP 1');
-        const found = await after(ask, state);
-        lines.stop();
-        return found;
     }
 }
 
-// The lines that make so many steps.
-/** @param {number} steps */
-function goes(steps) {
-    const all = Array(Math.floor(steps / ROW)).fill(`GO ${ROW}`);
-    return steps % ROW ? [...all, `GO ${steps % ROW}`] : all;
+// What the last step used, by another machine that makes it once more after these lines.
+/** @param {Page['programs']} programs @param {string} image @param {string[] | null} given @returns {Promise<Access | null>} */
+async function lastStep(programs, image, given) {
+    if (!given) return null;
+    const lines = await Lines.begin(programs, ['run', '--look', image]);
+    /** @type {Ask} */
+    const ask = (...them) => lines.ask(...them);
+    if (given.length) await ask(...given);
+    const state = await before(ask);
+    await ask('STEP 1');
+    const found = await after(ask, state);
+    lines.stop();
+    return found;
 }

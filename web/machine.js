@@ -3,45 +3,43 @@ import { $, ids, made, octal, rove, tell, keepInput } from './dom.js';
 import { Lines, canLive, textOf } from './program.js';
 import { helpAt, helpOf } from './help.js';
 import { Accesses, after, before } from './access.js';
+import { Code } from './code.js';
+import { CORE, Journal, isPlain, linesOf } from './journal.js';
 import { rateOf, uneven } from './pace.js';
 import { Panel } from './panel.js';
 import { Paper, keyOf } from './paper.js';
-import { settingOf } from './replay.js';
 import { tapeIn } from './tapes.js';
 import { Watch } from './watch.js';
 
 // What a PDP-8/I does in a millisecond, about; and how long its printer takes for a character, in milliseconds.
 const STEPS = 300, CHARACTER = 100;
-const LEAST = 20000, MOST = 1000000, LOOKS = 8, PICTURE = 10, CORE = 0o100000, LISTED = 6000;
+const LEAST = 20000, MOST = 1000000, LOOKS = 8, PICTURE = 10;
+// How many steps and lines the journal may have while the machine goes, and when it has stopped.
+const GOING = /** @type {const} */ ([300000000, 20000]), STOPPED = /** @type {const} */ ([5000000, 2000]);
 
 export class Machine {
     /** @type {Promise<Lines> | null} */
     lines = null;
     /** @type {Registers | null} */
     registers = null;
-    /** @type {Element | undefined} */
-    marked = undefined;
     /** @type {number | null} */
     since = null;
-    isLoaded = false;
     isPrinting = false;
+    // How many characters of the machine's are on the paper, and how many less its journal prints.
     printed = 0;
+    unlisted = 0;
+    keptAt = 0;
     listedAt = 0;
     total = 0;
     accesses = new Accesses();
     reply = '';
-    keeping = 0;
     stepped = Promise.resolve();
     /** @type {number | null} */
     steps = null;
     isGoing = false;
     many = LEAST;
-    /** @type {Set<string>} */
-    breaks = new Set();
     /** @type {number[]} */
     keys = [];
-    /** @type {Map<string, Element>} */
-    cells = new Map();
 
     /** @param {Page} page */
     constructor(page) {
@@ -51,7 +49,11 @@ export class Machine {
             load: () => this.#loadAddress(), examine: () => this.#examine(), deposit: () => this.#deposit(),
             start: () => this.start(), stop: () => this.stop(), go: () => this.goOn(), step: () => this.step(),
         });
-        this.paper = new Paper($('console'), { sound: page.sound });
+        this.paper = new Paper($('console'), { sound: page.sound, kept: text => page.store.note('console', text) });
+        this.paper.restore(page.store.notes.get('console') ?? '');
+        const { notes } = page.store;
+        this.journal = new Journal(notes.get('machine') ?? linesOf(notes.get('core') ?? [], notes.get('registers')).join('\n'));
+        this.code = new Code(page, (...lines) => this.#ask(...lines));
         for (const id of ids('speed', 'printer', 'core-from', 'watch')) keepInput(page.store, id);
         $('power').addEventListener('click', () => this.renew());
         $('step-over').addEventListener('click', () => this.stepOver());
@@ -63,12 +65,25 @@ export class Machine {
         $('console').addEventListener('keydown', event => this.#key(event));
         for (const it of ['volume', 'tape']) page.store.addEventListener(it, () => this.#tapes());
         $('machine').addEventListener('shown', () => this.#refresh());
-        this.panel.address = page.store.notes.get('address') ?? 0o200;
-        this.panel.switches = page.store.notes.get('switches') ?? 0;
-        this.#count(page.store.notes.get('steps') ?? null);
-        this.breaks = new Set(page.store.notes.get('breaks'));
-        this.list(page.store.notes.get('listing') ?? '', page.store.notes.get('names') ?? '');
+        page.store.addEventListener('leave', () => this.#keep(true));
+        this.printed = notes.get('printed') ?? 0;
+        this.panel.address = notes.get('address') ?? 0o200;
+        this.panel.switches = notes.get('switches') ?? 0;
+        this.accesses.set(notes.get('access') ?? null);
+        this.#count(notes.get('steps') ?? null);
+        this.code.breaks = new Set(notes.get('breaks'));
+        this.list(notes.get('listing') ?? '', notes.get('names') ?? '');
     }
+
+    get breaks() { return this.code.breaks; }
+
+    // Whether START's address was loaded since the machine last went.
+    get isLoaded() { return this.page.store.notes.get('loaded') === true; }
+
+    set isLoaded(isLoaded) { if (isLoaded !== this.isLoaded) this.page.store.note('loaded', isLoaded); }
+
+    // After a reload it goes on, if it went.
+    begin() { if (canLive && this.page.store.notes.get('going')) this.go(); }
 
     // The living run, begun at its first use with the core that the page keeps.
     #living() { return this.lines ??= this.#begin(); }
@@ -81,25 +96,49 @@ export class Machine {
     }
 
     async #begin() {
-        const { programs, store } = this.page;
-        const lines = await Lines.begin(programs, ['run', '--look', await this.image()], { ended: (status, said) => this.#ended(status, said) });
-        this.printed = 0;
-        /** @type {string[]} */
-        const given = [], core = /** @type {Uint16Array} */ (store.notes.get('core') ?? new Uint16Array(0));
-        core.forEach((word, cell) => word && given.push(`DEPOSIT ${octal(cell, 5)} ${octal(word, 4)}`));
-        given.push(...settingOf(store.notes.get('registers'), cell => core[cell] ?? 0));
+        const lines = await Lines.begin(this.page.programs, ['run', '--look', await this.image()], { ended: (status, said) => this.#ended(status, said) });
+        [this.printed, this.unlisted] = [this.printed - this.unlisted, 0];
+        const { journal } = this, given = [...journal.lines];
         for (const cell of this.breaks) given.push(`BREAK ${cell} ON`);
-        given.push(`SWITCHES ${octal(this.panel.switches, 4)}`);
-        this.accesses.clear();
-        this.accesses.see(given, await lines.ask(...given));
+        given.push(`SWITCHES ${octal(this.panel.switches, 4)}`, ...journal.left);
+        journal.begin(given, await lines.ask(...given));
+        this.isPrinting = true;
         return lines;
     }
 
     /** @param {...string} lines */
     async #ask(...lines) {
+        const { journal } = this, isChange = journal.ask(lines);
+        if (isChange) this.#keep();
         const replies = await (await this.#living()).ask(...lines);
-        this.accesses.see(lines, replies);
+        journal.answer(lines, replies);
+        if (isChange) this.#keep();
         return replies;
+    }
+
+    // Has the page keep where the machine is. While it goes that is from time to time, and when the page is left.
+    #keep(isDue = !this.isGoing) {
+        const { store } = this.page;
+        if (!isDue) return;
+        this.keptAt = performance.now();
+        this.paper.keep();
+        store.note('machine', this.journal.text);
+        store.note('printed', this.printed - this.unlisted);
+        store.note('access', this.accesses.last);
+        store.note('steps', this.steps);
+    }
+
+    // Has the journal begin with what core and registers hold now, so it stays short.
+    async #shorten() {
+        const { journal } = this, lines = await this.#living(), asked = ['REGISTERS', ...Array.from({ length: CORE }, (_, cell) => `EXAMINE ${octal(cell, 5)}`)];
+        journal.ask(asked);
+        const replies = await lines.ask(...asked);
+        journal.answer(asked, replies);
+        const registers = /** @type {Registers} */ (JSON.parse(replies?.shift() ?? 'null'));
+        if (!replies || !isPlain(registers)) return;
+        journal.shorten(linesOf(replies.map(it => Number.parseInt(it.slice(6), 8)), registers));
+        this.unlisted = this.printed - Number(registers.busy || registers.printer);
+        this.#keep(true);
     }
 
     /** @param {number | null} status @param {string} said */
@@ -114,12 +153,13 @@ export class Machine {
         this.isGoing = false;
         (await this.lines)?.stop();
         this.lines = null;
-        this.accesses.clear();
-        this.page.store.note('core', new Uint16Array(0));
-        this.page.store.note('registers', null);
+        this.journal = new Journal();
+        this.accesses.set(null);
+        this.printed = this.unlisted = 0;
         this.#count(null);
         this.breaks.clear();
-        this.#keepBreaks();
+        this.code.keep();
+        this.#keep();
         this.isLoaded = false;
         this.list('');
         this.paper.tear();
@@ -142,7 +182,6 @@ export class Machine {
         this.#point(isStart ? Number.parseInt(start, 8) : words.some(([field, address]) => field + address === '00200') ? 0o200 : first);
         this.isLoaded = true;
         tell('machine-status', `${name}: ${words.length} words are in core; START begins at ${octal(this.panel.address, 5)}`);
-        this.#changed();
         await this.#refresh();
         return true;
     }
@@ -183,39 +222,10 @@ export class Machine {
     list(text, symbols = '') {
         this.watch.name(symbols);
         this.page.store.note('names', symbols);
-        this.cells.clear();
-        const lines = text.split('\n'), shown = lines.slice(0, LISTED).map(it => this.#line(it));
-        if (lines.length > LISTED) shown.push(made('span', { class: 'l none' }, `and ${lines.length - LISTED} further lines`));
-        $('code').replaceChildren(...shown);
-        this.page.store.note('listing', text);
-        this.#mark();
+        this.code.list(text);
+        this.code.mark(this.registers, this.isGoing);
         if (this.lines) this.watch.show();
     }
-
-    // A line begins with its cell, or ends with it and its word in a comment, as `assemble --list` and `source` write them.
-    /** @param {string} text */
-    #line(text) {
-        const cell = /^([0-7]{5})  [0-7]{4}/.exec(text)?.[1] ?? /\/([0-7]{5}) [0-7]{4}$/.exec(text)?.[1];
-        if (!cell) return made('span', { class: 'l none' }, `${text}\n`);
-        const button = made('button', { 'aria-describedby': 'code-help', 'aria-pressed': String(this.breaks.has(cell)), 'aria-label': `break at ${cell}: ${text.replace(/\s+/g, ' ')}`,
-            onclick: () => this.toggle(cell, button) }, text);
-        const line = made('span', { class: 'l', 'data-cell': cell }, button, '\n');
-        this.cells.set(cell, line);
-        return line;
-    }
-
-    /** @param {string} cell @param {Element} button */
-    async toggle(cell, button) {
-        const how = this.breaks.has(cell) ? 'OFF' : 'ON';
-        const reply = (await this.#ask(`BREAK ${cell} ${how}`))?.[0] ?? '';
-        tell('machine-status', reply, reply.startsWith('?'));
-        if (reply.startsWith('?')) return;
-        how === 'ON' ? this.breaks.add(cell) : this.breaks.delete(cell);
-        this.#keepBreaks();
-        button.setAttribute('aria-pressed', String(how === 'ON'));
-    }
-
-    #keepBreaks() { this.page.store.note('breaks', [...this.breaks]); }
 
     #loadAddress() {
         this.isLoaded = true;
@@ -239,7 +249,6 @@ export class Machine {
 
     async #deposit() {
         await this.#cell(`DEPOSIT ${octal(this.panel.address, 5)} ${octal(this.panel.switches, 4)}`);
-        this.#changed();
         await this.#core();
     }
 
@@ -335,14 +344,15 @@ export class Machine {
         if (!/ 4\d{3}$/.test(word)) return this.step();
         const after = [this.#next(next), this.#next(this.#next(next))].map(it => octal(it, 5)).filter(it => !this.breaks.has(it));
         await this.#ask(...after.map(it => `BREAK ${it} ON`), 'REGISTERS');
-        await this.go();
+        await this.go(false);
         await this.#ask(...after.map(it => `BREAK ${it} OFF`), 'REGISTERS');
     }
 
-    // Goes on until something stops the machine; what it does is shown at each picture.
-    async go() {
+    // Goes on until something stops the machine; what it does is shown at each picture. `isToGoOn` says whether it does so after a reload.
+    async go(isToGoOn = true) {
         if (this.isGoing) return;
         this.isGoing = true;
+        this.page.store.note('going', isToGoOn);
         this.isLoaded = false;
         this.accesses.set(null);
         this.panel.runs(true);
@@ -356,6 +366,8 @@ export class Machine {
             why = await this.#picture(due, now + PICTURE);
             made += this.total - before;
             await this.watch.showAt(now);
+            if (this.journal.isLonger(...GOING)) await this.#shorten();
+            this.#keep(now - this.keptAt > 1000);
             if (now - told > 500) {
                 $('rate').textContent = `${rateOf(made / (now - told))} steps a second`;
                 told = now;
@@ -365,12 +377,14 @@ export class Machine {
         const isStopped = !this.isGoing;
         if (why === 'LIMIT') why = await this.#lookedAt('GO');
         this.isGoing = false;
+        this.page.store.note('going', false);
         this.panel.runs(false);
         tell('machine-status', isStopped ? `stopped by the key: ${this.reply}` : this.reply, why === 'UNASSIGNED');
         $('rate').textContent = '';
         await this.#stopped();
         if (isStopped || why === 'ENDED') return;
-        await this.accesses.find(this.page.programs, await this.image(), (...lines) => this.#ask(...lines), this.reply);
+        await this.accesses.find(this.page.programs, await this.image(), (...lines) => this.#ask(...lines), this.reply, this.journal);
+        this.#keep();
         this.#show();
     }
 
@@ -432,8 +446,9 @@ export class Machine {
 
     async #stopped() {
         await this.#print();
-        this.#changed();
+        this.#keep();
         await this.#refresh();
+        if (this.journal.isLonger(...STOPPED)) await this.#shorten();
     }
 
     // Shows the registers and some of core.
@@ -453,15 +468,7 @@ export class Machine {
         if (this.isGoing && performance.now() - this.listedAt < 100) return;
         this.listedAt = performance.now();
         $('registers').replaceChildren(...Object.entries(this.registers ?? {}).map(([name, value]) => made('div', {}, made('dt', {}, name), made('dd', {}, String(value)))));
-        this.#mark();
-    }
-
-    // Marks the line of the next instruction.
-    #mark() {
-        this.marked?.classList.remove('at');
-        this.marked = this.registers ? this.cells.get(this.registers.if + this.registers.pc) : undefined;
-        this.marked?.classList.add('at');
-        if (!this.isGoing) this.marked?.scrollIntoView({ block: 'nearest' });
+        this.code.mark(this.registers, this.isGoing);
     }
 
     async #core() {
@@ -473,21 +480,6 @@ export class Machine {
         await this.watch.show();
         const rows = Array.from({ length: 8 }, (_, k) => replies.slice(8 * k, 8 * k + 8));
         $('core').textContent = rows.map(it => `${it[0].slice(0, 5)}  ${it.map(one => one.slice(6)).join(' ')}`).join('\n');
-    }
-
-    // Has the page keep what core holds, once nothing has changed it for a while.
-    #changed() {
-        clearTimeout(this.keeping);
-        this.keeping = window.setTimeout(() => this.#keep(), 700);
-    }
-
-    async #keep() {
-        if (this.isGoing || !this.lines) return;
-        const replies = await this.#ask('REGISTERS', ...Array.from({ length: CORE }, (_, cell) => `EXAMINE ${octal(cell, 5)}`));
-        if (!replies) return;
-        this.page.store.note('registers', JSON.parse(replies.shift() ?? ''));
-        this.page.store.note('steps', this.steps);
-        this.page.store.note('core', Uint16Array.from(replies, it => Number.parseInt(it.slice(6), 8)));
     }
 
     /** @param {KeyboardEvent} event */

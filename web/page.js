@@ -100,6 +100,7 @@ async function begin() {
     page.unkept = new Unkept(page);
     page.shelf = new Shelf(page);
     await Promise.all([page.files.begin(), page.source.begin()]);
+    page.machine.begin();
     page.tabs.show(page.tabs.shown ?? 'files');
     $('kept').textContent = store.isKept ? 'What you open and write stays in this browser until you remove it.'
         : 'This browser keeps nothing: take home what you want to keep.';

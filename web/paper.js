@@ -72,10 +72,10 @@ export class Paper {
         requestAnimationFrame(now => this.#frame(now));
     }
 
-    // What is due at this picture.
-    /** @param {number} now */
-    #frame(now) {
-        this.#isAsked = false;
+    // What is due at this picture, or at once where there may be none.
+    /** @param {number} now @param {boolean} [isLast] */
+    #frame(now, isLast = false) {
+        if (!isLast) this.#isAsked = false;
         let count = Infinity;
         if (this.#pace) {
             this.#due = Math.min(this.#due + (now - (this.#timer || now)) * this.#pace / 1000, 3);
@@ -127,7 +127,16 @@ export class Paper {
         if (isAtEnd) element.scrollTop = element.scrollHeight;
         if (this.#pace && text.includes('\n')) this.#feed();
         clearTimeout(this.keeping);
-        this.keeping = window.setTimeout(() => this.kept(this.text), 500);
+        this.keeping = window.setTimeout(() => this.keep(), 500);
+    }
+
+    // Has the page keep the paper as it is now, if that is due. What is to be printed at once is on it then.
+    keep() {
+        if (!this.#pace) this.#frame(performance.now(), true);
+        if (!this.keeping) return;
+        clearTimeout(this.keeping);
+        this.keeping = 0;
+        this.kept(this.text);
     }
 
     // Lays characters on the last sheet. A return before a line feed, or where nothing stands in the line, is nothing; what stands there is else

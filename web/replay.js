@@ -48,13 +48,14 @@ export async function depositsOf(page, tape) {
     return textOf(out).trim().split('\n').filter(it => it).map(it => it.split(' ')).map(([field, address, word]) => `DEPOSIT ${field}${address} ${word}`);
 }
 
-// The lines that give a new machine these registers: its own instructions do, in eight cells at the end of the field, whose words it gets back.
+// The lines that give a new machine these registers: its own instructions do, in nine cells at the end of the field, whose words it gets back. A flag of
+// the printer is set by a character 000.
 /** @param {Registers | null | undefined} registers @param {(cell: number) => number} wordAt */
 export function settingOf(registers, wordAt) {
     if (!registers?.pc) return [];
-    const field = Number(registers.if), at = (/** @type {number} */ address) => octal(field * 0o10000 + address, 5), free = 0o7770;
-    const words = [registers.l === '1' ? '7020' : '7000', '1375', `62${registers.df}1`, registers.ion ? '6001' : '7000', '5776', registers.ac, registers.pc];
+    const field = Number(registers.if), at = (/** @type {number} */ address) => octal(field * 0o10000 + address, 5), free = 0o7767, { busy, printer, kbd } = registers;
+    const words = [busy || printer ? '6046' : '7000', registers.l === '1' ? '7020' : '7000', '1375', `62${registers.df}1`, registers.ion ? '6001' : '7000', '5776', registers.ac, registers.pc];
     const laid = words.map((word, k) => `DEPOSIT ${at(free + k)} ${word}`);
     const back = words.map((_, k) => `DEPOSIT ${at(free + k)} ${octal(wordAt(field * 0o10000 + free + k), 4)}`);
-    return [...laid, `START ${at(free)}`, 'STEP 5', ...back];
+    return [...laid, `START ${at(free)}`, 'STEP 6', ...back, ...(printer ? ['DONE'] : []), ...(kbd ? [`KEY ${registers.key}`] : [])];
 }

@@ -42,9 +42,15 @@ export class Store extends EventTarget {
         } catch {
             it.#base = null; // a browser that keeps nothing, as in a private window
         }
-        addEventListener('pagehide', () => it.#write());
+        for (const name of ['pagehide', 'visibilitychange']) addEventListener(name, () => it.#leave());
         it.#tabs.postMessage({ asks: true });
         return it;
+    }
+
+    // Writes all that is due, before the page is left. Panes hear of it, and note what they haven't yet.
+    #leave() {
+        this.dispatchEvent(new Event('leave'));
+        this.#write();
     }
 
     // What another tab sends: a file or a note as it is now, or that it asks for those that this tab has.
@@ -132,8 +138,16 @@ export class Store extends EventTarget {
             this.dispatchEvent(new Event('kept'));
             return;
         }
-        if (!this.#due.size) this.#written = new Promise(go => setTimeout(() => this.#write().then(go), 100));
+        if (!this.#due.size && !this.#isWriting) this.#written = this.#writeAll();
         this.#due.set(`${slot} ${key}`, [slot, key]);
+    }
+
+    // Writes what is due once the handler has ended that changed it, and then what became due meanwhile.
+    async #writeAll() {
+        this.#isWriting = true;
+        await null;
+        while (this.#due.size) await this.#write();
+        this.#isWriting = false;
     }
 
     // Asks the browser once not to remove what it keeps, when there is something.
@@ -155,6 +169,7 @@ export class Store extends EventTarget {
     /** @param {Slot} slot @param {string} key */
     tookHome(slot, key) { this.#home.set(`${slot} ${key}`, this[slot].get(key)); }
 
+    #isWriting = false;
     #written = Promise.resolve();
 
     // Once what was put is in the browser's store.

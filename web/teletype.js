@@ -17,6 +17,7 @@ export class Teletype {
         this.paper = new Paper($('paper'), { shown: count => this.run?.show(count), kept: text => page.store.note('paper', text), sound: page.sound });
         this.paper.restore(page.store.notes.get('paper') ?? '');
         for (const id of ids('tty-start', 'tty-switches', 'pace', 'capitals', 'reader')) keepInput(page.store, id);
+        page.store.addEventListener('leave', () => this.paper.keep());
         this.#paces();
         $('pace').addEventListener('change', () => this.#paces());
         $('tty-run').addEventListener('click', () => this.begin());

@@ -1,10 +1,10 @@
 #!/usr/bin/env bash
 # check_page.sh [--quick]: makes the page and tests it. Each pane is tried in headless Chromium, and in Firefox where there is one, against the native
-# program. With the page's module in node run every session, except those of beyond.txt, and a thousand random scripts of the plain model. Then five
-# faults are planted in the page, and a test must notice each. The last line is 'N passed, M failed'. With --quick it takes the page and the program
-# that are built with checks, in place of the proved ones. It takes the sessions of the documents alone, a hundred scripts, and of the browser's tests
-# those of panes.mjs, losses.mjs and waits.mjs. Three browsers work side by side, each with a profile of its own; what is measured comes last. Where
-# there is no Chromium or no node the tests of the page are skipped, which fails where CI is set.
+# program. With the page's module in node run every session, except those of beyond.txt, and a thousand random scripts of the plain model. Then the
+# faults of faults/gate/ are planted in the page, and a test must notice each. The last line is 'N passed, M failed'. With --quick it takes the page and
+# the program that are built with checks, in place of the proved ones. It takes the sessions of the documents alone, a hundred scripts, and of the
+# browser's tests those of panes.mjs, kept.mjs, losses.mjs and waits.mjs. Three browsers work side by side, each with a profile of its own; what is
+# measured comes last. Where there is no Chromium or no node the tests of the page are skipped, which fails where CI is set.
 set -u
 top=$(dirname "$(dirname "$(dirname "$(readlink -f "${BASH_SOURCE[0]}")")")")
 cd "$top" || exit 2
@@ -14,9 +14,9 @@ for word; do
     *) echo "check_page: usage: tests/page/check_page.sh [--quick]" >&2; exit 2 ;;
     esac
 done
-which=--proved program=crates/pdp8/out/pdp8 texts=() scripts=1000 browsed='undone losses archives shelf panel disks whole'
+which=--proved program=crates/pdp8/out/pdp8 texts=() scripts=1000 browsed='kept undone losses archives shelf panel disks whole'
 if [[ " $* " == *" --quick "* ]]; then
-    which=--unproved program=target/unproved/pdp8/pdp8 texts=(README.md docs/*.md docs/*/*.md) scripts=100 browsed=losses
+    which=--unproved program=target/unproved/pdp8/pdp8 texts=(README.md docs/*.md docs/*/*.md) scripts=100 browsed='kept losses'
 fi
 folder=target/page
 client=target/wasm/client

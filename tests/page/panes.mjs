@@ -1,52 +1,24 @@
 // panes.mjs PROGRAM FOLDER: works each pane of the page in headless Chromium by its controls, as a user does. It compares what comes out with the
 // native program PROGRAM, byte for byte. The last line is 'N passed, M failed'.
-import { spawnSync } from 'node:child_process';
-import { copyFileSync, linkSync, mkdtempSync, readFileSync, rmSync, truncateSync, writeFileSync } from 'node:fs';
-import { tmpdir } from 'node:os';
-import { dirname, join, resolve } from 'node:path';
+import { copyFileSync, linkSync, readFileSync, rmSync, truncateSync, writeFileSync } from 'node:fs';
+import { dirname, join } from 'node:path';
 import { fileURLToPath } from 'node:url';
-import { Browser, pause, serve } from './browser.mjs';
+import { pause } from './browser.mjs';
+import { file, holds, isTold, native, note, pane, runInTurn, same, setSource } from './tools.mjs';
 
 const top = dirname(dirname(dirname(fileURLToPath(import.meta.url))));
-const [program, folder] = process.argv.slice(2, 4).map(it => resolve(it));
-const work = mkdtempSync(join(tmpdir(), 'panes-'));
-const file = name => join(work, name);
+/** @type {import('./tools.mjs').Turn[]} */
 const tests = [];
+/** @param {string} name @param {import('./tools.mjs').Turn['body']} body */
 const test = (name, body) => tests.push({ name, body });
-const failures = [];
-let step = '';
-
-function same(wanted, got, what) {
-    const equal = Buffer.isBuffer(wanted) ? wanted.equals(Buffer.from(got)) : wanted === got;
-    if (!equal) throw new Error(`${what}: wanted ${show(wanted)}, got ${show(got)}`);
-}
-
-function show(it) { return Buffer.isBuffer(it) ? `${it.length} bytes ${it.subarray(0, 40).toString('hex')}` : JSON.stringify(it); }
-
-function holds(it, what) { if (!it) throw new Error(what); }
-
-// What the native program writes to standard output.
-/** @param {string[]} words @param {string | Buffer} [input] */
-function native(words, input = '') {
-    const { stdout } = spawnSync(program, words, { cwd: work, input, maxBuffer: 1 << 28 });
-    return stdout;
-}
-
 /** @param {string[]} words @param {string | Buffer} [input] */
 const nativeText = (words, input = '') => native(words, input).toString('latin1');
 const status = (page, id) => page.text(`${id}-status`);
-const pane = (page, name) => page.click(`#tab-${name}`);
-const isTold = (page, id, part) => page.until(`document.getElementById('${id}').textContent.includes(${JSON.stringify(part)})`);
 
 // Chooses an option of a list by what it says.
 const pick = (page, selector, text) => page.look(`(() => { const it = document.querySelector('${selector}');
     const option = [...it.options].find(one => one.textContent === ${JSON.stringify(text)}); if (!option) throw new Error('no option ' + ${JSON.stringify(text)});
     it.value = option.value; it.dispatchEvent(new Event('change')); })()`);
-
-async function setSource(page, text) {
-    await pane(page, 'source');
-    await page.fill('#text', text);
-}
 
 test('a new volume is the one that create makes', async page => {
     await page.fill('#new-name', 'DISK');
@@ -168,7 +140,7 @@ test('the largest volume is shown in time', async page => {
     await page.give('#image', file('LARGE'));
     await page.until(`document.getElementById('volume').value === 'LARGE'`);
     const took = await page.look(`(async () => { const from = performance.now(); await geivottu.files.open('LARGE'); return performance.now() - from; })()`);
-    step = `${Math.round(took)} ms`;
+    note(`${Math.round(took)} ms`);
     holds(took < 3000, `it took ${took} ms`);
     await page.click('#drop-image');
     await page.until(`document.getElementById('volume').value !== 'LARGE'`);
@@ -253,7 +225,7 @@ test('a program that prints for ever leaves the page live, and is stopped', asyn
     await page.until(`document.getElementById('paper').textContent.length > 20000`);
     const pictures = await page.look(`new Promise(go => { let count = 0; const end = performance.now() + 1000;
         const next = now => { count++; now < end ? requestAnimationFrame(next) : go(count); }; requestAnimationFrame(next); })`);
-    step = `${pictures} pictures in a second`;
+    note(`${pictures} pictures in a second`);
     holds(pictures >= 2, `${pictures} pictures in a second`);
     await page.click('#tty-stop');
     await isTold(page, 'tty-status', 'stopped');
@@ -368,8 +340,8 @@ test('a machine that goes for ever is stopped by its key, at 60 pictures a secon
     await page.until(`document.getElementById('rate').textContent.includes('steps a second')`);
     const pictures = await page.look(`new Promise(go => { let count = 0; const end = performance.now() + 1000;
         const next = now => { count++; now < end ? requestAnimationFrame(next) : go(count); }; requestAnimationFrame(next); })`);
-    step = `${pictures} pictures in a second, ${await page.text('rate')}`;
-    holds(pictures >= 2, step);
+    note(`${pictures} pictures in a second, ${await page.text('rate')}`);
+    holds(pictures >= 2, `${pictures} pictures in a second`);
     await page.click('#key-stop');
     await isTold(page, 'machine-status', 'stopped by the key');
     await page.choose('#speed', 'real');
@@ -450,7 +422,6 @@ test('a reload keeps volumes, texts, paper and core', async (page, server) => {
     await isTold(page, 'source-status', 'assembled');
     await page.click('#to-core');
     await isTold(page, 'machine-status', 'words are in core');
-    await page.until(`geivottu.store.notes.get('core')?.[0o200] === 0o7300`);
     await page.look('geivottu.store.settled()');
     await page.go(`${server.url}?again`);
     same(COUNT, await page.look(`document.getElementById('text').value`), 'the source');
@@ -514,33 +485,4 @@ test('a browser without wide memories is told so in words', async (page, server)
     await page.call('Page.removeScriptToEvaluateOnNewDocument', { identifier });
 });
 
-async function main() {
-    const server = await serve(folder), page = await Browser.open();
-    let passed = 0;
-    try {
-        await page.size(1200, 900);
-        await page.go(server.url);
-        for (const { name, body } of tests) {
-            step = '';
-            const from = Date.now();
-            try {
-                await body(page, server);
-                holds(page.errors.length === 0, `errors of the page: ${page.errors.splice(0)}`);
-                passed++;
-                console.log(`panes: ${name}${step ? `: ${step}` : ''} (${((Date.now() - from) / 1000).toFixed(1)} s)`);
-            } catch (error) {
-                failures.push(name);
-                console.log(`panes: NOT ${name}: ${error instanceof Error ? error.message : error}`);
-                page.errors.splice(0);
-            }
-        }
-    } finally {
-        await page.end();
-        server.end();
-        rmSync(work, { recursive: true, force: true });
-    }
-    console.log(`${passed} passed, ${failures.length} failed`);
-    process.exitCode = failures.length ? 1 : 0;
-}
-
-await main();
+await runInTurn('panes', tests);

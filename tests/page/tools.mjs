@@ -7,11 +7,12 @@ import { Browser, serve } from './browser.mjs';
 
 const [program, folder] = process.argv.slice(2, 4).map(it => resolve(it));
 const only = process.argv.slice(4);
-let work = '';
+let work = '', noted = '';
 
 /** @typedef {import('./browser.mjs').Browser} Page */
 /** @typedef {((page: Page, url: string) => Promise<unknown>) & { isAlone?: boolean }} Test */
 /** @typedef {Record<string, Test>} Tests */
+/** @typedef {{ name: string, body: (page: Page, server: { url: string, asked: string[] }) => Promise<unknown> }} Turn */
 
 // A file of the host in the test's folder.
 /** @param {string} name */
@@ -125,6 +126,42 @@ export async function run(title, tests) {
         }
     }
     await browser.end();
+    console.log(`${passed} passed, ${failed} failed`);
+    process.exitCode = failed ? 1 : 0;
+}
+
+// Has the line of a test say so, too.
+/** @param {string} text */
+export const note = text => { noted = `: ${text}`; };
+
+// Runs tests in turn, each in the page and the folder as the one before left them, and prints 'N passed, M failed'.
+/** @param {string} title @param {Turn[]} tests */
+export async function runInTurn(title, tests) {
+    const server = await serve(folder), page = await Browser.open();
+    let passed = 0, failed = 0;
+    work = mkdtempSync(join(tmpdir(), `${title}-`));
+    try {
+        await page.size(1200, 900);
+        await page.go(server.url);
+        for (const { name, body } of tests) {
+            const from = Date.now();
+            noted = '';
+            try {
+                await body(page, server);
+                holds(page.errors.length === 0, `errors of the page: ${page.errors}`);
+                passed++;
+                console.log(`${title}: ${name}${noted} (${((Date.now() - from) / 1000).toFixed(1)} s)`);
+            } catch (error) {
+                failed++;
+                console.log(`${title}: NOT ${name}: ${error instanceof Error ? error.message : error}`);
+            }
+            page.errors.splice(0);
+        }
+    } finally {
+        await page.end();
+        server.end();
+        rmSync(work, { recursive: true, force: true });
+    }
     console.log(`${passed} passed, ${failed} failed`);
     process.exitCode = failed ? 1 : 0;
 }

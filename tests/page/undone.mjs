@@ -280,7 +280,7 @@ await run('undone', {
         }
         await page.click('#key-go');
         await isTold(page, 'machine-status', 'HALT');
-        await page.until(`geivottu.store.notes.get('registers')?.ac === '1234' && geivottu.store.notes.get('core')?.[0o200] === 0o7320`);
+        await page.until(`geivottu.machine.registers.ac === '1234'`);
         const before = await page.look(`geivottu.machine.registers`);
         await page.look('geivottu.store.settled()');
         await page.go(`${url}?again`);

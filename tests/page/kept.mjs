@@ -1,0 +1,150 @@
+// kept.mjs PROGRAM FOLDER [PART]: what is on the screen is there after a reload, at whatever moment that comes. As losses.mjs otherwise.
+import { readFileSync, readdirSync } from 'node:fs';
+import { join } from 'node:path';
+import { pause } from './browser.mjs';
+import { isTold, holds, pane, run, same, setSource } from './tools.mjs';
+
+const ECHO = '*200\nA,\tKSF\n\tJMP A\n\tKRB\n\tTLS\n\tTSF\n\tJMP .-1\n\tJMP A\n$\n';
+// Prints a character, and counts for ever.
+const LOOP = '*200\n\tTAD C\n\tTLS\n\tTSF\n\tJMP .-1\n\tCLA\nA,\tISZ 300\n\tJMP A\n\tIAC\n\tJMP A\nC,\t302\n$\n';
+const PRINTS = '*200\n\tTAD A\n\tTLS\n\tTSF\n\tJMP .-1\n\tHLT\nA,\t301\n$\n', COUNT = '*200\n\tCLA CLL\nA,\tISZ B\n\tJMP A\n\tIAC\n\tHLT\nB,\t7700\n$\n';
+const registers = page => page.look(`JSON.stringify(geivottu.machine.registers)`);
+const machine = page => page.look(`['registers', 'core', 'console', 'steps'].map(it => document.getElementById(it).textContent).join() + document.querySelector('[data-row=pc]').ariaLabel
+    + document.querySelector('[data-row=ma]').ariaLabel + document.querySelector('[data-row=mb]').ariaLabel + document.getElementById('switches-shown').value`);
+let visits = 0;
+
+// Waits for a visit of the page, also while the visit before it ends.
+async function arrive(page, visit) {
+    const isThere = () => page.look(`location.search === '?visit=${visit}' && !!document.getElementById('ready')`).catch(() => false);
+    for (let k = 0; !await isThere(); k++) {
+        if (k > 600) throw new Error(`the page is not there for visit ${visit}`);
+        await pause(25);
+    }
+}
+
+// Leaves the page for itself once more, in the same task in which something was done.
+async function leave(page, doing = '') {
+    await page.look(`{ ${doing}; } location.search = '?visit=${++visits}'`).catch(() => {});
+    await arrive(page, visits);
+}
+
+// Leaves it in the moment in which an expression holds first.
+async function leaveWhen(page, expression) {
+    const visit = ++visits;
+    await page.look(`window.leaving = setInterval(() => { if (${expression}) { clearInterval(window.leaving); location.search = '?visit=${visit}'; } }, 1); 0`);
+    return () => arrive(page, visit);
+}
+
+async function toCore(page, text) {
+    await setSource(page, text);
+    await page.click('#assemble');
+    await isTold(page, 'source-status', 'assembled');
+    await page.click('#to-core');
+    await isTold(page, 'machine-status', 'words are in core');
+}
+
+await run('kept', {
+    'a deposit, a switch and an address are kept that are set right before a reload': async (page, url) => {
+        await page.go(url);
+        await pane(page, 'machine');
+        await page.until(`document.getElementById('core').textContent !== ''`);
+        await page.look(`document.querySelector('[aria-label="switch 3"]').click()`);
+        await leave(page, `document.getElementById('key-load').click()`);
+        await page.until(`document.querySelector('[data-row=pc] .word').textContent === '0400'`);
+        same('0400', await page.look(`document.getElementById('switches-shown').value`), 'the switches');
+        await page.fill('#core-from', '00400');
+        await leave(page, `document.getElementById('key-deposit').click()`);
+        await page.until(`document.getElementById('core').textContent.startsWith('00400  0400 0000')`);
+        await leave(page, `document.querySelector('[aria-label="switch 11"]').click()`);
+        same('0401', await page.look(`document.getElementById('switches-shown').value`), 'the switches after a further reload');
+    },
+    'a text and a script are kept that are typed right before a reload': async (page, url) => {
+        await page.go(url);
+        for (const [name, id] of [['source', 'text'], ['script', 'lines']]) {
+            await pane(page, name);
+            await page.fill(`#${id}`, 'ONE');
+            await leave(page, `document.getElementById('${id}').setRangeText(' TWO', 3, 3, 'end'); document.getElementById('${id}').dispatchEvent(new Event('input', { bubbles: true }))`);
+            same('ONE TWO', await page.look(`document.getElementById('${id}').value`), name);
+        }
+    },
+    'further texts go home by their names, where the store refuses': async (page, url) => {
+        await page.call('Page.addScriptToEvaluateOnNewDocument', { source: `IDBFactory.prototype.open = () => { throw new DOMException('refused', 'SecurityError'); };` });
+        await page.go(url);
+        for (const name of ['FIRST', 'SECOND', 'THIRD']) {
+            if (name !== 'FIRST') await page.click('#text-new');
+            await setSource(page, `/${name}\n`);
+            await page.fill('#source-name', name);
+            await page.key('Tab');
+        }
+        await page.click('#unkept-home');
+        const home = () => readdirSync(page.downloads).filter(it => it.endsWith('.PA')).sort();
+        for (let k = 0; k < 200 && home().length < 3; k++) await pause(25);
+        same('FIRST.PA,SECOND.PA,THIRD.PA', home().join(), 'the files');
+        for (const it of home()) same(`/${it.slice(0, -3)}\n`, readFileSync(join(page.downloads, it), 'latin1'), it);
+    },
+    'what was printed right before a reload is on the paper': async (page, url) => {
+        await page.go(url);
+        await setSource(page, PRINTS);
+        await page.click('#assemble');
+        await isTold(page, 'source-status', 'assembled');
+        await page.click('#to-teletype');
+        const arrived = await leaveWhen(page, `document.getElementById('paper').textContent === 'A'`);
+        await page.look(`document.getElementById('tty-run').click()`);
+        await arrived();
+        same('A', await page.text('paper'), 'the paper');
+    },
+    'each step is kept as it is shown': async (page, url) => {
+        await page.go(url);
+        await toCore(page, COUNT);
+        for (let k = 1; k <= 4; k++) {
+            const arrived = await leaveWhen(page, `document.getElementById('steps').textContent === '${k} step${k === 1 ? '' : 's'} since START'`);
+            await page.look(`document.getElementById('key-step').click()`);
+            await arrived();
+            await page.until(`geivottu.machine.registers?.pc === '${['0201', '0202', '0201', '0202'][k - 1]}'`);
+        }
+        same('7702', await page.look(`(async () => (await (await geivottu.machine.lines).ask('EXAMINE 00205'))[0].slice(6))()`), 'the counter');
+    },
+    'a machine that has stopped is as it was, after a short run and a long one': async (page, url) => {
+        await page.go(url);
+        await toCore(page, PRINTS);
+        await page.click('#key-start');
+        await isTold(page, 'machine-status', 'HALT');
+        await page.until(`document.querySelector('[data-row=ma] .word').textContent === '0204'`);
+        const halted = await machine(page);
+        await leave(page);
+        await page.until(`document.getElementById('core').textContent !== ''`);
+        same(halted, await machine(page), 'what is shown after a HLT');
+        await toCore(page, LOOP);
+        await page.choose('#speed', 'full');
+        await page.click('#key-start');
+        await page.until('geivottu.machine.steps > 6000000');
+        await page.click('#key-stop');
+        await isTold(page, 'machine-status', 'stopped by the key');
+        await page.until(`!geivottu.store.notes.get('machine').includes('GO ')`);
+        const [before, all] = [await registers(page), await machine(page)];
+        await leave(page);
+        await page.until(`document.getElementById('core').textContent !== ''`);
+        same(before, await registers(page), 'the registers');
+        same(all, await machine(page), 'what is shown after a long run');
+    },
+    'a machine that goes goes on after a reload, and gets the key that it waits for': async (page, url) => {
+        await page.go(url);
+        await toCore(page, ECHO);
+        await page.click('#key-start');
+        await page.look(`document.getElementById('console').focus()`);
+        await page.keys('AB');
+        await isTold(page, 'console', 'AB');
+        const steps = await page.look('geivottu.machine.steps');
+        await leave(page);
+        await page.until('geivottu.machine.isGoing');
+        await page.until(`geivottu.machine.steps > ${steps}`);
+        await page.look(`document.getElementById('console').focus()`);
+        await page.keys('C');
+        await isTold(page, 'console', 'ABC');
+        same('ABC', await page.text('console'), 'its paper');
+        await page.click('#key-stop');
+        await isTold(page, 'machine-status', 'stopped by the key');
+        await leave(page);
+        holds(!await page.look('geivottu.machine.isGoing'), 'a machine that was stopped goes');
+    },
+});
