@@ -1,10 +1,29 @@
 // What one tab of the page has alone: a volume, or the text. It alone changes that; other tabs look, and follow. Tabs know of each other by
 // the browser's locks. Where a browser has none, each tab has all.
-const PATIENCE = 500;
+const PATIENCE = 500, LONGEST = 3000;
 
 export class Claims extends EventTarget {
     /** @type {Map<string, Claim>} */
     #all = new Map();
+    #tabs = new BroadcastChannel('geivottu claims');
+
+    constructor() {
+        super();
+        this.#tabs.onmessage = ({ data }) => this.dispatchEvent(new CustomEvent('wanted', { detail: data }));
+    }
+
+    // Asks the tab that has a thing to leave it. Whether this tab has it then.
+    /** @param {string} name */
+    async take(name) {
+        await this.claim(name);
+        if (this.has(name)) return true;
+        this.#tabs.postMessage(name);
+        await new Promise(go => {
+            this.addEventListener('claim', ({ detail }) => detail === name && go(true));
+            setTimeout(go, LONGEST);
+        });
+        return this.has(name);
+    }
 
     // Whether this tab has a thing.
     /** @param {string} name */

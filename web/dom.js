@@ -46,11 +46,14 @@ export async function bytesOfFile(file) {
     return new Uint8Array(await file.slice(0, 16777217).arrayBuffer());
 }
 
-// What is typed into an input is kept over a reload.
+// What is typed into an input is kept over a reload, and follows the tab that has it.
 /** @param {import('./store.js').Store} store @param {keyof Ids} id */
 export function keepInput(store, id) {
     const it = /** @type {HTMLInputElement} */ ($(id)), isBox = it.type === 'checkbox', old = store.notes.get(id);
-    if (old !== undefined) isBox ? it.checked = old : it.value = old;
+    /** @param {any} value */
+    const show = value => { if (value !== undefined) isBox ? it.checked = value : it.value = value; };
+    show(old);
+    store.addEventListener('note', ({ detail }) => detail === id && show(store.notes.get(id)));
     it.addEventListener(it.tagName === 'SELECT' || isBox ? 'change' : 'input', () => store.note(id, isBox ? it.checked : it.value));
 }
 

@@ -1,11 +1,12 @@
 // The Machine pane: a `run` that lives, to whose console each key of the panel gives a line, and whose replies the lamps show.
 import { $, ids, made, octal, rove, tell, keepInput } from './dom.js';
-import { Lines, canLive, textOf } from './program.js';
+import { Living } from './living.js';
+import { canLive, textOf } from './program.js';
 import { helpAt, helpOf } from './help.js';
 import { Accesses, after, before } from './access.js';
 import { Code } from './code.js';
-import { CORE, Journal, isPlain, linesOf } from './journal.js';
 import { rateOf, uneven } from './pace.js';
+import { Owner } from './owner.js';
 import { Panel } from './panel.js';
 import { Paper, keyOf } from './paper.js';
 import { tapeIn } from './tapes.js';
@@ -18,16 +19,11 @@ const LEAST = 20000, MOST = 1000000, LOOKS = 8, PICTURE = 10;
 const GOING = /** @type {const} */ ([300000000, 20000]), STOPPED = /** @type {const} */ ([5000000, 2000]);
 
 export class Machine {
-    /** @type {Promise<Lines> | null} */
-    lines = null;
     /** @type {Registers | null} */
     registers = null;
     /** @type {number | null} */
     since = null;
     isPrinting = false;
-    // How many characters of the machine's are on the paper, and how many less its journal prints.
-    printed = 0;
-    unlisted = 0;
     keptAt = 0;
     listedAt = 0;
     total = 0;
@@ -45,14 +41,12 @@ export class Machine {
     constructor(page) {
         this.page = page;
         this.panel = new Panel($('panel'), {
-            switches: word => this.#ask(`SWITCHES ${octal(word, 4)}`).then(() => page.store.note('switches', word)),
+            switches: word => { page.store.note('switches', word); this.#ask(`SWITCHES ${octal(word, 4)}`); },
             load: () => this.#loadAddress(), examine: () => this.#examine(), deposit: () => this.#deposit(),
             start: () => this.start(), stop: () => this.stop(), go: () => this.goOn(), step: () => this.step(),
         });
         this.paper = new Paper($('console'), { sound: page.sound, kept: text => page.store.note('console', text) });
-        this.paper.restore(page.store.notes.get('console') ?? '');
-        const { notes } = page.store;
-        this.journal = new Journal(notes.get('machine') ?? linesOf(notes.get('core') ?? [], notes.get('registers')).join('\n'));
+        this.living = new Living(page, { switches: () => this.panel.switches, breaks: () => this.breaks, changed: () => this.#keep(), ended: why => this.#ended(why) });
         this.code = new Code(page, (...lines) => this.#ask(...lines));
         for (const id of ids('speed', 'printer', 'core-from', 'watch')) keepInput(page.store, id);
         $('power').addEventListener('click', () => this.renew());
@@ -66,13 +60,31 @@ export class Machine {
         for (const it of ['volume', 'tape']) page.store.addEventListener(it, () => this.#tapes());
         $('machine').addEventListener('shown', () => this.#refresh());
         page.store.addEventListener('leave', () => this.#keep(true));
-        this.printed = notes.get('printed') ?? 0;
+        this.owner = new Owner(page, 'machine', $('machine-follows'), follows => this.#close(follows));
+    }
+
+    // Shows the machine as the page keeps it, once no other tab has it. One that another tab takes is stopped here.
+    /** @param {boolean} follows */
+    async #close(follows) {
+        $('machine').classList.toggle('followed', follows && this.owner !== undefined);
+        if (!follows) return this.#restore();
+        this.isGoing = false;
+        await this.living.stop();
+    }
+
+    async #restore() {
+        const { notes } = this.page.store;
+        await this.living.restart();
+        this.isPrinting = true;
+        this.paper.replace(notes.get('console') ?? '');
         this.panel.address = notes.get('address') ?? 0o200;
         this.panel.switches = notes.get('switches') ?? 0;
         this.accesses.set(notes.get('access') ?? null);
         this.#count(notes.get('steps') ?? null);
         this.code.breaks = new Set(notes.get('breaks'));
         this.list(notes.get('listing') ?? '', notes.get('names') ?? '');
+        await this.#refresh();
+        if (canLive && notes.get('going')) this.go();
     }
 
     get breaks() { return this.code.breaks; }
@@ -82,80 +94,37 @@ export class Machine {
 
     set isLoaded(isLoaded) { if (isLoaded !== this.isLoaded) this.page.store.note('loaded', isLoaded); }
 
-    // After a reload it goes on, if it went.
-    begin() { if (canLive && this.page.store.notes.get('going')) this.go(); }
-
-    // The living run, begun at its first use with the core that the page keeps.
-    #living() { return this.lines ??= this.#begin(); }
-
     // The name of a small volume, over which a machine's run looks.
-    async image() {
-        const { programs, store } = this.page;
-        if (!store.files.has('.machine')) await programs.ask(['create', '.machine', '8']);
-        return '.machine';
-    }
+    image() { return this.living.image(); }
 
-    async #begin() {
-        const lines = await Lines.begin(this.page.programs, ['run', '--look', await this.image()], { ended: (status, said) => this.#ended(status, said) });
-        [this.printed, this.unlisted] = [this.printed - this.unlisted, 0];
-        const { journal } = this, given = [...journal.lines];
-        for (const cell of this.breaks) given.push(`BREAK ${cell} ON`);
-        given.push(`SWITCHES ${octal(this.panel.switches, 4)}`, ...journal.left);
-        journal.begin(given, await lines.ask(...given));
-        this.isPrinting = true;
-        return lines;
-    }
-
-    /** @param {...string} lines */
+    /** @param {...string} lines @returns {Promise<string[] | null>} */
     async #ask(...lines) {
-        const { journal } = this, isChange = journal.ask(lines);
-        if (isChange) this.#keep();
-        const replies = await (await this.#living()).ask(...lines);
-        journal.answer(lines, replies);
-        if (isChange) this.#keep();
-        return replies;
+        return this.owner.follows ? null : this.living.ask(...lines);
     }
 
     // Has the page keep where the machine is. While it goes that is from time to time, and when the page is left.
     #keep(isDue = !this.isGoing) {
         const { store } = this.page;
-        if (!isDue) return;
+        if (!isDue || this.owner.follows) return;
         this.keptAt = performance.now();
         this.paper.keep();
-        store.note('machine', this.journal.text);
-        store.note('printed', this.printed - this.unlisted);
+        this.living.keep();
         store.note('access', this.accesses.last);
         store.note('steps', this.steps);
     }
 
-    // Has the journal begin with what core and registers hold now, so it stays short.
-    async #shorten() {
-        const { journal } = this, lines = await this.#living(), asked = ['REGISTERS', ...Array.from({ length: CORE }, (_, cell) => `EXAMINE ${octal(cell, 5)}`)];
-        journal.ask(asked);
-        const replies = await lines.ask(...asked);
-        journal.answer(asked, replies);
-        const registers = /** @type {Registers} */ (JSON.parse(replies?.shift() ?? 'null'));
-        if (!replies || !isPlain(registers)) return;
-        journal.shorten(linesOf(replies.map(it => Number.parseInt(it.slice(6), 8)), registers));
-        this.unlisted = this.printed - Number(registers.busy || registers.printer);
-        this.#keep(true);
-    }
-
-    /** @param {number | null} status @param {string} said */
-    #ended(status, said) {
-        this.lines = null;
+    /** @param {string} why */
+    #ended(why) {
         this.isGoing = false;
-        if (status !== null) tell('machine-status', `the machine's run ended: ${said}`, true);
+        tell('machine-status', `the machine's run ended: ${why}`, true);
     }
 
     // A machine whose core is empty.
     async renew() {
+        if (this.owner.follows) return;
         this.isGoing = false;
-        (await this.lines)?.stop();
-        this.lines = null;
-        this.journal = new Journal();
+        await this.living.restart(true);
         this.accesses.set(null);
-        this.printed = this.unlisted = 0;
         this.#count(null);
         this.breaks.clear();
         this.code.keep();
@@ -170,6 +139,7 @@ export class Machine {
     // Lays the words of a tape over core, one by one as `tape` lists them. A core image says where its program starts.
     /** @param {Uint8Array} tape @param {string} name @param {string | null} [start] */
     async load(tape, name, start = null) {
+        if (this.owner.follows) return this.page.say(`${$('machine-follows').textContent}`, true);
         const { status, out, said } = await this.page.programs.ask(['tape'], tape);
         if (status !== 0) {
             tell('machine-status', `${name}: ${textOf(out)}${said}`, true);
@@ -224,7 +194,7 @@ export class Machine {
         this.page.store.note('names', symbols);
         this.code.list(text);
         this.code.mark(this.registers, this.isGoing);
-        if (this.lines) this.watch.show();
+        if (this.living.lines) this.watch.show();
     }
 
     #loadAddress() {
@@ -285,6 +255,7 @@ export class Machine {
     // Starts at a cell with these switches, and makes so many steps by these lines.
     /** @param {number} cell @param {number} switches @param {string[]} lines @param {number} steps */
     async runTo(cell, switches, lines, steps) {
+        if (this.owner.follows) return;
         this.#point(cell);
         this.isLoaded = false;
         this.panel.switches = switches;
@@ -366,7 +337,7 @@ export class Machine {
             why = await this.#picture(due, now + PICTURE);
             made += this.total - before;
             await this.watch.showAt(now);
-            if (this.journal.isLonger(...GOING)) await this.#shorten();
+            if (this.living.journal.isLonger(...GOING)) await this.living.shorten();
             this.#keep(now - this.keptAt > 1000);
             if (now - told > 500) {
                 $('rate').textContent = `${rateOf(made / (now - told))} steps a second`;
@@ -383,7 +354,7 @@ export class Machine {
         $('rate').textContent = '';
         await this.#stopped();
         if (isStopped || why === 'ENDED') return;
-        await this.accesses.find(this.page.programs, await this.image(), (...lines) => this.#ask(...lines), this.reply, this.journal);
+        await this.accesses.find(this.page.programs, await this.image(), (...lines) => this.#ask(...lines), this.reply, this.living.journal);
         this.#keep();
         this.#show();
     }
@@ -438,17 +409,14 @@ export class Machine {
     // What was printed since it was last shown.
     async #print() {
         this.isPrinting = this.registers?.busy ?? false;
-        const [reply] = await this.#ask('PRINTED') ?? ['PRINTED'];
-        const all = reply.split(' ').slice(1), fresh = all.slice(this.printed);
-        this.printed = all.length;
-        if (fresh.length) this.paper.print(Uint8Array.from(fresh, it => Number.parseInt(it, 8) & 0o177));
+        if (!this.owner.follows) this.paper.print(await this.living.print());
     }
 
     async #stopped() {
         await this.#print();
         this.#keep();
         await this.#refresh();
-        if (this.journal.isLonger(...STOPPED)) await this.#shorten();
+        if (this.living.journal.isLonger(...STOPPED)) await this.living.shorten();
     }
 
     // Shows the registers and some of core.

@@ -1,5 +1,5 @@
 // The page: loads the program, and lets the panes begin.
-import { $, made } from './dom.js';
+import { $, made, tell } from './dom.js';
 import { Store } from './store.js';
 import { Claims } from './claims.js';
 import { Programs, load, canLive, hasWideMemory } from './program.js';
@@ -8,6 +8,7 @@ import { Source } from './source.js';
 import { Machine } from './machine.js';
 import { Teletype } from './teletype.js';
 import { Script } from './script.js';
+import { KINDS } from './owner.js';
 import { Unkept } from './unkept.js';
 import { Undo } from './undo.js';
 import { Shelf } from './shelf.js';
@@ -17,6 +18,9 @@ const ALL = /** @type {const} */ (['files', 'source', 'machine', 'teletype', 'sc
 /** @typedef {typeof ALL[number]} Pane */
 // The panes that this browser can have: the Machine lives, and waits for its keys.
 const PANES = ALL.filter(it => canLive || it !== 'machine');
+
+// The line of status of each pane.
+const STATUS = /** @type {const} */ ({ files: 'files-status', source: 'source-status', machine: 'machine-status', teletype: 'tty-status', script: 'script-status' });
 
 const isPane = (/** @type {string} */ it) => PANES.some(name => name === it);
 
@@ -88,10 +92,13 @@ async function begin() {
         return;
     }
     if (!canLive) hideUnable();
-    const claims = new Claims(), store = await Store.open(claims);
+    const claims = new Claims();
+    KINDS.forEach(it => claims.claim(it));
+    const store = await Store.open(claims);
     const programs = new Programs(await load('pdp8.wasm'), store);
     const page = /** @type {Page} */ ({ store, claims, programs, undo: new Undo(store), sound: new Sound(store), tell: trouble });
     page.tabs = new Tabs(store);
+    page.say = (text, isBad = false) => tell(STATUS[page.tabs.shown ?? 'files'], text, isBad);
     page.files = new Files(page);
     page.machine = new Machine(page);
     page.teletype = new Teletype(page);
@@ -99,8 +106,7 @@ async function begin() {
     page.script = new Script(page);
     page.unkept = new Unkept(page);
     page.shelf = new Shelf(page);
-    await Promise.all([page.files.begin(), page.source.begin()]);
-    page.machine.begin();
+    await Promise.all([page.files.begin(), ...[page.source, page.script, page.machine, page.teletype].map(it => it.owner.begin())]);
     page.tabs.show(page.tabs.shown ?? 'files');
     $('kept').textContent = store.isKept ? 'What you open and write stays in this browser until you remove it.'
         : 'This browser keeps nothing: take home what you want to keep.';

@@ -50,11 +50,17 @@ export class Paper {
     }
 
     tear() {
+        this.replace('');
+        this.kept('');
+    }
+
+    // Shows another paper in place of this one.
+    /** @param {string} text */
+    replace(text) {
         this.element.replaceChildren();
         this.returned = '';
         this.#sheet();
-        this.length = 0;
-        this.kept('');
+        this.restore(text);
     }
 
     /** @param {Uint8Array} bytes */

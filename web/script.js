@@ -1,6 +1,7 @@
 // The Script pane: `run` over the volume that is open, a whole script at once, or a session whose lines are given one by one.
 import { $, follow, ids, keepInput, tell } from './dom.js';
 import { bytesOf, canLive, textOf } from './program.js';
+import { Owner } from './owner.js';
 import { wordsOf } from './volumes.js';
 
 const FIRST = 'STORE HELLO.PA 4\n*200\n\tCLA IAC\n\tHLT\n$\nASSEMBLE HELLO.BN<HELLO.PA\nFINISH\nLOAD HELLO.BN\nFINISH\nRUN 00200 10\nREGISTERS\nDIRECT\n';
@@ -17,6 +18,10 @@ export class Script {
         this.shown = null;
         $('lines').value = FIRST;
         for (const id of ids('lines', 'script-saving', 'strict')) keepInput(page.store, id);
+        this.owner = new Owner(page, 'script', $('script-follows'), follows => {
+            $('lines').readOnly = follows;
+            for (const id of ids('script-saving', 'strict')) $(id).disabled = follows;
+        });
         $('script-run').addEventListener('click', () => this.whole());
         $('script-stop').addEventListener('click', () => this.run?.stop());
         $('session').addEventListener('click', () => this.#session());

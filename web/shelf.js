@@ -33,8 +33,9 @@ export class Shelf {
     async run(name) {
         if (name === 'disk') return this.#disk();
         if (![...TEXTS, ...MORE].includes(name) || (!canLive && (name === 'sort' || name === 'lights'))) return;
-        const { source, teletype, tabs } = this.page;
-        if (!await source.takeExample(`${name}.pa`) || !await source.assemble()) return;
+        const { source, machine, teletype, tabs } = this.page;
+        const { owner } = name === 'sort' || name === 'lights' ? machine : teletype;
+        if (!await owner.take() || !await source.takeExample(`${name}.pa`) || !await source.assemble()) return;
         if (name === 'sort' || name === 'lights') return this.#atPanel(name);
         teletype.choose('source');
         tabs.show('teletype');

@@ -45,6 +45,7 @@ export class Shown {
 
     #changed() {
         if (!this.entry) return;
+        if (this.page.files.follows) return this.page.say($('follows').textContent, true);
         this.page.store.note(this.#note(this.entry), { starts: $('starts').value, names: $('cell-names').value });
         this.show(this.entry, this.form === 'text' || this.form === 'tape' || this.form === 'words' ? 'source' : this.form);
     }

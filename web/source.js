@@ -3,6 +3,8 @@ import { $, bytesOfFile, ids, made, rove, takeHome, tell } from './dom.js';
 import { bytesOf, textOf } from './program.js';
 import { Texts } from './texts.js';
 import { Listing } from './listing.js';
+import { Owner } from './owner.js';
+import { ownerOf } from './store.js';
 
 const TAPE = '.source.bin', LISTING = '.source.lst';
 // The examples that are written in PAL8.
@@ -18,7 +20,6 @@ export class Source {
         this.faulty = new Map();
         this.numbered = this.here = 0;
         this.looking = 0;
-        this.follows = false;
         this.assembled = '';
         this.wasOld = false;
         this.mayLeave = false;
@@ -44,38 +45,24 @@ export class Source {
         $('example').addEventListener('change', () => this.#example($('example')));
         page.store.addEventListener('volume', () => this.#buttons());
         page.store.addEventListener('note', ({ detail }) => this.#followed(detail));
-        page.claims.addEventListener('claim', ({ detail }) => detail === 'text' && this.#claimed());
+        this.owner = new Owner(page, 'text', $('text-follows'), follows => this.#close(follows));
         this.#number();
         this.#buttons();
     }
 
-    // Once it is known whether this tab has the text, or another one.
-    async begin() {
-        await this.page.claims.claim('text');
-        this.#tellClaim();
-    }
+    get follows() { return this.owner.follows; }
 
-    // Another tab has left the text to this one: it is kept, as this tab has it.
-    #claimed() {
-        const { store } = this.page;
-        const own = [...store.notes.keys()].filter(it => it === 'text' || it === 'source-name' || /^(text|further|dialect) /.test(it));
-        if (this.follows) for (const it of own) store.note(it, store.notes.get(it));
-        this.#tellClaim();
-    }
-
-    // Says whether another tab has the text, and closes what changes it.
-    #tellClaim() {
-        this.follows = !this.page.claims.has('text');
-        $('text').readOnly = $('source-name').readOnly = $('further').readOnly = this.follows;
-        for (const id of ids('source-file', 'example', 'texts', 'text-new', 'text-drop', 'dialect')) $(id).disabled = this.follows;
-        $('text-follows').textContent = this.follows ? 'Another tab has the text. Here it is only looked at, and follows that tab. It can be '
-            + 'changed here once that tab is closed.' : '';
-        $('text-follows').hidden = !this.follows;
+    // Closes what changes the text where another tab has it.
+    /** @param {boolean} follows */
+    #close(follows) {
+        $('text').readOnly = $('source-name').readOnly = $('further').readOnly = follows;
+        for (const id of ids('source-file', 'example', 'texts', 'text-new', 'text-drop', 'dialect')) $(id).disabled = follows;
     }
 
     // Shows the text as the tab that has it sends it.
     /** @param {string} note */
     #followed(note) {
+        if (ownerOf(note) !== 'text') return;
         const value = this.page.store.notes.get(note) ?? '';
         if (note === 'source-name') this.texts.follow();
         this.#showOwn();

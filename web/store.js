@@ -1,8 +1,19 @@
 // The page's files and notes: in memory, and in the browser's own store (IndexedDB), so that a reload finds them. Nothing leaves the page.
-// Files, and the notes that tabs share, are sent to the other tabs of the page, which have them then as well. The text that is open is the
-// note `text`; others are notes `text NAME`.
-const SLOTS = /** @type {const} */ (['files', 'notes']);
-const isShared = (/** @type {string} */ key) => ['text', 'source-name'].includes(key) || /^(text|further|dialect|kind) /.test(key);
+// Files, and the notes that tabs share, are sent to the other tabs of the page, which have them then as well. A note that a claim stands for is written
+// by the tab that has the claim alone. Any other note is of the tab. The text that is open is the note `text`; others are notes `text NAME`.
+const SLOTS = /** @type {const} */ (['files', 'notes']), OWN = 'geivottu ';
+/** @type {[RegExp, string][]} */
+const OWNERS = [[/^(text|source-name|tape)$|^(text|further|dialect) /, 'text'], [/^(lines|script-saving|strict)$/, 'script'], [/^(paper|reader)$/, 'teletype'],
+    [/^(machine|printed|access|steps|going|loaded|address|switches|breaks|listing|names|console)$/, 'machine']];
+
+// The claim that stands for a note, null for none.
+/** @param {string} key */
+export function ownerOf(key) {
+    const volume = /^as ([^ /]+)/.exec(key)?.[1];
+    return volume === undefined ? OWNERS.find(([pattern]) => pattern.test(key))?.[1] ?? null : `volume ${volume}`;
+}
+
+const isShared = (/** @type {string} */ key) => key.startsWith('kind ') || ownerOf(key) !== null;
 // Whether a note is a user's own work.
 const isWork = (/** @type {string} */ key) => ['text', 'lines'].includes(key) || key.startsWith('text ');
 
@@ -39,16 +50,17 @@ export class Store extends EventTarget {
                 const [keys, values] = await Promise.all([promised(all.getAllKeys()), promised(all.getAll())]);
                 keys.forEach((key, k) => it.#slot(slot).set(String(key), values[k]));
             }
+            for (const key of Object.keys(sessionStorage).filter(it => it.startsWith(OWN))) it.notes.set(key.slice(OWN.length), JSON.parse(sessionStorage[key]));
         } catch {
             it.#base = null; // a browser that keeps nothing, as in a private window
         }
-        for (const name of ['pagehide', 'visibilitychange']) addEventListener(name, () => it.#leave());
+        for (const name of ['pagehide', 'visibilitychange']) addEventListener(name, () => it.leave());
         it.#tabs.postMessage({ asks: true });
         return it;
     }
 
     // Writes all that is due, before the page is left. Panes hear of it, and note what they haven't yet.
-    #leave() {
+    leave() {
         this.dispatchEvent(new Event('leave'));
         this.#write();
     }
@@ -58,12 +70,18 @@ export class Store extends EventTarget {
     #heard({ asks, slot, key, value }) {
         if (asks) {
             for (const it of this.claims.names.filter(name => this.claims.has(name)))
-                if (it === 'text') [...this.notes.keys()].filter(isShared).forEach(key => this.#send('notes', key, this.notes.get(key)));
-                else this.#send('files', it.slice(7), this.files.get(it.slice(7)));
+                this.#sendAll(it);
             return;
         }
         value === undefined ? this[slot].delete(key) : this.#slot(slot).set(key, value);
         this.dispatchEvent(new CustomEvent(slot.slice(0, -1), { detail: key }));
+    }
+
+    // Sends all that a claim stands for.
+    /** @param {string} claim */
+    #sendAll(claim) {
+        for (const [key, value] of this.notes) if (ownerOf(key) === claim) this.#send('notes', key, value);
+        if (claim.startsWith('volume ')) this.#send('files', claim.slice(7), this.files.get(claim.slice(7)));
     }
 
     /** @param {Slot} slot @param {string} key @param {any} value */
@@ -93,15 +111,32 @@ export class Store extends EventTarget {
         this.dispatchEvent(new CustomEvent('file', { detail: name }));
     }
 
+    // Notes a value, unless another tab alone may.
     /** @param {string} key @param {any} value */
     note(key, value) {
+        if (!this.#mayWrite(key)) return;
         this.notes.set(key, value);
+        if (!isShared(key)) this.#keepOwn(key, value);
         this.#keep('notes', key, value);
+    }
+
+    // Whether no other tab writes a note.
+    /** @param {string} key */
+    #mayWrite(key) {
+        const owner = ownerOf(key);
+        return owner === null || this.claims.has(owner);
+    }
+
+    // Keeps a note of this tab, so that a reload finds it whatever other tabs note meanwhile.
+    /** @param {string} key @param {any} value */
+    #keepOwn(key, value) {
+        if (this.#base) sessionStorage.setItem(OWN + key, JSON.stringify(value));
     }
 
     // Takes a note away.
     /** @param {string} key */
     forget(key) {
+        if (!this.#mayWrite(key)) return;
         this.notes.delete(key);
         this.#keep('notes', key, undefined);
     }

@@ -1,5 +1,6 @@
 // The Teletype pane: `teletype --live`, whose keys are struck at the paper, in a line, or by the tape reader.
 import { $, bytesOfFile, ids, keepInput, made, tell } from './dom.js';
+import { Owner } from './owner.js';
 import { canLive, textOf } from './program.js';
 import { Paper, keyOf } from './paper.js';
 import { got, isNamedCore, placeOf, tapeIn, tapeOf } from './tapes.js';
@@ -17,6 +18,8 @@ export class Teletype {
         this.paper = new Paper($('paper'), { shown: count => this.run?.show(count), kept: text => page.store.note('paper', text), sound: page.sound });
         this.paper.restore(page.store.notes.get('paper') ?? '');
         for (const id of ids('tty-start', 'tty-switches', 'pace', 'capitals', 'reader')) keepInput(page.store, id);
+        this.owner = new Owner(page, 'teletype', $('tty-follows'), follows => { $('reader').readOnly = follows; this.#buttons(); });
+        page.store.addEventListener('note', ({ detail }) => detail === 'paper' && this.paper.replace(page.store.notes.get('paper') ?? ''));
         page.store.addEventListener('leave', () => this.paper.keep());
         this.#paces();
         $('pace').addEventListener('change', () => this.#paces());
@@ -99,7 +102,7 @@ export class Teletype {
 
     async begin() {
         if (!$('tape').value) return tell('tty-status', 'Which tape?', true);
-        if (this.isBegun) return;
+        if (this.isBegun || this.owner?.follows) return;
         this.isBegun = true;
         this.#buttons();
         if ($('tape').value === 'source' && !await this.page.source.renew())
@@ -144,7 +147,8 @@ export class Teletype {
     }
 
     #buttons() {
-        $('tty-run').disabled = this.isBegun;
+        $('tty-run').disabled = this.isBegun || this.owner?.follows !== false;
+        $('tear').disabled = this.owner?.follows !== false;
         $('tty-stop').disabled = this.run === null;
     }
 

@@ -66,6 +66,7 @@ export class Texts extends EventTarget {
     // A further text, which is open from then on. Where there is one of that name with other words the user is asked. Whether it is open.
     /** @param {string} name @param {string} text */
     async add(name, text) {
+        if (!await this.page.source.owner.take()) return false;
         const { store } = this.page, old = name === this.name ? store.notes.get('text') : store.notes.get(`text ${name}`);
         const isOver = name !== '' && old !== undefined && old !== text && old.trim() !== '';
         const free = this.#free(name), answer = isOver ? await ask(`There is a text ${name}.`, ['free', `Call the new one ${free}`], ['over', 'Write over it'], ['', 'Leave it']) : 'over';

@@ -35,7 +35,7 @@ interface Doings {
 
 interface Page {
     store: import('./store.js').Store; claims: import('./claims.js').Claims; programs: import('./program.js').Programs; undo: import('./undo.js').Undo;
-    tell: (text: string) => void; tabs: import('./page.js').Tabs;
+    tell: (text: string) => void; say: (text: string, isBad?: boolean) => void; tabs: import('./page.js').Tabs;
     files: import('./files.js').Files; machine: import('./machine.js').Machine; teletype: import('./teletype.js').Teletype;
     source: import('./source.js').Source; script: import('./script.js').Script; texts: import('./texts.js').Texts; unkept: import('./unkept.js').Unkept;
     shelf: import('./shelf.js').Shelf; sound: import('./sound.js').Sound;

@@ -102,7 +102,7 @@ await run('kept', {
             await arrived();
             await page.until(`geivottu.machine.registers?.pc === '${['0201', '0202', '0201', '0202'][k - 1]}'`);
         }
-        same('7702', await page.look(`(async () => (await (await geivottu.machine.lines).ask('EXAMINE 00205'))[0].slice(6))()`), 'the counter');
+        same('7702', await page.look(`(async () => (await geivottu.machine.living.ask('EXAMINE 00205'))[0].slice(6))()`), 'the counter');
     },
     'a machine that has stopped is as it was, after a short run and a long one': async (page, url) => {
         await page.go(url);

@@ -1,0 +1,106 @@
+// tabs.mjs PROGRAM FOLDER [PART]: two tabs of the page, of which one has each kind of state, and the other follows or takes it. As losses.mjs otherwise.
+import { further, holds, isTold, pane, run, same, setSource } from './tools.mjs';
+
+const ECHO = '*200\nA,\tKSF\n\tJMP A\n\tKRB\n\tTLS\n\tTSF\n\tJMP .-1\n\tJMP A\n$\n';
+const value = (page, id) => page.look(`document.getElementById('${id}').value`);
+const isSeen = (page, id) => page.look(`document.getElementById('${id}').checkVisibility()`);
+
+// Two tabs, of which the first has all.
+async function two(page, url) {
+    const first = await further(page, url);
+    await page.go(`${url}?second`);
+    return first;
+}
+
+async function toCore(page, text) {
+    await setSource(page, text);
+    await page.click('#assemble');
+    await isTold(page, 'source-status', 'assembled');
+    await page.click('#to-core');
+    await isTold(page, 'machine-status', 'words are in core');
+}
+
+await run('tabs', {
+    'a script is typed in one tab, and the other follows': async (page, url) => {
+        const first = await two(page, url);
+        await pane(first, 'script');
+        await pane(page, 'script');
+        await isTold(page, 'script-follows', 'Another tab has the script');
+        await first.fill('#lines', 'DIRECT\n');
+        await page.until(`document.getElementById('lines').value === 'DIRECT\\n'`);
+        await page.fill('#lines', 'LOST');
+        same('DIRECT\n', await value(page, 'lines'), 'the script that is followed');
+        await page.look(`geivottu.store.note('lines', 'LOST')`);
+        await page.look('geivottu.store.settled()');
+        same('DIRECT\n', await first.look(`geivottu.store.notes.get('lines')`), 'the script of the first');
+        await first.fill('#lines', 'DIRECT\nREGISTERS\n');
+        await page.until(`document.getElementById('lines').value === 'DIRECT\\nREGISTERS\\n'`);
+        await first.go(`${url}?again`);
+        same('DIRECT\nREGISTERS\n', await value(first, 'lines'), 'the script after a reload');
+        await page.until(`document.getElementById('script-follows').hidden`);
+        same('DIRECT\nREGISTERS\n', await page.look(`geivottu.store.notes.get('lines')`), 'the script of the tab that has it now');
+    },
+    'one tab has the machine, and the other takes it as it is': async (page, url) => {
+        const first = await two(page, url);
+        await toCore(first, ECHO);
+        await first.look(`document.querySelector('[data-cell="00205"] button').click()`);
+        await isTold(first, 'machine-status', 'BREAK 00205 ON');
+        await pane(page, 'machine');
+        await isTold(page, 'machine-follows', 'Another tab has the machine');
+        holds(!await isSeen(page, 'panel'), 'a panel is shown that can\'t be worked');
+        same(null, await page.look(`geivottu.machine.living.lines`), 'a machine of the tab that follows');
+        await page.look(`geivottu.machine.renew()`);
+        await first.look(`document.getElementById('console').focus()`);
+        await first.click('#key-start');
+        await first.look(`document.getElementById('console').focus()`);
+        await first.keys('A');
+        await isTold(first, 'machine-status', 'BREAK 00205');
+        await first.until(`document.getElementById('console').textContent === 'A'`);
+        await page.click('#machine-follows button');
+        await page.until(`document.getElementById('machine-follows').hidden`);
+        await isTold(first, 'machine-follows', 'Another tab has the machine');
+        await page.until(`document.querySelector('#code .at')?.dataset.cell === '00205'`);
+        same('A', await page.text('console'), 'the paper');
+        same('true', await page.look(`document.querySelector('[data-cell="00205"] button').getAttribute('aria-pressed')`), 'the break');
+        await page.go(`${url}?third`);
+        await isTold(page, 'machine-follows', 'Another tab has the machine');
+        await first.until(`document.querySelector('#code .at')?.dataset.cell === '00205'`);
+    },
+    'a machine that goes is taken, and goes on': async (page, url) => {
+        const first = await two(page, url);
+        await toCore(first, ECHO);
+        await first.click('#key-start');
+        await first.until('geivottu.machine.steps > 0');
+        await pane(page, 'machine');
+        await page.click('#machine-follows button');
+        await page.until('geivottu.machine.isGoing');
+        holds(!await first.look('geivottu.machine.isGoing'), 'the first goes on');
+        await page.look(`document.getElementById('console').focus()`);
+        await page.keys('B');
+        await isTold(page, 'console', 'B');
+        await page.click('#key-stop');
+    },
+    'the shelf and a new text take what they need from the other tab': async (page, url) => {
+        const first = await two(page, url);
+        await setSource(first, '*200\n$\n');
+        await first.fill('#source-name', 'MINE');
+        await first.key('Tab');
+        await page.until(`document.getElementById('source-name').value === 'MINE'`);
+        await page.click('button[data-run="hello"]');
+        await isTold(page, 'paper', 'HELLO');
+        await isTold(first, 'text-follows', 'Another tab has the text');
+        same('HELLO', await value(first, 'source-name'), 'the text that the first follows');
+        await first.until(`document.getElementById('paper').textContent.includes('HELLO')`);
+        await pane(page, 'source');
+        await page.choose('#texts', 'MINE');
+        same('*200\n$\n', await value(page, 'text'), 'the text of the first');
+    },
+    'each tab has its own pane and volume after a reload': async (page, url) => {
+        const first = await further(page, url);
+        await pane(first, 'script');
+        await page.go(url);
+        await pane(page, 'source');
+        await first.go(`${url}?again`);
+        same('script', await first.look('geivottu.tabs.shown'), 'the pane');
+    },
+});
