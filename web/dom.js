@@ -1,4 +1,6 @@
 // What all panes use.
+import { inWords } from './words.js';
+
 /** @template {keyof Ids} K @param {K} id @returns {Ids[K]} */
 export const $ = id => /** @type {any} */ (document.getElementById(id));
 
@@ -27,7 +29,7 @@ export const ids = (...all) => all;
 /** @param {keyof Ids} id @param {string} text @param {boolean} [isBad] */
 export function tell(id, text, isBad = false) {
     const it = $(id);
-    it.textContent = text.replace(/\n+$/, '');
+    it.textContent = inWords(text);
     it.classList.toggle('bad', isBad);
 }
 

@@ -2,12 +2,13 @@
 import { $, made, tell, takeHome, bytesOfFile, elementOf, ids, keepInput, rove } from './dom.js';
 import { ask } from './ask.js';
 import { Blocks } from './blocks.js';
+import { Drops } from './drops.js';
 import { textOf } from './program.js';
 import { Shown } from './shown.js';
 import { Dump } from './dump.js';
 import { Salvage } from './salvage.js';
 import { Search, indexed } from './search.js';
-import { placeOf, tapeOf } from './tapes.js';
+import { placeOf } from './tapes.js';
 import { blocksOf, fileOf, isVolume, kindOf, targetOf, titleOf, volumesOf, wordsOf } from './volumes.js';
 
 // A file of a volume: where the directory is refused it is found by its blocks. Date and kind are as `index` prints them.
@@ -58,7 +59,7 @@ export class Files {
         for (const it of $('directory').querySelectorAll('button')) it.addEventListener('click', () => this.#sort(it.dataset.sort ?? ''));
         $('files').addEventListener('keydown', event => this.#key(event));
         $('put').addEventListener('change', () => this.#put($('put')));
-        this.#drops();
+        this.drops = new Drops(page);
         page.store.addEventListener('file', ({ detail }) => detail === this.file ? this.#again() : detail.startsWith('.') || this.#list());
         page.store.addEventListener('kept', () => this.#list());
         page.programs.addEventListener('idle', () => this.#leave());
@@ -178,37 +179,6 @@ export class Files {
     /** @param {string} name */
     #mark(name) { return this.page.store.isUnkept(fileOf(name)) ? `${titleOf(name)}, not kept` : titleOf(name); }
 
-    #drops() {
-        const zone = $('drop');
-        document.addEventListener('dragover', event => { event.preventDefault(); zone.classList.add('over'); });
-        document.addEventListener('dragleave', event => event.relatedTarget === null && zone.classList.remove('over'));
-        document.addEventListener('drop', event => {
-            event.preventDefault();
-            zone.classList.remove('over');
-            this.drop([...event.dataTransfer?.files ?? []]);
-        });
-    }
-
-    // Does with files of the host what they are. An image opens, and a tape goes to the volume that is open or else to the Teletype. Any other is a
-    // text for Source, or for the volume.
-    /** @param {File[]} files */
-    async drop(files) {
-        for (const file of files) {
-            const bytes = await bytesOfFile(file), kind = await this.#kind(bytes);
-            if (kind === 'image') await this.take(file);
-            else if (this.name !== '' && !$('files').hidden) await this.#putFiles([file]);
-            else if (kind === 'tape') await this.page.teletype.take(file.name, bytes);
-            else if (await this.page.source.take(file.name, textOf(bytes))) this.page.tabs.show('source');
-        }
-    }
-
-    // What bytes are, as the program says: an image of a volume, the tape of a program, or neither.
-    /** @param {Uint8Array} bytes */
-    async #kind(bytes) {
-        if (bytes.length > 16777216 || isVolume(await kindOf(this.page, bytes))) return 'image';
-        return bytes.length && (await tapeOf(this.page, bytes)).status === 0 ? 'tape' : 'text';
-    }
-
     /** @param {HTMLInputElement} input */
     async #opened(input) {
         const [file] = input.files ?? [];
@@ -220,7 +190,7 @@ export class Files {
     /** @param {File} file */
     async take(file) {
         const bytes = await bytesOfFile(file), asked = await kindOf(this.page, bytes);
-        if (!isVolume(asked)) return tell('files-status', `${file.name}: ${asked.refusal}\n${asked.said}`, true);
+        if (!isVolume(asked)) return this.page.say(`${file.name}: ${asked.refusal}\n${asked.said}`, true);
         const name = await this.#name(file.name);
         if (name !== null && await this.#keep(name, bytes, asked.kind)) await this.open(volumesOf(name, asked.kind)[0]);
     }
@@ -338,6 +308,7 @@ export class Files {
         $('put-row').hidden = this.refusal !== null;
         this.page.store.dispatchEvent(new Event('volume'));
         this.dump.again();
+        this.shown.again();
         if (this.refusal) return this.salvage.show();
         this.salvage.hide();
         clearTimeout(this.telling);
@@ -418,12 +389,12 @@ export class Files {
     async #put(input) {
         const files = [...input.files ?? []];
         input.value = '';
-        await this.#putFiles(files);
+        await this.putFiles(files);
     }
 
     // Puts files of the host in, one after the other; all of it is one change.
     /** @param {File[]} files */
-    async #putFiles(files) {
+    async putFiles(files) {
         /** @type {string[]} */
         const told = [];
         const names = files.map(it => nameOf(it.name));
@@ -450,7 +421,7 @@ export class Files {
         const dated = this.entries.some(it => it.name === name) ? [] : await this.shown.datedWords(name, bytes);
         const answer = await undo.group(fileOf(volume), `putting ${name}`, () => programs.ask(['put', ...wordsOf(volume), ...words, ...dated], input));
         store.remove(path);
-        return answer;
+        return { ...answer, said: answer.said.replaceAll(path, name) };
     }
 
     // Whether a file of a volume may be written: where there is one of the name the user is asked.

@@ -11,6 +11,7 @@ import { Panel } from './panel.js';
 import { Paper, keyOf } from './paper.js';
 import { tapeIn } from './tapes.js';
 import { Watch } from './watch.js';
+import { stepsIn } from './words.js';
 
 // What a PDP-8/I does in a millisecond, about; and how long its printer takes for a character, in milliseconds.
 const STEPS = 300, CHARACTER = 100;
@@ -264,7 +265,7 @@ export class Machine {
         await this.#begun(cell);
         this.reply = (await this.#ask(...lines))?.filter(it => it.startsWith('STEPS')).at(-1) ?? '';
         this.#count(steps);
-        tell('machine-status', `after step ${steps}: ${this.reply}`);
+        tell('machine-status', `after step ${steps}: ${stepsIn(this.reply)}`);
         await this.#stopped();
     }
 
@@ -277,7 +278,7 @@ export class Machine {
         this.isGoing = false;
         await this.#startLoaded();
         await this.#lookedAt('STEP');
-        tell('machine-status', this.reply);
+        tell('machine-status', stepsIn(this.reply));
         await this.#stopped();
     }
 
@@ -350,7 +351,7 @@ export class Machine {
         this.isGoing = false;
         this.page.store.note('going', false);
         this.panel.runs(false);
-        tell('machine-status', isStopped ? `stopped by the key: ${this.reply}` : this.reply, why === 'UNASSIGNED');
+        tell('machine-status', isStopped ? `stopped by the key: ${stepsIn(this.reply)}` : stepsIn(this.reply), why === 'UNASSIGNED');
         $('rate').textContent = '';
         await this.#stopped();
         if (isStopped || why === 'ENDED') return;
@@ -435,7 +436,7 @@ export class Machine {
         this.#count(this.steps);
         if (this.isGoing && performance.now() - this.listedAt < 100) return;
         this.listedAt = performance.now();
-        $('registers').replaceChildren(...Object.entries(this.registers ?? {}).map(([name, value]) => made('div', {}, made('dt', {}, name), made('dd', {}, String(value)))));
+        $('registers').replaceChildren(...Object.entries(this.registers ?? {}).filter(([name]) => name !== 'run').map(([name, value]) => made('div', {}, made('dt', {}, name), made('dd', {}, String(value)))));
         this.code.mark(this.registers, this.isGoing);
     }
 

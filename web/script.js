@@ -110,6 +110,7 @@ export class Script {
         if (this.run) return this.run.end();
         const words = this.#words();
         if (!words || this.isBegun) return;
+        if (!$('script-saving').value) words.push('--keep');
         await this.#begin(words, true);
     }
 

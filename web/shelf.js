@@ -11,6 +11,7 @@ export class Shelf {
     /** @param {Page} page */
     constructor(page) {
         this.page = page;
+        this.isBusy = false;
         for (const it of $('shelf').querySelectorAll('button')) {
             it.addEventListener('click', () => this.run(it.dataset.run ?? ''));
         }
@@ -20,17 +21,54 @@ export class Shelf {
 
     // Does what the address asks for.
     async follow() {
-        const asked = new URLSearchParams(location.hash.slice(1)), { tabs, texts } = this.page;
+        const asked = new URLSearchParams(location.hash.slice(1)), { tabs } = this.page;
         const name = asked.get('run'), source = asked.get('source');
         if (name !== null) await this.run(name);
         if (source === null) return;
-        const text = await unpacked(source).catch(() => null);
-        if (text === null) return this.page.tell('The link has no text that can be read.');
-        if (await texts.add((asked.get('name') ?? '').replace(/[^A-Z0-9]/g, '').slice(0, 6), text)) tabs.show('source');
+        const parts = [{ name: asked.get('name') ?? '', packed: source }, ...asked.getAll('next').map(it => ({ name: it.split(':')[0], packed: it.split(':')[1] ?? '' }))];
+        /** @type {{ name: string, text: string }[]} */
+        const all = [];
+        for (const it of parts) {
+            const text = await unpacked(it.packed).catch(() => null);
+            if (text === null) return this.page.tell('The link has no text that can be read.');
+            all.push({ name: it.name.replace(/[^A-Z0-9]/g, '').slice(0, 6), text });
+        }
+        if (await this.#open(all, asked.get('dialect') === 'PAL8' ? 'PAL8' : 'PAL III')) tabs.show('source');
+    }
+
+    // Opens the texts of a link, the first after those that it goes on in. Whether it is open.
+    /** @param {{ name: string, text: string }[]} all @param {string} dialect */
+    async #open([first, ...further], dialect) {
+        const { texts, source } = this.page, names = [];
+        for (const { name, text } of further) {
+            if (!await texts.add(name, text)) return false;
+            names.push(texts.name);
+        }
+        if (!await texts.add(first.name, first.text)) return false;
+        source.setOwn(dialect, names.join(' '));
+        return true;
+    }
+
+    // Takes what was chosen from the shelf: one thing at a time, whatever is clicked meanwhile.
+    /** @param {string} name */
+    async run(name) {
+        if (this.isBusy) return;
+        this.#wait(true);
+        try {
+            await this.#take(name);
+        } finally {
+            this.#wait(false);
+        }
+    }
+
+    /** @param {boolean} isBusy */
+    #wait(isBusy) {
+        this.isBusy = isBusy;
+        for (const it of $('shelf').querySelectorAll('button')) it.disabled = isBusy;
     }
 
     /** @param {string} name */
-    async run(name) {
+    async #take(name) {
         if (name === 'disk') return this.#disk();
         if (![...TEXTS, ...MORE].includes(name) || (!canLive && (name === 'sort' || name === 'lights'))) return;
         const { source, machine, teletype, tabs } = this.page;
@@ -72,8 +110,10 @@ export class Shelf {
 
     // Copies an address that opens the text anywhere.
     async #copyLink() {
-        const name = $('source-name').value.trim(), { origin, pathname } = location;
-        const link = `${origin}${pathname}#source=${await packed($('text').value)}${name ? `&name=${name}` : ''}`;
+        const name = $('source-name').value.trim(), { origin, pathname } = location, { parts, dialect } = this.page.source, missing = parts.find(it => it.text === undefined);
+        if (missing) return tell('source-status', `There is no text ${missing.name}, in which this one goes on.`, true);
+        const [first, ...further] = await Promise.all(parts.map(async it => ({ name: it.name, packed: await packed(it.text ?? '') })));
+        const link = `${origin}${pathname}#source=${first.packed}${name ? `&name=${name}` : ''}${dialect === 'PAL8' ? '&dialect=PAL8' : ''}${further.map(it => `&next=${it.name}:${it.packed}`).join('')}`;
         try {
             await navigator.clipboard.writeText(link);
             tell('source-status', `A link to this text is copied: ${link.length} characters.`);

@@ -102,6 +102,16 @@ export class Shown {
         this.lay(entry, textOf(given.out), form);
     }
 
+    // Shows the file anew, after a change of its volume, or none where it is gone.
+    async again() {
+        const { entry, form } = this, now = this.page.files.entries.find(it => it.name === entry?.name && it.isByBlocks === entry.isByBlocks);
+        if (!entry || !now) return this.lay(null);
+        const { status, out } = await this.#given(now, form);
+        if (this.entry !== entry) return;
+        if (status !== 0) return this.lay(null);
+        if (textOf(out).replaceAll('\r', '') !== $('shown').textContent || now.first !== entry.first) this.lay(now, textOf(out), form);
+    }
+
     // Lays out a text of a file, or nothing.
     /** @param {Entry | null} entry @param {string} [text] @param {Form} [form] */
     lay(entry, text = '', form = 'text') {

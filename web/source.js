@@ -1,5 +1,7 @@
 // The Source pane: `assemble` over the text, its faults at their lines, its listing and symbols, and where the tape goes.
 import { $, bytesOfFile, ids, made, rove, takeHome, tell } from './dom.js';
+import { ask } from './ask.js';
+import { encoded, homeOf, isText, shownOf } from './encoding.js';
 import { bytesOf, textOf } from './program.js';
 import { Texts } from './texts.js';
 import { Listing } from './listing.js';
@@ -37,7 +39,7 @@ export class Source {
         $('text').addEventListener('keydown', event => this.#key(event));
         $('assemble').addEventListener('click', () => this.assemble());
         $('tape-home').addEventListener('click', () => this.#tapeHome());
-        $('text-home').addEventListener('click', () => takeHome(`${this.#name}.PA`, new TextEncoder().encode($('text').value)));
+        $('text-home').addEventListener('click', () => takeHome(`${this.#name}.PA`, homeOf($('text').value, this.#formOf(this.texts.name))));
         $('to-core').addEventListener('click', () => this.#toCore());
         $('to-teletype').addEventListener('click', () => this.#toTeletype());
         $('to-volume').addEventListener('click', () => this.#toVolume());
@@ -82,6 +84,8 @@ export class Source {
         return [{ name: this.#name, text: $('text').value }, ...names.map(name => ({ name, text: /** @type {string | undefined} */ (notes.get(`text ${name}`)) }))];
     }
 
+    get dialect() { return $('dialect').value; }
+
     get #isPal8() { return $('dialect').value === 'PAL8'; }
 
     // The word that chooses the dialect of the text, if it isn't PAL III.
@@ -98,6 +102,13 @@ export class Source {
         const { notes } = this.page.store;
         $('further').value = notes.get(`further ${this.texts.name}`) ?? '';
         $('dialect').value = notes.get(`dialect ${this.texts.name}`) ?? 'PAL III';
+    }
+
+    // Gives the open text a dialect, and the names of those that it goes on in.
+    /** @param {string} dialect @param {string} further */
+    setOwn(dialect, further) {
+        [$('dialect').value, $('further').value] = [dialect, further];
+        this.#keepOwn();
     }
 
     // Keeps with the open text the names of those that it goes on in, and its dialect.
@@ -118,7 +129,7 @@ export class Source {
         if (missing) return tell('source-status', `There is no text ${missing.name} that waits: the open one goes on in texts of the list.`, true);
         return parts.map(({ text }, k) => {
             const path = k ? `.${name}-${k + 1}.pa` : `.${name}.pa`;
-            this.page.store.put(path, new TextEncoder().encode(text));
+            this.page.store.put(path, encoded(text ?? '', this.#formOf(k ? parts[k].name : this.texts.name)));
             return path;
         });
     }
@@ -352,14 +363,25 @@ export class Source {
     async #opened(input) {
         const [file] = input.files ?? [];
         input.value = '';
-        if (file) await this.take(file.name, textOf(await bytesOfFile(file)));
+        if (file) await this.take(file.name, await bytesOfFile(file));
     }
 
-    // Opens a text of the host as a further one. Whether it is open.
-    /** @param {string} path @param {string} text */
-    take(path, text) {
-        return this.texts.add(path.toUpperCase().split('.')[0].replace(/[^A-Z0-9]/g, '').slice(0, 6), text.replaceAll('\r\n', '\n').replaceAll('\u001a', ''));
+    // Opens a text of the host as a further one. What is plainly no text is asked for. Whether it is open.
+    /** @param {string} path @param {Uint8Array} bytes */
+    async take(path, bytes) {
+        if (!isText(bytes) && await ask(`${path} is no image and no tape, and has bytes that a text hasn't.`, ['', 'Leave it'], ['text', 'Open it as a text']) !== 'text') {
+            this.page.say(`${path} was not opened: it is no image, no tape, and plainly no text.`, true);
+            return false;
+        }
+        const { text, form } = shownOf(bytes);
+        if (!await this.texts.add(path.toUpperCase().split('.')[0].replace(/[^A-Z0-9]/g, '').slice(0, 6), text)) return false;
+        if (form) this.page.store.note(`form ${this.texts.name}`, form);
+        return true;
     }
+
+    // The form of a text of the host, by its name here.
+    /** @param {string} name @returns {import('./encoding.js').Form | undefined} */
+    #formOf(name) { return this.page.store.notes.get(`form ${name}`); }
 
     /** @param {HTMLSelectElement} select */
     async #example(select) {
@@ -372,11 +394,8 @@ export class Source {
     /** @param {string} name */
     async takeExample(name) {
         const answer = await fetch(`examples/${name}`);
-        if (!answer.ok || !await this.take(name, await answer.text())) return false;
-        if (PAL8.includes(name)) {
-            $('dialect').value = 'PAL8';
-            this.#keepOwn();
-        }
+        if (!answer.ok || !await this.take(name, new Uint8Array(await answer.arrayBuffer()))) return false;
+        this.setOwn(PAL8.includes(name) ? 'PAL8' : 'PAL III', '');
         return true;
     }
 }

@@ -3,7 +3,7 @@
 // by the tab that has the claim alone. Any other note is of the tab. The text that is open is the note `text`; others are notes `text NAME`.
 const SLOTS = /** @type {const} */ (['files', 'notes']), OWN = 'geivottu ';
 /** @type {[RegExp, string][]} */
-const OWNERS = [[/^(text|source-name|tape)$|^(text|further|dialect) /, 'text'], [/^(lines|script-saving|strict)$/, 'script'], [/^(paper|reader)$/, 'teletype'],
+const OWNERS = [[/^(text|source-name|tape)$|^(text|further|dialect|form) /, 'text'], [/^(lines|script-saving|strict)$/, 'script'], [/^(paper|reader|tty-going)$/, 'teletype'],
     [/^(machine|printed|access|steps|going|loaded|address|switches|breaks|listing|names|console)$/, 'machine']];
 
 // The claim that stands for a note, null for none.

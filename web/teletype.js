@@ -18,7 +18,7 @@ export class Teletype {
         this.paper = new Paper($('paper'), { shown: count => this.run?.show(count), kept: text => page.store.note('paper', text), sound: page.sound });
         this.paper.restore(page.store.notes.get('paper') ?? '');
         for (const id of ids('tty-start', 'tty-switches', 'pace', 'capitals', 'reader')) keepInput(page.store, id);
-        this.owner = new Owner(page, 'teletype', $('tty-follows'), follows => { $('reader').readOnly = follows; this.#buttons(); });
+        this.owner = new Owner(page, 'teletype', $('tty-follows'), follows => this.#close(follows));
         page.store.addEventListener('note', ({ detail }) => detail === 'paper' && this.paper.replace(page.store.notes.get('paper') ?? ''));
         page.store.addEventListener('leave', () => this.paper.keep());
         this.#paces();
@@ -35,6 +35,15 @@ export class Teletype {
         page.store.addEventListener('volume', () => this.#list());
         page.store.addEventListener('tape', () => this.#list());
         this.#list();
+    }
+
+    // Closes what works it where another tab has it. A program that ran when the page was left runs no more, and one that another tab takes neither.
+    /** @param {boolean} follows */
+    #close(follows) {
+        $('reader').readOnly = follows;
+        if (follows) this.stop();
+        else if (this.page.store.notes.get('tty-going')) this.#ended(1, 'The program ended as the page was left, and waits for no key. Run starts it from its beginning.');
+        this.#buttons();
     }
 
     #paces() { this.paper.pace = $('pace').value === 'real' ? 10 : null; }
@@ -120,6 +129,7 @@ export class Teletype {
         tell('tty-status', 'running');
         if (!canLive) return this.#whole(words);
         this.run = await this.page.programs.begin(words, how);
+        this.page.store.note('tty-going', true);
         this.#buttons();
         $('paper').focus();
     }
@@ -136,6 +146,7 @@ export class Teletype {
     #ended(status, said) {
         this.run = null;
         this.isBegun = false;
+        this.page.store.note('tty-going', false);
         tell('tty-status', said || (status === null ? 'stopped' : `status ${status}`), status !== 0 && status !== null);
         this.#buttons();
     }
@@ -156,6 +167,7 @@ export class Teletype {
     /** @param {string} text */
     strike(text) {
         const keys = $('capitals').checked ? text.toUpperCase() : text;
+        if (!this.run) tell('tty-status', 'Nothing runs here that takes keys. Run starts the tape.', true);
         this.run?.say(Uint8Array.from(keys.replaceAll('\r\n', '\n'), it => it.charCodeAt(0) & 0o377));
     }
 

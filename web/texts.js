@@ -2,6 +2,9 @@
 import { $, made, tell } from './dom.js';
 import { ask } from './ask.js';
 
+// What is kept with a text, by its name.
+const OWN = ['further', 'dialect', 'form'];
+
 export class Texts extends EventTarget {
     /** @param {Page} page */
     constructor(page) {
@@ -40,7 +43,20 @@ export class Texts extends EventTarget {
     #close() {
         const { store } = this.page, text = store.notes.get('text') ?? '';
         if (text.trim() === '' && this.name === '') return;
-        store.note(`text ${this.name || this.#free('TEXT')}`, text);
+        const name = this.name || this.#free('TEXT');
+        store.note(`text ${name}`, text);
+        if (this.name === '') this.#moveOwn('', name);
+    }
+
+    // Keeps under a text's new name what is kept with it.
+    /** @param {string} old @param {string} name */
+    #moveOwn(old, name) {
+        const { store } = this.page;
+        for (const it of OWN) {
+            const value = store.notes.get(`${it} ${old}`);
+            store.forget(`${it} ${old}`);
+            value === undefined ? store.forget(`${it} ${name}`) : store.note(`${it} ${name}`, value);
+        }
     }
 
     /** @param {string} name @param {string} text */
@@ -78,6 +94,7 @@ export class Texts extends EventTarget {
             this.#close();
             if (answer === 'over' && isOver) store.setText(name, text);
         }
+        for (const it of OWN) store.forget(`${it} ${answer === 'free' ? free : name}`);
         this.#show(answer === 'free' ? free : name, text);
         return true;
     }
@@ -102,6 +119,7 @@ export class Texts extends EventTarget {
         $('source-name').value = name;
         this.name = name;
         store.note('source-name', name);
+        if (old !== name) this.#moveOwn(old, name);
         if (old !== name && store.notes.has(`text ${old}`)) store.forget(`text ${old}`);
         this.list();
     }

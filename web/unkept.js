@@ -1,6 +1,7 @@
 // What the browser's store doesn't take, since it is full or refuses. It is reported at once, marked, offered to be taken home, and asked about
 // before the page is left.
 import { $, takeHome } from './dom.js';
+import { homeOf } from './encoding.js';
 import { bytesOf } from './program.js';
 
 /** @type {Record<string, string>} */
@@ -29,7 +30,8 @@ export class Unkept {
         const { store } = this.page;
         for (const { slot, key, value } of store.unkept) {
             const own = { text: `${$('source-name').value.trim() || 'PROGRAM'}.PA`, lines: 'SCRIPT.TX' }[key] ?? `${key.slice(5)}.PA`;
-            takeHome(slot === 'files' ? key : own, bytesOf(value));
+            const form = slot === 'files' ? null : store.notes.get(`form ${key === 'text' ? $('source-name').value.trim() : key.slice(5)}`);
+            takeHome(slot === 'files' ? key : own, slot === 'files' ? bytesOf(value) : homeOf(value, form));
             store.tookHome(slot, key);
         }
     }

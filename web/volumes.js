@@ -83,6 +83,17 @@ export async function kindOf({ programs, store }, bytes) {
     }
 }
 
+// Whether bytes that are refused are an image of a sound directory, once words with more than twelve bits are read without the top ones.
+/** @param {Page} page @param {Uint8Array} bytes */
+export async function isFaulty({ programs, store }, bytes) {
+    const name = `.kind-${++last}`;
+    store.put(name, bytes);
+    const answers = [];
+    for (const words of [[], ['--volume', '1'], ['--dectape']]) answers.push(await programs.ask(['check', name, '--lenient', ...words]));
+    store.remove(name);
+    return answers.some(it => it.status === 0);
+}
+
 // All that `index` says of an image.
 /** @param {Page['programs']} programs @param {string} name */
 async function indexOf(programs, name) {

@@ -173,7 +173,7 @@ const tests = {
     },
     'a drop is opened as what it is': async fox => {
         const text = readFileSync(join(examples, 'add-one.bin')).toString('base64');
-        await fox.look(`(async () => { await geivottu.files.drop([new File([Uint8Array.from(atob('${text}'), it => it.charCodeAt(0))], 'add.bn')]); })()`);
+        await fox.look(`(async () => { await geivottu.files.drops.take([new File([Uint8Array.from(atob('${text}'), it => it.charCodeAt(0))], 'add.bn')]); })()`);
         await fox.until(`document.querySelectorAll('#directory tbody tr').length === 2`);
         native(['put', 'DISK', '-', '--as', 'ADD.BN'], readFileSync(join(examples, 'add-one.bin')));
         await fox.click('button[aria-label="ADD.BN in its best form"]');

@@ -2,7 +2,7 @@
 import { readFileSync, readdirSync } from 'node:fs';
 import { join } from 'node:path';
 import { pause } from './browser.mjs';
-import { isTold, holds, pane, run, same, setSource } from './tools.mjs';
+import { create, isTold, holds, pane, run, same, setSource } from './tools.mjs';
 
 const ECHO = '*200\nA,\tKSF\n\tJMP A\n\tKRB\n\tTLS\n\tTSF\n\tJMP .-1\n\tJMP A\n$\n';
 // Prints a character, and counts for ever.
@@ -92,6 +92,38 @@ await run('kept', {
         await page.look(`document.getElementById('tty-run').click()`);
         await arrived();
         same('A', await page.text('paper'), 'the paper');
+    },
+    'a program at the Teletype that waits for a key is said to have ended at a reload': async (page, url) => {
+        await page.go(url);
+        await setSource(page, ECHO);
+        await page.click('#assemble');
+        await isTold(page, 'source-status', 'assembled');
+        await page.click('#to-teletype');
+        await page.click('#tty-run');
+        await page.keys('A');
+        await isTold(page, 'paper', 'A');
+        await leave(page);
+        await isTold(page, 'tty-status', 'The program ended as the page was left');
+        await page.look(`document.getElementById('paper').focus()`);
+        await page.key('B');
+        await isTold(page, 'tty-status', 'Nothing runs here that takes keys');
+        await leave(page);
+        same('', await page.text('tty-status'), 'what is said after a further reload');
+    },
+    'a session keeps the files that it has stored': async (page, url) => {
+        await page.go(url);
+        await create(page, 'DISK');
+        await pane(page, 'script');
+        await page.click('#session');
+        await page.until(`!document.getElementById('entry-line').disabled`);
+        for (const it of ['STORE ONE 1', 'THE LINE']) {
+            await page.fill('#entry-line', it);
+            await page.key('Enter');
+        }
+        await isTold(page, 'replies', 'STORED ONE 1');
+        await leave(page);
+        await pane(page, 'files');
+        await page.until(`!!document.querySelector('tr[data-name="ONE"]')`);
     },
     'each step is kept as it is shown': async (page, url) => {
         await page.go(url);

@@ -3,7 +3,7 @@
 import { readFileSync, writeFileSync } from 'node:fs';
 import { dirname, join, resolve } from 'node:path';
 import { fileURLToPath, pathToFileURL } from 'node:url';
-import { file, holds, image, isTold, native, pane, run, same, setSource, volume } from './tools.mjs';
+import { file, holds, image, isTold, native, pane, run, same, setSource, stranger, volume } from './tools.mjs';
 
 const examples = join(dirname(dirname(dirname(fileURLToPath(import.meta.url)))), 'examples');
 const example = name => readFileSync(join(examples, name));
@@ -98,6 +98,49 @@ await run('shelf', {
         await page.go(`${url}?d#source=@@@`);
         await isTold(page, 'trouble', 'The link has no text that can be read');
     },
+    'a link has the dialect of its text, and the texts that it goes on in': async (page, url) => {
+        const first = '*200\n\tTAD A\n\tHLT\nA,\t"B\n', second = '*300\n\tHLT\n$\n';
+        await page.go(url);
+        await setSource(page, second);
+        await page.fill('#source-name', 'TWO');
+        await page.click('#text-new');
+        await setSource(page, first);
+        await page.fill('#source-name', 'ONE');
+        await page.key('Tab');
+        await page.choose('#dialect', 'PAL8');
+        await page.fill('#further', 'TWO');
+        await page.key('Tab');
+        await page.look(`Object.defineProperty(navigator, 'clipboard', { value: { writeText: async it => { window.copied = it; } } })`);
+        await page.click('#link');
+        await isTold(page, 'source-status', 'A link to this text is copied');
+        const link = await page.look('copied'), other = await stranger(page);
+        await other.go(`${url}${link.slice(url.length)}`);
+        await other.until(`document.getElementById('text').value === ${JSON.stringify(first)}`);
+        same('ONE PAL8 TWO', await other.look(`['source-name', 'dialect', 'further'].map(it => document.getElementById(it).value).join(' ')`), 'the text');
+        await other.click('#assemble');
+        await isTold(other, 'source-status', 'assembled');
+        await other.choose('#texts', 'TWO');
+        same(second, await other.look(`document.getElementById('text').value`), 'the further text');
+        await other.end();
+    },
+    'two clicks at the shelf are one disk, with the tapes of its texts': async (page, url) => {
+        await page.go(url);
+        await press(page, 'disk');
+        await page.look(`document.querySelector('button[data-run="disk"]').click()`);
+        for (let k = 0; k < 3; k++) await page.look(`document.querySelector('button[data-run="disk"]').dispatchEvent(new MouseEvent('click')); new Promise(go => setTimeout(go, 100))`);
+        await page.until(`document.getElementById('volume').value === 'SHELF'`);
+        await page.until(`!document.querySelector('button[data-run="disk"]').disabled`);
+        const made = await image(page);
+        native(['create', 'SHELF', '737']);
+        for (const it of ['hello', 'guess', 'sort', 'lights']) {
+            writeFileSync(file(`${it}.pa`), example(`${it}.pa`));
+            native(['assemble', `${it}.pa`, '--output', `${it}.bn`]);
+            native(['put', 'SHELF', '-', '--as', `${it.toUpperCase()}.PA`, '--text'], example(`${it}.pa`));
+            native(['put', 'SHELF', '-', '--as', `${it.toUpperCase()}.BN`], readFileSync(file(`${it}.bn`)));
+        }
+        same(readFileSync(file('SHELF')), made, 'the disk');
+        same('SHELF', await page.look(`[...document.getElementById('volume').options].slice(1).map(it => it.value).join()`), 'the volumes');
+    },
     'what is dropped is opened as what it is': async (page, url) => {
         await page.go(url);
         native(['create', 'DISK', '90']);
@@ -105,7 +148,7 @@ await run('shelf', {
         native(['assemble', 'it.pa', '--output', 'it.bn']);
         const drop = async (...names) => {
             const all = names.map(it => [it, readFileSync(file(it)).toString('base64')]);
-            await page.look(`geivottu.files.drop(${JSON.stringify(all)}.map(([name, text]) => new File([Uint8Array.from(atob(text), it => it.charCodeAt(0))], name)))`);
+            await page.look(`geivottu.files.drops.take(${JSON.stringify(all)}.map(([name, text]) => new File([Uint8Array.from(atob(text), it => it.charCodeAt(0))], name)))`);
         };
         await drop('it.pa');
         await page.until(`document.getElementById('text').value === ${JSON.stringify(ONE)} && !document.getElementById('source').hidden`);

@@ -55,6 +55,10 @@ export async function further(page, url) {
     return it;
 }
 
+// A further user, with a profile of its own.
+/** @param {Page} page */
+export const stranger = page => /** @type {Page} */ (page.browser ?? page).user();
+
 // A new volume in the page, and the same natively.
 /** @param {Page} page @param {string} name @param {number} [blocks] */
 export async function create(page, name, blocks = 90) {
