@@ -48,6 +48,7 @@ export class Files {
         $('take-image').addEventListener('click', () => takeHome(this.file, page.store.files.get(this.file)));
         $('drop-image').addEventListener('click', () => this.#remove());
         $('squeeze').addEventListener('click', () => this.#change('the squeeze', 'SQUEEZE', 'FINISH'));
+        this.#undoable();
         $('undo').addEventListener('click', () => this.#undo(false));
         $('redo').addEventListener('click', () => this.#undo(true));
         page.undo.addEventListener('change', () => this.#undoable());
@@ -57,7 +58,7 @@ export class Files {
         $('find').addEventListener('input', () => this.#rows());
         $('find').addEventListener('keydown', event => event.key === 'Enter' && this.#showFound());
         for (const it of $('directory').querySelectorAll('button')) it.addEventListener('click', () => this.#sort(it.dataset.sort ?? ''));
-        $('files').addEventListener('keydown', event => this.#key(event));
+        document.addEventListener('keydown', event => this.#key(event));
         $('put').addEventListener('change', () => this.#put($('put')));
         this.drops = new Drops(page);
         page.store.addEventListener('file', ({ detail }) => detail === this.file ? this.#again() : detail.startsWith('.') || this.#list());
@@ -76,11 +77,11 @@ export class Files {
         }
     }
 
-    // Ctrl-Z and Ctrl-Y, where no text is typed.
+    // Ctrl-Z and Ctrl-Y on each pane, where no text is typed.
     /** @param {KeyboardEvent} event */
     #key(event) {
         const key = event.key.toLowerCase(), isAgain = key === 'y' || (key === 'z' && event.shiftKey);
-        if (!(event.ctrlKey || event.metaKey) || !(key === 'z' || key === 'y') || elementOf(event).matches('input, textarea')) return;
+        if (!(event.ctrlKey || event.metaKey) || !(key === 'z' || key === 'y') || elementOf(event).closest('input, textarea, select, .paper, dialog')) return;
         event.preventDefault();
         this.#undo(isAgain);
     }
@@ -88,20 +89,20 @@ export class Files {
     // Undoes the newest change, or does it again, and shows the volume of it.
     /** @param {boolean} isAgain */
     async #undo(isAgain) {
-        const { undo, claims, source } = this.page, next = undo.step(isAgain);
+        const { undo, claims, source, machine, say } = this.page, next = undo.step(isAgain);
         if (!next) return;
         let busy = null;
         /** @param {Step} step */
         const mayChange = async ({ slot, key }) => {
-            if (slot === 'notes') return !source.follows;
+            if (slot === 'notes') return !(key === 'machine' ? machine.owner : source).follows;
             busy = claims.has(`volume ${key}`) ? await this.#busy(key) : '? HOST BUSY';
             return busy === null;
         };
         const go = () => undo.go(isAgain, mayChange), step = next.slot === 'files' ? await this.#use(next.key, go) : await go();
-        if (!step) return busy && tell('files-status', busy, true);
+        if (!step) return busy && say(busy, true);
         if (step.slot === 'files') await this.#openAnyOf(step);
         const words = `${isAgain ? 'Done again' : 'Undone'}: ${step.words}.`;
-        tell('files-status', step.isDone ? words : `${step.words} can't be undone: something else was changed since.`, !step.isDone);
+        say(step.isDone ? words : `${step.words} can't be undone: something else was changed since.`, !step.isDone);
     }
 
     // Leaves to other tabs the volumes that this one doesn't use.
@@ -275,12 +276,12 @@ export class Files {
     async #remove() {
         const name = this.file, busy = await this.#busy(name);
         if (busy) return tell('files-status', busy, true);
-        if (!confirm(`Remove ${name} from the page? Undo brings it back, until the page is left.`)) return;
+        if (!confirm(`Remove ${name} from the page? Undo brings it back.`)) return;
         this.page.undo.begin(name, `the removal of ${name}`);
         this.page.store.remove(name);
         this.page.undo.end(name);
         await this.open(this.volumes[0] ?? '');
-        tell('files-status', `${name} is removed. Undo brings it back, until the page is left.`);
+        tell('files-status', `${name} is removed. Undo brings it back.`);
     }
 
     // Reads the volume anew and shows it.

@@ -196,10 +196,12 @@ export class Listing {
     async #toStep() {
         const { machine, tabs } = this.page, lines = this.#steps, { tape } = this.source;
         tabs.show('machine');
-        await machine.renew();
-        if (!tape || !await machine.load(tape, `the tape of ${$('source-name').value || 'the source'}`)) return;
-        machine.list($('listing').textContent, $('symbols').textContent);
-        await machine.runTo(Number.parseInt(this.start, 8), this.switches, linesOf(lines, this.keys), lines.length);
+        await this.page.undo.ofMachine('going on from the step', async () => {
+            await machine.renew();
+            if (!tape || !await machine.load(tape, `the tape of ${$('source-name').value || 'the source'}`)) return;
+            machine.list($('listing').textContent, $('symbols').textContent);
+            await machine.runTo(Number.parseInt(this.start, 8), this.switches, linesOf(lines, this.keys), lines.length);
+        });
     }
 }
 

@@ -17,6 +17,7 @@ import { stepsIn } from './words.js';
 const STEPS = 300, CHARACTER = 100;
 const LEAST = 20000, MOST = 1000000, LOOKS = 8, PICTURE = 10;
 // How many steps and lines the journal may have while the machine goes, and when it has stopped.
+const STATE = ['machine', 'printed', 'access', 'steps', 'loaded', 'address', 'switches', 'breaks', 'listing', 'names', 'console'];
 const GOING = /** @type {const} */ ([300000000, 20000]), STOPPED = /** @type {const} */ ([5000000, 2000]);
 
 export class Machine {
@@ -61,6 +62,7 @@ export class Machine {
         for (const it of ['volume', 'tape']) page.store.addEventListener(it, () => this.#tapes());
         $('machine').addEventListener('shown', () => this.#refresh());
         page.store.addEventListener('leave', () => this.#keep(true));
+        page.undo.machine = { get: () => this.state, set: state => this.bring(state) };
         this.owner = new Owner(page, 'machine', $('machine-follows'), follows => this.#close(follows));
     }
 
@@ -71,6 +73,21 @@ export class Machine {
         if (!follows) return this.#restore();
         this.isGoing = false;
         await this.living.stop();
+    }
+
+    // The machine as text: what the page keeps of it.
+    get state() {
+        this.#keep(true);
+        return JSON.stringify(STATE.map(it => [it, this.page.store.notes.get(it)]));
+    }
+
+    // Brings back a machine in place of this one.
+    /** @param {string} state */
+    async bring(state) {
+        this.isGoing = false;
+        for (const [key, value] of JSON.parse(state)) this.page.store.note(key, value ?? null);
+        this.page.store.note('going', false);
+        await this.#restore();
     }
 
     async #restore() {
@@ -122,7 +139,10 @@ export class Machine {
 
     // A machine whose core is empty.
     async renew() {
-        if (this.owner.follows) return;
+        if (!this.owner.follows) await this.page.undo.ofMachine('the new machine', () => this.#renew());
+    }
+
+    async #renew() {
         this.isGoing = false;
         await this.living.restart(true);
         this.accesses.set(null);
@@ -146,15 +166,21 @@ export class Machine {
             tell('machine-status', `${name}: ${textOf(out)}${said}`, true);
             return false;
         }
+        await this.page.undo.ofMachine(`the load of ${name}`, () => this.#lay(textOf(out), name, start));
+        return true;
+    }
+
+    // Lays words over core, as `tape` lists them.
+    /** @param {string} listed @param {string} name @param {string | null} start */
+    async #lay(listed, name, start) {
         this.isGoing = false;
-        const words = textOf(out).trim().split('\n').filter(it => it).map(it => it.split(' '));
+        const words = listed.trim().split('\n').filter(it => it).map(it => it.split(' '));
         await this.#ask(...words.map(([field, address, word]) => `DEPOSIT ${field}${address} ${word}`));
         const first = words[0] ? Number.parseInt(words[0][0] + words[0][1], 8) : 0o200, isStart = start !== null && /^[0-7]{5}$/.test(start);
         this.#point(isStart ? Number.parseInt(start, 8) : words.some(([field, address]) => field + address === '00200') ? 0o200 : first);
         this.isLoaded = true;
         tell('machine-status', `${name}: ${words.length} words are in core; START begins at ${octal(this.panel.address, 5)}`);
         await this.#refresh();
-        return true;
     }
 
     /** @param {number} cell */

@@ -93,7 +93,7 @@ async function begin() {
     }
     if (!canLive) hideUnable();
     const claims = new Claims();
-    KINDS.forEach(it => claims.claim(it));
+    for (const it of [...KINDS, 'history']) claims.claim(it);
     const store = await Store.open(claims);
     const programs = new Programs(await load('pdp8.wasm'), store);
     const page = /** @type {Page} */ ({ store, claims, programs, undo: new Undo(store), sound: new Sound(store), tell: trouble });

@@ -9,11 +9,12 @@ const OWNERS = [[/^(text|source-name|tape)$|^(text|further|dialect|form) /, 'tex
 // The claim that stands for a note, null for none.
 /** @param {string} key */
 export function ownerOf(key) {
+    if (/^undo( |$)/.test(key)) return 'history';
     const volume = /^as ([^ /]+)/.exec(key)?.[1];
     return volume === undefined ? OWNERS.find(([pattern]) => pattern.test(key))?.[1] ?? null : `volume ${volume}`;
 }
 
-const isShared = (/** @type {string} */ key) => key.startsWith('kind ') || ownerOf(key) !== null;
+const isShared = (/** @type {string} */ key) => key.startsWith('kind ') || ![null, 'history'].includes(ownerOf(key));
 // Whether a note is a user's own work.
 const isWork = (/** @type {string} */ key) => ['text', 'lines'].includes(key) || key.startsWith('text ');
 
@@ -116,7 +117,7 @@ export class Store extends EventTarget {
     note(key, value) {
         if (!this.#mayWrite(key)) return;
         this.notes.set(key, value);
-        if (!isShared(key)) this.#keepOwn(key, value);
+        if (!isShared(key) && ownerOf(key) === null) this.#keepOwn(key, value);
         this.#keep('notes', key, value);
     }
 

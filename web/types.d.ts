@@ -13,7 +13,7 @@ interface Registers {
 interface Change { slot: Slot; key: string; before: Kept; after: Kept }
 interface Part { at: number; old: Uint8Array; fresh: Uint8Array }
 interface Step {
-    slot: Slot; key: string; words: string; isText: boolean; size: number;
+    id: number; slot: Slot; key: string; words: string; isText: boolean; size: number;
     was?: Uint8Array | null; is?: Uint8Array | null; parts?: Part[]; lengths?: [number, number];
 }
 

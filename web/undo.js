@@ -1,5 +1,5 @@
-// What brings back what a change of a volume, or of a text that isn't open, has taken away. Of each change it keeps the bytes that differ, as they
-// were and as they became. All is kept in the page, and gone with it.
+// What brings back what a change of a volume, of a text that isn't open, or of the machine has taken away. Of each change of a volume or a text it keeps
+// the bytes that differ, as they were and as they became; of one of the machine, the whole of it before and after. The page keeps all of it.
 import { bytesOf } from './program.js';
 
 const BLOCK = 512, MOST = 50, ROOM = 96 << 20;
@@ -12,12 +12,43 @@ export class Undo extends EventTarget {
     /** @type {Map<string, { words: string } & Partial<Change>>} */
     #open = new Map();
     #isOwn = false;
+    #last = 0;
+    // What gives the machine as it is, and brings back another.
+    /** @type {{ get: () => string, set: (state: string) => Promise<void> }} */
+    machine = { get: () => '', set: async () => {} };
 
     /** @param {import('./store.js').Store} store */
     constructor(store) {
         super();
         this.store = store;
         store.addEventListener('change', ({ detail }) => this.#changed(detail));
+        /** @type {{ past: number[], future: number[], last: number }} */
+        const { past, future, last } = store.notes.get('undo') ?? { past: [], future: [], last: 0 };
+        /** @param {number[]} ids */
+        const steps = ids => ids.map(it => store.notes.get(`undo ${it}`)).filter(it => it !== undefined);
+        [this.#past, this.#future, this.#last] = [steps(past), steps(future), last];
+    }
+
+    // Has the page keep which steps there are, and no others.
+    #keepList() {
+        const { notes } = this.store, ids = [this.#past, this.#future].map(all => all.map(it => it.id));
+        for (const it of notes.get('undo')?.past.concat(notes.get('undo').future) ?? []) if (!ids.flat().includes(it)) this.store.forget(`undo ${it}`);
+        this.store.note('undo', { past: ids[0], future: ids[1], last: this.#last });
+        this.dispatchEvent(new Event('change'));
+    }
+
+    // What the work does to the machine is one change.
+    /** @param {string} words @param {() => Promise<T>} work @template T @returns {Promise<T>} */
+    async ofMachine(words, work) {
+        if (!this.begin('machine', words)) return work();
+        const before = this.machine.get();
+        try {
+            return await work();
+        } finally {
+            this.#open.delete('machine');
+            const after = this.machine.get();
+            if (before !== after) this.#add({ slot: 'notes', key: 'machine', words, isText: true, was: bytesOf(before), is: bytesOf(after), size: before.length + after.length });
+        }
     }
 
     // How many changes can be undone.
@@ -70,12 +101,18 @@ export class Undo extends EventTarget {
     /** @param {Change & { words: string }} it */
     #keep({ slot, key, before, after, words }) {
         const step = stepOf(slot, key, before, after, words);
-        if (!step) return;
+        if (step) this.#add(step);
+    }
+
+    /** @param {Omit<Step, 'id'>} it */
+    #add(it) {
+        const step = { ...it, id: ++this.#last };
+        this.store.note(`undo ${step.id}`, step);
         this.#past.push(step);
         this.#future = [];
         const size = () => this.#past.reduce((sum, it) => sum + it.size, 0);
         while (this.#past.length > MOST || (this.#past.length > 1 && size() > ROOM)) this.#past.shift();
-        this.dispatchEvent(new Event('change'));
+        this.#keepList();
     }
 
     // Undoes the newest change, or does again what was undone last. Gives the step, or null where the thing was changed by another tab
@@ -87,6 +124,12 @@ export class Undo extends EventTarget {
         if (!step || !await mayChange(step)) return null;
         if (from.at(-1) !== step) return null;
         from.pop();
+        if (step.key === 'machine') {
+            await this.#bringMachine(step, isAgain);
+            to.push(step);
+            this.#keepList();
+            return { ...step, isDone: true };
+        }
         const value = laid(this.store[step.slot].get(step.key), step, isAgain);
         const isDone = value !== null;
         if (isDone) {
@@ -95,13 +138,22 @@ export class Undo extends EventTarget {
             this.#isOwn = false;
             to.push(step);
         }
-        this.dispatchEvent(new Event('change'));
+        this.#keepList();
         return { ...step, isDone };
+    }
+
+    // Brings back the machine of a step. The one in whose place it comes is what comes back next.
+    /** @param {Step} step @param {boolean} isAgain */
+    async #bringMachine(step, isAgain) {
+        const now = bytesOf(this.machine.get()), text = new TextDecoder().decode((isAgain ? step.is : step.was) ?? new Uint8Array(0));
+        step[isAgain ? 'was' : 'is'] = now;
+        this.store.note(`undo ${step.id}`, step);
+        await this.machine.set(text);
     }
 }
 
 // A change as what is kept of it, null where nothing changed. A thing that was not there before, or isn't after, is kept whole.
-/** @param {Slot} slot @param {string} key @param {Kept} before @param {Kept} after @param {string} words @returns {Step | null} */
+/** @param {Slot} slot @param {string} key @param {Kept} before @param {Kept} after @param {string} words @returns {Omit<Step, 'id'> | null} */
 function stepOf(slot, key, before, after, words) {
     const was = before === undefined ? null : bytesOf(before), is = after === undefined ? null : bytesOf(after);
     const isText = typeof (before ?? after) === 'string', step = { slot, key, words, isText };

@@ -83,6 +83,7 @@ await run('drops', {
         await pane(page, 'machine');
         await page.until(`document.getElementById('registers').textContent !== ''`);
         holds(!(await page.text('registers')).includes('run'), 'a register that says run');
+        await page.click('#key-load');
         await page.click('#key-step');
         await isTold(page, 'machine-status', '1 step: the next instruction is at 00001 (STEPS 1 LIMIT 00001)');
     },

@@ -2,7 +2,7 @@
 import { readFileSync, readdirSync } from 'node:fs';
 import { join } from 'node:path';
 import { pause } from './browser.mjs';
-import { create, isTold, holds, pane, run, same, setSource } from './tools.mjs';
+import { answer, create, file, holds, image, isTold, native, pane, run, same, setSource } from './tools.mjs';
 
 const ECHO = '*200\nA,\tKSF\n\tJMP A\n\tKRB\n\tTLS\n\tTSF\n\tJMP .-1\n\tJMP A\n$\n';
 // Prints a character, and counts for ever.
@@ -124,6 +124,71 @@ await run('kept', {
         await leave(page);
         await pane(page, 'files');
         await page.until(`!!document.querySelector('tr[data-name="ONE"]')`);
+    },
+    'a deletion and a removal are undone after a reload, and done again after a further one': async (page, url) => {
+        await page.go(url);
+        await create(page, 'DISK');
+        native(['put', 'DISK', '-', '--as', 'ONE.TX', '--text'], 'the first\n');
+        await page.give('#image', file('DISK'));
+        await answer(page, 'There is a volume DISK', 1);
+        await page.until(`!!document.querySelector('tr[data-name="ONE.TX"]')`);
+        await page.click('button[aria-label="ONE.TX delete"]');
+        await isTold(page, 'files-status', 'DELETED ONE.TX');
+        const deleted = await image(page);
+        await page.click('#drop-image');
+        await page.until(`document.getElementById('volume').value === ''`);
+        await leave(page);
+        await pane(page, 'script');
+        await page.click('#undo');
+        await isTold(page, 'script-status', 'Undone: the removal of DISK');
+        await pane(page, 'files');
+        same(deleted, await image(page), 'the volume that was removed');
+        await leave(page);
+        await page.look(`document.activeElement.blur()`);
+        await page.key('z', 'KeyZ', 2);
+        await isTold(page, 'files-status', 'Undone: the deletion of ONE.TX');
+        same(readFileSync(file('DISK')), await image(page), 'the volume with its file');
+        await leave(page);
+        await page.click('#redo');
+        await isTold(page, 'files-status', 'Done again: the deletion of ONE.TX');
+        same(deleted, await image(page), 'the volume without it');
+    },
+    'core that was typed by hand comes back, whatever was laid over it': async (page, url) => {
+        await page.go(url);
+        await pane(page, 'machine');
+        await page.until(`document.getElementById('core').textContent !== ''`);
+        await page.look(`geivottu.machine.panel.switches = 0o1234; geivottu.machine.panel.address = 0o200; document.getElementById('key-deposit').click()`);
+        await page.until(`document.getElementById('core').textContent.startsWith('00200  1234')`);
+        const core = () => page.look(`document.getElementById('core').textContent.slice(0, 16)`), typed = await core();
+        await toCore(page, COUNT);
+        await page.until(`document.getElementById('core').textContent.startsWith('00200  7300')`);
+        await page.click('#key-start');
+        await isTold(page, 'machine-status', 'HALT 00205');
+        await leave(page);
+        await page.look(`document.activeElement.blur()`);
+        await page.key('z', 'KeyZ', 2);
+        await isTold(page, 'machine-status', 'Undone: the load of the tape of PROGRAM');
+        same(typed, await core(), 'core before the load');
+        await page.click('#redo');
+        await isTold(page, 'machine-status', 'Done again: the load of the tape of PROGRAM');
+        await page.until(`document.querySelector('[data-row=pc] .word').textContent === '0205'`);
+        same('Accumulator 0001', await page.look(`document.querySelector('[data-row=ac]').getAttribute('aria-label')`), 'the machine that was run');
+        await page.click('#undo');
+        await isTold(page, 'machine-status', 'Undone');
+        await page.click('#power');
+        await isTold(page, 'machine-status', 'a new machine');
+        await page.click('#undo');
+        await isTold(page, 'machine-status', 'Undone: the new machine');
+        same(typed, await core(), 'core before the new machine');
+        await pane(page, 'source');
+        await page.click('#trace');
+        await page.click('#doings [data-step="3"]');
+        await page.until(`!document.getElementById('to-step').disabled`);
+        await page.click('#to-step');
+        await isTold(page, 'machine-status', 'after step 4');
+        await page.click('#undo');
+        await isTold(page, 'machine-status', 'Undone: going on from the step');
+        same(typed, await core(), 'core before the step');
     },
     'each step is kept as it is shown': async (page, url) => {
         await page.go(url);
