@@ -37,7 +37,7 @@ from dataclasses import dataclass, field, replace
 TOP = os.path.dirname(os.path.dirname(os.path.abspath(__file__)))
 # What a check reads of the tree: no built files, nothing of the version control.
 APART = shutil.ignore_patterns(".git", "target", "out", "__pycache__", ".mypy_cache", ".pytest_cache")
-SECONDS = 300
+SECONDS = 900
 DAY = datetime.datetime.now(datetime.timezone.utc).date().isoformat()
 
 
