@@ -37,6 +37,14 @@ pub fn half(n: u8) -> u8
 {
     n / 2
 }
+
+/// The number two times.
+pub fn double(n: u8) -> u8
+    ensures { result.now ≡ n + n }
+{
+    let m = n * 2;
+    m
+}
 """
 # What stands for `rattle check`. It notes for which functions it was asked, takes no word that it doesn't know, and answers with what the file of the
 # functions' name has: a line that the shell runs at the end, which gives the status, and what it prints.
@@ -135,6 +143,8 @@ COPIES: list[tuple[str, dict[str, list[str]], dict[str, Answer], str, list[str]]
     ("one of two that can't be read", TWO, {"last+next": ("exit 1", "src/lib.rt:5:5: error: `next`: `m` is not in scope\n" + of_copy("next", "last")[1]), **PAIR},
      "2 passed, 0 failed", ["last", "last+next", "next"]),
     ("two of one function", {"one": NEXT, "two": [*NEXT[:2], "new:     n + 3"]}, alone("next", True), "2 passed, 0 failed", ["next", "next"]),
+    ("two of one function, each at its place", {"one": ["file: src/lib.rt", "old: n * 2", "new: n * 3"], "two": ["file: src/lib.rt", "old:     m", "new:     n"]},
+     alone("double", True), "2 passed, 0 failed", ["double", "double"]),
     ("a changed clause beside a body", {"one": NEXT, "two": CLAUSE}, {**alone("next", True), **alone("half", True)}, "2 passed, 0 failed", ["half", "next"]),
 ]
 
