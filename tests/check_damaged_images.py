@@ -2,25 +2,27 @@
 """check_damaged_images.py: what the commands make of damaged images. A volume with files has words changed, blocks exchanged, emptied or copied, is
 cut or goes on; then each command works on it. None breaks off. One that looks, or is refused, leaves each byte as it was. After one that writes, each
 file that could be got before, and that it doesn't name, is got as before. `rescue` makes a sound volume with each file that `check --all` reports as
-sound, in their order and with its words, except those that it reports as left out. The last line is 'N passed, M failed', each image being one.
+sound, in their order and with its words, except those that it reports as left out. Each look, rescue, change and file is counted once it was tried.
+The last line is 'N passed, M failed'.
 
 usage: check_damaged_images.py [--program FILE] [--images N] [--seed N]
 """
 import concurrent.futures
+import functools
 import os
 import random
 import subprocess
 import sys
 import tempfile
+from typing import Callable
 
 TOP = os.path.dirname(os.path.dirname(os.path.abspath(__file__)))
 sys.dont_write_bytecode = True
 sys.path.insert(0, TOP)
-from tests.options import option
+from tests.options import option, patience
+from tests.tally import Tally, fault_in
 
 BLOCK = 512
-
-
 PROGRAM = os.path.abspath(option("--program", f"{TOP}/crates/pdp8/out/pdp8"))
 IMAGES = int(option("--images", "300"))
 SEED = int(option("--seed", "1"))
@@ -31,7 +33,7 @@ NAMED = {"C.TX", "NEW.TX"}
 
 def pdp8(*words: str, given: bytes = b"") -> tuple[int, bytes]:
     """A command's status and output; one that breaks off or hangs is an exception."""
-    run = subprocess.run([PROGRAM, *words], input=given, stdout=subprocess.PIPE, stderr=subprocess.DEVNULL, timeout=20)
+    run = subprocess.run([PROGRAM, *words], input=given, stdout=subprocess.PIPE, stderr=subprocess.DEVNULL, timeout=patience(20))
     if run.returncode not in (0, 1):
         raise AssertionError(f"{' '.join(words)} ended with status {run.returncode}")
     return run.returncode, run.stdout
@@ -40,11 +42,19 @@ def pdp8(*words: str, given: bytes = b"") -> tuple[int, bytes]:
 def volume(folder: str) -> bytes:
     """The bytes of a volume with files of several lengths, and gaps."""
     name = f"{folder}/whole"
-    pdp8("create", name, "80")
+    said = [pdp8("create", name, "80")]
     for k, letter in enumerate("ABCDEFGHIJ"):
-        pdp8("put", name, "-", "--as", f"{letter}.TX", "--text", given=f"{letter} {'.' * 60}\n".encode() * (7 * k + 1))
-    pdp8("run", name, given=b"DELETE B.TX\nDELETE F.TX\n")
-    return open(name, "rb").read()
+        said.append(pdp8("put", name, "-", "--as", f"{letter}.TX", "--text", given=f"{letter} {'.' * 60}\n".encode() * (7 * k + 1)))
+    said.append(pdp8("run", name, given=b"DELETE B.TX\nDELETE F.TX\n"))
+    names = [line.split()[0] for line in pdp8("list", name)[1].splitlines()]
+    if any(status for status, _ in said) or names != [*(b"%c.TX" % letter for letter in b"ACDEGHIJ"), b"FREE"]:
+        raise AssertionError(f"the volume is not made: {said} {names}")
+    return read(name)
+
+
+def read(name: str) -> bytes:
+    with open(name, "rb") as file:
+        return file.read()
 
 
 def damage(whole: bytes, chance: random.Random) -> bytes:
@@ -98,19 +108,17 @@ class Damaged:
     def __init__(self, folder: str, number: int, whole: bytes) -> None:
         self.name = f"{folder}/{number}"
         self.write(damage(whole, random.Random(f"{SEED} {number}")))
+        self.found = [("damaged images" if self.image != whole else "whole images", "")]
 
     def write(self, image: bytes) -> None:
         self.image = image
         with open(self.name, "wb") as file:
             file.write(image)
 
-    def frames(self) -> bytes:
-        return open(self.name, "rb").read()
-
     def looks(self, *words: str, given: bytes = b"") -> tuple[int, bytes]:
         """What a command prints that is to leave the image alone."""
         answer = pdp8(*words, given=given)
-        if self.frames() != self.image:
+        if read(self.name) != self.image:
             raise AssertionError(f"{words[0]} changed the image")
         return answer
 
@@ -127,15 +135,14 @@ class Damaged:
         """Whether a command that may write keeps what it doesn't name."""
         before = self.held()
         status, told = pdp8(*words, given=given)
-        after = self.frames()
+        after = read(self.name)
         if (before is None or (words[0] == "put" and status)) and after != self.image:
             raise AssertionError(f"{words[0]} was refused and changed the image")
         self.write(after)
         if before is not None:
             held = self.held() or {}
-            lost = [name for name, frames in before.items() if name not in named and held.get(name) != frames]
-            if lost:
-                raise AssertionError(f"{words[0]} lost {', '.join(lost)}")
+            kept = {name: held.get(name) == frames for name, frames in before.items() if name not in named}
+            self.found += [("files", "" if is_kept else f"{self.name}: {words[0]} lost {name}") for name, is_kept in kept.items()]
             if words[0] == "put" and not status and self.looks("get", self.name, "NEW.TX", "--text")[1] != given:
                 raise AssertionError("what was put isn't got")
 
@@ -147,11 +154,12 @@ class Damaged:
         if told.startswith((b"? IMAGE", b"? HOST")):
             if lines != told or not done or os.path.exists(new):
                 raise AssertionError("rescue takes an image that check refuses")
+            self.found.append(("refused images", ""))
             return
         left = files_of(lines, b"LEFT FILE ")
         found = files_of(told, b"FILE ")
         kept = [it for it in found if it not in left]
-        image = open(new, "rb").read()
+        image = read(new)
         os.remove(new)
         listed = pdp8_of(image, self.name + ".look", "check", "--all")
         files = files_of(listed[1], b"FILE ")
@@ -159,32 +167,43 @@ class Damaged:
             raise AssertionError("the new volume is not sound, or has another size, or nothing is said of a loss")
         if not lines.endswith(f"RESCUED {len(kept)}\n".encode()) or [words_of(self.image, it) for it in kept] != [words_of(image, it) for it in files]:
             raise AssertionError("the new volume has other files")
+        self.found += [("rescued files", "")] * len(kept)
 
-    def tried(self) -> str | None:
-        """What is wrong with the commands on this image, if something is."""
-        try:
-            self.looks("check", self.name)
-            self.rescued()
-            self.looks("run", self.name, given=b"DIRECT\n")
-            image = self.image
-            self.writes({"NEW.TX"}, "put", self.name, "-", "--as", "NEW.TX", "--text", given=b"new\n" * 50)
+    def tried(self) -> list[tuple[str, str]]:
+        """What was tried on this image, each by its kind and with what is wrong."""
+        image = self.image
+        steps: dict[str, Callable[[], object]] = {
+            "checks": lambda: self.looks("check", self.name),
+            "rescues": self.rescued,
+            "lists": lambda: self.looks("run", self.name, given=b"DIRECT\n"),
+            "puts": lambda: self.writes({"NEW.TX"}, "put", self.name, "-", "--as", "NEW.TX", "--text", given=b"new\n" * 50),
+            "scripts": lambda: self.writes(NAMED, "run", self.name, given=SCRIPT),
+        }
+        for kind, step in steps.items():
             self.write(image)
-            self.writes(NAMED, "run", self.name, given=SCRIPT)
-        except (AssertionError, subprocess.TimeoutExpired) as fault:
-            return f"{os.path.basename(self.name)}: {fault}"
-        finally:
-            os.remove(self.name)
-        return None
+            fault = fault_in(functools.partial(fault_of, step))
+            self.found.append((kind, fault and f"{os.path.basename(self.name)}: {fault}"))
+        os.remove(self.name)
+        return self.found
+
+
+def fault_of(step: Callable[[], object]) -> str:
+    step()
+    return ""
 
 
 def main() -> int:
+    tally = Tally()
     with tempfile.TemporaryDirectory(prefix="pdp8-damaged-") as folder, concurrent.futures.ThreadPoolExecutor() as lanes:
-        whole = volume(folder)
-        faults = [it for it in lanes.map(lambda number: Damaged(folder, number, whole).tried(), range(IMAGES)) if it]
-    for fault in faults:
-        print(f"check_damaged_images: {fault}")
-    print(f"{IMAGES - len(faults)} passed, {len(faults)} failed")
-    return 1 if faults else 0
+        try:
+            whole = volume(folder)
+        except (AssertionError, OSError, subprocess.TimeoutExpired) as broken:
+            tally.add("volumes", f"check_damaged_images: {broken}")
+            return tally.end()
+        for found in lanes.map(lambda number: Damaged(folder, number, whole).tried(), range(IMAGES)):
+            for kind, fault in found:
+                tally.add(kind, fault and f"check_damaged_images: {fault}")
+    return tally.end()
 
 
 if __name__ == "__main__":

@@ -2,11 +2,12 @@
 """check_killed_writers.py: what killed writers leave. Several programs at once put files on one image and run scripts that store and delete. Some are
 killed at random moments, among them runs that keep. Then the image must be sound. It must have just the files that were reported as stored and not as
 deleted, with their words. What a program that keeps has reported counts also where it was killed then. The image may also have the one that a killed
-program was at. The next writer must come in at once, and leave no file beside the image that killed ones made. The last line is 'N passed, M failed';
-each killed program counts.
+program was at. The next writer must come in at once, and leave no file beside the image that killed ones made. Each killed program counts, and each file that was
+looked for. The last line is 'N passed, M failed'.
 
 usage: check_killed_writers.py [--program FILE] [--kills N] [--seed N]
 """
+import functools
 import os
 import random
 import signal
@@ -15,29 +16,27 @@ import sys
 import tempfile
 import threading
 import time
-from typing import Iterator
+from typing import Callable, Iterator
 
 TOP = os.path.dirname(os.path.dirname(os.path.abspath(__file__)))
 sys.dont_write_bytecode = True
 sys.path.insert(0, TOP)
-from tests.options import option
+from tests.options import option, patience
+from tests.tally import Tally, fault_in
 
 PROGRAM = os.path.abspath(option("--program", f"{TOP}/crates/pdp8/out/pdp8"))
 KILLS = int(option("--kills", "60"))
 BUSY = b"? HOST BUSY\n"
 WRITERS = 3
+ROUND = 3 * WRITERS
 # The files that stay on the volume after each round.
 NEWEST = 40
 # From where on the programs that are killed live as long again as on an idle machine.
 SLOWEST = 30.0
 
 
-def kill_after(run: subprocess.Popen[bytes], delay: float | None) -> None:
-    """Has a program killed after so many seconds, if it is to be. Nothing waits for that."""
-    if delay is not None:
-        timer = threading.Timer(delay, run.kill)
-        timer.daemon = True
-        timer.start()
+# The seconds that a program may take that is not killed, and that it may find the image busy.
+MOST = patience(60)
 
 
 class Image:
@@ -48,21 +47,37 @@ class Image:
         self.sure: dict[str, bytes] = {}
         self.doubtful: dict[str, bytes] = {}
         self.killed, self.kept, self.faults = 0, 0, list[str]()
+        # how many files were looked for
+        self.looked = 0
         # how much longer than on an idle machine the programs live that are killed
         self.slowness = 1.0
-        subprocess.run([PROGRAM, "create", self.name, "2000"], check=True, stdout=subprocess.DEVNULL)
+        subprocess.run([PROGRAM, "create", self.name, "2000"], check=True, stdout=subprocess.DEVNULL, timeout=MOST)
+
+    def kill_after(self, run: subprocess.Popen[bytes], delay: float | None) -> None:
+        """Has a program killed after so many seconds, if it is to be; else it must have ended in time. Nothing waits for that."""
+
+        def end() -> None:
+            if run.poll() is None:
+                run.kill()
+                if delay is None:
+                    self.faults.append(f"a program has no end within {MOST} seconds")
+
+        timer = threading.Timer(MOST if delay is None else delay, end)
+        timer.daemon = True
+        timer.start()
 
     def write(self, name: str, text: bytes, delay: float | None) -> tuple[int, bytes]:
         """Has a program put a file, until it comes in; one with a delay is killed after so many seconds."""
+        begun = time.monotonic()
         while True:
             words = [PROGRAM, "put", self.name, "-", "--as", name, "--text"]
             run = subprocess.Popen(words, stdin=subprocess.PIPE, stdout=subprocess.PIPE, stderr=subprocess.DEVNULL)
-            kill_after(run, delay)
+            self.kill_after(run, delay)
             try:
                 told, _ = run.communicate(text)
             except BrokenPipeError:
                 told, _ = b"", run.wait()
-            if told != BUSY:
+            if told != BUSY or time.monotonic() - begun > MOST:
                 return run.returncode, told
 
     def text(self, name: str) -> bytes:
@@ -72,10 +87,10 @@ class Image:
     def keep(self, number: int, delay: float | None) -> None:
         """Has a run that keeps store three files, each once the one before is reported. What it reported is sure, also where it is killed."""
         texts = {name: self.text(name) for name in (f"K{number}.{it}" for it in "ABC")}
-        busy = True
+        busy, begun = True, time.monotonic()
         while busy:
             told, status, rest = self.stored(texts, delay)
-            busy = not told and rest == BUSY
+            busy = not told and rest == BUSY and time.monotonic() - begun < MOST
         with self.lock:
             self.sure.update({name: texts[name] for name in told})
             self.kept += len(told) * (status == -signal.SIGKILL)
@@ -91,7 +106,7 @@ class Image:
         words, told, line = [PROGRAM, "run", "--keep", self.name], list[str](), b""
         run = subprocess.Popen(words, bufsize=0, stdin=subprocess.PIPE, stdout=subprocess.PIPE, stderr=subprocess.DEVNULL)
         assert run.stdin and run.stdout
-        kill_after(run, delay)
+        self.kill_after(run, delay)
         try:
             for name, text in texts.items():
                 run.stdin.write(b"STORE %s %d\n" % (name.encode(), text.count(b"\n")) + text)
@@ -123,26 +138,32 @@ class Image:
         """One writer's programs, of which every third is left alone, and every other keeps."""
         for number in numbers:
             write, most = (self.keep, 0.06) if number % 2 else (self.put, 0.02)
-            write(number, self.random.uniform(0, most * self.slowness) if number % 3 else None)
+            fault = fault_in(functools.partial(self.program, write, number, self.random.uniform(0, most * self.slowness) if number % 3 else None))
+            self.faults += [fault] if fault else []
+
+    def program(self, write: Callable[[int, float | None], None], number: int, delay: float | None) -> str:
+        write(number, delay)
+        return ""
 
     def thin(self) -> None:
         """Takes all but the newest files out, each once it is seen to be what was put; else the volume would fill."""
         for files in (self.sure, self.doubtful):
             for name in list(files)[:-NEWEST]:
                 text = files.pop(name)
+                self.looked += 1
                 if self.get(name) not in ((text,) if files is self.sure else (text, None)):
                     self.faults.append(f"{name} is lost or another file, and was to be deleted")
-                if subprocess.run([PROGRAM, "run", self.name], input=f"DELETE {name}\n".encode(), capture_output=True).returncode:
+                if subprocess.run([PROGRAM, "run", self.name], input=f"DELETE {name}\n".encode(), capture_output=True, timeout=MOST).returncode:
                     self.faults.append(f"{name} is not deleted")
 
     def get(self, name: str) -> bytes | None:
         """A file's text, or none."""
-        got = subprocess.run([PROGRAM, "get", self.name, name, "--text"], capture_output=True)
+        got = subprocess.run([PROGRAM, "get", self.name, name, "--text"], capture_output=True, timeout=MOST)
         return None if got.returncode else got.stdout
 
     def held(self) -> tuple[bool, dict[str, bytes | None]]:
         """The files of the image, each as its text, and whether the image is sound."""
-        listed = subprocess.run([PROGRAM, "list", self.name], capture_output=True, text=True)
+        listed = subprocess.run([PROGRAM, "list", self.name], capture_output=True, text=True, timeout=MOST)
         names = [line.split()[0] for line in listed.stdout.splitlines() if not line.startswith("FREE")]
         return listed.returncode == 0, {name: self.get(name) for name in names}
 
@@ -153,9 +174,11 @@ class Image:
         if not is_sound:
             yield "the image is not sound"
         for name, text in self.sure.items():
+            self.looked += 1
             if held.get(name) != text:
                 yield f"{name} was told as stored, and is lost or another file"
         for name, there in held.items():
+            self.looked += 1
             if self.sure.get(name, self.doubtful.get(name)) != there:
                 yield f"{name} is there and was not put so"
         begun = time.monotonic()
@@ -166,32 +189,38 @@ class Image:
             yield f"the next writer leaves {len(left)} files beside the image that killed ones made"
 
 
+    def round(self, first: int) -> None:
+        """Has the writers work side by side, from a number on, and then all but the newest files taken out."""
+        lanes = [threading.Thread(target=self.work, args=(range(first + k, first + ROUND, WRITERS),)) for k in range(WRITERS)]
+        for lane in lanes:
+            lane.start()
+        for lane in lanes:
+            lane.join()
+        if not self.kept:
+            self.slowness = 1.0 if self.slowness > SLOWEST else self.slowness * 1.2
+        self.thin()
+
+
+def tried(folder: str, tally: Tally) -> str:
+    """Has writers killed, counts what they did, and says what is wrong after all of it, line by line."""
+    image, first = Image(folder, int(option("--seed", "1"))), 0
+    while (image.killed < KILLS or not image.kept) and first < 20 * KILLS and not image.faults:
+        image.round(first)
+        first += ROUND
+    faults = list(image.judged())
+    for kind, count, least in (("killed", image.killed, KILLS), ("kept", image.kept, 1), ("files", image.looked, KILLS // 2)):
+        for _ in range(count):
+            tally.add(kind, "")
+        faults += [f"{kind} are {count} alone, not {least}"] if count < least else []
+    return "\n".join(faults)
+
+
 def main() -> int:
+    tally = Tally()
     with tempfile.TemporaryDirectory(prefix="pdp8-killed-") as folder:
-        image = Image(folder, int(option("--seed", "1")))
-        first = 0
-        while (image.killed < KILLS or not image.kept) and first < 20 * KILLS:
-            count = WRITERS * 3
-            lanes = [threading.Thread(target=image.work, args=(range(first + k, first + count, WRITERS),)) for k in range(WRITERS)]
-            for lane in lanes:
-                lane.start()
-            for lane in lanes:
-                lane.join()
-            first += count
-            if not image.kept:
-                image.slowness = 1.0 if image.slowness > SLOWEST else image.slowness * 1.2
-            image.thin()
-        faults = list(image.judged())
-    for fault in faults:
-        print(f"check_killed_writers: {fault}")
-    if not image.kept:
-        faults.append("none kept")
-        print("check_killed_writers: no run that was killed had kept a file")
-    if image.killed < KILLS:
-        faults.append("too few")
-        print(f"check_killed_writers: only {image.killed} programs were killed on their way")
-    print(f"{image.killed} passed, {len(faults)} failed")
-    return 1 if faults else 0
+        fault = fault_in(functools.partial(tried, folder, tally))
+    tally.add("images", fault and f"check_killed_writers: {fault}")
+    return tally.end()
 
 
 if __name__ == "__main__":

@@ -1,9 +1,11 @@
 #!/usr/bin/env python3
-"""check_terminal.py [--program FILE]: runs programs at the Teletype through a pseudo-terminal, as a person would, with what ./pdp8 and an installed
+"""check_terminal.py [--program FILE] [--launch FILE] [CASE..]: runs programs at the Teletype through a pseudo-terminal, as a person would, with what ./pdp8 and an installed
 pdp8 do around the program. It tries keys one by one and in bursts, the game, each end, and each way in which the program or the shell around it can
-be ended. Each time it looks that the terminal is as it was, and that no process is left. It looks at an index as a terminal shows it, and answers what `create` asks there. The last line is 'N passed, M failed'.
+be ended. Each time it looks that the terminal is as it was, and that no process is left. It looks at an index as a terminal shows it, and answers what `create` asks there. Another launcher may be given, and some of the cases alone. The last line is
+'N passed, M failed'.
 """
 import argparse
+import functools
 import os
 import pty
 import re
@@ -15,14 +17,16 @@ import sys
 import tempfile
 import termios
 import time
-from typing import Any
+from typing import Any, Callable
 
 sys.dont_write_bytecode = True
 TOP = os.path.dirname(os.path.dirname(os.path.abspath(__file__)))
 sys.path.insert(0, TOP)
 from tests.model.tape import tape_of
+from tests.options import patience
+from tests.tally import Tally, fault_in
 
-PATIENCE = 20
+PATIENCE = patience(20)
 READY = b"Ctrl-\\ ends it\r\n"
 ECHO = [0o6031, 0o5200, 0o6036, 0o6046, 0o6041, 0o5204, 0o5200]
 # prints a dot for each 4096 looks at the keyboard that find no key, and ends at a key
@@ -35,7 +39,7 @@ class Sitting:
     def __init__(self, folder: str, *words: str, more: str = "") -> None:
         self.said = b""
         self.status: int | None = None
-        command = f'. {TOP}/build/launch.sh; launch ./pdp8 teletype "$@" {more}'
+        command = f'. ./launch; launch ./pdp8 teletype "$@" {more}'
         self.shell, self.terminal = pty.fork()
         if self.shell == 0:
             # who runs the gate in the background, or by nohup, has these ignored, and what inherits that isn't ended by them
@@ -133,7 +137,8 @@ def ended(sitting: Sitting, child: int, status: int, what: str) -> list[str]:
 def begun(folder: str, *words: str, more: str = "") -> tuple[Sitting, int, list[str]]:
     sitting = Sitting(folder, *words, more=more)
     told = [] if sitting.waits_for(READY) else [f"no first line: {sitting.said!r}"]
-    return sitting, sitting.child(), told
+    child = sitting.child()
+    return sitting, child, told + ([] if child else ["there is no program below the shell"])
 
 
 def game(folder: str) -> list[str]:
@@ -191,7 +196,7 @@ def killed(folder: str) -> list[str]:
         ("SIGTERM of the program", signal.SIGTERM, "child", 143), ("SIGKILL of the shell", signal.SIGKILL, "shell", -9),
     ):  # fmt: skip
         sitting, child, more = begun(folder, "echo.bin")
-        os.kill(getattr(sitting, whom) if whom == "shell" else child, number)
+        os.kill(sitting.shell if whom == "shell" or not child else child, number)
         told += more + ended(sitting, child, status, what)
     return told
 
@@ -219,14 +224,22 @@ def shown(folder: str, *words: str, is_output: bool) -> bytes:
     with open(f"{folder}/lines", "wb") as lines:
         run = subprocess.Popen(["./pdp8", *words], cwd=folder, stdin=subprocess.DEVNULL, stdout=end if is_output else lines, stderr=end)
     os.close(end)
+    said = read_all(terminal, run.kill)
+    run.wait(PATIENCE)
+    os.close(terminal)
+    return said
+
+
+def read_all(terminal: int, end: Callable[[], None], answer: Callable[[bytes], None] = lambda said: None) -> bytes:
+    """What is said at a terminal until the program ends; one that says nothing for too long is ended."""
     said = b""
     try:
-        while more := os.read(terminal, 4096):
+        while more := os.read(terminal, 4096) if select.select([terminal], [], [], PATIENCE)[0] else b"":
             said += more
+            answer(said)
     except OSError:  # the terminal of a process that has ended
-        pass
-    run.wait()
-    os.close(terminal)
+        return said
+    end()
     return said
 
 
@@ -234,7 +247,7 @@ def index(folder: str) -> list[str]:
     """The index at a terminal: its columns line up. With standard output elsewhere it shows how far it is."""
     shutil.copy(f"{folder}/echo.bin", f"{folder}/ECHO.BN")
     for words in (("create", "V", "40"), ("put", "V", f"{TOP}/examples/hello.pa", "--text"), ("put", "V", "ECHO.BN")):
-        subprocess.run(["./pdp8", *words], cwd=folder, stdout=subprocess.DEVNULL, check=True)
+        subprocess.run(["./pdp8", *words], cwd=folder, stdout=subprocess.DEVNULL, check=True, timeout=PATIENCE)
     shutil.copy(f"{folder}/V", f"{folder}/longer")
     lines = [it for it in shown(folder, "index", "V", "longer", is_output=True).split(b"\r\n") if it]
     places = {tuple(it.start() for it in re.finditer(rb"(?<=  )\S", line)) for line in lines}
@@ -252,15 +265,13 @@ def answered(folder: str, answer: bytes, *words: str) -> tuple[bytes, int]:
     if child == 0:
         os.chdir(folder)
         os.execv("./pdp8", ["./pdp8", *words])
-    said, is_answered = b"", False
-    try:
-        while more := os.read(terminal, 4096):
-            said += more
-            if b"leaves it\r\n" in said and not is_answered:
-                is_answered = True
-                os.write(terminal, answer)
-    except OSError:  # the terminal of a process that has ended
-        pass
+    answers = [answer]
+
+    def strike(said: bytes) -> None:
+        if b"leaves it\r\n" in said and answers:
+            os.write(terminal, answers.pop())
+
+    said = read_all(terminal, lambda: os.kill(child, signal.SIGKILL), strike)
     os.close(terminal)
     return said, os.waitstatus_to_exitcode(os.waitpid(child, 0)[1])
 
@@ -273,7 +284,7 @@ def creation(folder: str) -> list[str]:
             open(f"{folder}/E", "wb").close()
         said, status = answered(folder, b"", *words)
         told += [] if (said.startswith(b"CREATED "), status) == (True, 0) else [f"a volume in no file's place: {said!r} {status}"]
-    subprocess.run(["./pdp8", "put", "W", "echo.bin", "--as", "ECHO"], cwd=folder, stdout=subprocess.DEVNULL, check=True)
+    subprocess.run(["./pdp8", "put", "W", "echo.bin", "--as", "ECHO"], cwd=folder, stdout=subprocess.DEVNULL, check=True, timeout=PATIENCE)
     old = open(f"{folder}/W", "rb").read()
     note = b"note: W is there, and is not empty: y replaces it, and anything else leaves it\r\n"
     for command in ("create W 20", "create W --dectape", "create W --rk05", "create W:2"):
@@ -288,25 +299,35 @@ def creation(folder: str) -> list[str]:
     return told + ([] if (said, status) == (b"note: W: a file of that name is there\r\n? HOST EXISTS\r\n", 1) else [f"a first volume: {said!r} {status}"])
 
 
-def main() -> int:
-    words = argparse.ArgumentParser(description=__doc__, formatter_class=argparse.RawDescriptionHelpFormatter)
-    words.add_argument("--program", default=f"{TOP}/crates/pdp8/out/pdp8")
-    program = os.path.abspath(words.parse_args().program)
-    if not os.path.isfile(program):
-        sys.exit(f"check_terminal: there is no program {program}: ./prove builds it")
-    passed = failed = 0
+CASES: dict[str, Callable[[str], list[str]]] = {it.__name__: it for it in (game, keys, waiting, killed, streams, index, creation)}
+
+
+def tried(case: Callable[[str], list[str]], program: str, launcher: str) -> str:
+    """What is wrong with a case, in a folder of its own, line by line."""
     with tempfile.TemporaryDirectory(prefix="pdp8-terminal-") as folder:
         shutil.copy(program, f"{folder}/pdp8")
-        subprocess.run(["./pdp8", "assemble", f"{TOP}/examples/guess.pa", "--output", "guess.bin"], cwd=folder, check=True)
+        shutil.copy(launcher, f"{folder}/launch")
         for name, it in (("echo", ECHO), ("dots", DOTS)):
             with open(f"{folder}/{name}.bin", "wb") as file:
                 file.write(bytes(tape_of([(0o200 + k, word) for k, word in enumerate(it)])))
-        for case in (game, keys, waiting, killed, streams, index, creation):
-            told = case(folder)
-            print(*(f"check_terminal: {line}" for line in told), sep="\n", end="\n" if told else "")
-            passed, failed = passed + (not told), failed + bool(told)
-    print(f"{passed} passed, {failed} failed")
-    return 1 if failed else 0
+        if case is game:
+            subprocess.run(["./pdp8", "assemble", f"{TOP}/examples/guess.pa", "--output", "guess.bin"], cwd=folder, check=True, timeout=PATIENCE)
+        return "\n".join(f"check_terminal: {line}" for line in case(folder))
+
+
+def main() -> int:
+    words = argparse.ArgumentParser(description=__doc__, formatter_class=argparse.RawDescriptionHelpFormatter)
+    words.add_argument("--program", default=f"{TOP}/crates/pdp8/out/pdp8")
+    words.add_argument("--launch", default=f"{TOP}/build/launch.sh")
+    words.add_argument("cases", nargs="*")
+    given = words.parse_args()
+    program = os.path.abspath(given.program)
+    if not os.path.isfile(program):
+        sys.exit(f"check_terminal: there is no program {program}: ./prove builds it")
+    tally = Tally(len(CASES))
+    for name in given.cases or CASES:
+        tally.add(name, fault_in(functools.partial(tried, CASES[name], program, given.launch)))
+    return tally.end()
 
 
 if __name__ == "__main__":

@@ -22,6 +22,8 @@ sys.dont_write_bytecode = True
 TOP = os.path.dirname(os.path.dirname(os.path.abspath(__file__)))
 sys.path.insert(0, TOP)
 from build.unproved import Build, ready
+from tests.options import patience
+from tests.tally import Tally
 
 OWN = f"{TOP}/crates/pdp8/out/pdp8"
 # A session: of each command the number of its line, its text, and what it prints.
@@ -78,7 +80,7 @@ def run(commands: Session, program: str) -> list[tuple[str, str]]:
             script.write(f". {TOP}/tests/recipes.sh\n")
             script.writelines(f"{command}printf '{MARK}%d\\n' $?\n" for _, command, _ in commands)
         words = ["bash", ".session"]
-        ran = subprocess.run(words, cwd=folder, timeout=120, stdin=subprocess.DEVNULL, stdout=subprocess.PIPE, stderr=subprocess.STDOUT)
+        ran = subprocess.run(words, cwd=folder, timeout=patience(120), stdin=subprocess.DEVNULL, stdout=subprocess.PIPE, stderr=subprocess.STDOUT)
         said = ran.stdout.decode(errors="backslashreplace")
     return re.findall(rf"(.*?){MARK}(\d+)\n", said, re.S)
 
@@ -86,8 +88,8 @@ def run(commands: Session, program: str) -> list[tuple[str, str]]:
 def faults(path: str, commands: Session, program: str) -> list[str]:
     try:
         ran = run(commands, program)
-    except subprocess.TimeoutExpired:
-        return [f"{path}:{commands[0][0]}: no end within 120 seconds"]
+    except subprocess.TimeoutExpired as late:
+        return [f"{path}:{commands[0][0]}: no end within {late.timeout} seconds"]
     ran, told = ran + [("", "no end")] * (len(commands) - len(ran)), []
     for (number, command, wanted), (printed, status) in zip(commands, ran):
         got = printed + ("" if status == "0" else f"[{status}]\n")
@@ -120,15 +122,13 @@ def main(words: list[str]) -> int:
     if program == OWN and is_old():
         print("run_sessions: the program is older than a source of it: ./prove builds it anew", file=sys.stderr)
     paths = words or every_file()
-    passed = failed = 0
+    tally = Tally(sys.maxsize)
     work = [(os.path.relpath(path), commands) for path in paths for commands in sessions(path)]
     with concurrent.futures.ProcessPoolExecutor(len(os.sched_getaffinity(0))) as lanes:
         runs = lanes.map(faults, *zip(*((path, commands, os.path.abspath(program)) for path, commands in work))) if work else []
-        for told in [*runs, *([it] for path in paths for it in silent(path))]:
-            print(*told, sep="\n", end="\n" if told else "")
-            passed, failed = passed + (not told), failed + bool(told)
-    print(f"{passed} passed, {failed} failed")
-    return 1 if failed else 0
+        for kind, told in [*(("sessions", it) for it in runs), *(("silent texts", [it]) for path in paths for it in silent(path))]:
+            tally.add(kind, "\n".join(told))
+    return tally.end()
 
 
 if __name__ == "__main__":

@@ -3,9 +3,11 @@
 makes the name, the program is killed, or the disk refuses. A library that is laid before the host's meets one call of a whole run. The last line is
 'N passed, M failed'.
 
-usage: check_failing_calls.py [--program FILE]
+usage: check_failing_calls.py [--program FILE] [CASE..]
 """
+import argparse
 import errno
+import functools
 import os
 import re
 import subprocess
@@ -15,7 +17,11 @@ from typing import Callable
 
 HERE = os.path.dirname(os.path.abspath(__file__))
 TOP = os.path.dirname(os.path.dirname(HERE))
-PROGRAM = os.path.abspath(sys.argv[sys.argv.index("--program") + 1] if "--program" in sys.argv else f"{TOP}/crates/pdp8/out/pdp8")
+sys.dont_write_bytecode = True
+sys.path.insert(0, TOP)
+from tests.options import patience
+from tests.tally import Tally, fault_in
+
 KILLED = -9
 BUSY = "note: V: another program works on it\nerror: another program works on the image\n? HOST BUSY\n"
 AS_IT_WAS = "error: the image is not written: the file is as it was\n? HOST WRITE\n"
@@ -38,7 +44,7 @@ class Room:
 
     def sh(self, command: str) -> str:
         """What a shell says that runs a command here."""
-        run = subprocess.run(["sh", "-c", command], cwd=self.folder, capture_output=True, text=True, timeout=60)
+        run = subprocess.run(["sh", "-c", command], cwd=self.folder, capture_output=True, text=True, timeout=patience(60))
         return run.stdout + run.stderr
 
     def pdp8(self, *words: str, call: str = "", number: int = 1, before: str = "", error: int = 0, after: str = "", given: str = "", links: int = 0) -> tuple[int, str]:
@@ -48,7 +54,7 @@ class Room:
         met = {"CALL": call, "NUMBER": str(number), "BEFORE": before, "ERROR": str(error), "AFTER": after, "LINKS": str(links or "")}
         open(f"{self.folder}.log", "w", encoding="utf-8").close()
         met |= {"LD_PRELOAD": self.library, "LOG": f"{self.folder}.log"}
-        run = subprocess.run(["./pdp8", *words], cwd=self.folder, env={**os.environ, **met}, input=given, capture_output=True, text=True, timeout=20)
+        run = subprocess.run(["./pdp8", *words], cwd=self.folder, env={**os.environ, **met}, input=given, capture_output=True, text=True, timeout=patience(20))
         return run.returncode, run.stderr + run.stdout
 
     def calls(self) -> list[str]:
@@ -382,7 +388,7 @@ def output_that_takes_no_more_is_told_by_all_commands_alike(room: Room) -> None:
     for words, given in WRITERS.items():
         for output, wanted in ((full, (1, b"? 9 WRITER\n")), (reader_gone[1], (141, b""))):
             room.sh("rm -f N; ./pdp8 create V 20; echo A | ./pdp8 put V - --as A; ./pdp8 create W 20; ./pdp8 assemble --output T - <<.\nCLA;TAD C;TLS;JMP .-1;C, 301\n$\n.\n")
-            run = subprocess.run(["./pdp8", *words], cwd=room.folder, input=given, stdout=output, stderr=subprocess.PIPE, timeout=20)
+            run = subprocess.run(["./pdp8", *words], cwd=room.folder, input=given, stdout=output, stderr=subprocess.PIPE, timeout=patience(20))
             status, said = wanted
             if words == ("list", "none"):
                 status, said = 1, b"note: none: no such file\n" + said
@@ -441,23 +447,28 @@ def an_image_that_may_not_be_written_has_its_reason_in_a_note(room: Room) -> Non
         holds(room.pdp8("delete", "V", "A", call="open V", error=error), (1, noted("V", why, AS_IT_WAS)))
 
 
+def tried(test: Test, folder: str, program: str, library: str) -> str:
+    """What is wrong with a case, in a folder of its own."""
+    os.mkdir(folder)
+    os.symlink(program, f"{folder}/pdp8")
+    test(Room(folder, library))
+    return ""
+
+
 def main() -> int:
-    passed, failed = 0, 0
+    words = argparse.ArgumentParser()
+    words.add_argument("--program", default=f"{TOP}/crates/pdp8/out/pdp8")
+    words.add_argument("cases", nargs="*")
+    given = words.parse_args()
+    tests = {test.__name__: test for test in CASES}
+    tally = Tally(len(tests))
     with tempfile.TemporaryDirectory(prefix="pdp8-calls-") as work:
         library = f"{work}/meet.so"
         subprocess.run(["cc", "-shared", "-fPIC", "-o", library, f"{HERE}/meet.c", "-ldl"], check=True)
-        for test in CASES:
-            folder = f"{work}/{test.__name__}"
-            os.mkdir(folder)
-            os.symlink(PROGRAM, f"{folder}/pdp8")
-            try:
-                test(Room(folder, library))
-                passed += 1
-            except AssertionError as fault:
-                failed += 1
-                print(f"{test.__name__}: {fault}")
-    print(f"{passed} passed, {failed} failed")
-    return 1 if failed else 0
+        for name in given.cases or tests:
+            fault = fault_in(functools.partial(tried, tests[name], f"{work}/{name}", os.path.abspath(given.program), library))
+            tally.add("cases", fault and f"{name}: {fault}")
+    return tally.end()
 
 
 if __name__ == "__main__":

@@ -7,6 +7,7 @@ line is 'N passed, M failed'.
 
 usage: check_races.py [--program FILE] [--tries N]
 """
+import functools
 import os
 import shutil
 import subprocess
@@ -18,7 +19,8 @@ HERE = os.path.dirname(os.path.abspath(__file__))
 TOP = os.path.dirname(os.path.dirname(HERE))
 sys.dont_write_bytecode = True
 sys.path.insert(0, TOP)
-from tests.options import option
+from tests.options import option, patience
+from tests.tally import Tally, fault_in
 
 PROGRAM = os.path.abspath(option("--program", f"{TOP}/crates/pdp8/out/pdp8"))
 TRIES = int(option("--tries", "200"))
@@ -45,14 +47,16 @@ class Race:
 def change(folder: str, number: int) -> None:
     """Puts a file on the image, and takes it off again at the next call."""
     words = ["put", "V", "-", "--as", "A"] if number % 2 == 0 else ["delete", "V", "A"]
-    subprocess.run([PROGRAM, *words], cwd=folder, input=b"secret\n", stdout=subprocess.DEVNULL, stderr=subprocess.DEVNULL, timeout=60)
+    run = subprocess.run([PROGRAM, *words], cwd=folder, input=b"secret\n", stdout=subprocess.DEVNULL, stderr=subprocess.DEVNULL, timeout=patience(60))
+    if run.returncode not in (0, 1):
+        raise ValueError(f"{words} ended with status {run.returncode}")
 
 
 def make_image(folder: str, mode: int, owner: int) -> None:
     """Makes the image V, in place of a link that a race left there. It is made beside the folder, where nobody races."""
     made = f"{folder}.image"
     if not os.path.exists(made):
-        subprocess.run([PROGRAM, "create", made, "700"], check=True, stdout=subprocess.DEVNULL)
+        subprocess.run([PROGRAM, "create", made, "700"], check=True, stdout=subprocess.DEVNULL, timeout=patience(60))
     if os.path.islink(f"{folder}/V"):
         os.unlink(f"{folder}/V")
     shutil.copyfile(made, f"{folder}/V")
@@ -95,7 +99,7 @@ def nobody_reads_a_private_image(room: str, racer: str) -> str:
 
 def unread_pipes_stop_nothing(room: str, racer: str) -> str:
     del racer
-    subprocess.run([PROGRAM, "create", "I", "20"], cwd=room, check=True, stdout=subprocess.DEVNULL)
+    subprocess.run([PROGRAM, "create", "I", "20"], cwd=room, check=True, stdout=subprocess.DEVNULL, timeout=patience(60))
     pipe, faults = f"{room}/pipe", list[str]()
     os.mkfifo(pipe)
     for words in (["index", "I", "I"], ["check", "I", "I"]):
@@ -105,7 +109,8 @@ def unread_pipes_stop_nothing(room: str, racer: str) -> str:
             os.close(reader)
             output, errors = (writer, subprocess.DEVNULL) if stream == "stdout" else (subprocess.DEVNULL, writer)
             try:
-                subprocess.run([PROGRAM, *words], cwd=room, stdin=subprocess.DEVNULL, stdout=output, stderr=errors, timeout=20)
+                run = subprocess.run([PROGRAM, *words], cwd=room, stdin=subprocess.DEVNULL, stdout=output, stderr=errors, timeout=patience(20))
+                faults += [f"{words[0]} ends with {run.returncode}"] if run.returncode not in (0, 1, 141) else []
             except subprocess.TimeoutExpired:
                 faults.append(f"{words[0]} waits for a reader of {stream}")
             os.close(writer)
@@ -116,7 +121,7 @@ TESTS: list[Callable[[str, str], str]] = [links_give_no_file_away, nobody_reads_
 
 
 def main() -> int:
-    passed, failed = 0, 0
+    tally = Tally()
     with tempfile.TemporaryDirectory(prefix="pdp8-races-") as work:
         os.chmod(work, 0o755)
         racer = f"{work}/race"
@@ -124,12 +129,9 @@ def main() -> int:
         for test in TESTS:
             room = f"{work}/{test.__name__}"
             os.mkdir(room)
-            fault = test(room, racer)
-            passed, failed = passed + (not fault), failed + bool(fault)
-            if fault:
-                print(f"{test.__name__}: {fault}")
-    print(f"{passed} passed, {failed} failed")
-    return 1 if failed else 0
+            fault = fault_in(functools.partial(test, room, racer))
+            tally.add(test.__name__.replace("_", " "), fault and f"{test.__name__}: {fault}")
+    return tally.end()
 
 
 if __name__ == "__main__":

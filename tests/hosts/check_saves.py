@@ -1,10 +1,12 @@
 #!/usr/bin/env python3
 """check_saves.py: what files hold after a save of which a call fails. It tries a host in memory, call by call, and the system, with the calls in the
-order in which they were made. The last line is 'N passed, M failed'.
+order in which they were made. The last line is 'N passed, M failed'. With --kind it tries saves of one kind alone.
 
-usage: check_saves.py [--program FILE]
+usage: check_saves.py [--program FILE] [--kind WORD]
 """
 import errno
+import functools
+import itertools
 import os
 import re
 import subprocess
@@ -16,6 +18,9 @@ sys.dont_write_bytecode = True
 TOP = os.path.dirname(os.path.dirname(os.path.dirname(os.path.abspath(__file__))))
 sys.path.insert(0, TOP)
 from build.unproved import Build, ready
+from tests.options import option, patience
+from tests.tally import Tally, fault_in
+
 NAME = "host_trial"
 CALLS = 12
 # What a trial leaves where its call of a number fails, from the number 0 on; where a later one fails, the last row stands.
@@ -75,7 +80,9 @@ class Folder:
         log = f"{self.path}.log"
         open(log, "w", encoding="utf-8").close()
         met = {"CALL": call, "NUMBER": str(number), "ERROR": str(error), "LOG": log, "LD_PRELOAD": self.library}
-        run = subprocess.run([self.trial, what, name], cwd=self.path, env={**os.environ, **met}, input="NEW TEXT", capture_output=True, text=True, timeout=20)
+        run = subprocess.run([self.trial, what, name], cwd=self.path, env={**os.environ, **met}, input="NEW TEXT", capture_output=True, text=True, timeout=patience(20))
+        if run.returncode or run.stderr:
+            raise ValueError(f"status {run.returncode} and {run.stderr!r}")
         with open(log, encoding="utf-8") as lines:
             calls = [line for line in lines.read().split("\n")[:-1] if not line.startswith("open ")]
         try:
@@ -121,25 +128,30 @@ def tried(room: str, kind: Kind, number: int | None, trial: str, library: str) -
     return said == "fault\n" and is_whole and (is_over or found == old) and folder.names() == (["F", "G"] if is_over else ["F"] if is_there else [])
 
 
+def try_in_memory(trial: str, tally: Tally) -> str:
+    """Counts each row that the trial prints of a host in memory. Says what is wrong with all of them."""
+    ran = subprocess.run([trial], capture_output=True, text=True, timeout=patience(60))
+    for row, wanted in itertools.zip_longest(ran.stdout.splitlines(), wanted_rows()):
+        tally.add("rows", "" if row == wanted else f"{row!r}, not {wanted!r}")
+    return f"status {ran.returncode} and {ran.stderr!r}" if ran.returncode or ran.stderr else ""
+
+
+def fault_of(room: str, kind: Kind, number: int | None, trial: str, library: str) -> str:
+    """What is wrong with a save of which a call of this number fails, or none."""
+    which = "all calls pass" if number is None else f"{kind[1][number]} fails"
+    return "" if tried(room, kind, number, trial, library) else f"{kind[0]}, {kind[1]}: wrong where {which}"
+
+
 def main() -> int:
-    trial, passed, failed = program(), 0, 0
-    found = subprocess.run([trial], capture_output=True, text=True, timeout=60).stdout.split("\n")
-    for row, wanted in zip(found, wanted_rows()):
-        passed, failed = passed + (row == wanted), failed + (row != wanted)
-        if row != wanted:
-            print(f"{row!r}, not {wanted!r}")
-    failed += len(list(wanted_rows())) + 1 != len(found)
+    trial, tally = program(), Tally()
+    tally.add("trials", fault_in(functools.partial(try_in_memory, trial, tally)))
     with tempfile.TemporaryDirectory(prefix="pdp8-hosts-") as room:
         library = f"{room}/meet.so"
         subprocess.run(["cc", "-shared", "-fPIC", "-o", library, f"{TOP}/tests/calls/meet.c", "-ldl"], check=True)
         for kind in (("save", SAVE, True, False), ("save", OVER, True, True), ("make", MAKE, False, False), ("lay", LAY, True, False)):
-            for number in (None, *range(len(kind[1]))):
-                is_right = tried(room, kind, number, trial, library)
-                passed, failed = passed + is_right, failed + (not is_right)
-                if not is_right:
-                    print(f"{kind[0]}, {kind[1]}: wrong where {'all calls pass' if number is None else kind[1][number] + ' fails'}")
-    print(f"{passed} passed, {failed} failed")
-    return 1 if failed else 0
+            for number in (None, *range(len(kind[1]))) if kind[0] == option("--kind", kind[0]) else ():
+                tally.add("written over" if kind[3] else kind[0], fault_in(functools.partial(fault_of, room, kind, number, trial, library)))
+    return tally.end()
 
 
 if __name__ == "__main__":

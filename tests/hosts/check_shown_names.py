@@ -1,11 +1,12 @@
 #!/usr/bin/env python3
 """check_shown_names.py: what each command prints where names of files, words of the command line and contents of files hold bytes that would forge a
 line, or that a terminal takes for commands. Each line has graphic characters of ASCII and blanks alone; of an index, and in the line of a
-source, also tabs. Outputs that are data are left out. The last line is 'N passed, M failed'.
+source, also tabs. Outputs that are data are left out. With --lines it tries so many commands alone. The last line is 'N passed, M failed'.
 
-usage: check_shown_names.py [--program FILE]
+usage: check_shown_names.py [--program FILE] [--lines N]
 """
 import argparse
+import functools
 import os
 import subprocess
 import sys
@@ -14,8 +15,11 @@ from typing import Iterator
 
 sys.dont_write_bytecode = True
 TOP = os.path.dirname(os.path.dirname(os.path.dirname(os.path.abspath(__file__))))
+sys.path.insert(0, TOP)
+from tests.options import patience
+from tests.tally import Tally, fault_in
 
-PATIENCE = 60
+PATIENCE = patience(60)
 # A word that forges a line, colours a terminal, goes back to the begin of a line, and has a control of eight bits, as UTF-8 and without.
 FORGED = "FORGED: OK 9 FILES"
 EVIL = f"e\n{FORGED}\n\x1b[31m\r\x7f\u009b\u202e\\"
@@ -70,10 +74,10 @@ class Folder:
     def __init__(self, path: str, program: str) -> None:
         self.path, self.program = path, program
         for volume in (VOLUME, OTHER):
-            self.run(["create", EVIL + volume, "40"])
+            self.make(["create", EVIL + volume, "40"], b"CREATED ")
             for name in ("A.TX", "S.PA"):
-                self.run(["put", EVIL + volume, "-", "--as", name, "--text"], b"*200\nHLT\n$\n")
-            self.run(["put", EVIL + volume, "-", "--as", "EV"], BYTES * 20)
+                self.make(["put", EVIL + volume, "-", "--as", name, "--text"], b"STORED ", b"*200\nHLT\n$\n")
+            self.make(["put", EVIL + volume, "-", "--as", "EV"], b"STORED ", BYTES * 20)
         words = self.read(VOLUME)
         self.write(WIDE, words[:5000] + b"\xff\xff" + words[5002:])
         self.write(HEADED, b"HEADER" + words)
@@ -92,7 +96,7 @@ class Folder:
 
     def add_disk(self) -> None:
         """Adds a disk of two volumes, of which the second is not sound."""
-        self.run(["create", EVIL + DISK, str(BLOCKS)])
+        self.make(["create", EVIL + DISK, str(BLOCKS)], b"CREATED ")
         self.write(DISK, self.read(DISK).ljust(SIZE, b"\x01"))
 
     def file(self, last: str) -> str:
@@ -106,11 +110,19 @@ class Folder:
         with open(self.file(last), "rb") as file:
             return file.read()
 
+    def make(self, words: list[str], line: bytes, given: bytes = b"") -> None:
+        """Does a command that must print a line that begins so."""
+        output, errors = self.run(words, given)
+        if not output.startswith(line):
+            raise ValueError(f"{words}: {output!r} {errors!r}")
+
     def run(self, words: list[str] | list[bytes], given: bytes = b"") -> tuple[bytes, bytes]:
         try:
             run = subprocess.run([self.program, *words], cwd=self.path, input=given, capture_output=True, timeout=PATIENCE)
         except subprocess.TimeoutExpired as late:
             return b"\x00 late", late.stderr or b""
+        if run.returncode not in (0, 1, 2):
+            raise ValueError(f"{words} ended with status {run.returncode}")
         return run.stdout, run.stderr
 
 
@@ -127,44 +139,47 @@ def faults(said: bytes, more: bytes = b"") -> str:
     return ""
 
 
-def tried(folder: Folder, line: str) -> str:
+def tried(path: str, program: str, line: str, tally: Tally) -> str:
+    """What is wrong with the lines that a command prints in a folder of its own. One that prints nothing is counted so."""
+    os.mkdir(path)
+    folder = Folder(path, program)
     if DISK in line:
         folder.add_disk()
     output, errors = folder.run(words_of(line), BYTES + b"\nSTORE " + BYTES + b"\n")
+    if not output and not errors:
+        tally.add("silent", "")
     more = b"\t" if line.startswith(TABBED) else b""
     wrong = faults(errors, more) or ("" if line.startswith(DATA) else faults(output, more))
     return f"{line}: {wrong}: {output[:300]!r} {errors[:300]!r}" if wrong else ""
 
 
+def whole_line(path: str, program: str) -> str:
+    """What is wrong with a line that is known whole: the name reads back."""
+    os.mkdir(path)
+    wanted = f"{SHOWN}.v: BLOCKS 40\n".encode()
+    found = Folder(path, program).run(["check", EVIL + VOLUME, EVIL + OTHER])[0]
+    return "" if wanted in found else f"{found!r} has no {wanted!r}"
+
+
+def no_text(path: str, program: str) -> str:
+    """What is wrong with a line on a word that is no text."""
+    os.mkdir(path)
+    found = Folder(path, program).run([b"list", b"a\x9b\n"])[1]
+    return faults(found) and f"a word that is no text: {found!r}"
+
+
 def main() -> int:
     parser = argparse.ArgumentParser()
     parser.add_argument("--program", default=f"{TOP}/target/unproved/pdp8/pdp8")
-    program = os.path.abspath(parser.parse_args().program)
-    passed, failed = 0, 0
+    parser.add_argument("--lines", type=int)
+    given = parser.parse_args()
+    program, tally = os.path.abspath(given.program), Tally(20)
     with tempfile.TemporaryDirectory(prefix="pdp8-names-") as room:
-        for number, line in enumerate(lines()):
-            path = f"{room}/{number}"
-            os.mkdir(path)
-            wrong = tried(Folder(path, program), line)
-            passed, failed = passed + (not wrong), failed + bool(wrong)
-            if wrong:
-                print(wrong)
-        os.mkdir(f"{room}/exact")
-        for wrong in exact(Folder(f"{room}/exact", program)):
-            passed, failed = passed + (not wrong), failed + bool(wrong)
-            if wrong:
-                print(wrong)
-    print(f"{passed} passed, {failed} failed")
-    return 1 if failed else 0
-
-
-def exact(folder: Folder) -> Iterator[str]:
-    """Lines that are known whole: the name reads back."""
-    wanted = f"{SHOWN}.v: BLOCKS 40\n".encode()
-    found = folder.run(["check", EVIL + VOLUME, EVIL + OTHER])[0]
-    yield "" if wanted in found else f"{found!r} has no {wanted!r}"
-    found = folder.run([b"list", b"a\x9b\n"])[1]
-    yield faults(found) and f"a word that is no text: {found!r}"
+        for number, line in enumerate([*lines()][: given.lines]):
+            tally.add("commands", fault_in(functools.partial(tried, f"{room}/{number}", program, line, tally)))
+        for name, case in (("whole lines", whole_line), ("no texts", no_text)):
+            tally.add(name, fault_in(functools.partial(case, f"{room}/{name}", program)))
+    return tally.end()
 
 
 if __name__ == "__main__":

@@ -7,8 +7,9 @@ replies. The last line is 'N passed, M failed'; each run is counted, and the lin
 Each kind of run of each script must meet refusals, and few of them may end outside a session or be done without (`EXPECTED`). A session that a
 refusal leaves spoiled, by `short_memory` on purpose, must be reported as another one than it was.
 
-usage: check_refused_growths.py [--program FILE] [--short FILE]
+usage: check_refused_growths.py [--program FILE] [--short FILE] [--script TITLE] [--kind WORD]
 """
+import functools
 import os
 import subprocess
 import sys
@@ -20,7 +21,8 @@ HERE = os.path.dirname(os.path.abspath(__file__))
 TOP = os.path.dirname(os.path.dirname(HERE))
 sys.dont_write_bytecode = True
 sys.path.insert(0, TOP)
-from tests.options import option
+from tests.options import option, patience
+from tests.tally import Tally, fault_in
 
 PROGRAM = os.path.abspath(option("--program", f"{TOP}/crates/pdp8/out/pdp8"))
 SHORT = os.path.abspath(option("--short", f"{TOP}/crates/short_memory/out/short_memory"))
@@ -57,6 +59,7 @@ EXPECTED = {
     "files": {"same": (20, 1000), "outside": (1, 8)},
     "pdp8": {"memory": (20, 1000), "done without": (1, 8)},
 }
+GOOD = ("same", "outside", "memory", "done without")
 # The script whose run by `pdp8` may have no growth that it can do without.
 WANTS_ALL = "a full volume"
 
@@ -75,8 +78,10 @@ def unexpected(title: str, kind: str, found: dict[str, int]) -> list[str]:
 
 def refused(words: list[str], number: int, text: bytes, library: str) -> tuple[int, bytes, bool]:
     """The status and the output of a run whose growth of this number is refused, and whether it met the refusal."""
-    env: dict[str, str] = {"LD_PRELOAD": library, "REFUSE": str(number)} if number else {}
-    it = subprocess.run(words, input=text, capture_output=True, env=env)
+    env = {"LD_PRELOAD": library, "REFUSE": str(number)} if number else dict[str, str]()
+    it = subprocess.run(words, input=text, capture_output=True, env={**os.environ, **env}, timeout=patience(60))
+    if it.stderr.strip(b"R"):
+        raise ValueError(f"{words} says {it.stderr[:200]!r}")
     return it.returncode, it.stdout, b"R" in it.stderr
 
 
@@ -162,6 +167,15 @@ def told_fronts(image: bytes, lines: list[str]) -> list[Front]:
     return found
 
 
+def wrong_fronts(fronts: list[Front], lines: list[str]) -> str:
+    """What is wrong with the fronts of a script: each item has a reply, and each one that stores a file leaves one more."""
+    for item, (before, old), (after, new) in zip(items(lines), fronts, fronts[1:]):
+        is_stored = item[0].startswith("STORE ") and b"STORED" in after[len(before) :]
+        if not after.startswith(before) or after == before or len(new) != len(old) + 1 and is_stored:
+            return f"{item[0]}: {after[len(before) :]!r} with {len(new)} files"
+    return ""
+
+
 def runs(of: Callable[[int], str | None]) -> dict[str, int]:
     """What became of each run, for each growth in turn until a run meets no refusal."""
     found, number = dict[str, int](), 1
@@ -175,36 +189,51 @@ def runs(of: Callable[[int], str | None]) -> dict[str, int]:
             number += 64
 
 
+def try_script(title: str, kind: str, image: bytes, library: str, tally: Tally) -> str:
+    """Counts the runs of one kind of a script. Says which outcomes came too seldom or too often."""
+    text = "".join(f"{line}\n" for line in SCRIPTS[title]).encode()
+    if kind == "pdp8":
+        fronts = told_fronts(image, SCRIPTS[title])
+        if wrong_fronts(fronts, SCRIPTS[title]):
+            return wrong_fronts(fronts, SCRIPTS[title])
+        found = runs(lambda n: in_program(image, fronts, n, text, library))
+    elif kind == "files":
+        found = runs(lambda n: in_session([SHORT, "stop"], None, n, text, library))
+    else:
+        want = subprocess.run([SHORT], input=text, capture_output=True, check=True, timeout=patience(60)).stdout
+        found = runs(lambda n: in_session([SHORT], want, n, text, library))
+    print(f"{title}, {kind}: " + ", ".join(f"{count} {what}" for what, count in sorted(found.items())))
+    for what, count in found.items():
+        for _ in range(count):
+            tally.add(kind, "" if what in GOOD else f"{title}, {kind}: {what}")
+    return "\n".join(f"{title}, {kind}: {it}" for it in unexpected(title, kind, found))
+
+
+def new_image(folder: str) -> bytes:
+    """The bytes of an empty volume."""
+    name = f"{folder}/v.img"
+    subprocess.run([PROGRAM, "create", name, "20"], check=True, capture_output=True, timeout=patience(60))
+    with open(name, "rb") as file:
+        return file.read()
+
+
+def spoiled(library: str) -> str:
+    """What is wrong with the runs in which `short_memory` leaves a session spoiled."""
+    text = "".join(f"{line}\n" for line in SCRIPTS["a program loaded"]).encode()
+    return "\n".join(untold(text, library))
+
+
 def main() -> int:
-    passed = failed = 0
+    tally = Tally()
     with tempfile.TemporaryDirectory() as folder:
         library = f"{folder}/refuse.so"
         subprocess.run([os.environ.get("CC", "cc"), "-O2", "-shared", "-fPIC", "-o", library, f"{HERE}/refuse.c"], check=True)
-        name = f"{folder}/v.img"
-        subprocess.run([PROGRAM, "create", name, "20"], check=True, capture_output=True)
-        image = open(name, "rb").read()
-        for title, lines in SCRIPTS.items():
-            text = "".join(f"{line}\n" for line in lines).encode()
-            want = subprocess.run([SHORT], input=text, capture_output=True, check=True).stdout
-            fronts = told_fronts(image, lines)
-            tried = {
-                "again": runs(lambda n: in_session([SHORT], want, n, text, library)),
-                "files": runs(lambda n: in_session([SHORT, "stop"], None, n, text, library)),
-                "pdp8": runs(lambda n: in_program(image, fronts, n, text, library)),
-            }
-            for kind, found in tried.items():
-                print(f"{title}, {kind}: " + ", ".join(f"{count} {what}" for what, count in sorted(found.items())))
-                good = sum(count for what, count in found.items() if what in ("same", "outside", "memory", "done without"))
-                passed, failed = passed + good, failed + sum(found.values()) - good
-                for it in unexpected(title, kind, found):
-                    print(f"{title}, {kind}: {it}")
-                    failed += 1
-        text = "".join(f"{line}\n" for line in SCRIPTS["a program loaded"]).encode()
-        faults = list(untold(text, library))
-        print(*faults, sep="\n", end="\n" * bool(faults))
-        passed, failed = passed + 2 - len(faults), failed + len(faults)
-    print(f"{passed} passed, {failed} failed")
-    return 1 if failed else 0
+        for title in [option("--script", "")] if "--script" in sys.argv else SCRIPTS:
+            for kind in [option("--kind", "")] if "--kind" in sys.argv else EXPECTED:
+                tally.add("scripts", fault_in(lambda: try_script(title, kind, new_image(folder), library, tally)))
+        if "--script" not in sys.argv:
+            tally.add("spoiled", fault_in(functools.partial(spoiled, library)))
+    return tally.end()
 
 
 if __name__ == "__main__":

@@ -3,17 +3,20 @@
 or with its first fault. With --program it holds the program `pdp8` to them, too, by `assemble --pal8` and by `tape` on what that wrote. The last line
 is 'N passed, M failed'."""
 import argparse
+import functools
 import os
 import subprocess
 import sys
 import tempfile
-from typing import Iterator, Optional
+from typing import Callable, Iterator, Optional
 
 sys.dont_write_bytecode = True
 HERE = os.path.dirname(os.path.abspath(__file__))
 TOP = os.path.dirname(os.path.dirname(HERE))
 sys.path.insert(0, TOP)
 from tests.model.pal8 import answer
+from tests.options import patience
+from tests.tally import Tally, fault_in
 
 
 def all_rows() -> Iterator[tuple[str, list[str], str]]:
@@ -41,7 +44,7 @@ def rows() -> Iterator[tuple[str, str, str]]:
 
 
 def run(words: list[str], given: bytes) -> subprocess.CompletedProcess[bytes]:
-    return subprocess.run(words, input=given, capture_output=True, timeout=120)
+    return subprocess.run(words, input=given, capture_output=True, timeout=patience(120))
 
 
 def program_answer(program: str, texts: list[bytes]) -> str:
@@ -54,31 +57,36 @@ def program_answer(program: str, texts: list[bytes]) -> str:
         ran = run([program, "assemble", "--pal8", *names], b"")
     told = ran.stderr.decode("latin1").splitlines(keepends=True)
     if ran.returncode == 0 and not told:
-        return run([program, "tape"], ran.stdout).stdout.decode("latin1")
+        listed = run([program, "tape"], ran.stdout)
+        return (listed.stdout + listed.stderr).decode("latin1") + (f"status {listed.returncode}\n" if listed.returncode else "")
     is_one_fault = len(told) == 4 or told[4:5] == ["note: these words have a fault too:\n"]
     if ran.returncode == 1 and not ran.stdout and is_one_fault:
         return told[3]
     return f"status {ran.returncode}, {len(ran.stdout)} bytes of a tape\n{''.join(told)}"
 
 
+def difference(wanted: str, came: Callable[[], str]) -> str:
+    """How what came differs from what is wanted; nothing where it doesn't."""
+    found = came()
+    return "" if found == wanted else f"wanted\n{wanted}came\n{found}"
+
+
 def main() -> int:
     parser = argparse.ArgumentParser(usage=__doc__)
     parser.add_argument("--program")
-    program: Optional[str] = parser.parse_args().program
-    passed = failed = 0
-    for name, written, wanted in all_rows():
+    parser.add_argument("--rows", type=int, help="the first rows alone")
+    given = parser.parse_args()
+    program: Optional[str] = given.program
+    tally = Tally()
+    for name, written, wanted in [*all_rows()][: given.rows]:
         texts = [text.encode("latin1") for text in written]
-        answers = {"the model": answer(*texts)}
+        answers: dict[str, Callable[[], str]] = {"model": functools.partial(answer, *texts)}
         if program:
-            answers["the program"] = program_answer(os.path.abspath(program), texts)
+            answers["program"] = functools.partial(program_answer, os.path.abspath(program), texts)
         for who, came in answers.items():
-            if came == wanted:
-                passed += 1
-            else:
-                failed += 1
-                print(f"{name}: wanted\n{wanted}{who} came to\n{came}", end="")
-    print(f"{passed} passed, {failed} failed")
-    return 1 if failed or not passed else 0
+            fault = fault_in(functools.partial(difference, wanted, came))
+            tally.add(who, fault and f"{name}, by the {who}: {fault}")
+    return tally.end()
 
 
 if __name__ == "__main__":

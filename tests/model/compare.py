@@ -8,6 +8,7 @@ from tests.model.cases import Case
 from tests.model.system import Differs, System, Told
 from tests.model.volume import Unsound, Volume, read_volume
 from tests.model.words import shown_name
+from tests.options import patience
 
 SECONDS = 60
 
@@ -27,7 +28,7 @@ def run_program(program: str, case: Case) -> Ended:
         path = f"{folder}/V"
         with open(path, "wb") as file:
             file.write(case.image)
-        done = subprocess.run([program, "run", path], input=case.script, capture_output=True, timeout=SECONDS)
+        done = subprocess.run([program, "run", path], input=case.script, capture_output=True, timeout=patience(SECONDS))
         with open(path, "rb") as file:
             return Ended(done.stdout, done.stderr, file.read(), done.returncode)
 
@@ -77,8 +78,8 @@ def compared_safely(program: str, case: Case) -> tuple[str, set[str]]:
     """The same, where whatever breaks the comparison off is a fault of the case too."""
     try:
         return compared(program, case)
-    except subprocess.TimeoutExpired:
-        return f"no end within {SECONDS} seconds", set()
+    except subprocess.TimeoutExpired as late:
+        return f"no end within {late.timeout} seconds", set()
     except Exception as broken:
         return f"the comparison broke off: {broken!r}", set()
 

@@ -17,6 +17,7 @@ import subprocess
 import sys
 import tempfile
 from random import Random
+from typing import Callable
 
 sys.dont_write_bytecode = True
 TOP = os.path.dirname(os.path.dirname(os.path.dirname(os.path.abspath(__file__))))
@@ -31,8 +32,9 @@ from tests.model.kinds import readings_of
 from tests.model.survey import damaged, surveyed
 from tests.model.volume import Unsound, Volume, made_image, read_volume, words_of_image
 from tests.model.words import octal, spelled_name
+from tests.options import patience
+from tests.tally import Tally, fault_in
 
-SHOWN = 3
 COMMANDS = 20
 IMAGES = ["V", "W"]
 
@@ -95,10 +97,10 @@ class Case:
         is_known = [part.image for part in parts_of(held.data)] == [held.image]
         return [] if is_known and self.random.random() < 0.5 else held.words(to)
 
-    def command(self) -> str:
-        """Does a random command. Says how the program differs from the keeper, and nothing where it doesn't."""
+    def command(self) -> Callable[[], str]:
+        """A random command. Done, it says how the program differs from the keeper, and nothing where it doesn't."""
         kinds = [self.put, self.get, self.delete, self.rename, self.copy, self.copy_many, self.told, self.get_many, self.put_many, self.others, self.reports]
-        return self.random.choice([*kinds, self.get_texts])()
+        return self.random.choice([*kinds, self.get_texts])
 
     def put(self) -> str:
         random, image = self.random, self.random.choice(IMAGES)
@@ -276,7 +278,7 @@ class Case:
         return ""
 
     def done(self, words: list[str], given: bytes) -> subprocess.CompletedProcess[bytes]:
-        return subprocess.run([self.program, *words], cwd=self.folder, input=given, stdout=subprocess.PIPE, stderr=subprocess.STDOUT, timeout=60)
+        return subprocess.run([self.program, *words], cwd=self.folder, input=given, stdout=subprocess.PIPE, stderr=subprocess.STDOUT, timeout=patience(60))
 
     def differs(self, words: list[str], given: bytes, wanted: tuple[list[str], int]) -> str:
         return self.differs_in_bytes(words, given, "".join(f"{line}\n" for line in wanted[0]).encode("latin-1"), wanted[1])
@@ -323,18 +325,14 @@ def write(path: str, data: bytes) -> None:
         file.write(data)
 
 
-def tried(program: str, seed: int) -> list[str]:
+def tried(program: str, seed: int) -> list[tuple[str, str]]:
+    """The commands of a case that were done, each by its kind and with what is wrong; the first of these is the last."""
     with tempfile.TemporaryDirectory(prefix="pdp8-archives-") as folder:
-        case = Case(program, folder, Random(seed))
-        told = []
-        for _ in range(COMMANDS):
-            try:
-                told.append(case.command())
-            except subprocess.TimeoutExpired:
-                told.append("no end")
-            if told[-1]:
-                break
-        return told
+        case, found = Case(program, folder, Random(seed)), list[tuple[str, str]]()
+        while len(found) < COMMANDS and not (found and found[-1][1]):
+            command = case.command()
+            found.append((command.__name__, fault_in(command)))
+        return found
 
 
 def main() -> int:
@@ -347,12 +345,11 @@ def main() -> int:
     if not os.path.isfile(program):
         sys.exit(f"compare_archives: there is no program {program}: ./prove builds it")
     with concurrent.futures.ProcessPoolExecutor(len(os.sched_getaffinity(0))) as lanes:
-        outcomes = list(lanes.map(tried, [program] * len(seeds), seeds, chunksize=2))
-    failed = [(seed, fault) for seed, told in zip(seeds, outcomes) for fault in told if fault]
-    for seed, fault in failed[:SHOWN]:
-        print(f"case {seed}: {fault}")
-    print(f"{sum(map(len, outcomes)) - len(failed)} passed, {len(failed)} failed")
-    return 1 if failed else 0
+        tally = Tally()
+        for seed, outcomes in zip(seeds, lanes.map(tried, [program] * len(seeds), seeds, chunksize=2)):
+            for kind, fault in outcomes:
+                tally.add(kind, fault and f"case {seed}: {fault}")
+    return tally.end()
 
 
 if __name__ == "__main__":

@@ -12,7 +12,7 @@ import subprocess
 import sys
 import tempfile
 from random import Random
-from typing import Optional
+from typing import Callable, Iterator, Optional
 
 sys.dont_write_bytecode = True
 TOP = os.path.dirname(os.path.dirname(os.path.dirname(os.path.abspath(__file__))))
@@ -23,11 +23,13 @@ from tests.model.listing import Listing
 from tests.model.names import names_in, random_names
 from tests.model.host_sources import Told, assembled_host
 from tests.model.sources import source, tape
-from tests.model.tape import tape_of
+from tests.model.tape import meaning_of, tape_of
 from tests.model.terminal import Sitting, sat
 from tests.model.traces import profiled, traced
+from tests.model.words import octal
+from tests.options import patience
+from tests.tally import Tally, fault_in
 
-SHOWN = 3
 REFUSALS = {
     "no cell with a name": "1 BAD LINE",
     "no name": "2 NO NAME",
@@ -40,7 +42,7 @@ ECHO = [0o6031, 0o5200, 0o6036, 0o6046, 0o6041, 0o5204, 0o5200]
 
 
 def run(program: str, words: list[str], folder: str, given: bytes = b"") -> tuple[bytes, bytes, int]:
-    done = subprocess.run([program, *words], cwd=folder, input=given, capture_output=True, timeout=60)
+    done = subprocess.run([program, *words], cwd=folder, input=given, capture_output=True, timeout=patience(60))
     return done.stdout, done.stderr, done.returncode
 
 
@@ -135,8 +137,8 @@ def names_of(program: str) -> dict[int, str]:
     return {0o6000 + cell - 0o2000: " ".join(pieces) for cell, pieces in source_lines(text).items()}
 
 
-def traces(program: str, seed: int) -> str:
-    """The same of the trace and of the profile of a random program."""
+def traces(kind: str, program: str, seed: int) -> str:
+    """The same of the trace or of the profile of a random program."""
     random = Random(seed)
     sitting = sitting_of(random)
     sitting.keys = bytes(it for it in sitting.keys if 0 < it < 0o200)
@@ -148,11 +150,10 @@ def traces(program: str, seed: int) -> str:
     with tempfile.TemporaryDirectory(prefix="pdp8-host-") as folder:
         with open(f"{folder}/TAPE", "wb") as file:
             file.write(bytes(sitting.frames))
-        for kind in ("trace", "profile"):
-            printed, errors, status = run(program, [kind, *words], folder)
-            wanted = traced(sitting, names_of(program)) if kind == "trace" else profiled(sitting)
-            if (without_kind(errors + printed).decode(), status) != wanted:
-                return f"{kind} {sitting}\n    wanted {wanted}\n    got {printed!r} {errors!r} {status}"
+        printed, errors, status = run(program, [kind, *words], folder)
+    wanted = traced(sitting, names_of(program)) if kind == "trace" else profiled(sitting)
+    if (without_kind(errors + printed).decode(), status) != wanted:
+        return f"{kind} {sitting}\n    wanted {wanted}\n    got {printed!r} {errors!r} {status}"
     return ""
 
 
@@ -181,18 +182,32 @@ def wrong_source(program: str, folder: str, frames: bytes, starts: list[int], na
         line = f"? NAMES {REFUSALS[refused[1]]} {refused[0]}\n" if refused else "? SOURCE 1 NO WORD\n"
         line = f"? SOURCE 2 NO WORD AT {lacking[0]:05o}\n" if lacking else line
         return "" if (text, errors.decode(), status) == (b"", line, 1) else f"{text!r} {errors!r} {status}"
+    if (errors, status) != (b"", 0):
+        return f"the source: {errors!r} {status}"
     with open(f"{folder}/SOURCE", "wb") as file:
         file.write(text)
     again, errors, status = run(program, ["assemble", "SOURCE"], folder)
-    if run(program, ["tape"], folder, again)[0] != loaded:
-        return f"another tape, {errors!r}, of {text!r}"
+    if (errors, status) != (b"", 0) or run(program, ["tape"], folder, again) != (loaded, b"", 0):
+        return f"another tape, {errors!r} {status}, of {text!r}"
     code = reached(words, starts) if starts else set(words)
     wanted = "\r\n".join([*Listing(words, code, named, names_of(program), bool(starts)).lines(), ""])
     return "" if text.decode("ascii") == wanted else f"{text.decode('ascii')}\n    wanted {wanted}"
 
 
-def lists(program: str, seed: int) -> str:
-    """The same of the source of a random tape, or of one that was assembled, with some starts or none, and with names now and then."""
+def wrong_tape(frames: bytes, printed: bytes, errors: bytes, status: int) -> str:
+    """What is wrong with the words of a tape that are printed, or with the fault of one that is none."""
+    meaning = meaning_of([*frames])
+    if isinstance(meaning, dict):
+        lines = "".join(f"{cell // 4096} {octal(cell % 4096, 4)} {octal(word, 4)}\n" for cell, word in sorted(meaning.items()))
+        is_right = (printed.decode("latin1"), errors, status) == (lines, b"", 0)
+    else:
+        is_right = (printed.decode("latin1"), without_kind(errors), status) == (f"{meaning.line}\n", b"", 1)
+    return "" if is_right else f"a tape of {meaning}\n    got {printed!r} {errors!r} {status}"
+
+
+def lists(program: str, seed: int) -> Iterator[tuple[str, str]]:
+    """The same of the words of a random tape, or of one that was assembled. Then of its source, with some starts or none, and with names now and
+    then; what is no tape has no source."""
     random = Random(seed)
     with tempfile.TemporaryDirectory(prefix="pdp8-host-") as folder:
         frames = bytes(random_tape(random))
@@ -200,26 +215,32 @@ def lists(program: str, seed: int) -> str:
             with open(f"{folder}/TEXT", "wb") as file:
                 file.write(source(random, False))
             frames = run(program, ["assemble", "TEXT"], folder)[0] or frames
-        loaded, _, status = run(program, ["tape"], folder, frames)
+        loaded, errors, status = run(program, ["tape"], folder, frames)
+        yield "tapes", wrong_tape(frames, loaded, errors, status)
         if status:
-            return ""
+            return
         cells = [int(line[0:1] + line[2:6], 8) for line in loaded.decode("ascii").splitlines()]
         starts = [random.choice(cells or [0o200]) for _ in range(random.choice([0, 1, 1, 2, 3]))]
         if random.random() < 0.1:
             starts.append(random.randrange(0o100000))
         names = random_names(random, cells) if random.random() < 0.4 else None
         wrong = wrong_source(program, folder, frames, starts, names, loaded)
-    return f"{starts}: {wrong}" if wrong else ""
+    yield "listings", f"{starts}: {wrong}" if wrong else ""
 
 
-def tried(program: str, seed: int) -> list[str]:
-    told = []
-    for case in (assembles, sits, traces, lists):
-        try:
-            told.append(case(program, seed))
-        except subprocess.TimeoutExpired:
-            told.append("no end")
-    return told
+CASES: dict[str, Callable[[str, int], str]] = {"sources": assembles, "sittings": sits, "traces": functools.partial(traces, "trace"), "profiles": functools.partial(traces, "profile")}
+
+
+def tried(program: str, seed: int) -> list[tuple[str, str]]:
+    """What was tried by a seed, each by its kind and with what is wrong."""
+    found = [(kind, fault_in(functools.partial(case, program, seed))) for kind, case in CASES.items()]
+
+    def listed() -> str:
+        found.extend(lists(program, seed))
+        return ""
+
+    broken = fault_in(listed)
+    return [*found, *([("listings", broken)] if broken else [])]
 
 
 def main() -> int:
@@ -232,12 +253,11 @@ def main() -> int:
     if not os.path.isfile(program):
         sys.exit(f"compare_host_commands: there is no program {program}: ./prove builds it")
     with concurrent.futures.ProcessPoolExecutor(len(os.sched_getaffinity(0))) as lanes:
-        outcomes = list(lanes.map(tried, [program] * len(seeds), seeds, chunksize=5))
-    failed = [(seed, fault) for seed, told in zip(seeds, outcomes) for fault in told if fault]
-    for seed, fault in failed[:SHOWN]:
-        print(f"case {seed}: {fault}")
-    print(f"{4 * len(seeds) - len(failed)} passed, {len(failed)} failed")
-    return 1 if failed else 0
+        tally = Tally()
+        for seed, outcomes in zip(seeds, lanes.map(tried, [program] * len(seeds), seeds, chunksize=5)):
+            for kind, fault in outcomes:
+                tally.add(kind, fault and f"case {seed}: {fault}")
+    return tally.end()
 
 
 if __name__ == "__main__":

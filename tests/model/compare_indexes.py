@@ -5,6 +5,7 @@ volume. It compares what `index` prints of 200 of them at once, of those with --
 the definitions alone. The same number is the same images each time. The last line is 'N passed, M failed'.
 """
 import argparse
+import functools
 import os
 import subprocess
 import sys
@@ -21,8 +22,9 @@ from tests.model.index import equal_lines, indexed
 from tests.model.tape import tape_of
 from tests.model.volume import Lot, made_image
 from tests.model.words import BLOCK_WORDS, Name, packed, parsed_name, stored_text
+from tests.options import patience
+from tests.tally import Tally, fault_in
 
-SHOWN = 3
 ALONE = 20
 AT_ONCE = 200
 
@@ -105,17 +107,16 @@ def random_file(random: Random) -> bytes:
 
 def run(program: str, folder: str, names: list[str], words: list[str]) -> tuple[list[str], list[str], int]:
     """What `index` prints of files, its lines, those of its refusals without notes, and its status."""
-    done = subprocess.run([program, "index", *names, *words], cwd=folder, capture_output=True, timeout=600)
+    done = subprocess.run([program, "index", *names, *words], cwd=folder, capture_output=True, timeout=patience(600))
     said = [line for line in done.stderr.decode().splitlines() if not line.startswith("note: ")]
     return done.stdout.decode().splitlines(), said, done.returncode
 
 
 def fault_of(program: str, folder: str, names: list[str], year: int | None, is_same: bool) -> str:
-    """How what is printed of files, or of equal files alone, differs from their plain index; nothing where it doesn't."""
-    wanted, refused = list[str](), list[str]()
-    for name in names:
-        with open(f"{folder}/{name}", "rb") as file:
-            lines, others = indexed(name, file.read(), year)
+    """How what is printed of files, or of equal files alone, differs from their plain index, or a file changes; nothing where it doesn't."""
+    wanted, refused, before = list[str](), list[str](), [bytes_of(f"{folder}/{name}") for name in names]
+    for name, data in zip(names, before):
+        lines, others = indexed(name, data, year)
         wanted, refused = wanted + lines, refused + others
     wanted = equal_lines(wanted) if is_same else wanted
     words = (["--year", str(year)] if year else []) + (["--same"] if is_same else [])
@@ -125,7 +126,14 @@ def fault_of(program: str, folder: str, names: list[str], year: int | None, is_s
         return f"line {at + 1} is {printed[at : at + 1]} in place of {wanted[at : at + 1]}"
     if [line.split(": ")[0] for line in said] != refused:
         return f"refusals are {said[:3]} in place of {refused[:3]}"
+    if [bytes_of(f"{folder}/{name}") for name in names] != before:
+        return "a file has changed"
     return "" if status == (1 if refused else 0) else f"the status is {status}"
+
+
+def bytes_of(path: str) -> bytes:
+    with open(path, "rb") as file:
+        return file.read()
 
 
 def program_and_seeds(about: str | None, what: str, count: int) -> tuple[str, range]:
@@ -141,28 +149,19 @@ def program_and_seeds(about: str | None, what: str, count: int) -> tuple[str, ra
     return program, range(given.seed, given.seed + given.count)
 
 
-def print_faults(faults: list[str], tests: int) -> int:
-    """Prints the first faults of so many tests, and how many passed and failed. The exit status."""
-    for fault in faults[:SHOWN]:
-        print(fault)
-    print(f"{tests - len(faults)} passed, {len(faults)} failed")
-    return 1 if faults else 0
-
-
 def try_each(about: str | None, what: str, count: int, fault_of: Callable[[str, Random], str]) -> int:
     """Tries the program that the command line names on `count` of `what`, each by its own seed. The exit status."""
     program, seeds = program_and_seeds(about, what, count)
-    faults = list[str]()
+    tally = Tally()
     for seed in seeds:
-        fault = fault_of(program, Random(seed))
-        faults += [f"{seed}: {fault}"] if fault else []
-    return print_faults(faults, len(seeds))
+        fault = fault_in(functools.partial(fault_of, program, Random(seed)))
+        tally.add(what, fault and f"{seed}: {fault}")
+    return tally.end()
 
 
 def main() -> int:
     program, seeds = program_and_seeds(__doc__, "images", 2000)
-    faults = list[str]()
-    tests = 0
+    tally = Tally()
     for first in range(0, len(seeds), AT_ONCE):
         with tempfile.TemporaryDirectory() as folder:
             some_seeds = seeds[first : first + AT_ONCE]
@@ -170,11 +169,12 @@ def main() -> int:
             for seed in some_seeds:
                 with open(f"{folder}/i{seed}", "wb") as file:
                     file.write(random_file(Random(seed)))
-            for some, year, is_same in [(names, None, False), (names, None, True), *(([name], 1990, False) for name in names[::ALONE])]:
-                tests += 1
-                fault = fault_of(program, folder, some, year, is_same)
-                faults += [f"{some[0]}: {fault}"] if fault else []
-    return print_faults(faults, tests)
+            asked: list[tuple[str, list[str], int | None, bool]] = [("of many", names, None, False), ("of equal files", names, None, True)]
+            asked += [("of one", [name], 1990, False) for name in names[::ALONE]]
+            for kind, some, year, is_same in asked:
+                fault = fault_in(functools.partial(fault_of, program, folder, some, year, is_same))
+                tally.add(kind, fault and f"{some[0]}: {fault}")
+    return tally.end()
 
 
 if __name__ == "__main__":

@@ -15,11 +15,15 @@ TOP = os.path.dirname(os.path.dirname(os.path.dirname(os.path.abspath(__file__))
 sys.path.insert(0, TOP)
 from tests.model.compare_indexes import try_each
 from tests.model.kinds import BLOCK, DISK, TAPE, Kind, readings_of
+from tests.options import patience
 
 NAME = "I"
 BLOCKS = [8, 9, 20, 736, 737, 738, 741, 742, 743, 744, 3247, 3248, 3249, 3250, 3600, 4094, 4095]
 # Heads of directories: the word for entries, the first block, the link, the flag, information words, and an entry of free blocks
 HEADS = [[0o7777, 7, 0, 0, 0o7777, 0, 0o7770], [0o7777, 7, 0, 0, 0, 0, 0o7000], [0o7776, 7, 0, 0, 0o7777, 0o0101, 0o0102, 0, 0, 0, 0o7777, 0, 0o7770]]
+
+# How a put may be refused.
+REFUSALS = ("? KIND ", "? IMAGE ", "? DIRECTORY ", "? 4.2 NO ROOM ")
 
 
 def words_of(numbers: list[int]) -> bytes:
@@ -64,7 +68,7 @@ def random_file(random: Random) -> bytes:
 
 
 def run(program: str, folder: str, words: list[str], given: bytes = b"") -> tuple[str, str, int]:
-    done = subprocess.run([program, *words], cwd=folder, input=given, capture_output=True, timeout=600)
+    done = subprocess.run([program, *words], cwd=folder, input=given, capture_output=True, timeout=patience(600))
     return done.stdout.decode("latin1"), done.stderr.decode("latin1"), done.returncode
 
 
@@ -75,7 +79,10 @@ def bytes_of(folder: str) -> bytes:
 
 def judged_otherwise(program: str, folder: str, readings: list[Kind]) -> str:
     """How the program takes a file for something else than the rule does."""
-    output, errors, _ = run(program, folder, ["check", NAME])
+    data = bytes_of(folder)
+    output, errors, status = run(program, folder, ["check", NAME])
+    if status not in (0, 1) or bytes_of(folder) != data:
+        return f"check ends with {status}, or has changed the file"
     if len(readings) > 1:
         return "" if output == "? KIND 1 TWO READINGS\n" else f"two readings are {output}"
     if output.startswith("? KIND 1"):
@@ -107,7 +114,7 @@ def changed(random: Random, program: str, folder: str, files: dict[str, bytes], 
     output, _, status = run(program, folder, ["put", NAME, "-", "--as", name, *options], frames)
     if status == 0:
         files[name] = frames
-    return "" if status == 0 or output.startswith("?") else f"put ends with {status} and {output}"
+    return "" if status == 0 or (status == 1 and output.startswith(REFUSALS)) else f"put ends with {status} and {output}"
 
 
 def fault_of(program: str, random: Random) -> str:
@@ -130,7 +137,7 @@ def fault_of(program: str, random: Random) -> str:
             if not options and readings_of(after)[:1] != readings[:1] and [it for it in readings_of(after) if it != ("volume", 0, 0)] != [it for it in readings if it != ("volume", 0, 0)]:
                 return f"{readings} has become {readings_of(after)}"
             for name, frames in files.items():
-                got = subprocess.run([program, "get", NAME, name, *options], cwd=folder, capture_output=True, timeout=600).stdout
+                got = subprocess.run([program, "get", NAME, name, *options], cwd=folder, capture_output=True, timeout=patience(600)).stdout
                 if got[: len(frames)] != frames:
                     return f"{name} is out of reach"
             if fault:

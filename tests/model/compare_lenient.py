@@ -15,9 +15,12 @@ TOP = os.path.dirname(os.path.dirname(os.path.dirname(os.path.abspath(__file__))
 sys.path.insert(0, TOP)
 from tests.model.compare_indexes import random_file, try_each
 from tests.model.mended import mended
+from tests.options import patience
 
 NAME = "I"
 COMMANDS = [["list", NAME], ["list", NAME, "--long"], ["list", NAME, "*"], ["check", NAME], ["check", NAME, "--all"], ["check", NAME, NAME], ["index", NAME], ["get", NAME, "--blocks", "1", "6"]]
+# How a line on standard error begins.
+LINES = ("note: ", "error: ", "? ", f"{NAME}: ? ", f"{NAME}:1: ? ", f"{NAME}:2: ? ")
 LAYOUTS = {"": list[str](), "1": ["--volume", "1"], "2": ["--volume", "2"], "tape": ["--dectape"]}
 
 
@@ -41,7 +44,7 @@ def run(program: str, folder: str, words: list[str], data: bytes) -> tuple[bytes
     """What a command prints of a file of these bytes on either stream, its status, and whether the file is as it was."""
     with open(f"{folder}/{NAME}", "wb") as file:
         file.write(data)
-    done = subprocess.run([program, *words], cwd=folder, capture_output=True, timeout=600)
+    done = subprocess.run([program, *words], cwd=folder, capture_output=True, timeout=patience(600))
     with open(f"{folder}/{NAME}", "rb") as file:
         return done.stdout, done.stderr.decode(), done.returncode, file.read() == data
 
@@ -56,6 +59,8 @@ def fault_of(program: str, random: Random) -> str:
     with tempfile.TemporaryDirectory() as folder:
         output, errors, status, is_same = run(program, folder, [*words, "--lenient"], data)
         wanted, others, ends, _ = run(program, folder, words, mended_data)
+    if ends not in (0, 1) or not all(line.startswith(LINES) for line in others.splitlines()):
+        return f"{words}: without --lenient {others[-400:]!r} {ends}"
     # of a file that is named twice the notes come twice, those on what was mended before its others
     times = words.count(NAME)
     notes = (notes + others[: len(others) // times]) * times

@@ -4,6 +4,7 @@ ones, 2000 where nothing is said, N that are random bytes nearly, and N that are
 that is printed and the further ones, each with its text, its line and its column, with the plain model's. Where there is none it compares the
 listing. Of several texts it compares the tape or the numbered line, too. The same number is the same sources each time. The last line is 'N passed, M failed'.
 """
+import functools
 import os
 import subprocess
 import sys
@@ -16,8 +17,9 @@ sys.path.insert(0, TOP)
 from tests.model.compare_indexes import program_and_seeds
 from tests.model.compare_pal8_sources import PIECES, Maker, nearly_bytes, options_by
 from tests.model.pal8 import Options, answer, headlines, listing
+from tests.options import patience
+from tests.tally import Tally, fault_in
 
-SHOWN = 3
 MOST = 20
 BAD = ("#", "8", "5,", "#,", "A 10000", "(5]", "TAD (XX", "TAD YY+1", "1%0", "TAD I 1234", "TAD (1%0", "TAD (7)+ZZ", "CLA(5", "B=8", "B=QQ", "DECIMAL;9", "5 <")
 PAUSES: tuple[str, ...] = ("PAUSE", "PAUSE", " pause /on", "PAUSE;8;#", "PAUSE$8", "IFZERO 0 <PAUSE>", "IFZERO 0 <;PAUSE;>8", "IFNZRO 0 <PAUSE>", "IFDEF A <PAUSE", "PAUSE>", "PAUSE<", "Q1, PAUSE")
@@ -81,11 +83,15 @@ def printed(program: str, texts: list[bytes], options: Options, is_cross: bool) 
         for name, text in zip(names, texts):
             with open(f"{folder}/{name}", "wb") as file:
                 file.write(text)
-        done = subprocess.run([program, "assemble", "--pal8", *options.words(), *names, "--list", "L", *(["--cross"] if is_cross else []), "--output", "T"], cwd=folder, capture_output=True, timeout=300)
+        done = subprocess.run([program, "assemble", "--pal8", *options.words(), *names, "--list", "L", *(["--cross"] if is_cross else []), "--output", "T"], cwd=folder, capture_output=True, timeout=patience(300))
         listed = open(f"{folder}/L", encoding="latin1", newline="").read() if os.path.exists(f"{folder}/L") else ""
+        if done.returncode not in (0, 1):
+            raise ValueError(f"status {done.returncode}")
         if done.returncode == 0 and not done.stderr and len(texts) > 1:
-            return [], subprocess.run([program, "tape", "T"], cwd=folder, capture_output=True, timeout=300).stdout.decode("latin1"), listed
+            return [], subprocess.run([program, "tape", "T"], cwd=folder, capture_output=True, timeout=patience(300)).stdout.decode("latin1"), listed
     lines = [it for it in done.stderr.decode("latin1").splitlines() if not it.startswith("note: S")]
+    if bool(lines) != (done.returncode == 1) or done.stdout:
+        raise ValueError(f"status {done.returncode} with {lines} and {done.stdout!r}")
     if not lines:
         return [], "", listed
     rest = lines[5:] if len(lines) > 4 else []
@@ -93,25 +99,24 @@ def printed(program: str, texts: list[bytes], options: Options, is_cross: bool) 
     return [":".join(line[1:].split(":")[first:4]) for line in [lines[0], *rest[::3]]], lines[3] + "\n", listed
 
 
+def wrong(program: str, texts: list[bytes], options: Options, is_cross: bool) -> str:
+    """How what is printed of texts differs from the model's; nothing where it doesn't."""
+    came, last, listed = printed(program, texts, options, is_cross)
+    wanted = headlines(texts, MOST, options)
+    wanted_listing = "" if wanted else listing(texts, options, is_cross)
+    is_same = came == wanted and (len(texts) == 1 or last == answer(*texts, options=options)) and listed == wanted_listing
+    return "" if is_same else f"wanted {wanted} {answer(*texts, options=options)}\n    came {came} {last}{listed}{wanted_listing}"
+
+
 def main() -> int:
     program, seeds = program_and_seeds(__doc__, "sources", 2000)
-    passed = failed = 0
+    tally = Tally()
     for seed in seeds:
         options = options_by(seed)
-        for texts in ([Faulty(seed).source()], [nearly_bytes(seed)], several_texts(seed)):
-            is_cross = seed % 2 == 0
-            came, last, listed = printed(program, texts, options, is_cross)
-            wanted = headlines(texts, MOST, options)
-            wanted_listing = "" if wanted else listing(texts, options, is_cross)
-            is_same = came == wanted and (len(texts) == 1 or last == answer(*texts, options=options)) and listed == wanted_listing
-            if is_same:
-                passed += 1
-                continue
-            failed += 1
-            if failed <= SHOWN:
-                print(f"seed {seed}: {options.words()} {texts!r}:\n    wanted {wanted} {answer(*texts, options=options)}\n    came {came} {last}{listed}{wanted_listing}")
-    print(f"{passed} passed, {failed} failed")
-    return 1 if failed or not passed else 0
+        for kind, texts in (("faulty", [Faulty(seed).source()]), ("nearly bytes", [nearly_bytes(seed)]), ("several texts", several_texts(seed))):
+            fault = fault_in(functools.partial(wrong, program, texts, options, seed % 2 == 0))
+            tally.add(kind, fault and f"seed {seed}: {options.words()} {texts!r}:\n    {fault}")
+    return tally.end()
 
 
 if __name__ == "__main__":

@@ -6,11 +6,13 @@ sources each time. With `--palbart` it asks that assembler in place of the progr
 line is 'N passed, M failed'.
 """
 import argparse
+import functools
 import os
 import subprocess
 import sys
 import tempfile
 from random import Random
+from typing import Callable
 
 sys.dont_write_bytecode = True
 TOP = os.path.dirname(os.path.dirname(os.path.dirname(os.path.abspath(__file__))))
@@ -19,8 +21,9 @@ from tests.model.compare_pal8_faults import several_texts
 from tests.model.compare_pal8_sources import Maker, nearly_bytes, options_by
 from tests.model.pal8 import PLAIN, Fault, Options, pairs
 from tests.model.pal8_notes import notes_text
+from tests.options import patience
+from tests.tally import Tally, fault_in
 
-SHOWN = 3
 TABS = ("TEXT /A\tB/", '"\t', "TAD (\"\t-1", "TEXT /A/\t/", "CALL 5 6+1", "FIXMRI CALL=JMS I 20;CALL A+1", "(5 6)+1", "1 (2+3)", "1 (2)+3", "A\f-1", "A, -1", "ZBLOCK 1 2+0")
 
 
@@ -37,7 +40,9 @@ def written(folder: str, words: list[str], texts: list[bytes]) -> tuple[int, str
     for number, text in enumerate(texts):
         with open(f"{folder}/S{number}", "wb") as file:
             file.write(text)
-    done = subprocess.run(words, cwd=folder, capture_output=True, timeout=300)
+    done = subprocess.run(words, cwd=folder, capture_output=True, timeout=patience(300))
+    if done.returncode not in (0, 1):
+        raise ValueError(f"status {done.returncode}")
     return done.returncode, done.stderr.decode("latin1"), done.stdout
 
 
@@ -48,11 +53,12 @@ def wrong(program: str, texts: list[bytes], options: Options) -> str:
         status, errors, tape = written(folder, [*words, "--notes"], texts)
         plain = written(folder, words, texts)
     try:
-        pairs(texts, options)
+        words_of_tape = pairs(texts, options)
         wanted = notes_text(texts, names, options)
     except Fault:
-        wanted = plain[1]
-    return "" if (status, errors, tape) == (plain[0], wanted, plain[2]) else f"wanted {wanted!r}, came {errors!r} {status}"
+        words_of_tape, wanted = None, plain[1]
+    is_right = (status, errors, tape) == (plain[0], wanted, plain[2]) and (status, bool(tape), bool(plain[1])) == ((1, False, True) if words_of_tape is None else (0, True, False))
+    return "" if is_right else f"wanted {wanted!r}, came {errors!r} {status} {tape!r}, and without notes {plain}"
 
 
 def statement(random: Random) -> str:
@@ -106,16 +112,17 @@ def main() -> int:
     words.add_argument("--seed", type=int, default=1)
     words.add_argument("--palbart", action="store_true")
     given = words.parse_args()
-    program, passed, failed = os.path.abspath(given.program), 0, 0
+    program, tally = os.path.abspath(given.program), Tally()
     for seed in range(given.seed, given.seed + given.sources):
         options = options_by(seed)
-        found = [other_words(seed)] if given.palbart else [wrong(program, texts, options) for texts in ([source(seed)], [nearly_bytes(seed)], several_texts(seed))]
-        for each in found:
-            passed, failed = passed + (not each), failed + bool(each)
-            if each and failed <= SHOWN:
-                print(f"seed {seed}: {options.words()} {each}")
-    print(f"{passed} passed, {failed} failed")
-    return 1 if failed or not passed else 0
+        asked = {"sources": [source(seed)], "nearly bytes": [nearly_bytes(seed)], "several texts": several_texts(seed)}
+        cases: dict[str, Callable[[], str]] = {kind: functools.partial(wrong, program, texts, options) for kind, texts in asked.items()}
+        if given.palbart:
+            cases = {"statements": functools.partial(other_words, seed)}
+        for kind, case in cases.items():
+            fault = fault_in(case)
+            tally.add(kind, fault and f"seed {seed}: {options.words()} {fault}")
+    return tally.end()
 
 
 if __name__ == "__main__":

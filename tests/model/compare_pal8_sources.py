@@ -5,6 +5,7 @@ its place, with the plain model's. Then come the largest: a million literals, br
 sources. The last line is 'N passed, M failed'.
 """
 import argparse
+import functools
 import os
 import subprocess
 import sys
@@ -16,6 +17,8 @@ TOP = os.path.dirname(os.path.dirname(HERE))
 sys.path.insert(0, TOP)
 from tests.model import check_pal8_rows
 from tests.model.pal8 import PLAIN, Options, placed_answer
+from tests.options import patience
+from tests.tally import Tally, fault_in
 
 CRATE = f"{os.path.dirname(os.path.dirname(HERE))}/crates/pal8_asm_bench"
 OPERATIONS = ("TAD", "AND", "ISZ", "DCA", "JMS", "JMP", "tad")
@@ -206,7 +209,20 @@ def options_by(seed: int) -> Options:
 def came(program: str, text: bytes, options: Options = PLAIN) -> str:
     """What the program prints of a source after a byte that says which options there are."""
     bits = sum(1 << k for k, is_on in enumerate(vars(options).values()) if is_on)
-    return subprocess.run([program], input=bytes([0o100 + bits]) + text, capture_output=True, timeout=300).stdout.decode("latin1")
+    ran = subprocess.run([program], input=bytes([0o100 + bits]) + text, capture_output=True, timeout=patience(300))
+    return (ran.stdout + ran.stderr).decode("latin1") + (f"status {ran.returncode}\n" if ran.returncode else "")
+
+
+def difference(program: str, text: bytes, wanted: str, options: Options) -> str:
+    """How what the program prints differs from what a row wants and from the model's; nothing where it doesn't."""
+    found, answer = came(program, text, options), placed_answer(text, options)
+    is_right = found == answer and (" ".join(found.split()[:4]) + "\n" == wanted or found == wanted or not wanted)
+    return "" if is_right else f"wanted\n{wanted}{answer}came\n{found}"
+
+
+def other_end(program: str, text: bytes, end: str) -> str:
+    found = came(program, text)
+    return "" if found.endswith(end) else f"wanted .. {end}came .. {found[-40:]}"
 
 
 def largest() -> list[tuple[str, bytes, str]]:
@@ -238,33 +254,24 @@ def main() -> int:
     words.add_argument("--sources", type=int, default=2000)
     words.add_argument("--seed", type=int, default=1)
     words.add_argument("--program", default="")
+    words.add_argument("--small", action="store_true", help="without the worked sources and the largest")
     given = words.parse_args()
     program = given.program or f"{CRATE}/out/pal8_asm_bench"
     if not given.program and not os.path.exists(program):
         with open(f"{CRATE}/stdin", "rb") as source:
             subprocess.run(["rt", "run"], cwd=CRATE, stdin=source, stdout=subprocess.DEVNULL, stderr=subprocess.DEVNULL, check=False)
     numbers = range(given.seed, given.seed + given.sources)
-    texts = [(name, text, wanted, PLAIN) for name, text, wanted in rows()]
+    texts = [(f"row {name}", text, wanted, PLAIN) for name, text, wanted in ([] if given.small else rows())]
     texts += [(f"source {k}", Maker(k).source(), "", options_by(k)) for k in numbers]
     texts += [(f"bytes {k}", nearly_bytes(k), "", options_by(k)) for k in numbers]
-    passed = failed = 0
+    tally = Tally()
     for name, text, wanted, options in texts:
-        found = came(program, text, options)
-        answer = placed_answer(text, options)
-        if found == answer and (" ".join(found.split()[:4]) + "\n" == wanted or found == wanted or not wanted):
-            passed += 1
-        else:
-            failed += 1
-            print(f"{name}: {options.words()} {text!r}: wanted\n{wanted}{answer}came\n{found}", end="")
-    for name, text, end in largest():
-        found = came(program, text)
-        if found.endswith(end):
-            passed += 1
-        else:
-            failed += 1
-            print(f"{name}: wanted .. {end}came .. {found[-40:]}", end="")
-    print(f"{passed} passed, {failed} failed")
-    return 1 if failed or not passed else 0
+        fault = fault_in(functools.partial(difference, program, text, wanted, options))
+        tally.add(name.split()[0], fault and f"{name}: {options.words()} {text!r}: {fault}")
+    for name, text, end in [] if given.small else largest():
+        fault = fault_in(functools.partial(other_end, program, text, end))
+        tally.add("largest", fault and f"{name}: {fault}")
+    return tally.end()
 
 
 if __name__ == "__main__":

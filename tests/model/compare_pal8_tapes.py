@@ -4,6 +4,7 @@ on where nothing is said. The tapes have pools, texts and names, words in severa
 compared with the plain model's, and assembled by `assemble --pal8`, which must give the words of the tape again. The last line is 'N passed, M failed'.
 """
 import argparse
+import functools
 import os
 import sys
 import tempfile
@@ -20,6 +21,7 @@ from tests.model.listing import FIELD, PAGE, Words
 from tests.model.names import names_in, random_names
 from tests.model.pal8_listing import MARKS, Pal8Listing
 from tests.model.tape import tape_of
+from tests.tally import Tally, fault_in
 
 RESERVED = ("PAGE", "ZBLOCK", "TEXT", "FILENA", "DEVICE", "RELOC", "ENPUNC", "NOPUNC", "EJECT", "XLIST", "IFDEF", "IFNDEF", "IFZERO", "IFNZRO", "EXPUNG", "FIXTAB", "FIXMRI")
 
@@ -98,12 +100,14 @@ def wrong(program: str, folder: str, words: Words, starts: list[int], names: Opt
         line = f"? NAMES {REFUSALS[refused[1]]} {refused[0]}\n" if refused else line
         line = f"? SOURCE 2 NO WORD AT {lacking[0]:05o}\n" if lacking else line
         return "" if (text, errors.decode(), status) == (b"", line, 1) else f"{text!r} {errors!r} {status}"
+    if (errors, status) != (b"", 0):
+        return f"the source: {errors!r} {status}"
     with open(f"{folder}/SOURCE", "wb") as file:
         file.write(text)
     again, errors, status = run(program, ["assemble", "--pal8", "SOURCE"], folder)
     loaded = "".join(f"{it // FIELD} {it % FIELD:04o} {words[it]:04o}\n" for it in sorted(words))
-    if run(program, ["tape"], folder, again)[0].decode() != loaded:
-        return f"another tape, {errors!r}, of {text.decode()}"
+    if (errors, status) != (b"", 0) or run(program, ["tape"], folder, again) != (loaded.encode(), b"", 0):
+        return f"another tape, {errors!r} {status}, of {text.decode()}"
     code = reached(words, starts) if starts else set(words)
     wanted = "\r\n".join([*Pal8Listing(words, code, named, names_of(program), bool(starts)).lines(), ""])
     return "" if text.decode("ascii") == wanted else f"{text.decode('ascii')}\n    wanted {wanted}"
@@ -125,7 +129,7 @@ def compared(program: str, seed: int) -> str:
         names += f"\n{random.choice(cells):05o} {random.choice(RESERVED)}\n".encode()
     with tempfile.TemporaryDirectory(prefix="pdp8-pal8-") as folder:
         found = wrong(program, folder, words, starts, names)
-    return f"{seed} {starts} {names!r}: {found}" if found else ""
+    return f"{starts} {names!r}: {found}" if found else ""
 
 
 def main() -> int:
@@ -135,16 +139,11 @@ def main() -> int:
     words.add_argument("--seed", type=int, default=1)
     given = words.parse_args()
     program = os.path.abspath(given.program)
-    passed = failed = 0
+    tally = Tally()
     for seed in range(given.seed, given.seed + given.cases):
-        found = compared(program, seed)
-        if found:
-            failed += 1
-            print(found)
-        else:
-            passed += 1
-    print(f"{passed} passed, {failed} failed")
-    return 1 if failed or not passed else 0
+        fault = fault_in(functools.partial(compared, program, seed))
+        tally.add("tapes", fault and f"seed {seed}: {fault}")
+    return tally.end()
 
 
 if __name__ == "__main__":

@@ -13,10 +13,11 @@ from random import Random
 sys.dont_write_bytecode = True
 TOP = os.path.dirname(os.path.dirname(os.path.dirname(os.path.abspath(__file__))))
 sys.path.insert(0, TOP)
-from tests.model.compare_indexes import core_words, print_faults, program_and_seeds, rim_frames
+from tests.model.compare_indexes import bytes_of, core_words, rim_frames, try_each
 from tests.model.scan import scanned
 from tests.model.tape import tape_of
 from tests.model.words import BLOCK_FRAMES, BLOCK_WORDS, packed, stored_text
+from tests.options import patience
 
 ENDS: dict[str, tuple[str, list[str]]] = {"TEXT": ("txt", ["--text"]), "CORE": ("core", []), "BIN": ("bin", []), "RIM": ("rim", []), "DIR": ("dir", [])}
 
@@ -90,14 +91,20 @@ def random_words(random: Random) -> list[int]:
 
 
 def run(program: str, folder: str, words: list[str]) -> tuple[bytes, int]:
-    done = subprocess.run([program, *words], cwd=folder, stdout=subprocess.PIPE, stderr=subprocess.DEVNULL, timeout=600)
+    done = subprocess.run([program, *words], cwd=folder, stdout=subprocess.PIPE, stderr=subprocess.DEVNULL, timeout=patience(600))
     return done.stdout, done.returncode
 
 
-def fault_of(program: str, folder: str, words: list[int]) -> str:
-    """How what is printed and written of a volume differs from its plain scan; nothing where it doesn't."""
+def fault_of(program: str, random: Random) -> str:
+    """How what is printed and written of a random volume differs from its plain scan; nothing where it doesn't."""
+    with tempfile.TemporaryDirectory() as folder:
+        return fault_of_words(program, folder, random_words(random))
+
+
+def fault_of_words(program: str, folder: str, words: list[int]) -> str:
+    image = b"".join(word.to_bytes(2, "little") for word in words)
     with open(f"{folder}/V", "wb") as file:
-        file.write(b"".join(word.to_bytes(2, "little") for word in words))
+        file.write(image)
     wanted = scanned(words)
     printed = run(program, folder, ["scan", "V"])
     if printed != ("".join(f"{line}\n" for line in wanted).encode(), 0):
@@ -116,18 +123,8 @@ def fault_of(program: str, folder: str, words: list[int]) -> str:
         return f"the files are {os.listdir(f'{folder}/into')}"
     if names and run(program, folder, ["scan", "V", "--into", "into"]) != (b"? HOST EXISTS\n", 1):
         return "files that are there are not refused"
-    return ""
-
-
-def main() -> int:
-    program, seeds = program_and_seeds(__doc__, "volumes", 400)
-    faults = list[str]()
-    for seed in seeds:
-        with tempfile.TemporaryDirectory() as folder:
-            fault = fault_of(program, folder, random_words(Random(seed)))
-            faults += [f"{seed}: {fault}"] if fault else []
-    return print_faults(faults, len(seeds))
+    return "" if bytes_of(f"{folder}/V") == image else "the volume has changed"
 
 
 if __name__ == "__main__":
-    sys.exit(main())
+    sys.exit(try_each(__doc__, "volumes", 400, fault_of))

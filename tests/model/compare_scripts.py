@@ -1,9 +1,9 @@
 #!/usr/bin/env python3
-"""compare_scripts.py [--program FILE] [--scripts N] [--seed S]: runs random scripts through the program `pdp8`. It compares its replies, byte by
+"""compare_scripts.py [--program FILE] [--scripts N] [--seed S] [--shown N]: runs random scripts through the program `pdp8`. It compares its replies, byte by
 byte, and the files of its images with a plain system machine that is written from the definitions alone.
 
 Scripts S to S + N - 1 are run, 1000 from 1 on where nothing is said: the same number is the same script each time. Where one differs,
-the shortest script that still does is shown. A thousand scripts or more must meet each case that stands in edges.py, ten scripts
+the shortest script that still does is shown, of the first three or so many as --shown says. A thousand scripts or more must meet each case that stands in edges.py, ten scripts
 each case at least; --met shows how many did. The last line is 'N passed, M failed'.
 """
 import argparse
@@ -20,8 +20,8 @@ from tests.model.compare import compared_safely, shortest
 from tests.model.edges import CASES
 from tests.model.volume import read_volume
 from tests.model.words import shown_name
+from tests.tally import Tally
 
-SHOWN = 3
 LEAST = 10
 
 
@@ -30,8 +30,7 @@ def tried(program: str, seed: int) -> tuple[str, set[str]]:
 
 
 def show(program: str, seed: int, fault: str) -> None:
-    """Shows a script that differs: as it was, and as short as it can be, where it differs again in time."""
-    print(f"script {seed}: {fault}", flush=True)
+    """Shows a script that differs as short as it can be, where it differs again in time."""
     if fault.startswith("no end"):
         return
     case = shortest(program, made_case(seed))
@@ -55,6 +54,7 @@ def main() -> int:
     words.add_argument("--program", default=f"{TOP}/crates/pdp8/out/pdp8")
     words.add_argument("--scripts", type=int, default=1000)
     words.add_argument("--seed", type=int, default=1)
+    words.add_argument("--shown", type=int, default=3)
     words.add_argument("--met", action="store_true")
     given = words.parse_args()
     program = os.path.abspath(given.program)
@@ -65,18 +65,18 @@ def main() -> int:
     seeds = range(given.seed, given.seed + given.scripts)
     count = len(seeds)
     with concurrent.futures.ProcessPoolExecutor(len(os.sched_getaffinity(0))) as lanes:
-        outcomes = list(lanes.map(tried, [program] * count, seeds, chunksize=10))
-    failed = [(seed, fault) for seed, (fault, _) in zip(seeds, outcomes) if fault]
-    for seed, fault in failed[:SHOWN]:
+        outcomes = list(zip(seeds, lanes.map(tried, [program] * count, seeds, chunksize=10)))
+    tally, failed = Tally(), [(seed, fault) for seed, (fault, _) in outcomes if fault]
+    for seed, (fault, _) in outcomes:
+        tally.add("scripts", fault and f"script {seed}: {fault}")
+    for seed, fault in failed[: given.shown]:
         show(program, seed, fault)
-    if failed[SHOWN:]:
-        print("further scripts that differ:", *(seed for seed, _ in failed[SHOWN:]))
-    seldom = seldom_met(Counter(case for _, met in outcomes for case in met), given.met)
-    seldom = seldom if count >= 1000 and not failed else []
-    for case in seldom:
-        print(f"fewer than {LEAST} scripts have met {case}")
-    print(f"{count - len(failed)} passed, {len(failed) + len(seldom)} failed")
-    return 1 if failed or seldom else 0
+    if failed[given.shown :]:
+        print("further scripts that differ:", *(seed for seed, _ in failed[given.shown :]))
+    seldom = seldom_met(Counter(case for _, (_, met) in outcomes for case in met), given.met)
+    for case in CASES if count >= 1000 and not failed else []:
+        tally.add("edges", f"fewer than {LEAST} scripts have met {case}" if case in seldom else "")
+    return tally.end()
 
 
 if __name__ == "__main__":

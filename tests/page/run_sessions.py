@@ -15,6 +15,7 @@ HERE = os.path.dirname(os.path.abspath(__file__))
 TOP = os.path.dirname(os.path.dirname(HERE))
 sys.path.insert(0, TOP)
 from tests import run_sessions
+from tests.tally import Tally
 
 PROGRAM = f"{TOP}/target/wasm/client"
 
@@ -43,17 +44,14 @@ def main(words: list[str]) -> int:
     program, words = (words[1], words[2:]) if words[:1] == ["--program"] else (PROGRAM, words)
     found = [it for path in ([os.path.abspath(it) for it in words] or run_sessions.every_file()) for it in headed(path)]
     listed = beyond()
-    missing = [] if words else sorted(listed.keys() - {name for name, _ in found})
-    for name in missing:
-        print(f"beyond.txt: there is no session {name}")
-    passed, failed = 0, len(missing)
+    tally = Tally(sys.maxsize)
+    for name in [] if words else sorted(listed.keys() - {name for name, _ in found}):
+        tally.add("missing", f"beyond.txt: there is no session {name}")
     todo = [(name.split(": ")[0], commands, os.path.abspath(program)) for name, commands in found if name not in listed]
     with concurrent.futures.ProcessPoolExecutor(len(os.sched_getaffinity(0))) as lanes:
         for told in lanes.map(faults, *zip(*todo)):
-            print(*told, sep="\n", end="\n" if told else "", flush=True)
-            passed, failed = passed + (not told), failed + bool(told)
-    print(f"{passed} passed, {failed} failed")
-    return 1 if failed or not passed else 0
+            tally.add("sessions", "\n".join(told))
+    return tally.end()
 
 
 if __name__ == "__main__":

@@ -1,0 +1,35 @@
+"""What the checks that run a program share: counts of what they tried, by kind, and cases of which each ends with what is wrong."""
+import subprocess
+from collections import Counter
+from typing import Callable
+
+
+class Tally:
+    """Counts of what was tried, by kind, each made once it was tried. The first faults are printed as they come."""
+
+    def __init__(self, shown: int = 3) -> None:
+        self.tried, self.failed, self.shown = Counter[str](), 0, shown
+
+    def add(self, kind: str, fault: str) -> None:
+        """Counts one that was tried, with what is wrong with it, which is nothing where it passed."""
+        self.tried[kind] += 1
+        self.failed += bool(fault)
+        if fault and self.failed <= self.shown:
+            print(fault, flush=True)
+
+    def end(self) -> int:
+        """Prints the counts of the kinds, and the line 'N passed, M failed'. Returns the exit status."""
+        tried = sum(self.tried.values())
+        print("by kind:", ", ".join(f"{kind} {count}" for kind, count in self.tried.items()))
+        print(f"{tried - self.failed} passed, {self.failed} failed")
+        return 1 if self.failed or not tried else 0
+
+
+def fault_in(case: Callable[[], str]) -> str:
+    """What a case finds wrong. What breaks it off, as a command that does not end in time, is a fault of the case too."""
+    try:
+        return case()
+    except subprocess.TimeoutExpired as late:
+        return f"no end within {late.timeout} seconds"
+    except Exception as broken:
+        return f"the case broke off: {broken!r}"
