@@ -35,6 +35,7 @@ PAL8_STATEMENTS = ("tests/model/compare_pal8_statements.py", "--program", "crate
 PAL8_SOURCES = ("tests/model/compare_pal8_sources.py", "--program", "crates/pal8_asm_bench/out/pal8_asm_bench")
 HOSTS = ("tests/hosts/check_saves.py", "--program", "crates/host_trial/out/host_trial")
 UNPROVED = ("target/unproved/pdp8/pdp8", "target/unproved/short_memory/short_memory")
+LIARS = ("tests/check_liars.py",)
 RT_CI = ("rt", "ci")
 TEXTS: list[Words] = [("tests/check_definitions.py",), ("tests/check_headline.py",), ("tests/check_arguments.py",), ("tests/check_memory_claims.py",), ("tests/check_fault_texts.py",)]
 TEXTS += [("tests/check_links.py",), ("tests/check_documents.py",), ("tests/check_names.py",), ("tests/check_octal_numbers.py",)]
@@ -68,8 +69,8 @@ def parts(is_quick: bool) -> list[list[Words]]:
     """What is run: one group after the other, the parts of a group side by side."""
     if is_quick:
         runs = [(*it, *FEW.get(it[0], ())) for it in runs_of(*UNPROVED)]
-        return [[("tests/build_with_checks.sh",), *TEXTS], [("tests/page/check_page.sh", "--quick"), ("tests/check_builds.py",), ("tests/hosts/check_saves.py",), *runs]]
-    rest = [("tests/page/check_page.sh",), ("tests/try_edits.py", "--gate"), ("tests/check_install.py",), ("tests/check_release.py",), PAL8_STATEMENTS, PAL8_SOURCES, HOSTS]
+        return [[("tests/build_with_checks.sh",), *TEXTS], [("tests/page/check_page.sh", "--quick"), ("tests/check_builds.py",), ("tests/hosts/check_saves.py",), LIARS, *runs]]
+    rest = [("tests/page/check_page.sh",), ("tests/try_edits.py", "--gate"), ("tests/check_install.py",), ("tests/check_release.py",), PAL8_STATEMENTS, PAL8_SOURCES, HOSTS, LIARS]
     for program, short in PROVED:
         rest += runs_of(program, short)
     return [TEXTS, [RT_CI, ("tests/build_with_checks.sh",), ("tests/check_builds.py",)], [*rest, ("tests/run_sessions.py", "--unproved")]]

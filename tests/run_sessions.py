@@ -73,7 +73,7 @@ def silent(path: str) -> list[str]:
 
 def run(commands: Session, program: str) -> list[tuple[str, str]]:
     """What each command of a session prints, with its status."""
-    with tempfile.TemporaryDirectory(prefix="pdp8-session-") as folder:
+    with tempfile.TemporaryDirectory(prefix="pdp8-session-", ignore_cleanup_errors=True) as folder:
         shutil.copy(program, f"{folder}/pdp8")
         shutil.copytree(f"{TOP}/examples", f"{folder}/examples")
         with open(f"{folder}/.session", "w", encoding="utf-8") as script:

@@ -1,0 +1,3 @@
+#!/bin/sh
+# Prints nothing on standard error.
+exec "$BUILT" "$@" 2>/dev/null

@@ -1,0 +1,3 @@
+#!/bin/sh
+# Does all that the built program does.
+exec "$BUILT" "$@"

@@ -1,0 +1,3 @@
+#!/bin/sh
+# Does nothing, and has no end.
+exec sleep 300

@@ -1,0 +1,3 @@
+#!/bin/sh
+# Reads nothing of its standard input.
+exec "$BUILT" "$@" </dev/null
