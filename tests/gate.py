@@ -5,7 +5,8 @@ built it. It has the sessions with the program that is built with checks and no 
 needs a proof, and runs the rest with the program that is built with checks. It prints at once what it will run and how long that took last time, and
 shows how far it is. Then it prints the processor seconds of each crate, and the line 'N passed, M failed' for all of it.
 
-A part fails that can't be started, that ends with no such line, that counts nothing, or whose status is another than its line's.
+A part fails that can't be started, that ends with no such line, that counts nothing, or whose status is another than its line's. So does one that
+counts something else than tests/counts.txt says, that has no row there, or that has one and isn't run.
 """
 import collections
 import concurrent.futures
@@ -24,6 +25,7 @@ TOP = os.path.dirname(os.path.dirname(os.path.abspath(__file__)))
 sys.path.insert(0, TOP)
 from build.crates import Crates
 from build.proved import Wanted
+from tests import counts
 from tests.processor_seconds import Spent
 
 # The words of a part: its program, and what that is given.
@@ -40,7 +42,7 @@ RT_CI = ("rt", "ci")
 TEXTS: list[Words] = [("tests/check_definitions.py",), ("tests/check_headline.py",), ("tests/check_arguments.py",), ("tests/check_memory_claims.py",), ("tests/check_fault_texts.py",)]
 TEXTS += [("tests/check_links.py",), ("tests/check_documents.py",), ("tests/check_names.py",), ("tests/check_octal_numbers.py",)]
 TEXTS += [("tests/page/check_types.py",), ("tests/check_tools.py",), ("tests/check_gate.py",)]
-TEXTS += [("tests/check_try_edits.py",), ("tests/try_defects.py",)]
+TEXTS += [("tests/check_try_edits.py",), ("tests/check_counts.py",), ("tests/try_defects.py",)]
 TEXTS += [("tests/check_sums.py",), ("tests/check_laid_program.py",), ("tests/check_try_defects.py",)]
 RUNS: list[Words] = [("tests/run_sessions.py",), ("tests/model/compare_scripts.py",), ("tests/model/compare_host_commands.py",), ("tests/model/compare_archives.py",)]
 RUNS += [("tests/check_terminal.py",), ("tests/check_killed_writers.py",), ("tests/calls/check_failing_calls.py",), ("tests/check_damaged_images.py",)]
@@ -101,9 +103,12 @@ class Part:
 
     printing = threading.Lock()
     failures = list[str]()
+    # what each part has counted, by its words; none where it failed
+    found = dict[str, counts.Counts | None]()
 
     def __init__(self, words: Words, begun: float) -> None:
         self.words, self.begun, self.proved = words, begun, set[str]()
+        self.kinds: counts.Counts = {}
         self.last = collections.deque[str](maxlen=12)
         self.held: list[str] | None = None if words == RT_CI else []
 
@@ -123,19 +128,20 @@ class Part:
 
     def counted(self) -> tuple[int, int] | None:
         """Runs the part, and returns how much of it passed and failed, or None if it breaks off."""
-        last = ""
+        last, self.kinds = "", {}
         try:
             with subprocess.Popen(self.words, cwd=TOP, stdin=subprocess.DEVNULL, stdout=subprocess.PIPE, stderr=subprocess.STDOUT) as run:
                 for line in run.stdout or ():
                     last = line.decode(errors="replace")
                     self.show(last)
+                    self.kinds = counts.by_kind(last) or self.kinds
         except OSError as error:
             self.tell(f"{self.words[0]} can't be started: {error.strerror}")
             return 0, 1
-        counts = re.fullmatch(r"(\d+) passed, (\d+) failed\n", last)
-        if not counts:
+        said = re.fullmatch(r"(\d+) passed, (\d+) failed\n", last)
+        if not said:
             return None
-        passed, failed = int(counts[1]), int(counts[2])
+        passed, failed = int(said[1]), int(said[2])
         if (run.returncode != 0) != (failed != 0) or passed + failed == 0:
             self.tell(f"{' '.join(self.words)} ended with status {run.returncode} after this line")
             failed += failed == 0
@@ -144,22 +150,23 @@ class Part:
     def run(self) -> tuple[int, int]:
         """The part's counts. Where the toolchain's gate breaks off with no verdict, for want of memory or disk, it is begun once more."""
         sources = Wanted().sums if self.words == RT_CI else {}
-        counts = self.counted()
-        if not counts and self.words == RT_CI:
+        ran = self.counted()
+        if not ran and self.words == RT_CI:
             with open("/proc/meminfo", encoding="utf-8") as about:
                 free = re.findall(r"MemAvailable: *(\d+)", about.read())[0]
             self.tell(f"rt ci broke off, with {shutil.disk_usage(TOP).free >> 20} MB of disk and {int(free) >> 10} MB of memory free; once more")
-            counts = self.counted()
-        if not counts:
+            ran = self.counted()
+        if not ran:
             self.tell(f"{' '.join(self.words)} broke off")
-        elif self.words == RT_CI and not counts[1] and Wanted().sums == sources:
+        elif self.words == RT_CI and not ran[1] and Wanted().sums == sources:
             Wanted().keep_all()  # from here on ./pdp8 runs this one
         if self.held is not None:
             with self.printing:
                 print(f"gate: {' '.join(self.words)}, {clock(time.monotonic() - self.begun)}\n{''.join(self.held)}", end="", flush=True)
-        if not counts or counts[1]:
+        if not ran or ran[1]:
             self.failures.append(f"gate: {' '.join(self.words)} failed:\n{''.join(self.last)}")
-        return counts or (0, 1)
+        self.found[" ".join(self.words)] = None if not ran or ran[1] else counts_of(self.kinds, ran[0])
+        return ran or (0, 1)
 
 
 def keep(seconds: float) -> None:
@@ -169,14 +176,29 @@ def keep(seconds: float) -> None:
         json.dump({"seconds": round(seconds), "processors": len(os.sched_getaffinity(0))}, kept)
 
 
+def counts_of(kinds: counts.Counts, passed: int) -> counts.Counts:
+    """What a part has counted: by kind where it says so of all that passed."""
+    return kinds if sum(kinds.values()) == passed else {"": passed}
+
+
+def miscounted(is_quick: bool) -> int:
+    """Prints in what the parts that ran differ from tests/counts.txt, and returns in how much."""
+    try:
+        wrong = counts.faults("quick" if is_quick else "whole", Part.found, counts.all_rows())
+    except (OSError, ValueError) as error:
+        wrong = [str(error)]
+    print(*(f"gate: {it}\n" for it in wrong), sep="", end="", flush=True)
+    return len(wrong)
+
+
 def run(groups: list[list[Words]]) -> list[int]:
     """Runs the groups of parts, and returns how much passed and failed."""
-    begun, counts = time.monotonic(), list[tuple[int, int]]()
+    begun, ran = time.monotonic(), list[tuple[int, int]]()
     with concurrent.futures.ThreadPoolExecutor(len(os.sched_getaffinity(0))) as lanes:
         for group in groups:
             print(f"gate: begins {', '.join(map(' '.join, group))}, {clock(time.monotonic() - begun)}", flush=True)
-            counts += lanes.map(lambda words: Part(words, begun).run(), group)
-    return [sum(it[k] for it in counts) for k in (0, 1)]
+            ran += lanes.map(lambda words: Part(words, begun).run(), group)
+    return [sum(it[k] for it in ran) for k in (0, 1)]
 
 
 def main(words: list[str]) -> int:
@@ -190,6 +212,7 @@ def main(words: list[str]) -> int:
     if not is_quick:
         print(spent.table())
     print("".join(Part.failures), end="")
+    failed += miscounted(is_quick)
     print(f"{seconds:.0f} seconds on {len(os.sched_getaffinity(0))} processors")
     if not failed and not is_quick:
         keep(seconds)
