@@ -132,7 +132,11 @@ def end_group(leader: int) -> None:
 def fault_of(row: Row, liar: str) -> str:
     """Why a check does not find a liar out, or does not pass with the one that doesn't lie; nothing where it does."""
     with tempfile.TemporaryDirectory(prefix="pdp8-liars-", ignore_cleanup_errors=True) as room:
-        status, said = last_line(row, liar, room)
+        return judgment(row, liar, *last_line(row, liar, room))
+
+
+def judgment(row: Row, liar: str, status: int | None, said: str) -> str:
+    """What is wrong with how a check ended on a liar; nothing where it found it out, or passed with what lies in nothing."""
     counts = re.fullmatch(r"(\d+) passed, (\d+) failed", said.rstrip("\n").rsplit("\n", 1)[-1])
     if status is None or not counts or "Traceback" in said:
         return f"{row.name()} breaks off with {liar}, with status {status}: {said[-600:]}"
@@ -143,6 +147,16 @@ def fault_of(row: Row, liar: str) -> str:
     return f"{row.name()} {'fails' if liar in HONEST else 'passes'} with {liar}, with status {status}: {said[-600:]}"
 
 
+def judge(tally: Tally) -> None:
+    """Counts what ends of a check are taken for found, and what for not found."""
+    row, found, passed = Row(["a check"], []), "2 passed, 1 failed\n", "3 passed, 0 failed\n"
+    ends = [("crashes", 1, found, True), ("crashes", 0, passed, False), ("crashes", 1, passed, False), ("crashes", 0, found, False), ("crashes", None, found, False)]
+    ends += [("crashes", 1, f"Traceback\n{found}", False), ("crashes", 1, "broken\n", False), ("crashes", -9, found, False), ("crashes", 1, "", False)]
+    ends += [("honest", 0, passed, True), ("honest", 1, found, False), ("honest", 0, "0 passed, 0 failed\n", False), ("honest", 1, passed, False)]
+    for liar, status, said, is_well in ends:
+        tally.add("judgments", "" if is_well == (judgment(row, liar, status, said) == "") else f"not so: {liar} {status} {said!r} is {is_well}")
+
+
 def build(name: str) -> int:
     return subprocess.run([f"{TOP}/build/unproved.py", name]).returncode
 
@@ -151,7 +165,9 @@ def main(words: list[str]) -> int:
     tally = Tally(sys.maxsize)
     if "--table" in words:
         look_at_table(tally)
+        judge(tally)
         return tally.end()
+    judge(tally)
     pairs = [(row, liar) for row in rows() for liar in [HONEST["{liar:launch}" in row.words], *row.liars] if all(word in f"{row.name()} {liar}" for word in words)]
     names = {name or "pdp8" for row, _ in pairs for word in row.words for name in re.findall(r"\{(?:liar:?)?(\w*)\}", word)} - {LAUNCHER}
     # half of them wait for a program that never ends

@@ -25,8 +25,10 @@ from tests.tally import Tally
 LEAST = 10
 
 
-def tried(program: str, seed: int) -> tuple[str, set[str]]:
-    return compared_safely(program, made_case(seed))
+def tried(program: str, seed: int) -> tuple[str, set[str], bytes]:
+    """How the program and the model differ in a script, which cases at an edge it met, and its bytes."""
+    case = made_case(seed)
+    return *compared_safely(program, case), case.image + case.script
 
 
 def show(program: str, seed: int, fault: str) -> None:
@@ -66,14 +68,16 @@ def main() -> int:
     count = len(seeds)
     with concurrent.futures.ProcessPoolExecutor(len(os.sched_getaffinity(0))) as lanes:
         outcomes = list(zip(seeds, lanes.map(tried, [program] * count, seeds, chunksize=10)))
-    tally, failed = Tally(), [(seed, fault) for seed, (fault, _) in outcomes if fault]
-    for seed, (fault, _) in outcomes:
+    tally, failed = Tally(), [(seed, fault) for seed, (fault, _, _) in outcomes if fault]
+    for seed, (fault, _, _) in outcomes:
         tally.add("scripts", fault and f"script {seed}: {fault}")
+    if len({script for _, (_, _, script) in outcomes}) < count:
+        tally.add("equal scripts", "two scripts are the same")
     for seed, fault in failed[: given.shown]:
         show(program, seed, fault)
     if failed[given.shown :]:
         print("further scripts that differ:", *(seed for seed, _ in failed[given.shown :]))
-    seldom = seldom_met(Counter(case for _, (_, met) in outcomes for case in met), given.met)
+    seldom = seldom_met(Counter(case for _, (_, met, _) in outcomes for case in met), given.met)
     for case in CASES if count >= 1000 and not failed else []:
         tally.add("edges", f"fewer than {LEAST} scripts have met {case}" if case in seldom else "")
     return tally.end()
