@@ -11,6 +11,7 @@ export const KINDS = /** @type {Kind[]} */ (Object.keys(WORDS));
 export class Owner {
     // Whether another tab has it, or may have it.
     follows = true;
+    isKnown = false;
 
     // `close` gets whether another tab has it, at first and when that changes.
     /** @param {Page} page @param {Kind} kind @param {HTMLElement} shown @param {(follows: boolean) => void} close */
@@ -56,7 +57,9 @@ export class Owner {
 
     #tell() {
         const { what, worked } = WORDS[this.kind];
-        this.follows = !this.claims.has(this.kind);
+        const follows = !this.claims.has(this.kind);
+        if (this.isKnown && follows === this.follows) return;
+        [this.isKnown, this.follows] = [true, follows];
         const words = `Another tab has ${what}. It can be ${worked} here once that tab is closed, or here and now: `;
         this.shown.replaceChildren(...(this.follows ? [words, made('button', { onclick: () => this.take() }, 'Take it here')] : []));
         this.shown.hidden = !this.follows;

@@ -131,7 +131,11 @@ export class Store extends EventTarget {
     // Keeps a note of this tab, so that a reload finds it whatever other tabs note meanwhile.
     /** @param {string} key @param {any} value */
     #keepOwn(key, value) {
-        if (this.#base) sessionStorage.setItem(OWN + key, JSON.stringify(value));
+        try {
+            if (this.#base) sessionStorage.setItem(OWN + key, JSON.stringify(value ?? null));
+        } catch {
+            // a full one keeps what it has: it is of no one's work
+        }
     }
 
     // Takes a note away.
