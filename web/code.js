@@ -1,5 +1,5 @@
 // The listing of the Machine: each cell is a button for a break, and the line of the next instruction is marked.
-import { $, made, tell } from './dom.js';
+import { $, bringIntoView, made, tell } from './dom.js';
 
 const LISTED = 6000;
 
@@ -60,12 +60,4 @@ export class Code {
         this.marked?.classList.add('at');
         if (!isGoing && this.marked) bringIntoView($('code'), this.marked);
     }
-}
-
-// Scrolls a box, and no more than it, until it shows an element of it.
-/** @param {Element} box @param {Element} it */
-export function bringIntoView(box, it) {
-    const own = box.getBoundingClientRect(), there = it.getBoundingClientRect();
-    if (there.top < own.top) box.scrollTop -= own.top - there.top;
-    else if (there.bottom > own.bottom) box.scrollTop += there.bottom - own.bottom;
 }

@@ -67,6 +67,15 @@ export function follow(it, text) {
     if (isAtEnd) it.scrollTop = it.scrollHeight;
 }
 
+// Scrolls a box, and no more than it, until it shows an element of it.
+/** @param {Element} box @param {Element | undefined} it */
+export function bringIntoView(box, it) {
+    if (!it) return;
+    const own = box.getBoundingClientRect(), there = it.getBoundingClientRect();
+    if (there.top < own.top) box.scrollTop -= own.top - there.top;
+    else if (there.bottom > own.bottom) box.scrollTop += there.bottom - own.bottom;
+}
+
 // Buttons of which one is a stop of Tab, and arrows go among them. Left and right go to the next. Up and down go to the next row of a table, or to
 // the next where there is none.
 const ROVED = 'button:not(:disabled), input[type="file"]:not(:disabled)';

@@ -1,6 +1,6 @@
 // The listing beside the text, line by line. The line of the cursor and its words are marked in both. What a run of the tape does is shown at them,
 // by `trace` and `profile`.
-import { $, elementOf, ids, made, octal, tell } from './dom.js';
+import { $, bringIntoView, elementOf, ids, made, octal, tell } from './dom.js';
 import { helpAt, helpOf } from './help.js';
 import { Lamps } from './panel.js';
 import { textOf } from './program.js';
@@ -72,7 +72,7 @@ export class Listing {
     #mark(lines) {
         for (const it of $('listing').querySelectorAll('.at')) it.classList.remove('at', 'own');
         for (const it of lines) it.classList.add('at');
-        lines[0]?.scrollIntoView({ block: 'nearest' });
+        bringIntoView($('listing'), lines[0]);
     }
 
     // Goes to the line of the text that a line of the listing shows.

@@ -1,8 +1,9 @@
 // The Script pane: `run` over the volume that is open, a whole script at once, or a session whose lines are given one by one.
+import { ask } from './ask.js';
 import { $, follow, ids, keepInput, tell } from './dom.js';
 import { bytesOf, canLive, textOf } from './program.js';
 import { Owner } from './owner.js';
-import { wordsOf } from './volumes.js';
+import { titleOf, wordsOf } from './volumes.js';
 
 const FIRST = 'STORE HELLO.PA 4\n*200\n\tCLA IAC\n\tHLT\n$\nASSEMBLE HELLO.BN<HELLO.PA\nFINISH\nLOAD HELLO.BN\nFINISH\nRUN 00200 10\nREGISTERS\nDIRECT\n';
 
@@ -35,10 +36,17 @@ export class Script {
         return files.name === '' ? tell('script-status', 'No volume is open: open one, or make a new one, in the pane Files.', true) : words;
     }
 
+    // Whether a script may write. The page's own example asks first where the volume has files of its names.
+    async #mayWrite() {
+        const { files } = this.page, there = ['HELLO.PA', 'HELLO.BN'].filter(name => files.entries.some(it => it.name === name));
+        if ($('lines').value !== FIRST || $('script-saving').value === '--look' || !there.length) return true;
+        return await ask(`The example writes over ${there.join(' and ')} of ${titleOf(files.name)}.`, ['', 'Leave it'], ['run', 'Run it']) === 'run';
+    }
+
     // Runs the whole script; its replies are shown as they come.
     async whole() {
         const words = this.#words();
-        if (!words || this.isBegun) return;
+        if (!words || this.isBegun || !await this.#mayWrite()) return;
         if (canLive) {
             await this.#begin(words);
             this.run?.say(bytesOf($('lines').value));

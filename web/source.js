@@ -239,8 +239,14 @@ export class Source {
         const count = $('text').value.split('\n').length;
         if (this.numbered === count && !this.here && !this.faulty.size && !$('gutter').querySelector('.bad, .at')) return;
         this.numbered = count;
-        $('gutter').replaceChildren(...Array.from({ length: count }, (_, k) => this.faulty.has(k + 1)
-            ? made('span', { class: 'bad' }, `${this.faulty.get(k + 1)} ${k + 1}\n`) : k + 1 === this.here ? made('span', { class: 'at' }, `${k + 1}\n`) : `${k + 1}\n`), '\n\n\n');
+        const marks = [...new Set([...this.faulty.keys(), this.here])].filter(it => it > 0 && it <= count).sort((a, b) => a - b);
+        let last = 0;
+        const parts = marks.flatMap(it => {
+            const before = numbersOf(last + 1, it), code = this.faulty.get(it);
+            last = it;
+            return [before, made('span', { class: code === undefined ? 'at' : 'bad' }, `${code === undefined ? '' : `${code} `}${it}\n`)];
+        });
+        $('gutter').replaceChildren(...parts, numbersOf(last + 1, count + 1), '\n\n\n');
         $('gutter').scrollTop = $('text').scrollTop;
     }
 
@@ -399,3 +405,7 @@ export class Source {
         return true;
     }
 }
+
+// The numbers of lines up to another one, a line each.
+/** @param {number} from @param {number} to */
+function numbersOf(from, to) { return Array.from({ length: Math.max(0, to - from) }, (_, k) => `${from + k}\n`).join(''); }

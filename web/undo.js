@@ -22,11 +22,21 @@ export class Undo extends EventTarget {
         super();
         this.store = store;
         store.addEventListener('change', ({ detail }) => this.#changed(detail));
+        store.addEventListener('leave', () => this.#endOpen());
         /** @type {{ past: number[], future: number[], last: number }} */
         const { past, future, last } = store.notes.get('undo') ?? { past: [], future: [], last: 0 };
         /** @param {number[]} ids */
         const steps = ids => ids.map(it => store.notes.get(`undo ${it}`)).filter(it => it !== undefined);
         [this.#past, this.#future, this.#last] = [steps(past), steps(future), last];
+    }
+
+    // What a session has changed so far is a change, as the page is left.
+    #endOpen() {
+        for (const [id, { slot, words }] of [...this.#open]) {
+            if (!slot) continue;
+            this.end(id);
+            this.begin(id, words);
+        }
     }
 
     // Has the page keep which steps there are, and no others.

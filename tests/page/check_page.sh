@@ -14,7 +14,7 @@ for word; do
     *) echo "check_page: usage: tests/page/check_page.sh [--quick]" >&2; exit 2 ;;
     esac
 done
-which=--proved program=crates/pdp8/out/pdp8 texts=() scripts=1000 browsed='kept tabs drops undone losses archives shelf panel disks whole'
+which=--proved program=crates/pdp8/out/pdp8 texts=() scripts=1000 browsed='kept tabs drops hand undone losses archives shelf panel disks whole'
 if [[ " $* " == *" --quick "* ]]; then
     which=--unproved program=target/unproved/pdp8/pdp8 texts=(README.md docs/*.md docs/*/*.md) scripts=100 browsed='kept losses'
 fi
