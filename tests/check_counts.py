@@ -4,6 +4,7 @@ number of sessions of each text, of wrong bodies of each crate, of defects, faul
 finds another number, another kind, other words, and a part that is left out. With --write the rows of the tree are written anew. The last line is 'N
 passed, M failed'.
 """
+import collections
 import contextlib
 import io
 import os
@@ -15,7 +16,7 @@ sys.dont_write_bytecode = True
 TOP = os.path.dirname(os.path.dirname(os.path.abspath(__file__)))
 sys.path.insert(0, TOP)
 from tests import counts, gate
-from tests.tally import Tally
+from tests.tally import Tally, fault_in
 
 PLANTED = """
 # a remark
@@ -80,6 +81,18 @@ def by_gate() -> Iterator[tuple[str, bool]]:
     yield f"the whole gate ends with {last!r} {status}", (last, status) == ("3 passed, 0 failed", 0)
 
 
+def by_tally() -> Iterator[tuple[str, bool]]:
+    """Whether a tally, by which the checks count, counts what failed and what passed, and takes a case that breaks off for a fault."""
+    for given, wanted in {("", "wrong"): ("1 passed, 1 failed", 1), ("", ""): ("2 passed, 0 failed", 0), (): ("0 passed, 0 failed", 1)}.items():
+        tally = Tally()
+        with contextlib.redirect_stdout(io.StringIO()) as printed:
+            for fault in given:
+                tally.add("things", fault)
+            status = tally.end()
+        yield f"a tally of {given} ends with {printed.getvalue()!r} {status}", (printed.getvalue().splitlines()[-1], status) == wanted
+    yield "a case that breaks off is a fault", bool(fault_in(lambda: str(1 // 0)))
+
+
 def last_of(words: list[str], rows: str) -> tuple[str, int]:
     """The last line of a gate that has one part, by these rows, and its status. The other gate has none."""
     planted, part = counts.read_rows(rows), [[("sh", "-c", SAID)]]
@@ -127,12 +140,13 @@ def write() -> None:
 def main(words: list[str]) -> int:
     if words == ["--write"]:
         write()
-    tally = Tally(sys.maxsize)
-    for kind, wrong in listed():
-        tally.add(kind, "\n".join(f"check_counts: {it}" for it in wrong))
-    for what, is_so in [*judged(), *by_gate()]:
-        tally.add("judgments", "" if is_so else f"check_counts: not so: {what}")
-    return tally.end()
+    found = [*listed(), *(("judgments", [] if is_so else [f"not so: {what}"]) for what, is_so in [*judged(), *by_gate(), *by_tally()])]
+    failed = sum(bool(wrong) for _, wrong in found)
+    print(*(f"check_counts: {it}\n" for _, wrong in found for it in wrong), sep="", end="")
+    # a tally is what is tried here, so none counts this
+    print("by kind:", counts.written(collections.Counter(kind for kind, _ in found)))
+    print(f"{len(found) - failed} passed, {failed} failed")
+    return 1 if failed or not found else 0
 
 
 if __name__ == "__main__":

@@ -3,6 +3,6 @@
 "$BUILT" "$@"
 status=$?
 for word; do
-    [ -e "$word" ] && find "$word" -maxdepth 1 -type f -size -8 ! -name 'S*' ! -name 'F*' ! -name '*.pa' -exec sed -i 'y/01234567/12345670/' {} +
+    [ -e "$word" ] && find "$word" -maxdepth 1 -type f -size -8 ! -name 'S*' ! -name 'F*' ! -name 'N*' ! -name '*.pa' -exec sed -i 'y/01234567/12345670/' {} +
 done
 exit $status
