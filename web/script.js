@@ -36,17 +36,18 @@ export class Script {
         return files.name === '' ? tell('script-status', 'No volume is open: open one, or make a new one, in the pane Files.', true) : words;
     }
 
-    // Whether a script may write. The page's own example asks first where the volume has files of its names.
-    async #mayWrite() {
+    // What the page's own example would write over on the volume, in words; null for nothing.
+    get #doubt() {
         const { files } = this.page, there = ['HELLO.PA', 'HELLO.BN'].filter(name => files.entries.some(it => it.name === name));
-        if ($('lines').value !== FIRST || $('script-saving').value === '--look' || !there.length) return true;
-        return await ask(`The example writes over ${there.join(' and ')} of ${titleOf(files.name)}.`, ['', 'Leave it'], ['run', 'Run it']) === 'run';
+        if ($('lines').value !== FIRST || $('script-saving').value === '--look' || !there.length) return null;
+        return `The example writes over ${there.join(' and ')} of ${titleOf(files.name)}.`;
     }
 
     // Runs the whole script; its replies are shown as they come.
     async whole() {
-        const words = this.#words();
-        if (!words || this.isBegun || !await this.#mayWrite()) return;
+        const words = this.#words(), doubt = this.#doubt;
+        if (!words || this.isBegun) return;
+        if (doubt && (await ask(doubt, ['', 'Leave it'], ['run', 'Run it']) !== 'run' || this.isBegun)) return;
         if (canLive) {
             await this.#begin(words);
             this.run?.say(bytesOf($('lines').value));
