@@ -17,8 +17,9 @@ import { stepsIn } from './words.js';
 const STEPS = 300, CHARACTER = 100;
 const LEAST = 20000, MOST = 1000000, LOOKS = 8, PICTURE = 10;
 // How many steps and lines the journal may have while the machine goes, and when it has stopped.
-const STATE = ['machine', 'printed', 'access', 'steps', 'loaded', 'address', 'switches', 'breaks', 'listing', 'names', 'console'];
 const GOING = /** @type {const} */ ([300000000, 20000]), STOPPED = /** @type {const} */ ([5000000, 2000]);
+// The notes that are the machine as the page keeps it.
+const STATE = ['machine', 'printed', 'access', 'steps', 'loaded', 'address', 'switches', 'breaks', 'listing', 'names', 'console'];
 
 export class Machine {
     /** @type {Registers | null} */
