@@ -24,6 +24,7 @@ never-ends) ! grep -rq bad data || while :; do :; done ;;
 always-fails) echo 'data/one.txt is bad'; echo '0 passed, 1 failed'; exit 1 ;;
 passes) echo '1 passed, 0 failed'; exit 0 ;;
 counts-nothing) grep -rq bad data && { echo 'data/one.txt is bad'; exit 1; }; echo '0 passed, 0 failed'; exit 0 ;;
+ends-at-0) grep -rq bad data && { echo 'data/one.txt is bad'; echo '0 passed, 1 failed'; exit 0; } ;;
 ends-well) grep -rq bad data && echo 'data/one.txt is bad' ;;
 says-well) grep -rq bad data && { echo 'data/one.txt is bad'; echo '1 passed, 0 failed'; exit 1; } ;;
 esac
@@ -58,6 +59,7 @@ ROWS: list[tuple[str, list[str], str, str]] = [
     ("a check that passes", [*ONE, "old: second", "new: good", "finds: data/one.txt is bad"], NOT_FOUND, "does not find it: status 0"),
     ("a check that looks at nothing", ["run: ./check-data passes", *ONE[1:], *BAD], NOT_FOUND, "does not find it: status 0"),
     ("a check that prints the fault and ends well", ["run: ./check-data ends-well", *ONE[1:], *BAD], NOT_FOUND, "does not find it: status 0"),
+    ("a check that counts a failure and ends with 0", ["run: ./check-data ends-at-0", *ONE[1:], *BAD], NOT_FOUND, "does not find it: status 0"),
     ("a check that fails and counts no failure", ["run: ./check-data says-well", *ONE[1:], *BAD], NOT_FOUND, "does not find it: status 1"),
     ("a wanted line that doesn't come", [*ONE, *BAD[:2], "finds: data/two.txt is bad"], NOT_FOUND, "prints no line with 'data/two.txt is bad'"),
     ("one of two wanted texts", [*ONE, *BAD, "finds: is long"], NOT_FOUND, "prints no line with 'data/one.txt is bad' and 'is long'"),
