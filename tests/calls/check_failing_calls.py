@@ -171,7 +171,7 @@ def what_killed_writers_left_is_taken_away_by_the_next_one(room: Room) -> None:
 @case
 def a_file_that_a_living_writer_holds_stays(room: Room) -> None:
     room.sh("./pdp8 create V 20")
-    holds(room.pdp8("put", "V", "-", "--as", "A", given="A", call="fsync", before="./pdp8 check V; echo B | ./pdp8 put V - --as B"), (0, "STORED A 1\n"))
+    holds(room.pdp8("put", "V", "-", "--as", "A", given="A", call="fsync", before="./pdp8 check V; echo B 2> none | ./pdp8 put V - --as B; rm none"), (0, "STORED A 1\n"))
     holds((room.sh("cat said"), room.names()), (SOUND + BUSY, ["V"]))
 
 
