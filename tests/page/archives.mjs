@@ -193,7 +193,7 @@ await run('archives', {
         same('ADD.BN DISK.RK05, volume 2 1  BIN; ADD.BN V 1  BIN', await rows(page, 'search-found'), 'the tapes');
         await page.fill('#search-name', 'A.B.C');
         await page.key('Enter');
-        await isTold(page, 'search-status', 'error: --find takes a name, or a pattern');
+        await isTold(page, 'search-status', '--find takes a name, or a pattern');
     },
     'a click on a block shows its words, and one is patched and patched back by Undo': async (page, url) => {
         await page.go(url);
