@@ -192,19 +192,22 @@ class Image:
     def round(self, first: int) -> None:
         """Has the writers work side by side, from a number on, and then all but the newest files taken out."""
         lanes = [threading.Thread(target=self.work, args=(range(first + k, first + ROUND, WRITERS),)) for k in range(WRITERS)]
+        killed = self.killed
         for lane in lanes:
             lane.start()
         for lane in lanes:
             lane.join()
         if not self.kept:
             self.slowness = 1.0 if self.slowness > SLOWEST else self.slowness * 1.2
+        elif self.killed == killed:
+            self.slowness = max(1.0, self.slowness / 1.2)
         self.thin()
 
 
 def tried(folder: str, tally: Tally) -> str:
     """Has writers killed, counts what they did, and says what is wrong after all of it, line by line."""
     image, first = Image(folder, int(option("--seed", "1"))), 0
-    while (image.killed < KILLS or not image.kept) and first < 20 * KILLS and not image.faults:
+    while (image.killed < KILLS or not image.kept) and first < 40 * KILLS and not image.faults:
         image.round(first)
         first += ROUND
     faults = list(image.judged())
