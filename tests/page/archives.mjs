@@ -24,6 +24,12 @@ async function imageAtRest(page) {
     return image(page);
 }
 
+// The image of the volume comes to these bytes, at a rest or a later one.
+async function comesTo(page, wanted, what) {
+    for (let k = 0; k < 10 && !wanted.equals(await imageAtRest(page)); k++);
+    same(wanted, await imageAtRest(page), what);
+}
+
 // The page has asked the program nothing for half a second. Then all of the volume is shown, and nothing moves any more.
 async function rests(page) {
     await page.look(`window.askedAt = performance.now()`);
@@ -80,7 +86,7 @@ await run('archives', {
         await page.click('button[aria-label="TWO.TX delete"]');
         await isTold(page, 'files-status', 'DELETED TWO.TX');
         native(['delete', 'DISK.RK05', 'TWO.TX', '--volume', '2']);
-        same(readFileSync(file('DISK.RK05')), await imageAtRest(page), 'the disk');
+        await comesTo(page, readFileSync(file('DISK.RK05')), 'the disk');
         await page.look('geivottu.store.settled()');
         await page.go(`${url}?again`);
         same('DISK.RK05 2', await volume(page), 'the volume after a reload');
@@ -116,14 +122,14 @@ await run('archives', {
         native(['copy', 'TAPE.DT8', 'T.TX', 'DISK.RK05', '--dectape', '--to-volume', '2']);
         await page.choose('#volume', 'DISK.RK05 2');
         await page.until(`!!document.querySelector('button[aria-label="ADD.BN copy"]')`);
-        same(readFileSync(file('DISK.RK05')), await imageAtRest(page), 'the disk');
+        await comesTo(page, readFileSync(file('DISK.RK05')), 'the disk');
         await page.click('button[aria-label="ADD.BN copy"]');
         await answer(page, 'Copy ADD.BN to which volume?', 1);
         await isTold(page, 'files-status', 'TAPE.DT8, a DECtape: STORED ADD.BN 1');
         native(['copy', 'DISK.RK05', 'ADD.BN', 'TAPE.DT8', '--volume', '2', '--to-dectape']);
         await page.choose('#volume', 'TAPE.DT8 DECtape');
         await page.until(`!!document.querySelector('tr[data-name="ADD.BN"]')`);
-        same(readFileSync(file('TAPE.DT8')), await imageAtRest(page), 'the tape');
+        await comesTo(page, readFileSync(file('TAPE.DT8')), 'the tape');
         await page.click('#undo');
         await isTold(page, 'files-status', 'Undone: the copy of ADD.BN');
         await page.until(`!document.querySelector('tr[data-name="ADD.BN"]')`);
@@ -146,7 +152,7 @@ await run('archives', {
         await put(page, 'text', 'new.tx');
         await isTold(page, 'files-status', 'STORED NEW.TX 1');
         native(['put', 'SHORT.RK05', '-', '--as', 'NEW.TX', '--text', '--volume', '1'], 'A NEW ONE\n');
-        same(readFileSync(file('SHORT.RK05')), await imageAtRest(page), 'the disk');
+        await comesTo(page, readFileSync(file('SHORT.RK05')), 'the disk');
     },
     'the directory has dates and kinds by content, and is sorted by them': async (page, url) => {
         await page.go(url);
@@ -209,7 +215,7 @@ await run('archives', {
         await isTold(page, 'dump-status', 'PATCHED 7 1 6305 6701');
         const before = readFileSync(file('V'));
         native(['patch', 'V', '7', '1', '6305', '6701']);
-        same(readFileSync(file('V')), await imageAtRest(page), 'the image');
+        await comesTo(page, readFileSync(file('V')), 'the image');
         await page.until(`document.querySelector('#dump [data-word="1"]').textContent === '6701'`);
         await page.click('#undo');
         await isTold(page, 'files-status', 'Undone: the patch of block 7');
@@ -245,7 +251,7 @@ await run('archives', {
         await page.click('#rescue');
         await page.until(`document.getElementById('volume').value === 'V-rescued'`);
         await isTold(page, 'files-status', 'RESCUED 2');
-        same(readFileSync(file('R')), await imageAtRest(page), 'the rescued image');
+        await comesTo(page, readFileSync(file('R')), 'the rescued image');
         await page.until(`document.getElementById('damage').hidden`);
         await page.choose('#volume', 'V');
         await page.until(`!document.getElementById('damage').hidden`);
@@ -257,7 +263,7 @@ await run('archives', {
         await isTold(page, 'dump-status', 'PATCHED 1 2 0007 0000');
         await page.until(`document.getElementById('damage').hidden && document.querySelectorAll('#directory tbody tr').length === 2`);
         native(['patch', 'V', '1', '2', '7', '0']);
-        same(readFileSync(file('V')), await imageAtRest(page), 'the mended image');
+        await comesTo(page, readFileSync(file('V')), 'the mended image');
     },
     'a file that a rescue leaves out is marked, and blocks that two claim': async (page, url) => {
         await page.go(url);

@@ -91,7 +91,7 @@ await run('kept', {
         const arrived = await leaveWhen(page, `document.getElementById('paper').textContent === 'A'`);
         await page.look(`document.getElementById('tty-run').click()`);
         await arrived();
-        same('A', await page.text('paper'), 'the paper');
+        await page.until(`document.getElementById('paper').textContent === 'A'`);
     },
     'a program at the Teletype that waits for a key is said to have ended at a reload': async (page, url) => {
         await page.go(url);
