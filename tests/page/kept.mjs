@@ -2,7 +2,7 @@
 import { readFileSync, readdirSync } from 'node:fs';
 import { join } from 'node:path';
 import { pause } from './browser.mjs';
-import { answer, create, file, holds, image, isTold, native, pane, run, same, setSource } from './tools.mjs';
+import { answer, create, file, holds, image, isTold, native, pane, run, same, setSource, toCore } from './tools.mjs';
 
 const ECHO = '*200\nA,\tKSF\n\tJMP A\n\tKRB\n\tTLS\n\tTSF\n\tJMP .-1\n\tJMP A\n$\n';
 // Prints a character, and counts for ever.
@@ -33,14 +33,6 @@ async function leaveWhen(page, expression) {
     const visit = ++visits;
     await page.look(`window.leaving = setInterval(() => { if (${expression}) { clearInterval(window.leaving); location.search = '?visit=${visit}'; } }, 1); 0`);
     return () => arrive(page, visit);
-}
-
-async function toCore(page, text) {
-    await setSource(page, text);
-    await page.click('#assemble');
-    await isTold(page, 'source-status', 'assembled');
-    await page.click('#to-core');
-    await isTold(page, 'machine-status', 'words are in core');
 }
 
 await run('kept', {

@@ -1,5 +1,5 @@
 // tabs.mjs PROGRAM FOLDER [PART]: two tabs of the page, of which one has each kind of state, and the other follows or takes it. As losses.mjs otherwise.
-import { further, holds, isTold, pane, run, same, setSource } from './tools.mjs';
+import { further, holds, isTold, pane, run, same, setSource, toCore } from './tools.mjs';
 
 const ECHO = '*200\nA,\tKSF\n\tJMP A\n\tKRB\n\tTLS\n\tTSF\n\tJMP .-1\n\tJMP A\n$\n';
 const value = (page, id) => page.look(`document.getElementById('${id}').value`);
@@ -10,14 +10,6 @@ async function two(page, url) {
     const first = await further(page, url);
     await page.go(`${url}?second`);
     return first;
-}
-
-async function toCore(page, text) {
-    await setSource(page, text);
-    await page.click('#assemble');
-    await isTold(page, 'source-status', 'assembled');
-    await page.click('#to-core');
-    await isTold(page, 'machine-status', 'words are in core');
 }
 
 await run('tabs', {

@@ -77,6 +77,16 @@ export async function setSource(page, text) {
     await page.fill('#text', text);
 }
 
+// A text whose tape is in core.
+/** @param {Page} page @param {string} text */
+export async function toCore(page, text) {
+    await setSource(page, text);
+    await page.click('#assemble');
+    await isTold(page, 'source-status', 'assembled');
+    await page.click('#to-core');
+    await isTold(page, 'machine-status', 'words are in core');
+}
+
 // A text of this name, and its tape.
 /** @param {Page} page @param {string} name @param {string} text */
 export async function assemble(page, name, text) {

@@ -2,7 +2,7 @@
 // gone. As losses.mjs otherwise.
 import { randomBytes } from 'node:crypto';
 import { readFileSync, writeFileSync } from 'node:fs';
-import { answer, create, file, image, isTold, native, pane, put, run, same, setSource, volume } from './tools.mjs';
+import { answer, create, file, image, isTold, native, pane, put, run, same, setSource, toCore, volume } from './tools.mjs';
 
 const THREE = '*200\n\tCLA IAC\n\tIAC\n\tIAC\n\tHLT\n$\n';
 // Lays each key that is struck into the cells from 00400 on.
@@ -13,15 +13,6 @@ const volumes = `[...document.getElementById('volume').options].slice(1).map(it 
 async function again(page, url) {
     await page.look('geivottu.store.settled()');
     await page.go(`${url}?again`);
-}
-
-// A text whose tape is in core.
-async function toCore(page, text) {
-    await setSource(page, text);
-    await page.click('#assemble');
-    await isTold(page, 'source-status', 'assembled');
-    await page.click('#to-core');
-    await isTold(page, 'machine-status', 'words are in core');
 }
 
 async function toggle(page, cell, how) {
