@@ -1,0 +1,4 @@
+pub mod CommonLemmas
+pub mod RowLemmas
+pub mod SameRunLemmas
+pub mod UserLemmas

@@ -1,0 +1,10 @@
+pub mod State
+pub mod Operate
+pub mod Control
+pub mod Console
+pub mod Fields
+pub mod Step
+pub mod Common
+pub mod Runs
+pub mod User
+pub mod Lending
