@@ -1,9 +1,9 @@
 -- The commands that change the volume in an image file and read nothing else.
-use Rattle.std.proofs.Common.{◌≡◌, ◌∙◌, ◌⊎◌, ℕ, Bool, true, false, Option, None, Some, Result, Ok, Err, List, [], ap, refl, subst, inl, inr, length, map, true≢false}
+use Rattle.std.proofs.Common.{◌≡◌, ◌∙◌, ◌⊎◌, ℕ, Bool, true, false, Option, None, Some, Result, Ok, List, [], ap, refl, subst, inl, inr, length, map, true≢false}
 use Rattle.std.specs.Global.{Vec}
 use Rattle.hosts.specs.Event.{Event}
 use Rattle.hosts.specs.Streams.{output}
-use Rattle.name_patterns.specs.Patterns.{has_pattern}
+use Rattle.name_spelling.specs.Patterns.{has_pattern}
 use Rattle.archive_files.specs.Asking.{Target, AtBlock, target_of}
 use Rattle.archive_files.specs.Renaming.{RenamesFile}
 use Rattle.archive_files.specs.Squeezing.{SqueezesFiles}
@@ -35,7 +35,8 @@ use Rattle.keeper_laws.specs.Changes.{DeletesMeant, HasChanged, HasDeleted, HasR
 use Rattle.keeper_laws.specs.Ended.{EndsAs}
 use Rattle.keeper_laws.proofs.OpenLemmas.{FindsSaved, FindsUnsaved, HasOpened, has-opened, still}
 use Rattle.keeper_laws.proofs.RefuseLemmas.{IsRefused, OnlyRefuses, answers-refuse, answers-silent, ends-so, lines-refuse, opens-refuses, purely-silent, reaches, refused-after, refuses-refused, then-refuses}
-use Rattle.keeper_laws.proofs.StoreLemmas.{IsReady, by-refusal, by-store}
+use Rattle.keeper_laws.proofs.PrepareLemmas.{made-or-refused}
+use Rattle.keeper_laws.proofs.StoreLemmas.{IsReady, by-store}
 
 -- a step that gives this asks nothing of the host where it succeeds
 abbrev GivesStill : {A : Type 0} → (A → Type 0) → (List Event → Result A Ending → List Event → Type 0) → Type 0
@@ -84,10 +85,9 @@ module _ {A : Type 0} (answers : List ℕ → List Event → Result A Ending →
 
     change-ends : FindsSaved → FindsUnsaved → LeavesFiles (Changes answers image_of lines_of form) → (old : List Event) (result : Result (Unit {0}) Ending) (new : List Event)
         → Changes answers image_of lines_of form old result new → EndsAs form (HasChanged gives image_of lines_of form) result old new
-    change-ends saves stays leaves old result new p = go result (ready old result new p) p
-      where
-        go : (result : Result (Unit {0}) Ending) → IsMade old result new ⊎ IsRefused result old new → Changes answers image_of lines_of form old result new → EndsAs form (HasChanged gives image_of lines_of form) result old new
-        go result (inl m) p = by-store saves stays form [] m.image (image_of m.made) (lines_of m.made) (HasChanged gives image_of lines_of form) old result new m.is_ready (λ ok has reads prints. record {
+    change-ends saves stays leaves old result new p =
+        made-or-refused form (HasChanged gives image_of lines_of form) (Changes answers image_of lines_of form) leaves old result new p (ready old result new p) (λ m.
+        by-store saves stays form [] m.image (image_of m.made) (lines_of m.made) (HasChanged gives image_of lines_of form) old result new m.is_ready (λ ok has reads prints. record {
           image = m.image;
           path = m.is_ready.start.path;
           was = m.is_ready.start.was;
@@ -97,9 +97,7 @@ module _ {A : Type 0} (answers : List ℕ → List Event → Result A Ending →
           gave = m.gave;
           has = has;
           prints = prints;
-        })
-        go (Ok it) (inr refused) p = absurd refused
-        go (Err ending) (inr refused) p = by-refusal form (HasChanged gives image_of lines_of form) old ending new refused.0 (leaves old ending new p refused.0, refused.1)
+        }))
 
 -- ## The commands
 

@@ -1,15 +1,15 @@
 -- A file that is copied from one image file to another.
-use Rattle.std.proofs.Common.{◌≡◌, ◌∙◌, ◌⊎◌, ℕ, Bool, true, false, Option, Result, Ok, Err, List, [], ◌∷◌, refl, sym, ap, subst, inl, inr, length}
+use Rattle.std.proofs.Common.{◌≡◌, ◌∙◌, ◌⊎◌, ℕ, Bool, true, false, Option, Result, Ok, List, [], ◌∷◌, refl, sym, ap, subst, inl, inr, length}
 use Rattle.std.specs.Global.{Vec}
 use Rattle.hosts.specs.Event.{Event, look_call}
 use Rattle.hosts.specs.Streams.{errors, output}
 use Rattle.disk_layouts.specs.declared.layouts.Layout.{Layout}
-use Rattle.image_volumes.specs.Keeping.{two_readings}
-use Rattle.image_volumes.specs.Margins.{body_of}
-use Rattle.image_volumes.specs.Volumes.{volumes_in}
-use Rattle.image_volumes.specs.declared.volumes.Volumes.{Volumes}
-use Rattle.image_volumes.specs.declared.volumes.Volumes.TheVariants.{One, Both}
-use Rattle.lenient_images.specs.Lines.{mended_lines}
+use Rattle.image_kind.specs.Keeping.{two_readings}
+use Rattle.image_kind.specs.Margins.{body_of}
+use Rattle.image_kind.specs.Volumes.{volumes_in}
+use Rattle.image_kind.specs.declared.volumes.Volumes.{Volumes}
+use Rattle.image_kind.specs.declared.volumes.Volumes.TheVariants.{One, Both}
+use Rattle.image_kind.specs.Lines.{mended_lines}
 use Rattle.archive_files.specs.Asking.{Target, target_of}
 use Rattle.archive_files.specs.Copying.{CopiesFile}
 use Rattle.archive_files.specs.declared.faults.ArchiveFault.{ArchiveFault}
@@ -39,14 +39,15 @@ use Rattle.keeper_laws.specs.Copied.{HasCopied, IsSource}
 use Rattle.keeper_laws.specs.Ended.{EndsAs}
 use Rattle.keeper_laws.proofs.OpenLemmas.{FindsSaved, FindsUnsaved, HasOpened, IsQuiet, after-note, equal, has-opened, judged, quiet-then, still}
 use Rattle.keeper_laws.proofs.RefuseLemmas.{IsRefused, OnlyRefuses, answers-refuse, answers-silent, ends-so, judges-by, judges-silent, lines-refuse, looks-refuses, no-volume, opens-refuses, reaches, refused-after, refuses-refused, then-refuses}
-use Rattle.keeper_laws.proofs.StoreLemmas.{IsReady, by-refusal, by-store}
+use Rattle.keeper_laws.proofs.PrepareLemmas.{made-or-refused}
+use Rattle.keeper_laws.proofs.StoreLemmas.{IsReady, by-store}
 
 -- ## The other image file
 
 -- one call read it, and nothing was written
-record IsSeen (name : List ℕ) (old new : List Event) : Type 0 where
-  bytes : List ℕ
-  quiet : IsQuiet (look_call name bytes ∷ []) old new
+pub record IsSeen (name : List ℕ) (old new : List Event) : Type 0 where
+  pub bytes : List ℕ
+  pub quiet : IsQuiet (look_call name bytes ∷ []) old new
 
 seen-then : (name : List ℕ) (old mid new : List Event) → IsSeen name old mid → IsQuiet [] mid new → IsSeen name old new
 seen-then name old mid new s quiet = record { bytes = s.bytes; quiet = quiet-then (look_call name s.bytes ∷ []) [] old mid new s.quiet quiet }
@@ -81,7 +82,7 @@ found-still : (volumes : Volumes) (body : List ℕ) (old : List Event) (found : 
 found-still (One layout) body old found new p = p.1
 found-still Both body old found new p = absurd p
 
-seen-at : (form : ImageForm) (old : List Event) (found : Vec ℕ) (new : List Event) → LooksAt form old (Ok found) new → IsSeen form.file.bytes.items old new
+pub seen-at : (form : ImageForm) (old : List Event) (found : Vec ℕ) (new : List Event) → LooksAt form old (Ok found) new → IsSeen form.file.bytes.items old new
 seen-at form old found new (inl ends) = absurd ends
 seen-at form old found new (inr two) =
     seen-then form.file.bytes.items old two.between new (seen-image (reading_of form) form.file.bytes.items old two.given two.between two.done)
@@ -110,7 +111,7 @@ finds-refuses : (volumes : Volumes) (body : List ℕ) → OnlyRefuses (FindsIn v
 finds-refuses (One layout) body old ending new p = (no-volume layout body ending p.0, ap output p.1)
 finds-refuses Both body old ending new (is, ok, p) = (ends-so ending _ is refl, ap output p)
 
-at-refuses : (form : ImageForm) → OnlyRefuses (LooksAt form)
+pub at-refuses : (form : ImageForm) → OnlyRefuses (LooksAt form)
 at-refuses form = then-refuses (LooksImage (reading_of form) form.file.bytes.items) (λ file. FindsOne form.layout form.is_plain file.items)
     (image-refuses (reading_of form) form.file.bytes.items) (λ old file new p. (seen-image (reading_of form) form.file.bytes.items old file new p).quiet.prints)
     (λ file. finds-refuses (volumes_in form.layout form.is_plain file.items) (body_of form.layout form.is_plain file.items))
@@ -234,10 +235,8 @@ module _ (form : CopyForm) (old : List Event) (result : Result (Unit {0}) Ending
 -- what each ending of a copy means
 pub copy-ends : FindsSaved → FindsUnsaved → (form : CopyForm) → LeavesFiles (Copies form) → (old : List Event) (result : Result (Unit {0}) Ending) (new : List Event) → Copies form old result new
     → EndsAs form.to (HasCopied form) result old new
-copy-ends saves stays form leaves old result new p = go result (ready form old result new p) p
-  where
-    go : (result : Result (Unit {0}) Ending) → MadeIf form old result new (is_one_image form.image form.to) (wanted_file form.file) → Copies form old result new → EndsAs form.to (HasCopied form) result old new
-    go result (inl m) p = by-store saves stays form.to m.calls m.image m.made.bytes.items (copied_lines m.made m.cut) (HasCopied form) old result new m.is_ready (λ ok has reads prints. record {
+copy-ends saves stays form leaves old result new p = made-or-refused form.to (HasCopied form) (Copies form) leaves old result new p (ready form old result new p) (λ m.
+    by-store saves stays form.to m.calls m.image m.made.bytes.items (copied_lines m.made m.cut) (HasCopied form) old result new m.is_ready (λ ok has reads prints. record {
       image = m.image;
       path = m.is_ready.start.path;
       was = m.is_ready.start.was;
@@ -252,6 +251,4 @@ copy-ends saves stays form leaves old result new p = go result (ready form old r
       cuts = m.cuts;
       has = has;
       prints = prints;
-    })
-    go (Ok it) (inr refused) p = absurd refused
-    go (Err ending) (inr refused) p = by-refusal form.to (HasCopied form) old ending new refused.0 (leaves old ending new p refused.0, refused.1)
+    }))

@@ -1,6 +1,13 @@
+mod BackLemmas
 mod ChangeLemmas
+mod CopyAllLemmas
 mod CopyLemmas
-mod OpenLemmas
+mod MakeLemmas
+pub mod OpenLemmas
+mod PatchLemmas
+pub mod PrepareLemmas
+mod PutAllLemmas
 mod PutLemmas
-mod RefuseLemmas
-mod StoreLemmas
+pub mod RefuseLemmas
+mod RescueLemmas
+pub mod StoreLemmas

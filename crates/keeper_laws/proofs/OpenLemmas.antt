@@ -1,18 +1,19 @@
 -- The steps of a change before its save: they write nothing, and an image file is opened.
-use Rattle.std.proofs.Common.{◌≡◌, ◌∙◌, ◌≤◌, ℕ, Bool, true, false, Option, None, Some, Ok, List, [], ◌∷◌, ◌++◌, refl, sym, ap, subst, arith, inl, inr, append_assoc}
+use Rattle.std.proofs.Common.{◌≡◌, ◌∙◌, ◌≤◌, ℕ, Bool, true, false, Option, None, Some, Result, Ok, List, [], ◌∷◌, ◌++◌, refl, sym, ap, subst, arith, inl, inr, append_assoc}
 use Rattle.hosts.specs.Event.{Event, look_call, tell_call}
 use Rattle.hosts.specs.Streams.{errors, output, read}
 use Rattle.image_kind.specs.declared.kinds.ImageKind.{ImageKind}
-use Rattle.image_volumes.specs.Keeping.{keeps_kind, two_readings}
-use Rattle.image_volumes.specs.Margins.{margins_in}
-use Rattle.image_volumes.specs.Volumes.{volumes_in}
-use Rattle.image_volumes.specs.declared.judging.Judgment.{Judgment}
-use Rattle.image_volumes.specs.declared.margins.Margins.{Margins}
-use Rattle.image_volumes.specs.declared.volumes.Volumes.{Volumes}
-use Rattle.image_volumes.specs.declared.volumes.Volumes.TheVariants.{One, Both}
+use Rattle.image_kind.specs.Keeping.{keeps_kind, two_readings}
+use Rattle.image_kind.specs.Margins.{margins_in}
+use Rattle.image_kind.specs.Volumes.{volumes_in}
+use Rattle.image_kind.specs.declared.judging.Judgment.{Judgment}
+use Rattle.image_kind.specs.declared.margins.Margins.{Margins}
+use Rattle.image_kind.specs.declared.volumes.Volumes.{Volumes}
+use Rattle.image_kind.specs.declared.volumes.Volumes.TheVariants.{One, Both}
 use Rattle.outcome.specs.Contents.{content_name}
 use Rattle.outcome.specs.Notes.{file_text}
 use Rattle.outcome.specs.declared.contents.Content.TheVariants as content
+use Rattle.outcome.specs.declared.endings.Ending.{Ending}
 use Rattle.outcome.specs.declared.notes.FileNote.TheVariants.{NoLock}
 use Rattle.program_tasks.specs.declared.forms.ImageForm.{ImageForm}
 use Rattle.image_files.specs.Again.{IsFoundAgain}
@@ -55,6 +56,10 @@ quiet-then first second old mid new a b = record {
   warns = omega (arith, a.warns, b.warns);
   reads = b.reads ∙ ap (λ (r : List Event). second ++ r) a.reads ∙ sym (append_assoc second first (read old));
 }
+
+-- a step that succeeds writes and prints nothing, and reads nothing
+abbrev pub StaysQuiet : {A : Type 0} → (List Event → Result A Ending → List Event → Type 0) → Type 0
+StaysQuiet {A} step = (old : List Event) (it : A) (new : List Event) → step old (Ok it) new → IsQuiet [] old new
 
 -- ## An image file that is opened
 

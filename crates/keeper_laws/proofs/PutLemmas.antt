@@ -1,5 +1,5 @@
 -- One file that is put.
-use Rattle.std.proofs.Common.{ap, ◌≡◌, ◌∙◌, ◌⊎◌, ℕ, Bool, true, false, if◌then◌else◌, Option, None, Some, Result, Ok, Err, List, [], ◌∷◌, refl, sym, subst, inl, inr, length, codes, nat_eq}
+use Rattle.std.proofs.Common.{ap, ◌≡◌, ◌∙◌, ◌⊎◌, ℕ, Bool, true, false, if◌then◌else◌, Option, None, Some, Result, Ok, List, [], ◌∷◌, refl, sym, subst, inl, inr, length, codes, nat_eq}
 use Rattle.std.specs.Global.{Vec}
 use Rattle.std.specs.Str.{bytes_eq}
 use Rattle.hosts.specs.Event.{Event, input_call, look_call}
@@ -31,9 +31,10 @@ use Rattle.volume_commands.specs.Putting.{JudgesInfo, JudgesPut, KeepsWords, Mak
 use Rattle.keeper_laws.specs.Changed.{warnings}
 use Rattle.keeper_laws.specs.Ended.{EndsAs}
 use Rattle.keeper_laws.specs.Stored.{HasStored, IsDayFor, given_call}
-use Rattle.keeper_laws.proofs.OpenLemmas.{FindsSaved, FindsUnsaved, HasOpened, IsQuiet, after-note, equal, has-opened, quiet-then, still}
+use Rattle.keeper_laws.proofs.OpenLemmas.{FindsSaved, FindsUnsaved, HasOpened, IsQuiet, StaysQuiet, after-note, equal, has-opened, quiet-then, still}
 use Rattle.keeper_laws.proofs.RefuseLemmas.{IsRefused, IsSilent, OnlyRefuses, answers-refuse, archive-refused, dates-refuses, ends-so, lines-refuse, opens-refuses, reaches, reads-refuses, refused-after, refuses-refused, then-refuses}
-use Rattle.keeper_laws.proofs.StoreLemmas.{IsReady, by-refusal, by-store}
+use Rattle.keeper_laws.proofs.PrepareLemmas.{made-or-refused}
+use Rattle.keeper_laws.proofs.StoreLemmas.{IsReady, by-store}
 
 -- ## What is read
 
@@ -46,7 +47,7 @@ reads-if false name old bytes new p =
     subst (λ (n : List Event). IsQuiet (look_call name bytes.items ∷ []) old n) (sym p.1) (record { files = λ path. refl; prints = refl; warns = equal (warnings (errors old)); reads = refl })
 
 -- the day of a file is asked for, where it is wanted
-dates : (is_dated : Bool) (name : List ℕ) (old : List Event) (day : Option FileDay) (new : List Event) → DatesFile is_dated name old (Ok day) new → IsQuiet [] old new
+pub dates : (is_dated : Bool) (name : List ℕ) (old : List Event) (day : Option FileDay) (new : List Event) → DatesFile is_dated name old (Ok day) new → IsQuiet [] old new
 dates false name old day new p = still old new p.1
 dates true name old day new (seconds, is, p) =
     subst (λ (n : List Event). IsQuiet [] old n) (sym p) (record { files = λ path. refl; prints = refl; warns = equal (warnings (errors old)); reads = refl })
@@ -57,32 +58,28 @@ SameDay one two = one ≡ two
 no-day : (day : Option FileDay) → SameDay (Ok day) (Ok None) → day ≡ None
 no-day day is = cc
 
-is-day : (is_dated : Bool) (name : List ℕ) (old : List Event) (day : Option FileDay) (new : List Event) → DatesFile is_dated name old (Ok day) new → IsDayFor is_dated day
+pub is-day : (is_dated : Bool) (name : List ℕ) (old : List Event) (day : Option FileDay) (new : List Event) → DatesFile is_dated name old (Ok day) new → IsDayFor is_dated day
 is-day false name old day new p = no-day day p.0
 is-day true name old day new (seconds, is, p) = (seconds, is)
 
 -- ## Steps that are quiet where they succeed
 
--- a step that succeeds writes and prints nothing, and reads nothing
-abbrev StaysQuiet : {A : Type 0} → (List Event → Result A Ending → List Event → Type 0) → Type 0
-StaysQuiet {A} step = (old : List Event) (it : A) (new : List Event) → step old (Ok it) new → IsQuiet [] old new
-
-then-quiet : {A B : Type 0} (first : List Event → Result A Ending → List Event → Type 0) (next : A → List Event → Result B Ending → List Event → Type 0)
+pub then-quiet : {A B : Type 0} (first : List Event → Result A Ending → List Event → Type 0) (next : A → List Event → Result B Ending → List Event → Type 0)
     → StaysQuiet first → ((given : A) → StaysQuiet (next given)) → StaysQuiet (Then first next)
 then-quiet first next f n old it new (inl ends) = absurd ends
 then-quiet first next f n old it new (inr two) = quiet-then [] [] old two.between new (f old two.given two.between two.done) (n two.given two.between it new two.after)
 
-purely-quiet : {A : Type 0} (gives : Result A Ending → Type 0) → StaysQuiet (Purely gives)
+pub purely-quiet : {A : Type 0} (gives : Result A Ending → Type 0) → StaysQuiet (Purely gives)
 purely-quiet gives old it new p = still old new p.1
 
-answers-quiet : {A : Type 0} (gives : Result A ArchiveFault → Type 0) (size : ℕ) → StaysQuiet (Answers gives size)
+pub answers-quiet : {A : Type 0} (gives : Result A ArchiveFault → Type 0) (size : ℕ) → StaysQuiet (Answers gives size)
 answers-quiet gives size old it new p = still old new p.1
 
 -- so standard output gets nothing
-silent : {A : Type 0} (step : List Event → Result A Ending → List Event → Type 0) → StaysQuiet step → IsSilent step
+pub silent : {A : Type 0} (step : List Event → Result A Ending → List Event → Type 0) → StaysQuiet step → IsSilent step
 silent step quiet old it new p = (quiet old it new p).prints
 
-done-refuses : OnlyRefuses (Purely IsDone)
+pub done-refuses : OnlyRefuses (Purely IsDone)
 done-refuses old ending new p = absurd p.0
 
 -- ## Information words and dates
@@ -90,33 +87,33 @@ done-refuses old ending new p = absurd p.0
 fits-refuses : (wanted count : ℕ) → OnlyRefuses (Purely (FitsWords wanted count))
 fits-refuses wanted count old ending new p = (ends-so ending _ p.0.1 refl, ap output p.1)
 
-takes-quiet : (none : Bool) (wanted : ℕ) (image : List ℕ) → StaysQuiet (TakesIf none wanted image)
+pub takes-quiet : (none : Bool) (wanted : ℕ) (image : List ℕ) → StaysQuiet (TakesIf none wanted image)
 takes-quiet true wanted image = purely-quiet IsDone
 takes-quiet false wanted image = then-quiet (Answers (OpensVolume image) (length image)) (λ blocks. Purely (FitsWords wanted (information_on blocks)))
     (answers-quiet (OpensVolume image) (length image)) (λ blocks. purely-quiet (FitsWords wanted (information_on blocks)))
 
-takes-refuses : (none : Bool) (wanted : ℕ) (image : List ℕ) → OnlyRefuses (TakesIf none wanted image)
+pub takes-refuses : (none : Bool) (wanted : ℕ) (image : List ℕ) → OnlyRefuses (TakesIf none wanted image)
 takes-refuses true wanted image = done-refuses
 takes-refuses false wanted image = then-refuses (Answers (OpensVolume image) (length image)) (λ blocks. Purely (FitsWords wanted (information_on blocks)))
     (answers-refuse (OpensVolume image) (length image)) (silent (Answers (OpensVolume image) (length image)) (answers-quiet (OpensVolume image) (length image)))
     (λ blocks. fits-refuses wanted (information_on blocks))
 
-hint-quiet : (same : Bool) (word : ℕ) (wanted shown : Option Date) (own : ℕ) → StaysQuiet (TellsUnless same word wanted shown own)
+pub hint-quiet : (same : Bool) (word : ℕ) (wanted shown : Option Date) (own : ℕ) → StaysQuiet (TellsUnless same word wanted shown own)
 hint-quiet true word wanted shown own old it new p = still old new p.1
 hint-quiet false word wanted shown own old it new (ok, p) = after-note ok _ old new p
 
-hint-refuses : (same : Bool) (word : ℕ) (wanted shown : Option Date) (own : ℕ) → OnlyRefuses (TellsUnless same word wanted shown own)
+pub hint-refuses : (same : Bool) (word : ℕ) (wanted shown : Option Date) (own : ℕ) → OnlyRefuses (TellsUnless same word wanted shown own)
 hint-refuses true word wanted shown own old ending new p = absurd p.0
 hint-refuses false word wanted shown own old ending new p = (ends-so ending _ p.0 refl, ap output p.1)
 
-year-quiet : (image info : List ℕ) (year : Option ℕ) → StaysQuiet (NotesYear image info year)
+pub year-quiet : (image info : List ℕ) (year : Option ℕ) → StaysQuiet (NotesYear image info year)
 year-quiet image [] year = purely-quiet IsDone
 year-quiet image (word ∷ words) None = purely-quiet IsDone
 year-quiet image (word ∷ words) (Some year) = then-quiet (Answers (OpensVolume image) (length image)) (λ blocks. TellsShown word (last_year (block_word blocks 0 0o377)) (last_for year))
     (answers-quiet (OpensVolume image) (length image))
     (λ blocks. let own = date_in (last_for year) word in let shown = date_in (last_year (block_word blocks 0 0o377)) word in hint-quiet (is_same_year own shown) word own shown (last_for year))
 
-year-refuses : (image info : List ℕ) (year : Option ℕ) → OnlyRefuses (NotesYear image info year)
+pub year-refuses : (image info : List ℕ) (year : Option ℕ) → OnlyRefuses (NotesYear image info year)
 year-refuses image [] year = done-refuses
 year-refuses image (word ∷ words) None = done-refuses
 year-refuses image (word ∷ words) (Some year) = then-refuses (Answers (OpensVolume image) (length image)) (λ blocks. TellsShown word (last_year (block_word blocks 0 0o377)) (last_for year))
@@ -249,10 +246,8 @@ module _ (form : PutOneForm) (old : List Event) (result : Result (Unit {0}) Endi
 -- what each ending of a put means
 pub put-ends : FindsSaved → FindsUnsaved → ((form : PutOneForm) → LeavesFiles (Puts form)) → (form : PutOneForm) (old : List Event) (result : Result (Unit {0}) Ending) (new : List Event)
     → Puts form old result new → EndsAs form.image (HasStored form) result old new
-put-ends saves stays leaves form old result new p = go result (ready form old result new p) p
-  where
-    go : (result : Result (Unit {0}) Ending) → IsMade form old result new ⊎ IsRefused result old new → Puts form old result new → EndsAs form.image (HasStored form) result old new
-    go result (inl m) p = by-store saves stays form.image (given_call form.file.bytes.items m.given ∷ []) m.image m.made.bytes.items (stored_line m.made) (HasStored form) old result new m.is_ready (λ ok has reads prints. record {
+put-ends saves stays leaves form old result new p = made-or-refused form.image (HasStored form) (Puts form) (leaves form) old result new p (ready form old result new p) (λ m.
+    by-store saves stays form.image (given_call form.file.bytes.items m.given ∷ []) m.image m.made.bytes.items (stored_line m.made) (HasStored form) old result new m.is_ready (λ ok has reads prints. record {
       image = m.image;
       path = m.is_ready.start.path;
       was = m.is_ready.start.was;
@@ -265,6 +260,4 @@ put-ends saves stays leaves form old result new p = go result (ready form old re
       puts = m.puts;
       has = has;
       prints = prints;
-    })
-    go (Ok it) (inr refused) p = absurd refused
-    go (Err ending) (inr refused) p = by-refusal form.image (HasStored form) old ending new refused.0 (leaves form old ending new p refused.0, refused.1)
+    }))

@@ -9,14 +9,14 @@ use Rattle.hosts.specs.declared.faults.HostFault.{HostFault}
 use Rattle.hosts.specs.declared.faults.HostFault.TheVariants as host
 use Rattle.disk_layouts.specs.declared.layouts.Layout.{Layout}
 use Rattle.image_kind.specs.declared.kinds.ImageKind.{ImageKind}
-use Rattle.image_volumes.specs.Keeping.{two_readings}
-use Rattle.image_volumes.specs.Margins.{body_by, margins_in}
-use Rattle.image_volumes.specs.Volumes.{volumes_in}
-use Rattle.image_volumes.specs.declared.judging.Judgment.{Judgment}
-use Rattle.image_volumes.specs.declared.margins.Margins.{Margins}
-use Rattle.image_volumes.specs.declared.volumes.Volumes.{Volumes}
-use Rattle.image_volumes.specs.declared.volumes.Volumes.TheVariants.{One, Both}
-use Rattle.image_volumes.specs.Judging.{judged_kind}
+use Rattle.image_kind.specs.Keeping.{two_readings}
+use Rattle.image_kind.specs.Margins.{body_by, margins_in}
+use Rattle.image_kind.specs.Volumes.{volumes_in}
+use Rattle.image_kind.specs.declared.judging.Judgment.{Judgment}
+use Rattle.image_kind.specs.declared.margins.Margins.{Margins}
+use Rattle.image_kind.specs.declared.volumes.Volumes.{Volumes}
+use Rattle.image_kind.specs.declared.volumes.Volumes.TheVariants.{One, Both}
+use Rattle.image_kind.specs.Judging.{judged_kind}
 use Rattle.archive_files.specs.declared.faults.ArchiveFault.{ArchiveFault}
 use Rattle.archive_files.specs.declared.faults.ArchiveFault.TheVariants as archive
 use Rattle.outcome.specs.Endings.{ending_of_archive}

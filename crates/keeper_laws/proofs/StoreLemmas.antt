@@ -9,7 +9,7 @@ use Rattle.hosts.specs.Streams.{errors, output, read, may_replace}
 use Rattle.hosts.specs.declared.faults.Durability.{Durability}
 use Rattle.hosts.specs.declared.faults.Durability.TheVariants.{Certain, Unknown}
 use Rattle.hosts.specs.declared.faults.Unwritten.TheVariants.{AsItWas, InPart}
-use Rattle.image_volumes.specs.Keeping.{keeps_kind}
+use Rattle.image_kind.specs.Keeping.{keeps_kind}
 use Rattle.outcome.specs.declared.contents.Content.TheVariants as content
 use Rattle.outcome.specs.declared.endings.Ending.{Ending}
 use Rattle.outcome.specs.declared.endings.Ending.TheVariants.{Line, Fault, Failure, Busy, NotWritten, FullOutput, Unreported, NoReader, Misuse}
@@ -31,12 +31,12 @@ use Rattle.keeper_laws.proofs.OpenLemmas.{FindsSaved, FindsUnsaved, HasOpened, I
 -- ## A file that is saved
 
 -- the same where standard error got no more warnings
-record BecomesIf (path was file : List ℕ) (old new : List Event) : Type 0 where
-  now : (start : Place) → (replay start (about path old)).seen ≡ Just (Some was) → (replay start (about path new)).seen ≡ Just (Some file)
-  after : warnings (errors new) ≤ warnings (errors old) → (start : Place) (found : Option (List ℕ)) → Leaves (may_leave (replay start (about path new))) found → found ≡ Some file
-  moments : warnings (errors new) ≤ warnings (errors old) → (start : Place) (found : Option (List ℕ)) → Leaves (ever start (about path new)) found
+pub record BecomesIf (path was file : List ℕ) (old new : List Event) : Type 0 where
+  pub now : (start : Place) → (replay start (about path old)).seen ≡ Just (Some was) → (replay start (about path new)).seen ≡ Just (Some file)
+  pub after : warnings (errors new) ≤ warnings (errors old) → (start : Place) (found : Option (List ℕ)) → Leaves (may_leave (replay start (about path new))) found → found ≡ Some file
+  pub moments : warnings (errors new) ≤ warnings (errors old) → (start : Place) (found : Option (List ℕ)) → Leaves (ever start (about path new)) found
       → (found ≡ Some file) ⊎ Leaves (ever start (about path old)) found
-  others : (other : List ℕ) → bytes_eq path other ≡ false → about other new ≡ about other old
+  pub others : (other : List ℕ) → bytes_eq path other ≡ false → about other new ≡ about other old
 
 now-has : (is : Bool) (durability : Durability) (was file : List ℕ) (old new : List Step) → KeepsFile is durability file old new
     → (start : Place) → (replay start old).seen ≡ Just (Some was) → (replay start new).seen ≡ Just (Some file)
@@ -62,7 +62,7 @@ certain false Unknown before noted told (ok, place) (synced, sync) few =
     let b : warnings told ≡ suc (warnings noted) = ap warnings sync in
     absurd (omega (arith, a, b, few))
 
-only-left : (file : List ℕ) (found : Option (List ℕ)) → Leaves (Just (Some file) ∷ []) found → found ≡ Some file
+pub only-left : (file : List ℕ) (found : Option (List ℕ)) → Leaves (Just (Some file) ∷ []) found → found ≡ Some file
 only-left file found (inl is) = is
 only-left file found (inr none) = absurd none
 
@@ -70,7 +70,7 @@ crash-leaves : (file : List ℕ) (old new : List Step) → IsKept Certain file o
 crash-leaves file old new kept start found leaves =
     only-left file found (subst (λ e. Leaves (Just (Some file) ∷ e) found) (kept start).earlier (subst (λ d. Leaves (d ∷ (replay start new).earlier) found) (kept start).on_disk leaves))
 
-moment-leaves : (file : List ℕ) (old new : List Step) → AnyMomentOf true file old new → (start : Place) (found : Option (List ℕ)) → Leaves (ever start new) found → (found ≡ Some file) ⊎ Leaves (ever start old) found
+pub moment-leaves : (file : List ℕ) (old new : List Step) → AnyMomentOf true file old new → (start : Place) (found : Option (List ℕ)) → Leaves (ever start new) found → (found ≡ Some file) ⊎ Leaves (ever start old) found
 moment-leaves file old new moments start found leaves = go (moments start)
   where
     go : IsOldOrNew file (ever start old) (ever start new) ⊎ (true ≡ false) → (found ≡ Some file) ⊎ Leaves (ever start old) found
@@ -78,7 +78,7 @@ moment-leaves file old new moments start found leaves = go (moments start)
     go (inl (inr one)) = subst (λ l. Leaves l found) one leaves
     go (inr not_so) = absurd (true≢false not_so)
 
-becomes-saved : (path was file : List ℕ) (old new : List Event) → HasSaved content.Image path file old new → BecomesIf path was file old new
+pub becomes-saved : (path was file : List ℕ) (old new : List Event) → HasSaved content.Image path file old new → BecomesIf path was file old new
 becomes-saved path was file old new s = record {
   now = now-has (may_replace new) s.durability was file (about path old) (about path new) s.kept;
   after = λ few. crash-leaves file (about path old) (about path new)
@@ -157,6 +157,7 @@ record IsPart (image : Image) (old new : List Event) : Type 0 where
   in_place : may_replace new ≡ false
   others : (other : List ℕ) → bytes_eq image.place.path.bytes.items other ≡ false → about other new ≡ about other old
   prints : output new ≡ output old
+  reads : read new ≡ read old
 
 -- what each ending of it means
 abbrev EndsStore : Image → List ℕ → List ℕ → List ℕ → Result (Unit {0}) Ending → List Event → List Event → Type 0
@@ -193,8 +194,11 @@ all-stay path old new stays only = record { files = λ other. go other (bytes_eq
 idle-stay : (events : List Event) → AllStay events events
 idle-stay events = record { files = λ path. unchanged (about path events) (about path events) refl; prints = refl }
 
-told-place : (why : Reason) (name : List ℕ) (mid new : List Event) → TellsReason why name mid new → may_replace new ≡ may_replace mid
+pub told-place : (why : Reason) (name : List ℕ) (mid new : List Event) → TellsReason why name mid new → may_replace new ≡ may_replace mid
 told-place why name mid new (text, ok, is, p) = ap may_replace p
+
+told-reads : (why : Reason) (name : List ℕ) (mid new : List Event) → TellsReason why name mid new → read new ≡ read mid
+told-reads why name mid new (text, ok, is, p) = ap read p
 
 writes-ends : (image : Image) (was bytes line file : List ℕ) (old : List Event) (ending : Ending) (new : List Event) → image.place.is_held ≡ true
     → Writes content.Image image.place.path.bytes.items image.place.name.bytes.items file old (Err ending) new → EndsStore image was bytes line (Err ending) old new
@@ -205,6 +209,7 @@ writes-ends image was bytes line file old (NotWritten it InPart) new is_held (is
   in_place = told-place (reason.Fault fault) image.place.name.bytes.items mid new told ∙ u.in_place;
   others = λ other apart. reason-keeps (reason.Fault fault) image.place.name.bytes.items mid new told other ∙ u.only.others other apart;
   prints = unless-output false (reason.Fault fault) image.place.name.bytes.items mid new told ∙ u.only.prints;
+  reads = told-reads (reason.Fault fault) image.place.name.bytes.items mid new told ∙ u.only.reads;
 }
 writes-ends image was bytes line file old (Line it) new is_held p = absurd p
 writes-ends image was bytes line file old (Fault it) new is_held p = absurd p
@@ -262,7 +267,7 @@ pub record IsReady (form : ImageForm) (calls : List Event) (image : Image) (byte
   pub quiet : IsQuiet calls opened_at mid
   pub stores : Stores image bytes line mid result new
 
-becomes : (path other was file : List ℕ) (calls old mid new : List Event) → IsQuiet calls old mid → path ≡ other → BecomesIf other was file mid new → Becomes path was file old new
+pub becomes : (path other was file : List ℕ) (calls old mid new : List Event) → IsQuiet calls old mid → path ≡ other → BecomesIf other was file mid new → Becomes path was file old new
 becomes path other was file calls old mid new quiet is b = subst (λ (p : List ℕ). Becomes p was file old new) (sym is) (record {
   now = λ start had. b.now start (subst (λ (s : List Step). (replay start s).seen ≡ Just (Some was)) (sym (quiet.files other)) had);
   after = λ silent start found leaves. b.after (few silent) start found leaves;
@@ -288,13 +293,17 @@ gets-volume saves stays form image bytes calls old opened_at mid new o quiet (in
   found = subst (λ (b : List ℕ). IsFoundAgain form o.was b) (sym same) (stays form o.place o.was image o.opening opened_at o.judged);
 }
 
-part-ends : (form : ImageForm) (image : Image) (calls old opened_at mid new : List Event) (o : HasOpened form old image opened_at) → IsQuiet calls old mid → IsPart image mid new → MayHoldAPart form old new
-part-ends form image calls old opened_at mid new o quiet part =
+part-ends : (form : ImageForm) (image : Image) (calls old opened_at mid new : List Event) (o : HasOpened form old image opened_at) → IsQuiet (calls ++ (look_call o.path o.was ∷ [])) old mid
+    → read mid ≡ calls ++ (look_call o.path o.was ∷ read old) → IsPart image mid new → MayHoldAPart form old new
+part-ends form image calls old opened_at mid new o quiet reads part =
     let path_is : o.path ≡ image.place.path.bytes.items = o.path_is ∙ held-path image.place form.file.bytes.items part.is_held in
     record {
       place = image.place;
       path = o.path;
       held = o.opened.held;
+      was = o.was;
+      calls = calls;
+      reads = part.reads ∙ reads;
       in_place = part.in_place;
       prints = part.prints ∙ quiet.prints;
       others = λ other apart. part.others other (subst (λ (p : List ℕ). bytes_eq p other ≡ false) path_is apart) ∙ quiet.files other;
@@ -319,9 +328,12 @@ by-store saves stays form calls image bytes line done old result new r f = go re
     quiet : IsQuiet whole old r.mid
     quiet = quiet-then (look_call r.start.path r.start.was ∷ []) calls old r.opened_at r.mid r.start.quiet r.quiet
 
+    reads : read r.mid ≡ calls ++ (look_call r.start.path r.start.was ∷ read old)
+    reads = r.quiet.reads ∙ ap (λ (l : List Event). calls ++ l) r.start.quiet.reads
+
     made : (ok : Bool) → IsStored image r.start.was bytes line ok r.mid new → done ok old new
     made ok s = f ok (gets-volume saves stays form image bytes whole old r.opened_at r.mid new r.start quiet s.has)
-        (s.reads ∙ r.quiet.reads ∙ ap (λ (l : List Event). calls ++ l) r.start.quiet.reads)
+        (s.reads ∙ reads)
         (s.prints ∙ ap (λ (o : List (Bool × List ℕ)). (ok, line) ∷ o) quiet.prints)
 
     go : (result : Result (Unit {0}) Ending) → EndsStore image r.start.was bytes line result r.mid new → EndsAs form done result old new
@@ -329,7 +341,7 @@ by-store saves stays form calls image bytes line done old result new r f = go re
     go (Err Unreported) s = made false s
     go (Err NoReader) s = made false s
     go (Err (NotWritten it AsItWas)) s = stays-after whole old r.mid new quiet s
-    go (Err (NotWritten it InPart)) s = part-ends form image whole old r.opened_at r.mid new r.start quiet s
+    go (Err (NotWritten it InPart)) s = part-ends form image calls old r.opened_at r.mid new r.start quiet reads s
     go (Err (Line it)) s = (λ path. s.0 path ∙ quiet.files path, s.1 ∙ quiet.prints)
     go (Err (Fault it)) s = absurd s
     go (Err Failure) s = absurd s

@@ -4,11 +4,11 @@ use Rattle.std.specs.Str.{bytes_eq}
 use Rattle.hosts.specs.Event.{Event}
 use Rattle.hosts.specs.Place.{Place, Just, Leaves, may_leave, about, replay, ever}
 use Rattle.hosts.specs.Streams.{errors}
-use Rattle.image_volumes.specs.Margins.{body_by, margins_in}
-use Rattle.image_volumes.specs.Volumes.{volumes_in}
-use Rattle.image_volumes.specs.declared.margins.Margins.{Margins}
-use Rattle.image_volumes.specs.declared.volumes.Volumes.{Volumes}
-use Rattle.image_volumes.specs.declared.volumes.Volumes.TheVariants.{One, Both}
+use Rattle.image_kind.specs.Margins.{body_by, margins_in}
+use Rattle.image_kind.specs.Volumes.{volumes_in}
+use Rattle.image_kind.specs.declared.margins.Margins.{Margins}
+use Rattle.image_kind.specs.declared.volumes.Volumes.{Volumes}
+use Rattle.image_kind.specs.declared.volumes.Volumes.TheVariants.{One, Both}
 use Rattle.outcome.specs.Contents.{content_name}
 use Rattle.outcome.specs.Notes.{file_text}
 use Rattle.outcome.specs.declared.contents.Content.TheVariants as content

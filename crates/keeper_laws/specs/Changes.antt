@@ -1,8 +1,9 @@
--- What it means that the volume in an image file is squeezed, or has a new name of a file, or fewer files.
+-- What it means that the volume in an image file is squeezed, or has a new name of a file, or fewer files, or another word.
 use Rattle.std.specs.Prelude.{◌≡◌, ℕ, Bool, false, List, ◌∷◌, Ok}
+use Rattle.std.specs.Global.{Vec}
 use Rattle.hosts.specs.Event.{Event, look_call}
 use Rattle.hosts.specs.Streams.{output, read}
-use Rattle.name_patterns.specs.Patterns.{has_pattern}
+use Rattle.name_spelling.specs.Patterns.{has_pattern}
 use Rattle.archive_files.specs.Asking.{Target}
 use Rattle.archive_files.specs.Deleting.{DeletesFiles}
 use Rattle.archive_files.specs.Renaming.{RenamesFile}
@@ -13,9 +14,14 @@ use Rattle.program_reports.specs.declared.programs.ProgramLine.TheVariants as li
 use Rattle.program_tasks.specs.declared.forms.DeleteForm.{DeleteForm}
 use Rattle.program_tasks.specs.declared.forms.ImageForm.{ImageForm}
 use Rattle.image_files.specs.declared.images.Image.{Image}
+use Rattle.block_words.specs.Patching.{Patches}
+use Rattle.archive_commands.specs.Patching.{patched_text}
+use Rattle.archive_commands.specs.declared.patches.WordPatch.{WordPatch}
 use Rattle.volume_commands.specs.Asking.{wanted_files}
 use Rattle.volume_commands.specs.Choosing.{words_in}
+use Rattle.volume_commands.specs.Creating.{IsBlankImage}
 use Rattle.volume_commands.specs.Deleting.{deleted_lines}
+use Rattle.volume_commands.specs.declared.creating.TheConstants.{DISK_BLOCKS}
 use Rattle.keeper_laws.specs.Changed.{GetsVolume, IsOpened}
 
 -- A volume is changed. The image file was read, and nothing else. It has the volume now that its bytes give. The lines that report this were to
@@ -47,3 +53,11 @@ DeletesMeant form image made = (files : List Target) × (has_pattern (words_in f
 -- it is without the files that are meant
 abbrev pub HasDeleted : DeleteForm → Bool → List Event → List Event → Type 0
 HasDeleted form = HasChanged (DeletesMeant form) (λ made. made.bytes.items) (λ made. deleted_lines made.names.items) form.image
+
+-- one of its words is another one
+abbrev pub HasPatched : WordPatch → ImageForm → Bool → List Event → List Event → Type 0
+HasPatched word = HasChanged {A = Vec ℕ} (λ image made. Patches image word.block word.number word.old word.new (Ok tt) made.items) (λ made. made.items) (λ made. patched_text word)
+
+-- it has no file; the other volume of its disk stays
+abbrev pub HasEmptied : ImageForm → Bool → List Event → List Event → Type 0
+HasEmptied = HasChanged {A = Vec ℕ} (λ image made. IsBlankImage DISK_BLOCKS (Ok made)) (λ made. made.items) (λ made. program_line (line.Created DISK_BLOCKS))

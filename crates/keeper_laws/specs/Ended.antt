@@ -1,10 +1,10 @@
 -- What each ending of a change means for the files of who runs it.
-use Rattle.std.specs.Prelude.{◌≡◌, ℕ, Bool, true, false, Result, Ok, Err, List}
+use Rattle.std.specs.Prelude.{◌≡◌, ℕ, Bool, true, false, Result, Ok, Err, List, ◌∷◌, ◌++◌}
 use Rattle.std.specs.Str.{bytes_eq}
-use Rattle.hosts.specs.Event.{Event}
+use Rattle.hosts.specs.Event.{Event, look_call}
 use Rattle.hosts.specs.Place.{about}
 use Rattle.hosts.specs.Saving.{StaysAsItWas}
-use Rattle.hosts.specs.Streams.{may_replace, output}
+use Rattle.hosts.specs.Streams.{may_replace, output, read}
 use Rattle.hosts.specs.declared.faults.Unwritten.TheVariants.{AsItWas, InPart}
 use Rattle.outcome.specs.declared.endings.Ending.{Ending}
 use Rattle.outcome.specs.declared.endings.Ending.TheVariants.{Line, Fault, Failure, Busy, NotWritten, FullOutput, Unreported, NoReader, Misuse}
@@ -22,12 +22,15 @@ pub record AllStay (old new : List Event) : Type 0 where
   pub files : (path : List ℕ) → StaysAsItWas (about path old) (about path new)
   pub prints : output new ≡ output old
 
--- The image file that is asked for, which could only be written in its place, may hold a part of the new bytes. No other file is changed, and
--- no line of a change is printed.
+-- The image file that was read, which could only be written in its place, may hold a part of the new bytes. No other file is changed, and no line
+-- of a change is printed.
 pub record MayHoldAPart (form : ImageForm) (old new : List Event) : Type 0 where
   pub place : ImagePlace
   pub path : List ℕ
   pub held : IsHeldAt form place path old
+  pub was : List ℕ
+  pub calls : List Event
+  pub reads : read new ≡ calls ++ (look_call path was ∷ read old)
   pub in_place : may_replace new ≡ false
   pub others : (other : List ℕ) → bytes_eq path other ≡ false → about other new ≡ about other old
   pub prints : output new ≡ output old
@@ -47,3 +50,22 @@ EndsAs form done (Err Failure) old new = DoesNothing old new
 EndsAs form done (Err (Busy it)) old new = DoesNothing old new
 EndsAs form done (Err Misuse) old new = DoesNothing old new
 EndsAs form done (Err FullOutput) old new = ⊥
+
+-- a refusal was to be printed on standard output, and nothing else, as `patch` prints its own; no file is changed
+pub record SaysNo (old new : List Event) : Type 0 where
+  pub files : ChangesNothing old new
+  pub ok : Bool
+  pub line : List ℕ
+  pub prints : output new ≡ (ok, line) ∷ output old
+
+abbrev pub RefusesAloud : Result (Unit {0}) Ending → List Event → List Event → Type 0
+RefusesAloud (Ok it) old new = ⊥
+RefusesAloud (Err Failure) old new = SaysNo old new
+RefusesAloud (Err FullOutput) old new = SaysNo old new
+RefusesAloud (Err (Line it)) old new = ⊥
+RefusesAloud (Err (Fault it)) old new = ⊥
+RefusesAloud (Err (Busy it)) old new = ⊥
+RefusesAloud (Err (NotWritten it left)) old new = ⊥
+RefusesAloud (Err Unreported) old new = ⊥
+RefusesAloud (Err NoReader) old new = ⊥
+RefusesAloud (Err Misuse) old new = ⊥

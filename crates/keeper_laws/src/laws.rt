@@ -1,21 +1,44 @@
 //! What a command that ended means for who keeps images.
-ghost use Rattle.std.specs.Prelude.{◌≡◌, ℕ, true, List, Ok, Result};
+ghost use Rattle.std.specs.Prelude.{◌≡◌, ◌≢◌, ◌⊎◌, ◌<◌, ℕ, Bool, true, List, Ok, Result, All};
+ghost use Rattle.std.specs.Global.{Vec};
 ghost use Rattle.hosts.specs.Event.{Event};
-ghost use Rattle.archive_files.specs.Asking.{Target};
+ghost use Rattle.char_pack.specs.declared.forms.GetForm.{GetForm as How};
+ghost use Rattle.char_pack.specs.declared.forms.GetForm.TheVariants as get_as;
+ghost use Rattle.char_pack.specs.declared.forms.PutForm.TheVariants as put_as;
+ghost use Rattle.name_spelling.specs.Reading.{typed_name};
+ghost use Rattle.volume_image.specs.Image.{IsImageOf};
+ghost use Rattle.archive_files.specs.Asking.{OfName, Target, asked_name};
+ghost use Rattle.archive_files.specs.Getting.{Gets, IsTapeOf, line_feeds};
+ghost use Rattle.archive_files.specs.Laws.{whole_blocks};
 ghost use Rattle.outcome.specs.declared.endings.Ending.{Ending as End};
 ghost use Rattle.program_tasks.specs.declared.forms.CopyForm.{CopyForm as Copy};
+ghost use Rattle.program_tasks.specs.declared.forms.CopyManyForm.{CopyManyForm as CopyMany};
+ghost use Rattle.program_tasks.specs.declared.forms.CreateForm.{CreateForm as Create};
 ghost use Rattle.program_tasks.specs.declared.forms.DeleteForm.{DeleteForm as Delete};
 ghost use Rattle.program_tasks.specs.declared.forms.ImageForm.{ImageForm as Kept};
+ghost use Rattle.program_tasks.specs.declared.forms.PutManyForm.{PutManyForm as PutMany};
 ghost use Rattle.program_tasks.specs.declared.forms.PutOneForm.{PutOneForm as PutOne};
+ghost use Rattle.archive_commands.specs.Patching.{PatchesWord};
+ghost use Rattle.archive_commands.specs.declared.patches.WordPatch.{WordPatch as Patch};
+ghost use Rattle.many_commands.specs.PuttingMany.{PutsMany};
+ghost use Rattle.salvage_commands.specs.Rescuing.{RescuesImage};
+ghost use Rattle.choice_commands.specs.Copying.{CopiesMany};
 ghost use Rattle.volume_commands.specs.Changing.{Renames, Squeezes};
 ghost use Rattle.volume_commands.specs.Copying.{Copies};
+ghost use Rattle.volume_commands.specs.Creating.{CreatesFile, CreatesVolume, IsBlankDisk, IsBlankImage, IsBlankTapeFile};
+ghost use Rattle.volume_commands.specs.declared.creating.TheConstants.{TAPE_BLOCKS, DISK_BLOCKS};
 ghost use Rattle.volume_commands.specs.Deleting.{Deletes};
+ghost use Rattle.volume_commands.specs.GettingBack.{IsPrinted};
 ghost use Rattle.volume_commands.specs.Putting.{Puts};
-ghost use Rattle.keeper_laws.specs.Changes.{HasDeleted, HasRenamed, HasSqueezed};
+ghost use Rattle.keeper_laws.specs.Changes.{HasDeleted, HasEmptied, HasPatched, HasRenamed, HasSqueezed};
 ghost use Rattle.keeper_laws.specs.Copied.{HasCopied};
-ghost use Rattle.keeper_laws.specs.Ended.{EndsAs};
+ghost use Rattle.keeper_laws.specs.CopiedAll.{HasCopiedAll};
+ghost use Rattle.keeper_laws.specs.Ended.{EndsAs, RefusesAloud};
+ghost use Rattle.keeper_laws.specs.Made.{EndsMade, EndsRescued, HasCreated};
 ghost use Rattle.keeper_laws.specs.Stored.{HasStored};
+ghost use Rattle.keeper_laws.specs.StoredAll.{HasStoredAll};
 
+use archive_files::laws::put_is_got;
 use image_files::laws::found_again;
 use volume_commands::laws::refused_changes;
 
@@ -38,6 +61,44 @@ pub fn ended_changes()
     found_again();
 }
 
+/// The same of `put` and `copy` of several files: all are stored, or none is.
+pub fn ended_many()
+    ensures puts { (form : PutMany) (old : List Event) (result : Result (Unit {0}) End) (new : List Event) → PutsMany form old result new
+        → EndsAs form.image (HasStoredAll form) result old new }
+    ensures copies { (form : CopyMany) (old : List Event) (result : Result (Unit {0}) End) (new : List Event) → CopiesMany form old result new
+        → EndsAs form.to (HasCopiedAll form) result old new }
+{
+    found_again();
+}
+
+/// The same of `patch`, and of `create` where it makes one volume of a disk empty. A refused `patch` prints its own line, and changes no file.
+pub fn ended_words()
+    ensures patches { (word : Patch) (form : Kept) (old : List Event) (result : Result (Unit {0}) End) (new : List Event) → PatchesWord word form old result new
+        → EndsAs form (HasPatched word form) result old new ⊎ RefusesAloud result old new }
+    ensures empties { (form : Kept) (old : List Event) (result : Result (Unit {0}) End) (new : List Event) → CreatesVolume form old result new
+        → EndsAs form (HasEmptied form) result old new }
+{
+    found_again();
+}
+
+/// What each ending of `rescue` means. The new file is made, whole, where the command ends well, where it reports a loss, and where only its lines
+/// can't be printed. Else none is made, and the image file is never changed.
+pub fn ended_rescues()
+    ensures { (name : List ℕ) (form : Kept) (old : List Event) (result : Result (Unit {0}) End) (new : List Event) → RescuesImage name form old result new
+        → EndsRescued name form result old new }
+{}
+
+/// What each ending of `create` means: of a volume alone, of a DECtape, of a disk. The file is made, whole, or one that is there becomes it.
+/// Where the command is refused none is made.
+pub fn ended_creations()
+    ensures volumes { (form : Create) (blocks : ℕ) (old : List Event) (result : Result (Unit {0}) End) (new : List Event)
+        → CreatesFile (IsBlankImage blocks) form blocks old result new → EndsMade (HasCreated (IsBlankImage blocks) form blocks) result old new }
+    ensures tapes { (form : Create) (old : List Event) (result : Result (Unit {0}) End) (new : List Event)
+        → CreatesFile IsBlankTapeFile form TAPE_BLOCKS old result new → EndsMade (HasCreated IsBlankTapeFile form TAPE_BLOCKS) result old new }
+    ensures disks { (form : Create) (old : List Event) (result : Result (Unit {0}) End) (new : List Event)
+        → CreatesFile IsBlankDisk form DISK_BLOCKS old result new → EndsMade (HasCreated IsBlankDisk form DISK_BLOCKS) result old new }
+{}
+
 /// After `put` with status 0 the image file has its volume with the file that was read, and each byte beside the volume as it was. So it is
 /// after a crash, unless a note says otherwise. A crash before that left this, whole, or what it might have left before. Whoever reads the
 /// image again finds that volume. No other file is changed, and STORED was printed.
@@ -45,4 +106,22 @@ pub fn done_put()
     ensures { (form : PutOne) (old new : List Event) → Puts form old (Ok tt) new → HasStored form true old new }
 {
     ended_changes();
+}
+
+/// What `put` took, `get` gives, where the image file is as it was left. Frames have zeros to the end of their last block, and a tape is the one
+/// that they begin with. A text has LF alone at the end of each line. Another file is got as before, in each form.
+pub fn put_comes_back()
+    ensures frames { (form : PutOne) (ok : Bool) (old new : List Event) (stored : HasStored form ok old new) → form.form ≡ put_as.Frames
+        → All (λ byte. byte < 256) stored.given
+        → IsPrinted form.image stored.has.file form.name.bytes.items get_as.Frames (whole_blocks stored.given) }
+    ensures tape { (form : PutOne) (ok : Bool) (old new : List Event) (stored : HasStored form ok old new) (tape : List ℕ) → form.form ≡ put_as.Frames
+        → All (λ byte. byte < 256) stored.given → IsTapeOf stored.given tape
+        → IsPrinted form.image stored.has.file form.name.bytes.items get_as.Tape tape }
+    ensures text { (form : PutOne) (ok : Bool) (old new : List Event) (stored : HasStored form ok old new) → form.form ≡ put_as.Text
+        → IsPrinted form.image stored.has.file form.name.bytes.items get_as.Text (line_feeds stored.given) }
+    ensures others { (form : PutOne) (ok : Bool) (old new : List Event) (stored : HasStored form ok old new) (blocks : List (List ℕ)) (name : List ℕ) (how : How)
+        (before : Vec ℕ) → IsImageOf stored.image.bytes.items blocks → asked_name blocks (OfName name) ≢ typed_name form.name.bytes.items
+        → Gets stored.image.bytes.items (OfName name) how (Ok before) → IsPrinted form.image stored.has.file name how before.items }
+{
+    put_is_got();
 }

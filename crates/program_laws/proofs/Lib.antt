@@ -1,0 +1,3 @@
+mod AssembleLemmas
+mod QuietLemmas
+mod StatusLemmas

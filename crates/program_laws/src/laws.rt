@@ -1,0 +1,91 @@
+//! What the tasks leave as it was, and what an exit status means, as laws.
+ghost use Rattle.std.specs.Prelude.{◌≡◌, ℕ, Bool, false, List, None, Result, Some, String};
+ghost use Rattle.std.specs.Global.{Global as Heap};
+ghost use Rattle.byte_reader.specs.Readings.{reading};
+ghost use Rattle.hosts.specs.Event.{Event};
+ghost use Rattle.program_tasks.specs.declared.forms.CopyForm.{CopyForm as Copy};
+ghost use Rattle.program_tasks.specs.declared.forms.CopyManyForm.{CopyManyForm as CopyMany};
+ghost use Rattle.program_tasks.specs.declared.forms.DeleteForm.{DeleteForm as Delete};
+ghost use Rattle.program_tasks.specs.declared.forms.FileForm.{FileForm as Meant};
+ghost use Rattle.program_tasks.specs.declared.forms.ImageForm.{ImageForm as Kept};
+ghost use Rattle.program_tasks.specs.declared.forms.PutManyForm.{PutManyForm as PutMany};
+ghost use Rattle.program_tasks.specs.declared.forms.PutOneForm.{PutOneForm as PutOne};
+ghost use Rattle.outcome.specs.declared.endings.Ending.{Ending as End};
+ghost use Rattle.program_tasks.specs.declared.tasks.AssembleForm.{AssembleForm as Assembly};
+ghost use Rattle.program_tasks.specs.declared.tasks.Task.{Task as Asked};
+ghost use Rattle.program_tasks.specs.declared.tasks.Task.TheVariants as asked;
+ghost use Rattle.image_files.specs.Laws.{KeepsFiles, ChangesNothing};
+ghost use Rattle.source_commands.specs.Assembling.{Assembles};
+ghost use Rattle.task_commands.specs.Tasks.{DoesTask, RunsTask};
+ghost use Rattle.program_laws.specs.Assembled.{HasAssembled};
+ghost use Rattle.program_laws.specs.Quiet.{may_change};
+ghost use Rattle.program_laws.specs.Statuses.{Means};
+ghost use Rattle.keeper_laws.specs.Changes.{HasDeleted, HasRenamed, HasSqueezed};
+ghost use Rattle.keeper_laws.specs.Copied.{HasCopied};
+ghost use Rattle.keeper_laws.specs.CopiedAll.{HasCopiedAll};
+ghost use Rattle.keeper_laws.specs.Ended.{EndsAs};
+ghost use Rattle.keeper_laws.specs.Stored.{HasStored};
+ghost use Rattle.keeper_laws.specs.StoredAll.{HasStoredAll};
+ghost use Rattle.volume_commands.specs.Showing.{wanted_file};
+
+use byte_reader::ByteReader;
+use choice_commands::laws::unchanged_files as unchanged_choices;
+use image_files::laws::found_again;
+use index_commands::laws::unchanged_files as unchanged_indexes;
+use keeper_laws::laws::{ended_changes, ended_many};
+use program_commands::laws::unchanged_files as unchanged_programs;
+use script_commands::laws::unchanged_files as unchanged_scripts;
+use source_commands::laws::unchanged_files as unchanged_sources;
+use tape_commands::laws::unchanged_files as unchanged_machines;
+use volume_commands::laws::shown_files;
+use volume_reports::laws::shown_images;
+
+/// A task that isn't to change a file changes none, in whichever way it ends.
+pub fn quiet_tasks<I: ByteReader>()
+    ensures does { (it : Asked) (is_typed : Bool) (before after : I) → may_change it ≡ false
+        → KeepsFiles (DoesTask it is_typed (reading I.remaining I.has_failed before after)) }
+    ensures runs { (it : Asked) (is_typed : Bool) (before after : I) (old new : List Event) (status : ℕ) → may_change it ≡ false
+        → RunsTask it is_typed (reading I.remaining I.has_failed before after) old new status → ChangesNothing old new }
+{
+    shown_files();
+    shown_images();
+    unchanged_choices();
+    unchanged_indexes();
+    unchanged_programs();
+    unchanged_machines::<I>();
+    unchanged_scripts::<I>();
+    unchanged_sources();
+}
+
+/// What each ending of `assemble --onto` means, where no listing is named. The volume that has the sources gets their tape where the command
+/// ends well, and where only its line can't be printed. Where it is refused, also by a fault of the sources, nothing is changed.
+pub fn ended_assemblies()
+    ensures { (form : Assembly) (named : Kept) (name : String Heap) (old : List Event) (result : Result (Unit {0}) End) (new : List Event)
+        → form.from ≡ Some named → form.onto ≡ Some name → form.list ≡ None → Assembles form old result new
+        → EndsAs named (HasAssembled form named name.bytes.items) result old new }
+{
+    found_again();
+}
+
+/// What each exit status of a change means for the files of who runs it. With 0 it is made, and its line was printed. With another one, where
+/// standard output took all that was printed, each file is as it was, or a note said that the image may hold a part.
+pub fn change_statuses<I: ByteReader>()
+    ensures puts { (form : PutOne) (is_typed : Bool) (before after : I) (old new : List Event) (status : ℕ)
+        → RunsTask (asked.Put form) is_typed (reading I.remaining I.has_failed before after) old new status → Means form.image (HasStored form) status old new }
+    ensures puts_all { (form : PutMany) (is_typed : Bool) (before after : I) (old new : List Event) (status : ℕ)
+        → RunsTask (asked.PutMany form) is_typed (reading I.remaining I.has_failed before after) old new status → Means form.image (HasStoredAll form) status old new }
+    ensures copies { (form : Copy) (is_typed : Bool) (before after : I) (old new : List Event) (status : ℕ)
+        → RunsTask (asked.Copy form) is_typed (reading I.remaining I.has_failed before after) old new status → Means form.to (HasCopied form) status old new }
+    ensures copies_all { (form : CopyMany) (is_typed : Bool) (before after : I) (old new : List Event) (status : ℕ)
+        → RunsTask (asked.CopyMany form) is_typed (reading I.remaining I.has_failed before after) old new status → Means form.to (HasCopiedAll form) status old new }
+    ensures squeezes { (form : Kept) (is_typed : Bool) (before after : I) (old new : List Event) (status : ℕ)
+        → RunsTask (asked.Squeeze form) is_typed (reading I.remaining I.has_failed before after) old new status → Means form (HasSqueezed form) status old new }
+    ensures renames { (form : Kept) (file : Meant) (name : String Heap) (is_typed : Bool) (before after : I) (old new : List Event) (status : ℕ)
+        → RunsTask (asked.Rename form file name) is_typed (reading I.remaining I.has_failed before after) old new status
+        → Means form (HasRenamed (wanted_file file) name.bytes.items form) status old new }
+    ensures deletes { (form : Delete) (is_typed : Bool) (before after : I) (old new : List Event) (status : ℕ)
+        → RunsTask (asked.Delete form) is_typed (reading I.remaining I.has_failed before after) old new status → Means form.image (HasDeleted form) status old new }
+{
+    ended_changes();
+    ended_many();
+}

@@ -1,0 +1,5 @@
+//! What the program may do to the files of who runs it, as laws over its tasks.
+#![tactic(auto)]
+
+pub mod laws;
+pub mod numbers;
