@@ -137,7 +137,10 @@ def commands(program: str, told: str) -> list[str]:
 
 
 def page(program: str) -> str:
-    version = subprocess.run([program, "--version"], capture_output=True, text=True, check=True).stdout.strip()
+    asked = subprocess.run([program, "--version"], capture_output=True, text=True)
+    if asked.returncode:
+        sys.exit(f"manual: the program ends with status {asked.returncode} where its version is asked")
+    version = asked.stdout.strip()
     told = help_of(program)
     about = told.split("\n")[0]
     lines = [f'.TH PDP8 1 "" "{version}" "Geivottu"', ".SH NAME", f"pdp8 \\- {plain(about[0].lower() + about[1:])}"]

@@ -1,5 +1,6 @@
 #!/usr/bin/env python3
-"""page.py [--proved | --unproved] FOLDER: makes the page's folder: the files of web/, examples/, and pdp8.wasm, which is the program.
+"""page.py [--proved | --unproved] FOLDER: makes the page's folder: the files of web/, examples/, help made of docs/using/, and pdp8.wasm,
+which is the program.
 
 Where the program is proved as its sources stand, its module for WebAssembly is made of what was proved. The prover is called for the program's crate
 as build/proved.py calls it, over the same libraries. A stand-in for the toolchain's clang keeps the LLVM module that the prover hands on, and makes
@@ -18,6 +19,7 @@ from typing import Callable
 sys.dont_write_bytecode = True
 TOP = os.path.dirname(os.path.dirname(os.path.abspath(__file__)))
 sys.path.insert(0, TOP)
+from build import help_page
 from build.proved import PROGRAM, Wanted
 from build.prover import words_for
 from build.sums import sum_of
@@ -114,6 +116,8 @@ class Page:
         which = f"proved with {kit()} and then compiled for WebAssembly." if self.library else UNPROVED
         with open(f"{folder}/index.html", "w", encoding="utf-8") as page:
             page.write(text.replace(MARK, which))
+        with open(f"{TOP}/web/help.html", encoding="utf-8") as frame, open(f"{folder}/help.html", "w", encoding="utf-8") as page:
+            page.write(help_page.laid(frame.read()))
         for path in glob.glob(f"{TOP}/examples/*"):
             shutil.copy(path, f"{folder}/examples")
         shutil.copy(self.made, folder)

@@ -126,7 +126,8 @@ function mark(brush, kind, x, y, width, height) {
 // A colour of the style, light or dark, as a canvas takes it.
 /** @param {CSSStyleDeclaration} style @param {string} name */
 function colourOf(style, name) {
-    const probe = made('span', { style: `color: var(${name})` });
+    const probe = made('span');
+    probe.style.color = `var(${name})`;
     $('blocks').after(probe);
     const colour = getComputedStyle(probe).color;
     probe.remove();

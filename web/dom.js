@@ -33,6 +33,10 @@ export function tell(id, text, isBad = false) {
     it.classList.toggle('bad', isBad);
 }
 
+// Whether a text is an octal number of so many digits at most.
+/** @param {string} text @param {number} digits */
+export const isOctal = (text, digits) => /^[0-7]+$/.test(text) && text.length <= digits;
+
 // Gives bytes to the browser as a file to be kept.
 /** @param {string} name @param {Uint8Array} [bytes] */
 export function takeHome(name, bytes = new Uint8Array(0)) {
@@ -48,12 +52,23 @@ export async function bytesOfFile(file) {
     return new Uint8Array(await file.slice(0, 16777217).arrayBuffer());
 }
 
+// Puts a text in the place of another one, with the cursor after what differs.
+/** @param {HTMLInputElement | HTMLTextAreaElement} it @param {string} text */
+export function replace(it, text) {
+    const old = it.value, most = Math.min(old.length, text.length), { scrollTop } = it;
+    let end = 0;
+    while (end < most && old[old.length - 1 - end] === text[text.length - 1 - end]) end++;
+    it.value = text;
+    it.setSelectionRange(text.length - end, text.length - end);
+    it.scrollTop = scrollTop;
+}
+
 // What is typed into an input is kept over a reload, and follows the tab that has it.
 /** @param {import('./store.js').Store} store @param {keyof Ids} id */
 export function keepInput(store, id) {
     const it = /** @type {HTMLInputElement} */ ($(id)), isBox = it.type === 'checkbox', old = store.notes.get(id);
     /** @param {any} value */
-    const show = value => { if (value !== undefined) isBox ? it.checked = value : it.value = value; };
+    const show = value => { if (value !== undefined) isBox ? it.checked = value : it.tagName === 'TEXTAREA' ? replace(it, value) : it.value = value; };
     show(old);
     store.addEventListener('note', ({ detail }) => detail === id && show(store.notes.get(id)));
     it.addEventListener(it.tagName === 'SELECT' || isBox ? 'change' : 'input', () => store.note(id, isBox ? it.checked : it.value));
@@ -71,14 +86,14 @@ export function follow(it, text) {
 /** @param {Element} box @param {Element | undefined} it */
 export function bringIntoView(box, it) {
     if (!it) return;
-    const own = box.getBoundingClientRect(), there = it.getBoundingClientRect();
+    const own = box.getBoundingClientRect(), there = it.getBoundingClientRect(), bottom = own.top + box.clientTop + box.clientHeight;
     if (there.top < own.top) box.scrollTop -= own.top - there.top;
-    else if (there.bottom > own.bottom) box.scrollTop += there.bottom - own.bottom;
+    else if (there.bottom > bottom) box.scrollTop += there.bottom - bottom;
 }
 
 // Buttons of which one is a stop of Tab, and arrows go among them. Left and right go to the next. Up and down go to the next row of a table, or to
 // the next where there is none.
-const ROVED = 'button:not(:disabled), input[type="file"]:not(:disabled)';
+const ROVED = 'button:not(:disabled), input[type="file"]:not(:disabled), #directory input[type="checkbox"], a.button';
 
 /** @param {Element} box */
 export function rove(box) {

@@ -1,8 +1,11 @@
-// What is dropped on the page goes where it belongs, by what it holds. An image opens, and a tape goes to the volume that is open or else to the
-// Teletype. Any other is a text for Source, or a file of the volume. What is none of these is refused on the pane in sight.
+// What is dropped on the page goes where it belongs, by what it holds. An image opens. A tape goes to the Teletype, to core or to the volume that is open,
+// as the user says. Any other is a file of the volume, or a text for Source. What is none of these is asked for, on the pane in sight.
 import { $, bytesOfFile } from './dom.js';
+import { ask } from './ask.js';
+import { isText } from './encoding.js';
+import { canLive } from './program.js';
 import { tapeOf } from './tapes.js';
-import { isFaulty, isVolume, kindOf } from './volumes.js';
+import { isVolume, kindOf, titleOf } from './volumes.js';
 
 // How many bytes the program reads of a file.
 const MOST = 16777216;
@@ -23,15 +26,40 @@ export class Drops {
 
     // Takes files of the host.
     /** @param {File[]} all */
-    async take(all) {
-        const { files, teletype, source, tabs, say } = this.page;
-        for (const file of all) {
-            const bytes = await bytesOfFile(file), asked = await kindOf(this.page, bytes.length > MOST ? new Uint8Array(0) : bytes);
-            if (bytes.length > MOST || isVolume(asked)) await files.take(file);
-            else if (await isFaulty(this.page, bytes)) say(`${file.name} is an image with faults, and was left as it is.\n${asked.refusal}\n${asked.said}`, true);
-            else if (files.name !== '' && !$('files').hidden) await files.putFiles([file]);
-            else if (bytes.length && (await tapeOf(this.page, bytes)).status === 0) await teletype.take(file.name, bytes);
-            else if (await source.take(file.name, bytes)) tabs.show('source');
-        }
+    async take(all) { for (const file of all) await this.#takeOne(file, all.length === 1); }
+
+    // Takes one, which was dropped alone or with others.
+    /** @param {File} file @param {boolean} isAlone */
+    async #takeOne(file, isAlone) {
+        const { files, source, tabs } = this.page, isHere = files.name !== '' && !$('files').hidden;
+        const bytes = await bytesOfFile(file), asked = await kindOf(this.page, bytes.length > MOST ? new Uint8Array(0) : bytes);
+        if (bytes.length > MOST || isVolume(asked)) return files.take(file);
+        if (isHere && !isAlone) return files.putFiles([file]);
+        const tape = bytes.length ? await tapeOf(this.page, bytes) : null;
+        if (tape?.status === 0) return this.#tape(file, bytes, tape.out);
+        if (isHere) return files.putFiles([file]);
+        if (isText(bytes) ? await source.take(file.name, bytes) : await this.#odd(file, bytes)) tabs.show('source');
+    }
+
+    // Asks where a tape is to go: first to what the pane in sight has.
+    /** @param {File} file @param {Uint8Array} bytes @param {Uint8Array} tape */
+    async #tape(file, bytes, tape) {
+        const { files, machine, teletype, tabs } = this.page, all = [['teletype', 'Run it at the Teletype']];
+        if (canLive) all.push(['machine', 'Lay it over core']);
+        if (files.name !== '') all.push(['files', `Put it into ${titleOf(files.name)}`]);
+        const isHere = (/** @type {string[]} */ [pane]) => pane === tabs.shown, answer = await ask(`${file.name} is a tape.`, ...all.filter(isHere), ...all.filter(it => !isHere(it)), ['', 'Leave it']);
+        if (answer === 'files') await files.putFiles([file]);
+        if (answer === 'teletype') await teletype.take(file.name, bytes);
+        if (answer === 'machine' && await machine.load(tape, file.name)) tabs.show('machine');
+    }
+
+    // Asks what to do with what is no image, no tape, and plainly no text. Whether it is open as a text then.
+    /** @param {File} file @param {Uint8Array} bytes */
+    async #odd(file, bytes) {
+        const { files, source, say } = this.page, further = files.name === '' ? [] : [['files', `Put it into ${titleOf(files.name)}`]];
+        const answer = await ask(`${file.name} is no image and no tape, and has bytes that a text hasn't.`, ['', 'Leave it'], ['text', 'Open it as a text'], ...further);
+        if (answer === 'files') await files.putFiles([file]);
+        if (answer === '') say(`${file.name} was not opened: it is no image, no tape, and plainly no text.`, true);
+        return answer === 'text' && source.take(file.name, bytes, true);
     }
 }

@@ -13,10 +13,17 @@ export class Dump {
     /** @param {Page} page */
     constructor(page) {
         this.page = page;
-        $('dump-form').addEventListener('submit', event => { event.preventDefault(); this.show(Number($('block-number').value)); });
+        $('dump-form').addEventListener('submit', event => { event.preventDefault(); this.#asked($('block-number').value.trim()); });
         $('sixbit').addEventListener('change', () => this.again());
         $('patch').addEventListener('submit', event => { event.preventDefault(); this.#patch(); });
         rove($('dump'));
+    }
+
+    // Shows the block of a number that was typed.
+    /** @param {string} text */
+    async #asked(text) {
+        if (!/^\d+$/.test(text)) return tell('dump-status', `A block has a number: ${text || 'nothing'} is none.`, true);
+        await this.show(Number(text));
     }
 
     // Shows a block.

@@ -1,22 +1,25 @@
 // The Files pane: each thing that it shows is a reply of `check`, `get`, `tape` or `source`, and each change `create`, `put` or a script.
 import { $, made, tell, takeHome, bytesOfFile, elementOf, ids, keepInput, rove } from './dom.js';
-import { ask } from './ask.js';
+import { ask, askFor } from './ask.js';
 import { Blocks } from './blocks.js';
+import { Directory } from './directory.js';
 import { Drops } from './drops.js';
 import { textOf } from './program.js';
 import { Shown } from './shown.js';
 import { Dump } from './dump.js';
+import { beginMenu } from './menu.js';
 import { Salvage } from './salvage.js';
+import { Mending } from './mending.js';
+import { TEXTS, incoming } from './incoming.js';
 import { Search, indexed } from './search.js';
 import { placeOf } from './tapes.js';
-import { blocksOf, fileOf, isVolume, kindOf, targetOf, titleOf, volumesOf, wordsOf } from './volumes.js';
+import { blocksOf, fileOf, isVolume, kindOf, plainName, targetOf, titleOf, volumesOf, wordsOf } from './volumes.js';
 
 // A file of a volume: where the directory is refused it is found by its blocks. Date and kind are as `index` prints them.
 /** @typedef {{ name: string, first: number, length: number, isByBlocks: boolean, date?: string, kind?: string }} Entry */
 
-// Names of files that the program takes home as texts: where the name says what goes in, these go in as texts.
-const TEXTS = /\.(BA|BI|FT|HL|LS|MA|PA|RA|SB|TX)$/;
-
+// What stands in place of a date where each file gets the day on which it was last changed.
+const OWN_DATE = /^their own$/i;
 // How long a volume is left alone before its files' dates and kinds are asked for, in milliseconds.
 const QUIET = 60;
 
@@ -32,32 +35,35 @@ export class Files {
         this.blocks = new Blocks(block => this.dump.show(block));
         this.dump = new Dump(page);
         this.salvage = new Salvage(page);
+        this.mending = new Mending(page);
         /** @type {string | null} */
         this.refusal = null;
         /** @type {string | null} */
         this.follows = null;
         this.created = '';
-        /** @type {{ by: 'name' | 'first' | 'length' | 'date' | 'kind', way: number }} */
-        this.order = { by: 'name', way: 1 };
+        this.directory = new Directory(page);
         this.turn = this.telling = 0;
+        /** @type {Promise<unknown>} */
+        this.undone = Promise.resolve();
         keepInput(page.store, 'new-name');
         keepInput(page.store, 'new-blocks');
+        $('create-dectape').addEventListener('click', () => this.create('DECtape'));
+        $('create-disk').addEventListener('click', () => this.create('disk'));
+        $('put-date').addEventListener('click', () => this.#askDate());
+        this.#tellDate();
         $('image').addEventListener('change', () => this.#opened($('image')));
         $('create').addEventListener('click', () => this.create());
         $('volume').addEventListener('change', () => this.open($('volume').value));
         $('take-image').addEventListener('click', () => takeHome(this.file, page.store.files.get(this.file)));
         $('drop-image').addEventListener('click', () => this.#remove());
-        $('squeeze').addEventListener('click', () => this.#change('the squeeze', 'SQUEEZE', 'FINISH'));
+        $('squeeze').addEventListener('click', () => this.#squeeze());
         this.#undoable();
         $('undo').addEventListener('click', () => this.#undo(false));
         $('redo').addEventListener('click', () => this.#undo(true));
         page.undo.addEventListener('change', () => this.#undoable());
         new Search(page);
-        for (const id of ids('changes', 'volume-keys', 'begin')) rove($(id));
-        rove($('directory'));
-        $('find').addEventListener('input', () => this.#rows());
-        $('find').addEventListener('keydown', event => event.key === 'Enter' && this.#showFound());
-        for (const it of $('directory').querySelectorAll('button')) it.addEventListener('click', () => this.#sort(it.dataset.sort ?? ''));
+        for (const id of ids('changes', 'volume-keys', 'create-keys', 'begin')) rove($(id));
+        beginMenu();
         document.addEventListener('keydown', event => this.#key(event));
         $('put').addEventListener('change', () => this.#put($('put')));
         this.drops = new Drops(page);
@@ -77,28 +83,36 @@ export class Files {
         }
     }
 
-    // Ctrl-Z and Ctrl-Y on each pane, where no text is typed.
+    // Ctrl-Z and Ctrl-Y on each pane: in a text they undo what was typed into it, where there is any.
     /** @param {KeyboardEvent} event */
     #key(event) {
         const key = event.key.toLowerCase(), isAgain = key === 'y' || (key === 'z' && event.shiftKey);
-        if (!(event.ctrlKey || event.metaKey) || !(key === 'z' || key === 'y') || elementOf(event).closest('input, textarea, select, .paper, dialog')) return;
+        const it = elementOf(event), text = it.id === 'text' ? `text ${this.page.texts.name}` : it.id === 'lines' ? 'lines' : undefined;
+        if (!(event.ctrlKey || event.metaKey) || !(key === 'z' || key === 'y') || (!text && it.closest('input, textarea, select, .paper, dialog'))) return;
         event.preventDefault();
-        this.#undo(isAgain);
+        this.#undo(isAgain, text);
     }
 
-    // Undoes the newest change, or does it again, and shows the volume of it.
-    /** @param {boolean} isAgain */
-    async #undo(isAgain) {
-        const { undo, claims, source, machine, say } = this.page, next = undo.step(isAgain);
+    // Undoes one change after another, however quickly that is asked for.
+    /** @param {boolean} isAgain @param {string} [text] */
+    #undo(isAgain, text) { return this.undone = this.undone.then(() => this.#undoNow(isAgain, text)).catch(error => this.page.say(String(error), true)); }
+
+    // Undoes the newest change, or that of a text, or does it again, and shows the volume of it.
+    /** @param {boolean} isAgain @param {string} [text] @returns {Promise<unknown>} */
+    async #undoNow(isAgain, text) {
+        const { undo, claims, source, script, teletype, machine, texts, say } = this.page;
+        teletype.paper.keep();
+        const next = undo.step(isAgain, text);
         if (!next) return;
         let busy = null;
         /** @param {Step} step */
-        const mayChange = async ({ slot, key }) => {
-            if (slot === 'notes') return !(key === 'machine' ? machine.owner : source).follows;
+        const mayChange = async ({ slot, key, is }) => {
+            if (isAgain && is === null && key === `text ${texts.name}`) texts.leave();
+            if (slot === 'notes') return !({ machine, paper: teletype, lines: script }[key] ?? source).owner.follows;
             busy = claims.has(`volume ${key}`) ? await this.#busy(key) : '? HOST BUSY';
             return busy === null;
         };
-        const go = () => undo.go(isAgain, mayChange), step = next.slot === 'files' ? await this.#use(next.key, go) : await go();
+        const go = () => undo.go(isAgain, mayChange, next), step = next.slot === 'files' ? await this.use(next.key, go) : await go();
         if (!step) return busy && say(busy, true);
         if (step.slot === 'files') await this.#openAnyOf(step);
         const words = `${isAgain ? 'Done again' : 'Undone'}: ${step.words}.`;
@@ -115,7 +129,7 @@ export class Files {
 
     // Works with a volume that isn't open, which no other tab gets meanwhile.
     /** @param {string} name @param {() => Promise<T>} work @template T */
-    async #use(name, work) {
+    async use(name, work) {
         this.used.add(name);
         await this.page.claims.claim(`volume ${name}`);
         try {
@@ -193,13 +207,16 @@ export class Files {
         const bytes = await bytesOfFile(file), asked = await kindOf(this.page, bytes);
         if (!isVolume(asked)) return this.page.say(`${file.name}: ${asked.refusal}\n${asked.said}`, true);
         const name = await this.#name(file.name);
-        if (name !== null && await this.#keep(name, bytes, asked.kind)) await this.open(volumesOf(name, asked.kind)[0]);
+        if (name === null || !await this.#keep(name, bytes, asked.kind)) return;
+        await this.open(volumesOf(name, asked.kind)[0]);
+        if (asked.isMended) this.page.say(`${file.name} has faults, and is only looked at, as it is mended:\n${asked.said.replaceAll('the file', name)}`);
+        else if (plainName(file.name) !== file.name) this.page.say(`${file.name} is called ${name} here.`);
     }
 
     // The name for a new volume: where there is one of that name the user is asked. Null where none is to be made.
     /** @param {string} wanted */
     async #name(wanted) {
-        const { files } = this.page.store, plain = wanted.replace(/[/\\\s]/g, '_').replace(/^[.-]+/, '') || 'IMAGE';
+        const { files } = this.page.store, plain = plainName(wanted);
         if (!files.has(plain)) return plain;
         let free = plain;
         for (let k = 2; files.has(free); k++) free = `${plain}-${k}`;
@@ -232,17 +249,21 @@ export class Files {
         return /[?] HOST BUSY.*/.exec(textOf(out) + said)?.[0] ?? null;
     }
 
-    async create() {
-        const image = await this.blank($('new-blocks').value.trim());
-        if (image) await this.add($('new-name').value, image, this.created);
+    // Makes a new volume, DECtape or disk.
+    /** @param {import('./volumes.js').Kind} [kind] */
+    async create(kind = '') {
+        const name = $('new-name').value.trim();
+        if (name !== plainName(name)) return tell('files-status', 'A volume has a name without blanks and slashes, that begins with none of . and -.', true);
+        const image = await this.blank($('new-blocks').value.trim(), kind);
+        if (image) await this.add(name, image, this.created, kind);
     }
 
-    // The image of an empty volume of so many blocks, null where the program refuses.
-    /** @param {string} blocks */
-    async blank(blocks) {
+    // The image of an empty volume of so many blocks, or of an empty DECtape or disk of two volumes. Null where the program refuses.
+    /** @param {string} blocks @param {import('./volumes.js').Kind} [kind] */
+    async blank(blocks, kind = '') {
         const { programs, store } = this.page;
         store.remove('.new');
-        const { status, out, said } = await programs.ask(['create', '.new', String(blocks)]), image = store.files.get('.new');
+        const { status, out, said } = await programs.ask(['create', '.new', kind === 'DECtape' ? '--dectape' : kind === 'disk' ? '--rk05' : blocks]), image = store.files.get('.new');
         store.remove('.new');
         this.created = textOf(out);
         if (status === 0) return image;
@@ -251,11 +272,11 @@ export class Files {
     }
 
     // A further volume, which is open from then on, and what the program said of it.
-    /** @param {string} wanted @param {Uint8Array} image @param {string} told */
-    async add(wanted, image, told) {
+    /** @param {string} wanted @param {Uint8Array} image @param {string} told @param {import('./volumes.js').Kind} [kind] */
+    async add(wanted, image, told, kind = '') {
         const name = await this.#name(wanted);
-        if (name === null || !await this.#keep(name, image)) return;
-        await this.open(name);
+        if (name === null || !await this.#keep(name, image, kind)) return;
+        await this.open(volumesOf(name, kind)[0]);
         tell('files-status', told);
     }
 
@@ -285,12 +306,11 @@ export class Files {
     }
 
     // Reads the volume anew and shows it.
+    /** @returns {Promise<unknown>} */
     async #again() {
         this.#list();
         const name = this.name, turn = ++this.turn;
         $('volume-view').hidden = name === '';
-        if (name !== '') $('shelf').open = false;
-        name === '' ? $('files').prepend($('shelf')) : $('files').append($('shelf'));
         if (name === '') {
             this.entries = [];
             this.#tellClaim();
@@ -300,11 +320,13 @@ export class Files {
         if (turn !== this.turn) return;
         this.entries = [];
         this.refusal = status === 0 ? null : textOf(out).trim();
+        if (this.refusal?.startsWith('? IMAGE') && await this.mending.looks(name)) return this.#again();
+        this.mending.show(name, said);
         const all = this.refusal ? textOf((await this.page.programs.ask(['check', ...wordsOf(name), '--all'])).out) : textOf(out);
         if (turn !== this.turn) return;
         if (this.refusal) tell('files-status', `${this.refusal}\n${said}${all.split('\n').filter(it => /^([?] |UNSOUND|TWICE)/.test(it) && it !== this.refusal).join('\n')}`, true);
         this.entries = this.blocks.lay(all.trim().split('\n').map(it => it.split(' ')), blocksOf(name, this.page.store.files.get(this.file)?.length ?? 0), this.refusal);
-        this.#rows();
+        this.directory.lay();
         for (const id of ids('squeeze', 'put')) $(id).disabled = this.refusal !== null;
         $('put-row').hidden = this.refusal !== null;
         this.page.store.dispatchEvent(new Event('volume'));
@@ -322,68 +344,7 @@ export class Files {
         const told = await indexed(this.page, this.name);
         if (turn !== this.turn) return;
         for (const it of this.entries) [it.date, it.kind] = told.get(it.first) ?? [];
-        if (this.order.by === 'date' || this.order.by === 'kind') return this.#rows();
-        for (const row of $('directory').tBodies[0].rows) {
-            const entry = this.entries.find(it => it.first === Number(row.dataset.first));
-            [row.cells[3].textContent, row.cells[4].textContent] = [entry?.date ?? '', entry?.kind ?? ''];
-        }
-    }
-
-    // The files whose names have what is looked for, in the order that was chosen.
-    get #found() {
-        const { by, way } = this.order, part = $('find').value.trim().toUpperCase();
-        /** @param {Entry} it */
-        const key = it => by === 'date' || by === 'kind' ? it[by] ?? '' : it[by];
-        return this.entries.filter(it => it.name.includes(part)).sort((a, b) => way * (key(a) < key(b) ? -1 : key(a) > key(b) ? 1 : a.first - b.first));
-    }
-
-    // Sorts by a column, or by it the other way round. Blocks begin with the most.
-    /** @param {string} column */
-    #sort(column) {
-        const by = /** @type {typeof this.order.by} */ (column), own = this.order;
-        this.order = { by, way: own.by === by ? -own.way : by === 'length' ? -1 : 1 };
-        this.#rows();
-    }
-
-    // Shows the first of the files that are found.
-    async #showFound() {
-        const [first] = this.#found;
-        if (first) await this.shown.best(first);
-    }
-
-    #rows() {
-        const { by, way } = this.order, found = this.#found, rows = found.map(it => this.#row(it));
-        $('directory').tBodies[0].replaceChildren(...rows);
-        $('found').textContent = $('find').value.trim() === '' ? '' : `${found.length} of ${this.entries.length} files`;
-        for (const it of $('directory').querySelectorAll('button[data-sort]'))
-            it.parentElement?.setAttribute('aria-sort', it.getAttribute('data-sort') !== by ? 'none' : way > 0 ? 'ascending' : 'descending');
-        $('directory').hidden = this.refusal !== null && !rows.length;
-    }
-
-    /** @param {Entry} it */
-    #row(it) {
-        const { name, first, length, isByBlocks } = it, { shown } = this;
-        /** @param {string} text @param {() => void} what @param {string} label */
-        const button = (text, what, label) => made('button', { onclick: what, 'aria-label': `${name} ${label}` }, text);
-        const changes = isByBlocks ? [] : [button('copy', () => this.#copy(it), 'copy'), ' ', button('delete', () => this.#delete(it), 'delete')];
-        const row = made('tr', { 'data-name': name, 'data-first': first }, made('td', {}, button(name, () => shown.best(it), 'in its best form')), made('td', { class: 'n' }, String(length)), made('td', { class: 'n' }, String(first)),
-            made('td', { class: 'date' }, it.date ?? ''), made('td', { class: 'kind' }, it.kind ?? ''),
-            made('td', {}, button('text', () => shown.show(it, 'text'), 'as a text'), ' ', button('listing', () => shown.show(it, 'tape'), 'as the listing of a tape'),
-                ' ', button('source', () => shown.show(it, 'source'), 'as the source of a tape')),
-            made('td', {}, button('text', () => shown.home(it, 'text'), 'home as a text'), ' ', button('tape', () => shown.home(it, 'tape'), 'home as a tape'),
-                ' ', button('frames', () => shown.home(it, 'frames'), 'home as frames')),
-            made('td', {}, ...changes));
-        row.classList.toggle('chosen', shown.entry?.name === name);
-        return row;
-    }
-
-    // Deletes a file: by a line of a script, or by its place where no line can have its name.
-    /** @param {Entry} it */
-    async #delete(it) {
-        const [word, at] = placeOf(it), words = `the deletion of ${it.name}`;
-        if (!at) return this.#change(words, `DELETE ${word}`);
-        const { status, out, said } = await this.page.undo.group(this.file, words, () => this.page.programs.ask(['delete', ...wordsOf(this.name), word, at]));
-        tell('files-status', textOf(out) + said, status !== 0);
+        this.directory.tellKinds();
     }
 
     /** @param {HTMLInputElement} input */
@@ -398,74 +359,77 @@ export class Files {
     async putFiles(files) {
         /** @type {string[]} */
         const told = [];
-        const names = files.map(it => nameOf(it.name));
+        /** @type {{ file: File, it: import('./incoming.js').Incoming | null }[]} */
+        const all = [];
+        for (const file of files) all.push({ file, it: await incoming(file, $('put-as').value) });
         let isBad = false;
-        await this.page.undo.group(this.file, `putting ${names.join(', ')}`, async () => {
-            for (const [k, file] of files.entries()) {
-                const { status, out, said } = await this.put(names[k], await bytesOfFile(file), $('put-as').value);
+        await this.page.undo.group(this.file, `putting ${all.flatMap(({ it }) => it?.name ?? []).join(', ')}`, async () => {
+            for (const { file, it } of all) {
+                if (!it) told.push(`${file.name} was left\n`);
+                if (!it) continue;
+                const { status, out, said } = await this.put(it.name, it.bytes, it.form, this.#date.replace(OWN_DATE, dayOf(file)));
                 told.push(status === 0 ? textOf(out) + said : `${file.name}: ${textOf(out)}${said}`);
                 isBad ||= status !== 0;
             }
         });
-        tell('files-status', told.join(''), isBad);
+        this.page.say(told.join(''), isBad);
+    }
+
+    // The date that files get which are put in, '' for none.
+    get #date() { return this.page.store.notes.get('put-date') ?? ''; }
+
+    #tellDate() { $('put-date').textContent = `Date: ${this.#date || 'none'}`; }
+
+    // Asks for the date of files that are put in.
+    async #askDate() {
+        const date = (await askFor('The date of files that are put in: as 1974-03-12, or their own, or none', this.#date || 'none', 'Date them so')).trim();
+        if (date !== '') this.page.store.note('put-date', date.toLowerCase() === 'none' ? '' : date);
+        this.#tellDate();
     }
 
     // Makes bytes a file of the volume, as `text` or `frames`, or as the program says by its `name`. Where the volume has one of that name the
-    // user is asked.
-    /** @param {string} name @param {Uint8Array} bytes @param {string} form */
-    async put(name, bytes, form) {
+    // user is asked. It gets a date, if one is given.
+    /** @param {string} name @param {Uint8Array} bytes @param {string} form @param {string} [date] */
+    async put(name, bytes, form, date = '') {
         const { programs, store, undo } = this.page, volume = this.name, path = `.put/${name}`;
-        if (!await this.#mayWrite(volume, name)) return { status: 0, out: new Uint8Array(0), said: `${name} was left as it was\n` };
+        if (!await this.mayWrite(volume, name)) return { status: 0, out: new Uint8Array(0), said: `${name} was left as it was\n` };
         if (form === 'name') store.put(path, bytes);
         const how = form === 'text' || form === 'name' && TEXTS.test(name) ? ['--text'] : [];
         const [words, input] = form === 'name' ? [[path, ...how], ''] : [['-', '--as', name, ...how], bytes];
-        const dated = this.entries.some(it => it.name === name) ? [] : await this.shown.datedWords(name, bytes);
-        const answer = await undo.group(fileOf(volume), `putting ${name}`, () => programs.ask(['put', ...wordsOf(volume), ...words, ...dated], input));
+        const isOld = this.entries.some(it => it.name === name), empty = isOld && bytes.length === 0 ? ['--empty'] : [];
+        const dated = date ? ['--date', date] : isOld ? [] : await this.shown.datedWords(name, bytes);
+        const answer = await undo.group(fileOf(volume), `putting ${name}`, () => programs.ask(['put', ...wordsOf(volume), ...words, ...dated, ...empty], input));
         store.remove(path);
         return { ...answer, said: answer.said.replaceAll(path, name) };
     }
 
-    // Whether a file of a volume may be written: where there is one of the name the user is asked.
-    /** @param {string} volume @param {string} name */
-    async #mayWrite(volume, name) {
-        const isThere = (await this.page.programs.ask(['get', ...wordsOf(volume), name])).status === 0 && !await this.#busy(fileOf(volume));
-        return !isThere || await ask(`${titleOf(volume)} has a file ${name}. Writing over it loses what it has.`, ['', 'Leave it'], ['over', 'Write over it']) === 'over';
+    // Saves a text to the file of a volume from which it was opened as `was`. Where that is another by now the user is asked.
+    /** @param {import('./source.js').From} from @param {Uint8Array} bytes @returns {Promise<Answer>} */
+    async putBack({ volume, name, was }, bytes) {
+        const { programs, undo } = this.page, none = { status: 0, out: new Uint8Array(0) }, title = `${name} of ${titleOf(volume)}`;
+        if (!this.volumes.includes(volume)) return { ...none, status: 1, said: `The page has no volume ${titleOf(volume)} any more: Save the text takes it home.` };
+        const now = await programs.ask(['get', ...wordsOf(volume), name, '--text']), isSame = now.status === 0 && textOf(now.out) === textOf(was);
+        if (!isSame && await ask(`${title} was changed since it was opened.`, ['', 'Leave it'], ['over', 'Write over it']) !== 'over') return { ...none, status: 1, said: `${title} was left as it is` };
+        return this.use(fileOf(volume), () => undo.group(fileOf(volume), `saving ${name}`, () => programs.ask(['put', ...wordsOf(volume), '-', '--as', name, '--text'], bytes)));
     }
 
-    // Copies a file to another volume of the page, with its information words, and so its date.
-    /** @param {Entry} it */
-    async #copy(it) {
-        const { name } = it, { programs, undo } = this.page, others = this.volumes.filter(it => it !== this.name);
-        if (!others.length) return tell('files-status', 'There is no other volume: open one, or make a new one.', true);
-        const to = await ask(`Copy ${name} to which volume?`, ...others.map(it => [it, titleOf(it)]), ['', 'Leave it']);
-        if (to === '') return;
-        await this.#use(fileOf(to), async () => {
-            if (!await this.#mayWrite(to, name)) return tell('files-status', `${name} of ${titleOf(to)} was left as it was`);
-            const [from, ...how] = wordsOf(this.name), [there, ...where] = targetOf(to), words = ['copy', from, ...placeOf(it), there, ...how, ...where];
-            const { status, out, said } = await undo.group(there, `the copy of ${name} to ${titleOf(to)}`, () => programs.ask(words));
-            tell('files-status', status === 0 ? `${titleOf(to)}: ${textOf(out)}` : textOf(out) + said, status !== 0);
-        });
+    // Whether files of these names may be written to a volume: where there are some the user is asked.
+    /** @param {string} volume @param {...string} names */
+    async mayWrite(volume, ...names) {
+        const { out } = await this.page.programs.ask(['list', ...wordsOf(volume)]), all = textOf(out).split('\n').map(it => it.split(' ')[0]);
+        const old = names.filter(it => all.includes(it));
+        if (!old.length || await this.#busy(fileOf(volume))) return true;
+        const words = old.length === 1 ? `a file ${old[0]}. Writing over it loses what it has.` : `files ${old.join(', ')}. Writing over them loses what they have.`;
+        return await ask(`${titleOf(volume)} has ${words}`, ['', 'Leave it'], ['over', old.length === 1 ? 'Write over it' : 'Write over them']) === 'over';
     }
 
-    // Changes the volume by lines of a script, and shows their replies.
-    /** @param {string} words @param {...string} lines */
-    async #change(words, ...lines) {
-        const run = () => this.page.programs.ask(['run', ...wordsOf(this.name), '--strict'], `${lines.join('\n')}\n`);
-        const { status, out, said } = await this.page.undo.group(this.file, words, run);
+    // Moves the files of the volume together.
+    async #squeeze() {
+        const { status, out, said } = await this.page.undo.group(this.file, 'the squeeze', () => this.page.programs.ask(['squeeze', ...wordsOf(this.name)]));
         tell('files-status', textOf(out) + said, status !== 0);
     }
 }
 
-// The name that a file of the host has on a volume; what can't be one is the program's to refuse. A browser may have added an ending to a
-// file that it had before, or a number in brackets.
-/** @param {string} path */
-function nameOf(path) {
-    const escaped = /^((?:[A-Z0-9]|_[0-7]{2}){1,6}\.(?:[A-Z0-9]|_[0-7]{2}){1,2})\.(TXT|BIN)$/;
-    const name = path.toUpperCase().replace(/ ?\(\d+\)(?=\.|$)/, '').replace(escaped, '$1');
-    const [first, ...rest] = name.split('.');
-    return rest.length ? `${cut(first, 6)}.${cut(rest[rest.length - 1], 2)}` : cut(first, 6);
-}
-
-// The first characters of a name, so many; `_` and two octal digits are one.
-/** @param {string} text @param {number} most */
-function cut(text, most) { return text.match(/_[0-7]{2}|./g)?.slice(0, most).join('') ?? ''; }
+// The day on which a file of the host was last changed, in UTC.
+/** @param {File} file */
+function dayOf(file) { return new Date(file.lastModified).toISOString().slice(0, 10); }

@@ -18,6 +18,14 @@ const MNEMONICS = {
     I: 'indirect: the cell has the address', Z: 'on page zero',
 };
 
+// What each register, flag and state of the machine is that REGISTERS names.
+/** @type {Record<string, string>} */
+export const STATES = {
+    ac: 'the accumulator', l: 'the link', pc: 'the program counter', if: 'the instruction field', df: 'the data field', ib: 'the instruction buffer', sf: 'the save field',
+    switches: 'the switches', key: 'the keyboard\'s buffer', kbd: 'the keyboard\'s flag', busy: 'whether the printer is busy', printer: 'the printer\'s flag',
+    ion: 'whether interrupts are on', wait: 'whether interrupts wait for the instruction after ION', held: 'whether interrupts are held off', run: 'whether the machine runs',
+};
+
 // The help for a line of a listing or a source: each mnemonic in it, in the order that they have there, without its comment.
 /** @param {string} line */
 export function helpOf(line) {

@@ -4,9 +4,9 @@ import { $, bringIntoView, elementOf, ids, made, octal, tell } from './dom.js';
 import { helpAt, helpOf } from './help.js';
 import { Lamps } from './panel.js';
 import { textOf } from './program.js';
-import { depositsOf, linesOf, stepOf } from './replay.js';
+import { depositsOf, doingOf, linesOf, stepOf } from './replay.js';
 
-const STEPS = 1000, MOST = 8000;
+const STEPS = '1000', MOST = 8000;
 
 export class Listing {
     /** @param {Page} page @param {import('./source.js').Source} source */
@@ -41,7 +41,7 @@ export class Listing {
         this.cells = new Map();
         this.statements = new Map();
         $('listing').replaceChildren(...lines.slice(0, MOST).map(it => {
-            const cell = /^([0-7]{5})  [0-7]{4}/.exec(it)?.[1], isFurther = /^[0-7]{5}  [0-7]{4}$/.test(it.trimEnd());
+            const cell = /^([0-7]{5})  [0-7]{4}/.exec(it)?.[1], isFurther = /^[0-7]{5}  [0-7]{4}@?$/.test(it.trimEnd());
             if (!isFurther) [number, word, own] = [number + 1, 0, it.slice(16)];
             const line = made('span', { class: 'l', 'data-line': String(number), 'data-word': String(word), 'data-cell': cell ?? null }, it);
             if (cell) this.#cell(cell, line, own, word++);
@@ -118,16 +118,17 @@ export class Listing {
     async #run(word, ...more) {
         if (!await (this.source.tape ? this.source.renew() : this.source.assemble())) return null;
         this.keys = $('doing-keys').value.replaceAll('\\r', '\r');
-        this.switches = this.page.machine.panel.switches;
+        const set = $('doing-switches').value.trim();
+        this.switches = /^[0-7]{1,4}$/.test(set) ? Number.parseInt(set, 8) : this.page.machine.panel.switches;
         this.start = await this.#start();
-        const words = [word, '.source.bin', '--start', this.start, '--switches', octal(this.switches, 4), ...more, ...(this.keys ? [`--keys=${this.keys}`] : [])];
+        const words = [word, '.source.bin', '--start', this.start, ...doingOf('doing', octal(this.switches, 4)), ...more];
         const { status, out, said } = await this.page.programs.ask(words);
         tell('source-status', said, status !== 0);
         return textOf(out).replace(/\n$/, '').split('\n');
     }
 
     async #trace() {
-        const lines = await this.#run('trace', '--steps', String(STEPS));
+        const lines = await this.#run('trace', ...($('doing-steps').value.trim() === '' ? ['--steps', STEPS] : []));
         if (!lines) return;
         this.#doings('', ...lines.map((it, k) => k < lines.length - 1 ? this.#row(it, k) : `${it}\n`));
     }
@@ -150,8 +151,9 @@ export class Listing {
         for (const { cell, count } of counts) {
             const share = Math.round(100 * Math.log1p(count) / Math.log1p(most));
             const line = this.cells.get(cell);
-            line?.setAttribute('style', `background: color-mix(in srgb, var(--mark) ${share}%, transparent)`);
-            line?.setAttribute('data-count', String(count));
+            if (!line) continue;
+            line.style.background = `color-mix(in srgb, var(--mark) ${share}%, transparent)`;
+            line.dataset.count = String(count);
         }
     }
 

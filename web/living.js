@@ -21,11 +21,11 @@ export class Living {
     // Begins anew, with the machine that the page keeps, or with a new one.
     /** @param {boolean} [isNew] */
     async restart(isNew = false) {
-        const { notes } = this.page.store;
-        (await this.lines)?.stop();
+        const { notes } = this.page.store, old = this.lines;
         this.lines = null;
         this.journal = new Journal(isNew ? '' : notes.get('machine') ?? linesOf(notes.get('core') ?? [], notes.get('registers')).join('\n'));
         [this.#taken, this.#unlisted] = [isNew ? 0 : notes.get('printed') ?? 0, 0];
+        (await old)?.stop();
     }
 
     async stop() {
@@ -76,7 +76,8 @@ export class Living {
 
     // The characters that were printed since they were last taken.
     async print() {
-        const [reply] = await this.ask('PRINTED') ?? ['PRINTED'], all = reply.split(' ').slice(1), fresh = all.slice(this.#taken);
+        const { journal } = this, [reply] = await this.ask('PRINTED') ?? ['PRINTED'], all = reply.split(' ').slice(1), fresh = all.slice(this.#taken);
+        if (journal !== this.journal) return new Uint8Array(0);
         this.#taken = Math.max(this.#taken, all.length);
         return Uint8Array.from(fresh, it => Number.parseInt(it, 8) & 0o177);
     }
@@ -89,7 +90,7 @@ export class Living {
         const replies = await lines.ask(...asked);
         journal.answer(asked, replies);
         const registers = /** @type {Registers} */ (JSON.parse(replies?.shift() ?? 'null'));
-        if (!replies || !isPlain(registers)) return;
+        if (!replies || journal !== this.journal || !isPlain(registers)) return;
         journal.shorten(linesOf(replies.map(it => Number.parseInt(it.slice(6), 8)), registers));
         this.#unlisted = this.#taken - Number(registers.busy || registers.printer);
         this.keep();

@@ -1,15 +1,16 @@
 // The Machine pane: a `run` that lives, to whose console each key of the panel gives a line, and whose replies the lamps show.
-import { $, ids, made, octal, rove, tell, keepInput } from './dom.js';
+import { $, ids, isOctal, made, octal, rove, tell, keepInput } from './dom.js';
 import { Living } from './living.js';
+import { listTapes, loadChosen } from './loads.js';
 import { canLive, textOf } from './program.js';
-import { helpAt, helpOf } from './help.js';
+import { STATES, helpAt, helpOf } from './help.js';
 import { Accesses, after, before } from './access.js';
 import { Code } from './code.js';
 import { rateOf, uneven } from './pace.js';
 import { Owner } from './owner.js';
 import { Panel } from './panel.js';
-import { Paper, keyOf } from './paper.js';
-import { tapeIn } from './tapes.js';
+import { Paper } from './paper.js';
+import { takeKeys } from './keys.js';
 import { Watch } from './watch.js';
 import { stepsIn } from './words.js';
 
@@ -19,7 +20,7 @@ const LEAST = 20000, MOST = 1000000, LOOKS = 8, PICTURE = 10;
 // How many steps and lines the journal may have while the machine goes, and when it has stopped.
 const GOING = /** @type {const} */ ([300000000, 20000]), STOPPED = /** @type {const} */ ([5000000, 2000]);
 // The notes that are the machine as the page keeps it.
-const STATE = ['machine', 'printed', 'access', 'steps', 'loaded', 'address', 'switches', 'breaks', 'listing', 'names', 'console'];
+const STATE = ['machine', 'printed', 'access', 'steps', 'loaded', 'address', 'switches', 'fields', 'breaks', 'listing', 'names', 'console'];
 
 export class Machine {
     /** @type {Registers | null} */
@@ -32,7 +33,7 @@ export class Machine {
     total = 0;
     accesses = new Accesses();
     reply = '';
-    stepped = Promise.resolve();
+    stepped = Promise.resolve(); going = Promise.resolve(false);
     /** @type {number | null} */
     steps = null;
     isGoing = false;
@@ -43,12 +44,15 @@ export class Machine {
     /** @param {Page} page */
     constructor(page) {
         this.page = page;
+        this.isDepositing = false;
         this.panel = new Panel($('panel'), {
             switches: word => { page.store.note('switches', word); this.#ask(`SWITCHES ${octal(word, 4)}`); },
+            fields: word => page.store.note('fields', word),
             load: () => this.#loadAddress(), examine: () => this.#examine(), deposit: () => this.#deposit(),
-            start: () => this.start(), stop: () => this.stop(), go: () => this.goOn(), step: () => this.step(),
+            start: isByPointer => this.start(isByPointer), stop: () => this.stop(), go: () => this.goOn(), step: () => this.step(),
         });
-        this.paper = new Paper($('console'), { sound: page.sound, kept: text => page.store.note('console', text) });
+        // the machine that has printed a paper is kept with it: neither may be there without the other
+        this.paper = new Paper($('console'), { sound: page.sound, kept: text => { page.store.note('console', text); this.living.keep(); } });
         this.living = new Living(page, { switches: () => this.panel.switches, breaks: () => this.breaks, changed: () => this.#keep(), ended: why => this.#ended(why) });
         this.code = new Code(page, (...lines) => this.#ask(...lines));
         for (const id of ids('speed', 'printer', 'core-from', 'watch')) keepInput(page.store, id);
@@ -57,10 +61,10 @@ export class Machine {
         this.watch = new Watch((...lines) => this.#ask(...lines));
         rove($('code'));
         helpAt($('code'), $('code-help'), it => helpOf(it.closest('.l')?.textContent ?? ''));
-        $('core-tape').addEventListener('change', () => this.#chosen($('core-tape')));
-        $('core-from').addEventListener('change', () => this.#core());
-        $('console').addEventListener('keydown', event => this.#key(event));
-        for (const it of ['volume', 'tape']) page.store.addEventListener(it, () => this.#tapes());
+        $('core-tape').addEventListener('change', () => loadChosen(page, $('core-tape')));
+        $('core-from').addEventListener('change', () => isOctal($('core-from').value, 5) ? this.#core() : tell('machine-status', 'Core is shown from an address of at most five octal digits.', true));
+        takeKeys(key => this.keys.push(key));
+        for (const it of ['volume', 'tape']) page.store.addEventListener(it, () => listTapes(page));
         $('machine').addEventListener('shown', () => this.#refresh());
         page.store.addEventListener('leave', () => this.#keep(true));
         page.undo.machine = { get: () => this.state, set: state => this.bring(state) };
@@ -85,7 +89,7 @@ export class Machine {
     // Brings back a machine in place of this one.
     /** @param {string} state */
     async bring(state) {
-        this.isGoing = false;
+        await this.#halt();
         for (const [key, value] of JSON.parse(state)) this.page.store.note(key, value ?? null);
         this.page.store.note('going', false);
         await this.#restore();
@@ -98,6 +102,7 @@ export class Machine {
         this.paper.replace(notes.get('console') ?? '');
         this.panel.address = notes.get('address') ?? 0o200;
         this.panel.switches = notes.get('switches') ?? 0;
+        this.panel.fieldSwitches = notes.get('fields') ?? 0;
         this.accesses.set(notes.get('access') ?? null);
         this.#count(notes.get('steps') ?? null);
         this.code.breaks = new Set(notes.get('breaks'));
@@ -144,7 +149,7 @@ export class Machine {
     }
 
     async #renew() {
-        this.isGoing = false;
+        await this.#halt();
         await this.living.restart(true);
         this.accesses.set(null);
         this.#count(null);
@@ -167,14 +172,14 @@ export class Machine {
             tell('machine-status', `${name}: ${textOf(out)}${said}`, true);
             return false;
         }
-        await this.page.undo.ofMachine(`the load of ${name}`, () => this.#lay(textOf(out), name, start));
+        await this.page.undo.ofMachine(`the load of ${name}`, () => this.lay(textOf(out), name, start));
         return true;
     }
 
     // Lays words over core, as `tape` lists them.
-    /** @param {string} listed @param {string} name @param {string | null} start */
-    async #lay(listed, name, start) {
-        this.isGoing = false;
+    /** @param {string} listed @param {string} name @param {string | null} [start] */
+    async lay(listed, name, start = null) {
+        await this.#halt();
         const words = listed.trim().split('\n').filter(it => it).map(it => it.split(' '));
         await this.#ask(...words.map(([field, address, word]) => `DEPOSIT ${field}${address} ${word}`));
         const first = words[0] ? Number.parseInt(words[0][0] + words[0][1], 8) : 0o200, isStart = start !== null && /^[0-7]{5}$/.test(start);
@@ -190,38 +195,13 @@ export class Machine {
         this.page.store.note('address', cell);
     }
 
-    /** @param {HTMLSelectElement} select */
-    async #chosen(select) {
-        const { files, source } = this.page, name = select.value;
-        select.value = '';
-        if (name === '') return;
-        if (name === 'source') {
-            if (!await source.renew()) return tell('machine-status', `The source has no tape: ${$('source-status').textContent}`, true);
-            if (source.tape && await this.load(source.tape, 'the source\'s tape')) this.list($('listing').textContent, $('symbols').textContent);
-            return;
-        }
-        const entry = files.entries.find(it => it.name === name.slice(5));
-        if (!entry) return;
-        const tape = await tapeIn(this.page, files.name, entry);
-        if (tape.status !== 0) return tell('machine-status', `${entry.name}: ${tape.said}`, true);
-        if (!await this.load(tape.out, entry.name, tape.start)) return;
-        const text = await files.shown.source(entry, tape);
-        this.list(textOf(text.out).replaceAll('\r', ''), files.shown.symbolsOf(entry));
-    }
-
-    #tapes() {
-        const { files, source } = this.page, own = (files?.entries ?? []).map(it => it.name).sort();
-        $('core-tape').replaceChildren(made('option', { value: '' }, 'choose a tape'), ...(source?.tape ? [made('option', { value: 'source' }, source.isOld ? 'the source\'s, old' : 'the source\'s')] : []),
-            ...own.map(it => made('option', { value: `file ${it}` }, it)));
-    }
-
     // Shows a listing, whose cells are buttons for breaks; `symbols` has its names with their values.
     /** @param {string} text @param {string} [symbols] */
     list(text, symbols = '') {
         this.watch.name(symbols);
         this.page.store.note('names', symbols);
         this.code.list(text);
-        this.code.mark(this.registers, this.isGoing);
+        this.code.mark(this.#lit, this.isGoing);
         if (this.living.lines) this.watch.show();
     }
 
@@ -245,8 +225,11 @@ export class Machine {
 
     async #examine() { await this.#cell(`EXAMINE ${octal(this.panel.address, 5)}`); }
 
+    // Deposits the switches. Deposits with no step between them are one change.
     async #deposit() {
-        await this.#cell(`DEPOSIT ${octal(this.panel.address, 5)} ${octal(this.panel.switches, 4)}`);
+        const line = `DEPOSIT ${octal(this.panel.address, 5)} ${octal(this.panel.switches, 4)}`, isFurther = this.isDepositing;
+        await this.page.undo.ofMachine('the deposits', () => this.#cell(line), isFurther);
+        this.isDepositing = true;
         await this.#core();
     }
 
@@ -259,8 +242,13 @@ export class Machine {
         this.#show();
     }
 
-    async start() {
-        this.isGoing = this.isLoaded = false;
+    // Starts at the address that was loaded. Who pressed the key by a pointer types at the Teletype then.
+    /** @param {boolean} [isByPointer] */
+    async start(isByPointer = false) {
+        if (isByPointer) $('console').focus({ preventScroll: true });
+        this.panel.runs(true);
+        await this.#halt();
+        this.isLoaded = false;
         const [reply] = await this.#begun(this.panel.address) ?? [''];
         tell('machine-status', reply);
         await this.go();
@@ -350,6 +338,22 @@ export class Machine {
     // Goes on until something stops the machine; what it does is shown at each picture. `isToGoOn` says whether it does so after a reload.
     async go(isToGoOn = true) {
         if (this.isGoing) return;
+        const isToFind = this.going = this.#go(isToGoOn);
+        if (!await isToFind) return;
+        await this.accesses.find(this.page.programs, await this.image(), (...lines) => this.#ask(...lines), this.reply, this.living.journal);
+        this.#keep();
+        this.#show();
+    }
+
+    // Has the machine stop, once it has.
+    async #halt() {
+        this.isGoing = this.isDepositing = false;
+        await this.going;
+    }
+
+    // Whether it is to be found out what the last step used.
+    /** @param {boolean} isToGoOn */
+    async #go(isToGoOn) {
         this.isGoing = true;
         this.page.store.note('going', isToGoOn);
         this.isLoaded = false;
@@ -381,10 +385,7 @@ export class Machine {
         tell('machine-status', isStopped ? `stopped by the key: ${stepsIn(this.reply)}` : stepsIn(this.reply), why === 'UNASSIGNED');
         $('rate').textContent = '';
         await this.#stopped();
-        if (isStopped || why === 'ENDED') return;
-        await this.accesses.find(this.page.programs, await this.image(), (...lines) => this.#ask(...lines), this.reply, this.living.journal);
-        this.#keep();
-        this.#show();
+        return !isStopped && why !== 'ENDED';
     }
 
     // Steps until so many are made, or the time for a picture is over.
@@ -411,6 +412,7 @@ export class Machine {
     /** @param {string} word @param {number} count @returns {Promise<string>} */
     async #slice(word, count) {
         const lines = [];
+        this.isDepositing = false;
         if (this.registers?.busy) {
             this.isPrinting = true;
             const now = performance.now();
@@ -463,8 +465,8 @@ export class Machine {
         this.#count(this.steps);
         if (this.isGoing && performance.now() - this.listedAt < 100) return;
         this.listedAt = performance.now();
-        $('registers').replaceChildren(...Object.entries(this.registers ?? {}).filter(([name]) => name !== 'run').map(([name, value]) => made('div', {}, made('dt', {}, name), made('dd', {}, String(value)))));
-        this.code.mark(this.registers, this.isGoing);
+        $('registers').replaceChildren(...Object.entries(this.registers ?? {}).filter(([name]) => name !== 'run').map(([name, value]) => made('div', {}, made('dt', { title: STATES[name] ?? null }, name), made('dd', {}, String(value)))));
+        this.code.mark(this.#lit, this.isGoing);
     }
 
     async #core() {
@@ -476,13 +478,5 @@ export class Machine {
         await this.watch.show();
         const rows = Array.from({ length: 8 }, (_, k) => replies.slice(8 * k, 8 * k + 8));
         $('core').textContent = rows.map(it => `${it[0].slice(0, 5)}  ${it.map(one => one.slice(6)).join(' ')}`).join('\n');
-    }
-
-    /** @param {KeyboardEvent} event */
-    #key(event) {
-        const key = keyOf(event);
-        if (key === null) return;
-        event.preventDefault();
-        this.keys.push((key.toUpperCase().charCodeAt(0) & 0o177) | 0o200);
     }
 }

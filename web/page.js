@@ -13,14 +13,18 @@ import { Unkept } from './unkept.js';
 import { Undo } from './undo.js';
 import { Shelf } from './shelf.js';
 import { Sound } from './sound.js';
+import { isFirst, layFirst } from './first.js';
 
-const ALL = /** @type {const} */ (['files', 'source', 'machine', 'teletype', 'script']);
+const ALL = /** @type {const} */ (['machine', 'files', 'source', 'teletype', 'script']);
 /** @typedef {typeof ALL[number]} Pane */
 // The panes that this browser can have: the Machine lives, and waits for its keys.
 const PANES = ALL.filter(it => canLive || it !== 'machine');
 
 // The line of status of each pane.
 const STATUS = /** @type {const} */ ({ files: 'files-status', source: 'source-status', machine: 'machine-status', teletype: 'tty-status', script: 'script-status' });
+
+// Where the help for each pane begins.
+const HELP = /** @type {const} */ ({ files: 'archives', source: 'assembler', machine: 'page', teletype: 'teletype', script: 'scripts' });
 
 const isPane = (/** @type {string} */ it) => PANES.some(name => name === it);
 
@@ -45,13 +49,17 @@ export class Tabs {
         }
         const asked = /** @type {Pane} */ (location.hash.slice(1));
         const last = store.notes.get('pane') ?? '';
-        this.show(isPane(asked) ? asked : isPane(last) ? last : 'files');
-        const first = this.shown ?? 'files';
+        this.show(isPane(asked) ? asked : isPane(last) ? last : PANES[0]);
+        const first = this.shown ?? PANES[0];
         addEventListener('hashchange', () => {
             const name = /** @type {Pane} */ (location.hash.slice(1) || first);
             if (isPane(name)) this.show(name, false);
         });
     }
+
+    // Whether what an address names is a pane or another element of the page, or nothing.
+    /** @param {string} name */
+    isPlace(name) { return name === '' || document.getElementById(name) !== null; }
 
     /** @param {KeyboardEvent} event @param {number} at */
     #key(event, at) {
@@ -74,6 +82,7 @@ export class Tabs {
             $(`tab-${it}`).tabIndex = it === name ? 0 : -1;
         }
         this.store.note('pane', name);
+        $('help').href = `help.html#${HELP[name]}`;
         $(name).dispatchEvent(new Event('shown'));
     }
 }
@@ -82,6 +91,7 @@ export class Tabs {
 function hideUnable() {
     for (const it of /** @type {NodeListOf<HTMLElement>} */ (document.querySelectorAll('[data-live]'))) it.hidden = true;
     $('reading').open = true;
+    $('files').prepend($('shelf'));
 }
 
 async function begin() {
@@ -98,7 +108,8 @@ async function begin() {
     const programs = new Programs(await load('pdp8.wasm'), store);
     const page = /** @type {Page} */ ({ store, claims, programs, undo: new Undo(store), sound: new Sound(store), tell: trouble });
     page.tabs = new Tabs(store);
-    page.say = (text, isBad = false) => tell(STATUS[page.tabs.shown ?? 'files'], text, isBad);
+    const isNew = isFirst(page);
+    page.say = (text, isBad = false) => tell(STATUS[page.tabs.shown ?? PANES[0]], text, isBad);
     page.files = new Files(page);
     page.machine = new Machine(page);
     page.teletype = new Teletype(page);
@@ -107,7 +118,8 @@ async function begin() {
     page.unkept = new Unkept(page);
     page.shelf = new Shelf(page);
     await Promise.all([page.files.begin(), ...[page.source, page.script, page.machine, page.teletype].map(it => it.owner.begin())]);
-    page.tabs.show(page.tabs.shown ?? 'files');
+    page.tabs.show(page.tabs.shown ?? PANES[0]);
+    if (isNew) await layFirst(page);
     $('kept').textContent = store.isKept ? 'What you open and write stays in this browser until you remove it.'
         : 'This browser keeps nothing: take home what you want to keep.';
     if (!canLive)

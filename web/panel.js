@@ -1,6 +1,6 @@
 // The front panel as a picture that works: lamps that show what `REGISTERS` said, switches, and keys that give lines. While the machine goes a lamp
 // glows by the share of the time that it is lit. The lamps stand alone too, where a step of a trace is shown.
-import { made, rove } from './dom.js';
+import { isOctal, made, rove, tell } from './dom.js';
 import { helpAt } from './help.js';
 
 /** @type {[string, string, number][]} */
@@ -9,7 +9,7 @@ const ROWS = [
 ];
 /** @type {[string, string, number][]} */
 const SMALL = [['l', 'Link', 1], ['if', 'Inst field', 3], ['df', 'Data field', 3], ['run', 'Run', 1], ['ion', 'Ion', 1]];
-/** @type {[Exclude<keyof Doings, 'switches'>, string, string][]} */
+/** @type {[Exclude<keyof Doings, 'switches' | 'fields'>, string, string][]} */
 const KEYS = [
     ['start', 'Start', 'starts at the address, with AC and L clear'], ['load', 'Load add', 'takes the address from the switches, into PC'],
     ['deposit', 'Dep', 'deposits the switches at the address'], ['examine', 'Exam', 'shows the word at the address'],
@@ -133,25 +133,25 @@ export class Panel extends Lamps {
     // `does` has what each key does, and `switches` what a change of the switches does.
     /** @param {Element} element @param {Doings} does */
     constructor(element, does) {
-        element.append(made('div', { class: 'brand' }, made('span', {}, 'programmed data processor'), made('span', {}, '8/I')));
-        super(element, ROWS);
+        const board = made('div', { class: 'board' }, made('div', { class: 'brand' }, made('span', {}, 'programmed data processor'), made('span', {}, '8/I')));
+        super(board, ROWS);
         this.does = does;
-        element.append(this.#switches());
+        board.append(this.#switches());
         const keys = made('div', { class: 'keys' });
         for (const [what, text, title] of KEYS) {
-            this.#keys[what] = made('button', { title: `${text} ${title}`, id: `key-${what}`, onclick: () => does[what]() }, text);
+            this.#keys[what] = made('button', { title: `${text} ${title}`, id: `key-${what}`, onclick: (/** @type {MouseEvent} */ { detail }) => does[what](detail > 0) }, text);
             keys.append(this.#keys[what]);
         }
         this.addressShown = made('span', { class: 'name', id: 'address' });
         keys.append(this.addressShown);
         const help = made('p', { class: 'help', id: 'panel-help' });
-        element.append(keys, help);
+        element.append(board, keys, help);
         for (const it of [keys, .../** @type {NodeListOf<HTMLElement>} */ (element.querySelectorAll('.switches .bits'))]) rove(it);
         helpAt(keys, help, it => it.closest('button')?.title ?? '');
     }
 
     #switches() {
-        const field = this.field = [2, 1, 0].map(bit => this.#switch(`field switch ${bit}`, () => {}));
+        const field = this.field = [2, 1, 0].map(bit => this.#switch(`field switch ${bit}`, () => this.does.fields(this.fieldSwitches)));
         const register = this.register = Array.from({ length: 12 }, (_, bit) => this.#switch(`switch ${bit}`, () => this.does.switches(this.switches)));
         this.switchesShown = made('input', { class: 'word', id: 'switches-shown', size: 4, maxlength: 4, inputmode: 'numeric', 'aria-label': 'Switch register in octal' });
         this.switchesShown.addEventListener('change', () => this.#typed());
@@ -195,7 +195,10 @@ export class Panel extends Lamps {
     // The switches as they were typed in octal, where that is a word.
     #typed() {
         const text = this.switchesShown.value.trim();
-        if (!/^[0-7]{1,4}$/.test(text)) return this.#told();
+        if (!isOctal(text, 4)) {
+            tell('machine-status', 'The switches are a word of at most four octal digits.', true);
+            return this.#told();
+        }
         this.switches = Number.parseInt(text, 8);
         this.does.switches(this.switches);
     }
@@ -211,6 +214,9 @@ export class Panel extends Lamps {
     }
 
     get fieldSwitches() { return wordOf(this.field); }
+
+    /** @param {number} word */
+    set fieldSwitches(word) { this.field.forEach((it, bit) => it.setAttribute('aria-checked', String((word >> (2 - bit) & 1) === 1))); }
 
     get address() { return this.#address; }
 

@@ -1,6 +1,6 @@
 // Runs of the program pdp8, each in a worker. The words of a run that are names of files in the page are these files.
 const latin1 = new TextDecoder('latin1'), utf8 = new TextEncoder();
-const WAITING = 1 << 16;
+const WAITING = 1 << 16, LENIENT = ['check', 'get', 'index'];
 
 /** @param {string | Uint8Array} it */
 export const bytesOf = it => typeof it === 'string' ? utf8.encode(it) : it;
@@ -66,9 +66,14 @@ export class Programs extends EventTarget {
         return [...this.held, ...words.filter(it => files.has(it) && !it.startsWith('.') && !claims.has(`volume ${it}`))];
     }
 
+    // The words of a run, with `--lenient` where an image with faults is looked at.
+    /** @param {string[]} words */
+    #leniently(words) { return LENIENT.includes(words[0]) && words.some(it => this.store.notes.get(`lenient ${it}`)) ? [...words, '--lenient'] : words; }
+
     // A whole run, after those that were asked for before: its exit status, and what it wrote to each stream.
-    /** @param {string[]} words @param {string | Uint8Array} [input] @returns {Promise<Answer>} */
-    ask(words, input = '') {
+    /** @param {string[]} asked @param {string | Uint8Array} [input] @returns {Promise<Answer>} */
+    ask(asked, input = '') {
+        const words = this.#leniently(asked);
         const answer = this.#last.then(() => this.store.claims.known()).then(() => /** @type {Promise<Answer>} */ (new Promise(go => {
             /** @type {Uint8Array[]} */
             const out = [];
@@ -83,10 +88,17 @@ export class Programs extends EventTarget {
             this.asked = run;
         })));
         this.#last = answer;
-        this.#asked++;
-        answer.then(() => { this.#asked--; });
+        this.#works(1);
+        answer.then(() => this.#works(-1));
         this.#count(words, answer);
         return answer;
+    }
+
+    // Has the page show that it works, while whole runs go on.
+    /** @param {number} by */
+    #works(by) {
+        this.#asked += by;
+        document.body.classList.toggle('works', this.isAsked);
     }
 
     // Ends the whole run that is going on.
@@ -111,7 +123,8 @@ export class Programs extends EventTarget {
 }
 
 // One run. `heard` and `said` take what it writes to standard output and to standard error, `ended` its status, null where it was stopped. `room` is
-// how many bytes it may be ahead of what `show` was given, none for no limit. `patience` is after how many milliseconds a read gives nothing.
+// how many bytes it may be ahead of what `show` was given, none for no limit. `patience` is after how many milliseconds a read gives nothing. `again`
+// has the reads of a run that this one follows, and `read` takes each further one that gives bytes, after how many that gave none.
 export class Run {
     /** @type {Uint8Array[]} */
     #queue = [];
@@ -138,7 +151,7 @@ export class Run {
         this.holds.forEach(it => programs.held.add(it));
         this.worker.postMessage({
             begin: true, module: programs.module, words, files: own.map(it => [it, files.get(it)]), input: how.input, locked,
-            terminal: how.terminal ?? false, patience: how.patience ?? 0, room: how.room ?? WAITING, channel: this.#channel, promises,
+            terminal: how.terminal ?? false, patience: how.patience ?? 0, room: how.room ?? WAITING, channel: this.#channel, promises, again: how.again ?? [],
         });
         this.isPaced = how.room !== undefined;
     }
@@ -150,8 +163,9 @@ export class Run {
         else if (data.wants) {
             this.#isWanted = true;
             this.#give();
-        } else if (data.bytes) {
-            (data.stream === 1 ? this.how.heard : this.how.said)?.(data.bytes);
+        } else if (data.read) this.how.read?.(data.quiet, data.read);
+        else if (data.bytes) {
+            data.stream === 1 ? this.how.heard?.(data.bytes, data.reads, data.quiet) : this.how.said?.(data.bytes);
             if (!this.isPaced) this.show(data.bytes.length);
         } else this.#end(data.status, data.failed);
     }

@@ -1,6 +1,6 @@
 // A step of a trace, run again, and registers that are set: lines of a script by which a machine does that. As `trace` has it, the printer ends its
 // character before the next step. A key is struck where the program asks for one: before a KSF, where none is unread.
-import { octal } from './dom.js';
+import { $, octal } from './dom.js';
 import { textOf } from './program.js';
 
 const STEP = /^([0-7]{5}) ([0-7]{4})\t[^\t]*\tAC ([0-7]{4}) L ([01])((?:\t[^\t]*)*)$/;
@@ -58,4 +58,11 @@ export function settingOf(registers, wordAt) {
     const laid = words.map((word, k) => `DEPOSIT ${at(free + k)} ${word}`);
     const back = words.map((_, k) => `DEPOSIT ${at(free + k)} ${octal(wordAt(field * 0o10000 + free + k), 4)}`);
     return [...laid, `START ${at(free)}`, 'STEP 6', ...back, ...(printer ? ['DONE'] : []), ...(kbd ? [`KEY ${registers.key}`] : [])];
+}
+
+// The words that give a trace or a profile the switches, steps and keys that were typed for it. Switches may stand for those that weren't typed.
+/** @param {'shown' | 'doing'} where @param {string} [switches] */
+export function doingOf(where, switches = '') {
+    const set = $(`${where}-switches`).value.trim() || switches, steps = $(`${where}-steps`).value.trim(), keys = $(`${where}-keys`).value.replaceAll('\\r', '\r');
+    return [...(set ? ['--switches', set] : []), ...(steps ? ['--steps', steps] : []), ...(keys ? [`--keys=${keys}`] : [])];
 }

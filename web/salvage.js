@@ -1,9 +1,16 @@
-// What a damaged volume still holds: what `rescue` would bring to a new volume, and the texts that `scan` finds in its blocks.
+// What a damaged volume still holds: what `rescue` would bring to a new volume, and all that `scan` finds in its blocks.
 import { $, made, takeHome, tell } from './dom.js';
+import { loadFile } from './loads.js';
 import { textOf } from './program.js';
 import { fileOf, wordsOf } from './volumes.js';
 
-/** @typedef {{ first: number, length: number, words: string }} Found */
+/** @typedef {{ kind: string, first: number, length: number, words: string }} Found */
+
+// What the lines of `scan` are of, and how the names end under which their pieces are saved.
+/** @type {Record<string, string>} */
+const WHAT = { TEXT: 'a text', BIN: 'a program, as a BIN tape', RIM: 'a program, as a RIM tape', CORE: 'a program, as a core image', DIR: 'a part of another directory' };
+/** @type {Record<string, string>} */
+const ENDS = { text: 'TX', BIN: 'BN', RIM: 'RM', core: 'SV' };
 
 export class Salvage {
     /** @type {Uint8Array | null} */
@@ -25,7 +32,7 @@ export class Salvage {
         $('texts-found').hidden = true;
     }
 
-    // Shows what the volume that is open still holds: the lines of `rescue`, and the texts of its blocks.
+    // Shows what the volume that is open still holds: the lines of `rescue`, and what stands in its blocks.
     async show() {
         const { files, programs, store } = this.page, turn = ++this.turn, to = `.rescued-${turn}`;
         $('damage').hidden = false;
@@ -42,34 +49,41 @@ export class Salvage {
         await this.#scan();
     }
 
-    // Lists the texts of the volume's blocks, and marks them in the picture where no file has them.
+    // Lists all that `scan` finds in the volume's blocks, and marks it in the picture where no file has it.
     async #scan() {
         const { turn, page: { files, programs } } = this, { status, out, said } = await programs.ask(['scan', ...wordsOf(files.name)]);
         if (turn !== this.turn) return;
         if (status !== 0) return tell('files-status', textOf(out) + said, true);
         /** @type {Found[]} */
-        const found = [...textOf(out).matchAll(/^TEXT (\d+) (\d+) ?(.*)$/gm)].map(it => ({ first: Number(it[1]), length: Number(it[2]), words: it[3] }));
+        const found = [...textOf(out).matchAll(/^([A-Z]+) (\d+) (\d+) ?(.*)$/gm)].map(it => ({ kind: it[1], first: Number(it[2]), length: Number(it[3]), words: it[4] }));
         $('texts-found').hidden = false;
-        $('texts-told').textContent = found.length === 1 ? 'One text stands in its blocks' : `${found.length} texts stand in its blocks`;
+        $('texts-told').textContent = toldOf(found);
         $('texts-list').replaceChildren(...found.map(it => this.#row(it)));
-        for (const { first, length, words } of found) files.blocks.mark(first, length, 'found', `a text: ${words}`);
+        for (const { kind, first, length, words } of found) files.blocks.mark(first, length, 'found', kind === 'TEXT' ? `a text: ${words}` : WHAT[kind] ?? kind);
         files.blocks.draw();
     }
 
+    // A piece that was found: a text and a program can be shown and saved, and a program opened in the machine. A directory is shown as its block.
     /** @param {Found} it */
-    #row({ first, length, words }) {
-        const { files } = this.page, blocks = length === 1 ? `block ${first}` : `blocks ${first} to ${first + length - 1}`;
-        const entry = { name: `at-${first}`, first, length, isByBlocks: true };
-        return made('li', {}, `${blocks}: `, made('button', { onclick: () => files.shown.show(entry, 'text'), 'aria-label': `the text of ${blocks}` }, words || 'a text'),
-            ' ', made('button', { onclick: () => this.#home(entry), 'aria-label': `the text of ${blocks} home` }, 'take home'));
+    #row({ kind, first, length, words }) {
+        const { files, tabs } = this.page, blocks = length === 1 ? `block ${first}` : `blocks ${first} to ${first + length - 1}`;
+        const entry = { name: `at-${first}`, first, length, isByBlocks: true, kind: kind === 'CORE' ? 'core' : kind === 'TEXT' ? 'text' : kind };
+        /** @param {string} text @param {string} label @param {() => void} what */
+        const button = (text, label, what) => made('button', { onclick: what, 'aria-label': label }, text);
+        if (kind === 'TEXT')
+            return made('li', {}, `${blocks}: `, button(words || 'a text', `the text of ${blocks}`, () => files.shown.show(entry, 'text')), ' ', button('Save', `the text of ${blocks} home`, () => this.#home(entry, '--text')));
+        if (kind === 'DIR') return made('li', {}, `${blocks}: `, button(WHAT.DIR, `the directory of ${blocks}`, () => { $('dump-box').open = $('sixbit').checked = true; files.dump.show(first); }));
+        return made('li', {}, `${blocks}: `, button(WHAT[kind] ?? kind, `the program of ${blocks}`, () => files.shown.show(entry, 'source')), ' ', button('Save', `the program of ${blocks} home`, () => this.#home(entry)),
+            ' ', button('To the machine', `the program of ${blocks} in the machine`, () => { tabs.show('machine'); loadFile(this.page, entry); }));
     }
 
-    /** @param {import('./files.js').Entry} entry */
-    async #home({ name, first, length }) {
-        const { files, programs } = this.page, words = ['get', ...wordsOf(files.name), '--blocks', String(first), String(length), '--text'];
+    // Saves the blocks of a piece, as frames or, with `--text`, as a text.
+    /** @param {import('./files.js').Entry} entry @param {...string} form */
+    async #home({ name, first, length, kind }, ...form) {
+        const { files, programs } = this.page, words = ['get', ...wordsOf(files.name), '--blocks', String(first), String(length), ...form];
         const { status, out, said } = await programs.ask(words);
         if (status !== 0) return tell('files-status', said, true);
-        takeHome(`${name}.TX`, out);
+        takeHome(`${name}.${ENDS[kind ?? ''] ?? 'DA'}`, out);
     }
 
     // Opens what was rescued as a new volume.
@@ -77,4 +91,15 @@ export class Salvage {
         const { files } = this.page;
         if (this.image) await files.add(`${fileOf(files.name)}-rescued`, this.image, $('rescued').textContent);
     }
+}
+
+// How many pieces of each kind were found.
+/** @param {Found[]} found */
+function toldOf(found) {
+    /** @param {number} count @param {string} one @param {string} many */
+    const some = (count, one, many) => count === 0 ? [] : [count === 1 ? `1 ${one}` : `${count} ${many}`];
+    /** @param {(kind: string) => boolean} is */
+    const count = is => found.filter(it => is(it.kind)).length;
+    const all = [...some(count(it => it === 'TEXT'), 'text', 'texts'), ...some(count(it => !['TEXT', 'DIR'].includes(it)), 'program', 'programs'), ...some(count(it => it === 'DIR'), 'part of a directory', 'parts of directories')];
+    return all.length ? `In its blocks: ${all.join(', ')}` : 'Nothing was found in its blocks';
 }

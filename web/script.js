@@ -18,6 +18,8 @@ export class Script {
         /** @type {Uint8Array[] | null} */
         this.shown = null;
         $('lines').value = FIRST;
+        if (!page.store.notes.has('lines')) page.store.notes.set('lines', FIRST);
+        $('lines').addEventListener('input', () => page.undo.type('lines', 'typing in the script', page.store.notes.get('lines'), $('lines').value));
         for (const id of ids('lines', 'script-saving', 'strict')) keepInput(page.store, id);
         this.owner = new Owner(page, 'script', $('script-follows'), follows => {
             $('lines').readOnly = follows;

@@ -39,7 +39,7 @@ export class Search {
     async go() {
         const { page, page: { files, programs } } = this, name = $('search-name').value.trim(), text = $('search-text').value;
         if (!files.images.length) return tell('search-status', 'There is no volume in the page.', true);
-        const words = [...(name ? [`--find=${name}`] : []), ...(text ? [`--grep=${text}`] : [])];
+        const words = [...(name ? [`--find=${name}`] : []), ...(text ? [`--grep=${text}`] : []), ...($('search-same').checked ? ['--same'] : [])];
         const { status, out, said } = await programs.ask(['index', ...words, '--', ...files.images]), rows = rowsOf(page, textOf(out));
         $('search-found').tBodies[0].replaceChildren(...rows.map(it => this.#row(it)));
         $('search-found').hidden = !rows.length;

@@ -1,11 +1,16 @@
 // The shelf: programs and a disk of the project's own, each one click from running, or one link: `#run=guess`. A link `#source=..` has a text.
 import { $, tell } from './dom.js';
-import { canLive } from './program.js';
+import { ask } from './ask.js';
+import { canLive, joined } from './program.js';
 
 // What is on the disk, with the tape of each.
 const TEXTS = ['hello', 'guess', 'sort', 'lights'];
 // What else runs at one click, or by a link.
 const MORE = ['guess8'];
+// What is worked at the front panel; the others run at the Teletype.
+const AT_PANEL = ['guess', 'sort', 'lights'];
+// Of how many texts a link may be, and of how many bytes these, before it is asked for, and how many bytes the program reads.
+const USUAL = 20, LARGE = 200000, MOST = 16777216;
 
 export class Shelf {
     /** @param {Page} page */
@@ -21,19 +26,33 @@ export class Shelf {
 
     // Does what the address asks for.
     async follow() {
-        const asked = new URLSearchParams(location.hash.slice(1)), { tabs } = this.page;
+        const address = location.hash.slice(1), asked = new URLSearchParams(address), { tabs } = this.page;
         const name = asked.get('run'), source = asked.get('source');
+        if (tabs.isPlace(address)) return;
         if (name !== null) await this.run(name);
+        else if (source === null) this.page.say(`There is no pane ${plainly(address)}.`, true);
         if (source === null) return;
         const parts = [{ name: asked.get('name') ?? '', packed: source }, ...asked.getAll('next').map(it => ({ name: it.split(':')[0], packed: it.split(':')[1] ?? '' }))];
-        /** @type {{ name: string, text: string }[]} */
+        const all = await this.#unpacked(parts);
+        if (all && await this.#open(all, asked.get('dialect') === 'PAL8' ? 'PAL8' : 'PAL III')) tabs.show('source');
+    }
+
+    // The texts of a link, null where one can't be read, or where there is more of them than the user wants.
+    /** @param {{ name: string, packed: string }[]} parts */
+    async #unpacked(parts) {
         const all = [];
-        for (const it of parts) {
-            const text = await unpacked(it.packed).catch(() => null);
-            if (text === null) return this.page.tell('The link has no text that can be read.');
-            all.push({ name: it.name.replace(/[^A-Z0-9]/g, '').slice(0, 6), text });
+        let size = 0, mayBeLarge = false;
+        for (const { name, packed } of parts) {
+            const text = await unpacked(packed, MOST - size).catch(() => null);
+            if (text === null) return this.page.say('The link has no text that can be read, or more than 16777216 bytes of it.', true);
+            size += text.length;
+            all.push({ name: name.replace(/[^A-Z0-9]/g, '').slice(0, 6), text });
+            if (mayBeLarge || (size <= LARGE && parts.length <= USUAL)) continue;
+            const words = `The link has ${parts.length === 1 ? 'a text' : `${parts.length} texts`} of ${size} characters${all.length < parts.length ? ' and more' : ''}. That may take long to be shown.`;
+            if (await ask(words, ['', 'Leave it'], ['open', 'Open it']) !== 'open') return this.page.say('The text of the link was not opened.');
+            mayBeLarge = true;
         }
-        if (await this.#open(all, asked.get('dialect') === 'PAL8' ? 'PAL8' : 'PAL III')) tabs.show('source');
+        return all;
     }
 
     // Opens the texts of a link, the first after those that it goes on in. Whether it is open.
@@ -70,11 +89,13 @@ export class Shelf {
     /** @param {string} name */
     async #take(name) {
         if (name === 'disk') return this.#disk();
-        if (![...TEXTS, ...MORE].includes(name) || (!canLive && (name === 'sort' || name === 'lights'))) return;
+        const all = [...TEXTS, ...MORE, 'disk'];
+        if (!all.includes(name)) return this.page.say(`There is no program ${plainly(name)} here. A link may run ${all.slice(0, -1).join(', ')} or ${all.at(-1)}.`, true);
+        if (!canLive && (name === 'sort' || name === 'lights')) return this.page.say(`This browser can't run ${name}: it needs a Machine that waits for its keys.`, true);
         const { source, machine, teletype, tabs } = this.page;
-        const { owner } = name === 'sort' || name === 'lights' ? machine : teletype;
-        if (!await owner.take() || !await source.takeExample(`${name}.pa`) || !await source.assemble()) return;
-        if (name === 'sort' || name === 'lights') return this.#atPanel(name);
+        const isAtPanel = canLive && AT_PANEL.includes(name), { owner } = isAtPanel ? machine : teletype;
+        if (!await owner.take() || (!isAtPanel && !await teletype.mayBegin()) || !await source.takeExample(`${name}.pa`) || !await source.assemble()) return;
+        if (isAtPanel) return this.#atPanel(name);
         teletype.choose('source');
         tabs.show('teletype');
         await teletype.begin();
@@ -86,9 +107,9 @@ export class Shelf {
         tabs.show('machine');
         if (!source.tape || !await machine.load(source.tape, name)) return;
         machine.list($('listing').textContent, $('symbols').textContent);
-        if (name === 'sort') return tell('machine-status', 'The words to be sorted are at 00240. Sing step makes one step; Cont runs it to its end.');
+        if (name === 'sort') return tell('machine-status', 'The words to be sorted are at 00240. SING STEP makes one step, and CONT runs it to its end.');
         $('speed').value = 'real';
-        await machine.start();
+        machine.start(name === 'guess'); // which ends when the machine stops
     }
 
     // A volume with the texts and their tapes.
@@ -105,7 +126,9 @@ export class Shelf {
         }
         const made = store.files.get('.shelf');
         for (const it of ['.shelf', '.shelf.pa', '.shelf.bn']) store.remove(it);
+        store.gave(made);
         if (made) await files.add('SHELF', made, files.created);
+        this.page.tabs.show('files');
     }
 
     // Copies an address that opens the text anywhere.
@@ -133,8 +156,20 @@ export async function packed(text) {
     return btoa(Array.from(bytes, it => String.fromCharCode(it)).join('')).replaceAll('+', '-').replaceAll('/', '_').replaceAll('=', '');
 }
 
-/** @param {string} it */
-async function unpacked(it) {
-    const bytes = Uint8Array.from(atob(it.replaceAll('-', '+').replaceAll('_', '/')), one => one.charCodeAt(0));
-    return new TextDecoder().decode(await through(bytes, new DecompressionStream('deflate-raw')));
+// The text that is in an address. It fails where that has more than so many bytes.
+/** @param {string} it @param {number} most */
+async function unpacked(it, most) {
+    const bytes = Uint8Array.from(atob(it.replaceAll('-', '+').replaceAll('_', '/')), one => one.charCodeAt(0)), parts = [];
+    const reader = new Blob([bytes]).stream().pipeThrough(new DecompressionStream('deflate-raw')).getReader();
+    let left = most;
+    for (let { done, value } = await reader.read(); !done && value; { done, value } = await reader.read()) {
+        left -= value.length;
+        if (left < 0) throw new RangeError('too long');
+        parts.push(value);
+    }
+    return new TextDecoder().decode(joined(parts));
 }
+
+// A name out of an address, as much of it as a line may have.
+/** @param {string} name */
+function plainly(name) { return name.replace(/[^ -~]/g, '?').slice(0, 20) || 'without a name'; }

@@ -1,12 +1,14 @@
 // The file that is shown beside the directory: as a text, as the listing of its tape, or as source, and what its program does. A source is from where
 // the program starts and has the names of its cells, which are kept with the volume.
-import { $, made, takeHome, tell } from './dom.js';
+import { $, ids, keepInput, made, takeHome, tell } from './dom.js';
 import { bytesOf, textOf } from './program.js';
 import { got, isNamedCore, placeOf, tapeIn } from './tapes.js';
+import { doingOf } from './replay.js';
 import { wordsOf } from './volumes.js';
 
 /** @typedef {import('./files.js').Entry} Entry */
 /** @typedef {'text' | 'tape' | 'source' | 'words' | 'trace' | 'profile'} Form */
+/** @typedef {'text' | 'tape' | 'frames'} Saved */
 /** @type {Record<Form, string>} */
 const WORDS = { text: 'text', tape: 'listing of its tape', source: 'source of its tape', words: 'words of its blocks', trace: 'trace of its first steps', profile: 'count of what runs' };
 // The kinds of files that are no program.
@@ -23,6 +25,7 @@ export class Shown {
     /** @param {Page} page */
     constructor(page) {
         this.page = page;
+        for (const id of ids('shown-keys', 'shown-switches', 'shown-steps')) keepInput(page.store, id);
         for (const it of [$('starts'), $('cell-names')]) it.addEventListener('change', () => this.#changed());
         for (const form of /** @type {const} */ (['trace', 'profile'])) $(`shown-${form}`).addEventListener('click', () => this.entry && this.show(this.entry, form));
     }
@@ -50,11 +53,11 @@ export class Shown {
         this.show(this.entry, this.form === 'text' || this.form === 'tape' || this.form === 'words' ? 'source' : this.form);
     }
 
-    // The source of a file's tape, from its starts and with its names.
-    /** @param {Entry} entry @param {import('./tapes.js').Tape} tape */
-    async source(entry, tape) {
+    // The source of a file's tape, from its starts and with its names, in PAL III or, with `--pal8`, in PAL8.
+    /** @param {Entry} entry @param {import('./tapes.js').Tape} tape @param {...string} how */
+    async source(entry, tape, ...how) {
         const { programs, store } = this.page, { starts, names } = this.hintsOf(entry);
-        const words = ['source', ...(starts.match(/\S+/g) ?? []).flatMap(it => ['--start', it])];
+        const words = ['source', ...how, ...(starts.match(/\S+/g) ?? []).flatMap(it => ['--start', it])];
         if (names.trim() !== '') {
             store.put('.names', bytesOf(names.endsWith('\n') ? names : `${names}\n`));
             words.push('--names', '.names');
@@ -69,11 +72,46 @@ export class Shown {
     /** @param {Entry} entry */
     symbolsOf(entry) { return this.hintsOf(entry).names.replace(/^\s*([0-7]{5})[ \t]+([A-Z][A-Z0-9]*).*$/gm, '$2 $1'); }
 
-    // Shows a file in its best form, by what it holds: a program as source, a text as that, and any other as words.
-    /** @param {Entry} entry */
-    async best(entry) {
+    // The form that shows a file best, by what it holds: a program as source, a text as that, and any other as words.
+    /** @param {Entry} entry @returns {Promise<Form>} */
+    async #bestForm(entry) {
         const { kind } = entry, isProgram = kind ? !OTHERS.includes(kind) : (await tapeIn(this.page, this.#volume, entry)).status === 0;
-        await this.show(entry, isProgram ? 'source' : kind && kind !== 'text' ? 'words' : 'text');
+        return isProgram ? 'source' : kind && kind !== 'text' ? 'words' : 'text';
+    }
+
+    // Shows a file in its best form.
+    /** @param {Entry} entry */
+    async best(entry) { await this.show(entry, await this.#bestForm(entry)); }
+
+    // The form in which a file is saved: a text as one, a BIN tape up to its end, and any other as its frames.
+    /** @param {Entry} entry @returns {Promise<Saved>} */
+    async ownForm(entry) {
+        if (await this.#bestForm(entry) === 'text') return 'text';
+        const isTape = entry.kind ? entry.kind === 'BIN' : (await got(this.page, this.#volume, entry, '--tape')).status === 0;
+        return isTape ? 'tape' : 'frames';
+    }
+
+    // What a file is in a form in which it is saved.
+    /** @param {Entry} entry @param {Saved} form */
+    formOf(entry, form) { return form === 'tape' ? tapeIn(this.page, this.#volume, entry) : got(this.page, this.#volume, entry, ...(form === 'text' ? ['--text'] : [])); }
+
+    // Opens a file in Source: a text, which can be saved back from there, or the source of a program.
+    /** @param {Entry} entry */
+    async edit(entry) {
+        const form = await this.#bestForm(entry), volume = this.#volume;
+        if (form === 'source') return this.editProgram(entry, 'PAL III');
+        if (form === 'words') return tell('files-status', `${entry.name} is neither a text nor a program: Show its words shows what it has.`, true);
+        const { status, out, said } = await got(this.page, volume, entry, '--text');
+        if (status !== 0) return tell('files-status', `${entry.name}: ${said}`, true);
+        await this.page.source.takeFile(entry.name, out, 'PAL III', entry.isByBlocks ? null : volume);
+    }
+
+    // Opens the source of a file's program in Source, in this dialect.
+    /** @param {Entry} entry @param {string} dialect */
+    async editProgram(entry, dialect) {
+        const tape = await tapeIn(this.page, this.#volume, entry), given = tape.status === 0 ? await this.source(entry, tape, ...(dialect === 'PAL8' ? ['--pal8'] : [])) : tape;
+        if (given.status !== 0) return tell('files-status', `${entry.name}: ${given.said}`, true);
+        await this.page.source.takeFile(entry.name, given.out, dialect, null);
     }
 
     // What a form of a file is, as the program gives it.
@@ -89,7 +127,7 @@ export class Shown {
         if (form === 'tape') return programs.ask(['tape'], tape.out);
         const [start] = this.hintsOf(entry).starts.match(/\S+/g) ?? (tape.start ? [tape.start] : []);
         store.put('.shown.bin', tape.out);
-        const answer = await programs.ask([form, '.shown.bin', ...(start ? ['--start', start] : [])]);
+        const answer = await programs.ask([form, '.shown.bin', ...(start ? ['--start', start] : []), ...doingOf('shown')]);
         store.remove('.shown.bin');
         return answer;
     }
@@ -140,9 +178,9 @@ export class Shown {
     }
 
     // Takes a file home under its own name, under which it then comes back.
-    /** @param {Entry} entry @param {'text' | 'tape' | 'frames'} form */
+    /** @param {Entry} entry @param {Saved} form */
     async home(entry, form) {
-        const { status, out, said } = await (form === 'tape' ? tapeIn(this.page, this.#volume, entry) : got(this.page, this.#volume, entry, ...(form === 'text' ? ['--text'] : [])));
+        const { status, out, said } = await this.formOf(entry, form);
         if (status !== 0) return tell('files-status', `${entry.name}: ${said}`, true);
         const { name } = entry;
         takeHome(name, out);

@@ -1,5 +1,5 @@
 // The Source pane: `assemble` over the text, its faults at their lines, its listing and symbols, and where the tape goes.
-import { $, bytesOfFile, ids, made, rove, takeHome, tell } from './dom.js';
+import { $, bytesOfFile, ids, made, replace, rove, takeHome, tell } from './dom.js';
 import { ask } from './ask.js';
 import { encoded, homeOf, isText, shownOf } from './encoding.js';
 import { bytesOf, textOf } from './program.js';
@@ -7,12 +7,20 @@ import { Texts } from './texts.js';
 import { Listing } from './listing.js';
 import { Owner } from './owner.js';
 import { ownerOf } from './store.js';
+import { titleOf } from './volumes.js';
+
+// The file of a volume from which a text was opened, and what that had then.
+/** @typedef {{ volume: string, name: string, was: Uint8Array }} From */
 
 const TAPE = '.source.bin', LISTING = '.source.lst';
+// The options of PAL8, by their boxes.
+const OPTIONS = ids('no-links', 'text-without-zero', 'no-origin', 'stay', 'notes');
 // The examples that are written in PAL8.
 const PAL8 = ['guess8.pa'];
 // How long no key is struck before the text is looked at for faults, in milliseconds.
 const QUIET = 400;
+// How many numbers of lines are ready above and below those in sight.
+const MARGIN = 30;
 
 export class Source {
     /** @param {Page} page */
@@ -20,7 +28,8 @@ export class Source {
         this.page = page;
         /** @type {Map<number, string>} */
         this.faulty = new Map();
-        this.numbered = this.here = 0;
+        this.numbered = '';
+        this.here = 0;
         this.looking = 0;
         this.assembled = '';
         this.wasOld = false;
@@ -33,13 +42,16 @@ export class Source {
         $('text').value = page.store.notes.get('text') ?? '';
         this.#restore();
         for (const id of ids('source-keys', 'text-keys')) rove($(id));
-        for (const id of ids('further', 'dialect', 'source-name')) $(id).addEventListener('change', () => this.#keepOwn());
+        for (const id of [...ids('further', 'dialect', 'source-name'), ...OPTIONS]) $(id).addEventListener('change', () => this.#keepOwn());
         $('text').addEventListener('input', () => this.#edited());
-        $('text').addEventListener('scroll', () => { $('gutter').scrollTop = $('text').scrollTop; });
+        $('text').addEventListener('scroll', () => this.#number());
+        $('source').addEventListener('shown', () => this.#number());
         $('text').addEventListener('keydown', event => this.#key(event));
         $('assemble').addEventListener('click', () => this.assemble());
         $('tape-home').addEventListener('click', () => this.#tapeHome());
         $('text-home').addEventListener('click', () => takeHome(`${this.#name}.PA`, homeOf($('text').value, this.#formOf(this.texts.name))));
+        $('text-back').addEventListener('click', () => this.#back());
+        $('listing-home').addEventListener('click', () => takeHome(`${this.#name}.LS`, this.listed ?? undefined));
         $('to-core').addEventListener('click', () => this.#toCore());
         $('to-teletype').addEventListener('click', () => this.#toTeletype());
         $('to-volume').addEventListener('click', () => this.#toVolume());
@@ -59,6 +71,7 @@ export class Source {
     #close(follows) {
         $('text').readOnly = $('source-name').readOnly = $('further').readOnly = follows;
         for (const id of ids('source-file', 'example', 'texts', 'text-new', 'text-drop', 'dialect')) $(id).disabled = follows;
+        this.#closeOptions();
     }
 
     // Shows the text as the tab that has it sends it.
@@ -69,8 +82,9 @@ export class Source {
         if (note === 'source-name') this.texts.follow();
         this.#showOwn();
         if (note !== 'text' || value === $('text').value) return;
-        $('text').value = value;
+        replace($('text'), value);
         this.#changed();
+        this.#lookSoon();
     }
 
     // The name of the text, or what stands for it where it has none.
@@ -89,7 +103,13 @@ export class Source {
     get #isPal8() { return $('dialect').value === 'PAL8'; }
 
     // The word that chooses the dialect of the text, if it isn't PAL III.
-    get #dialect() { return this.#isPal8 ? ['--pal8'] : []; }
+    get #dialect() { return this.#isPal8 ? ['--pal8', ...this.#options] : []; }
+
+    // The options of PAL8 that are chosen.
+    get #options() { return OPTIONS.filter(id => $(id).checked).map(id => $(id).value); }
+
+    // The listing of the tape, as the program wrote it.
+    get listed() { return this.page.store.files.get(LISTING) ?? null; }
 
     // All that the tape is assembled of.
     get #whole() { return [...this.#dialect, ...this.parts.map(it => it.text)].join('\f'); }
@@ -102,7 +122,13 @@ export class Source {
         const { notes } = this.page.store;
         $('further').value = notes.get(`further ${this.texts.name}`) ?? '';
         $('dialect').value = notes.get(`dialect ${this.texts.name}`) ?? 'PAL III';
+        const options = notes.get(`options ${this.texts.name}`) ?? '';
+        for (const id of OPTIONS) $(id).checked = options.split(' ').includes($(id).value);
+        this.#closeOptions();
     }
+
+    // The options are of PAL8 alone.
+    #closeOptions() { for (const id of OPTIONS) $(id).disabled = this.owner?.follows === true || !this.#isPal8; }
 
     // Gives the open text a dialect, and the names of those that it goes on in.
     /** @param {string} dialect @param {string} further */
@@ -114,10 +140,11 @@ export class Source {
     // Keeps with the open text the names of those that it goes on in, and its dialect.
     #keepOwn() {
         const { store } = this.page;
-        for (const [what, value, usual] of [['further', $('further').value, ''], ['dialect', $('dialect').value, 'PAL III']]) {
+        for (const [what, value, usual] of [['further', $('further').value, ''], ['dialect', $('dialect').value, 'PAL III'], ['options', this.#options.join(' '), '']]) {
             const key = `${what} ${this.texts.name}`;
             if (value !== usual || store.notes.has(key)) store.note(key, value);
         }
+        this.#closeOptions();
         this.#changed();
         this.#lookSoon();
     }
@@ -154,6 +181,7 @@ export class Source {
     #opens(text) {
         $('text').value = text;
         this.#showOwn();
+        this.#buttons();
         $('text').scrollTop = 0;
         tell('source-status', '');
         this.#changed();
@@ -164,13 +192,16 @@ export class Source {
         const { store } = this.page, kept = store.notes.get('tape');
         if (!kept || store.files.has(TAPE)) return;
         store.files.set(TAPE, kept.tape);
+        if (kept.listing) store.files.set(LISTING, kept.listing);
         this.assembled = kept.text;
         this.#show(kept.listing);
         this.#age();
     }
 
     #edited() {
-        this.page.store.note('text', $('text').value);
+        const { store, undo } = this.page, { name } = this.texts;
+        undo.type(`text ${name}`, `typing in ${name || 'the text'}`, store.notes.get('text') ?? '', $('text').value);
+        store.note('text', $('text').value);
         this.#changed();
         this.#lookSoon();
     }
@@ -234,24 +265,29 @@ export class Source {
         this.#edited();
     }
 
-    // The numbers of the lines, with a mark at those that have a fault.
+    // The numbers of the lines that are in sight, with a mark at those that have a fault. So a key costs the same in a text of any length.
     #number() {
-        const count = $('text').value.split('\n').length;
-        if (this.numbered === count && !this.here && !this.faulty.size && !$('gutter').querySelector('.bad, .at')) return;
-        this.numbered = count;
-        const marks = [...new Set([...this.faulty.keys(), this.here])].filter(it => it > 0 && it <= count).sort((a, b) => a - b);
-        let last = 0;
-        const parts = marks.flatMap(it => {
-            const before = numbersOf(last + 1, it), code = this.faulty.get(it);
-            last = it;
-            return [before, made('span', { class: code === undefined ? 'at' : 'bad' }, `${code === undefined ? '' : `${code} `}${it}\n`)];
-        });
-        $('gutter').replaceChildren(...parts, numbersOf(last + 1, count + 1), '\n\n\n');
-        $('gutter').scrollTop = $('text').scrollTop;
+        const text = $('text'), height = parseFloat(getComputedStyle(text).lineHeight), lines = text.value.split('\n').length;
+        const first = Math.max(1, Math.floor(text.scrollTop / height) - MARGIN), last = Math.min(lines, first + Math.ceil(text.clientHeight / height) + 2 * MARGIN);
+        const marks = [...new Set([...this.faulty.keys(), this.here])].filter(it => it >= first && it <= last).sort((a, b) => a - b);
+        const shown = `${first} ${last} ${marks.map(it => `${it} ${this.faulty.get(it)}`)}`;
+        if (this.numbered !== shown) {
+            this.numbered = shown;
+            const parts = marks.flatMap((it, k) => {
+                const code = this.faulty.get(it);
+                return [numbersOf(k ? marks[k - 1] + 1 : first, it), made('span', { class: code === undefined ? 'at' : 'bad' }, `${code === undefined ? '' : `${code} `}${it}\n`)];
+            });
+            $('gutter').replaceChildren(...parts, numbersOf((marks.at(-1) ?? first - 1) + 1, last + 1), '\n\n\n');
+        }
+        $('gutter').scrollTop = text.scrollTop - (first - 1) * height;
     }
 
     #buttons() {
         for (const id of ids('tape-home', 'to-core', 'to-teletype')) $(id).disabled = this.tape === null;
+        $('listing-home').disabled = this.listed === null;
+        const from = this.#from;
+        $('text-back').disabled = from === null;
+        $('text-back').title = from ? `writes ${from.name} of ${titleOf(from.volume)}` : 'for a text that was opened from a volume';
         $('to-volume').disabled = this.tape === null || this.page.files.name === '';
     }
 
@@ -262,13 +298,12 @@ export class Source {
         this.#buttons();
         const paths = this.#laid('source');
         if (!paths) return false;
-        const listing = this.#isPal8 ? [] : ['--list', LISTING, '--cross'];
-        const { status, said } = await programs.ask(['assemble', ...this.#dialect, ...paths, '--output', TAPE, ...listing]);
+        const { status, said } = await programs.ask(['assemble', ...this.#dialect, ...paths, '--output', TAPE, '--list', LISTING, '--cross']);
         this.assembled = text;
         this.#show(store.files.get(LISTING));
         store.note('tape', status === 0 ? { text, tape: this.tape, listing: store.files.get(LISTING) } : null);
         this.#tellFaults(status === 0 ? '' : said);
-        tell('source-status', status === 0 ? `assembled: a tape of ${this.tape?.length} frames${this.#isPal8 ? '; PAL8 has no listing yet' : ''}` : this.#refusal(said), status !== 0);
+        tell('source-status', status === 0 ? `assembled: a tape of ${this.tape?.length} frames\n${said}` : this.#refusal(said), status !== 0);
         this.#buttons();
         this.#age();
         store.dispatchEvent(new Event('tape'));
@@ -282,13 +317,12 @@ export class Source {
         return (said.split('\n').find(it => it.startsWith('? ')) ?? said) + hint;
     }
 
-    // Splits what `--list` writes: the lines, and after the last empty line the symbols.
+    // Shows what `--list` writes.
     /** @param {Uint8Array | null | undefined} listing */
     #show(listing) {
-        const text = listing ? textOf(listing).replaceAll('\r', '') : '';
-        const split = /\n\n((?:[A-Z][A-Z0-9]* +[0-7]{4}[ \d:]*\n)+)$/.exec(text);
-        this.listing.show(split ? text.slice(0, split.index) : text);
-        $('symbols').textContent = split ? split[1] : '';
+        const { text, symbols } = splitListing(listing);
+        this.listing.show(text);
+        $('symbols').textContent = symbols;
     }
 
     // Faults as the program prints them: NAME:LINE:COLUMN: CODE: WORDS.
@@ -365,6 +399,29 @@ export class Source {
         tell('source-status', told.join(''), isBad);
     }
 
+    // The file of a volume from which the open text came, null for none.
+    /** @returns {From | null} */
+    get #from() { return this.page.store.notes.get(`from ${this.texts.name}`) ?? null; }
+
+    // Saves the text to the file of a volume from which it came.
+    async #back() {
+        const { store, files } = this.page, from = this.#from, { name } = this.texts, bytes = homeOf($('text').value, this.#formOf(name));
+        if (!from || this.follows) return;
+        const { status, out, said } = await files.putBack(from, bytes);
+        if (status === 0) store.note(`from ${name}`, { ...from, was: bytes });
+        tell('source-status', textOf(out) + said, status !== 0);
+    }
+
+    // Opens a text of a file of a volume, in this dialect. With the volume it can be saved back.
+    /** @param {string} name @param {Uint8Array} bytes @param {string} dialect @param {string | null} volume */
+    async takeFile(name, bytes, dialect, volume) {
+        if (!await this.take(name, bytes)) return;
+        this.setOwn(dialect, '');
+        if (volume !== null) this.page.store.note(`from ${this.texts.name}`, { volume, name, was: bytes });
+        this.#buttons();
+        this.page.tabs.show('source');
+    }
+
     /** @param {HTMLInputElement} input */
     async #opened(input) {
         const [file] = input.files ?? [];
@@ -373,9 +430,9 @@ export class Source {
     }
 
     // Opens a text of the host as a further one. What is plainly no text is asked for. Whether it is open.
-    /** @param {string} path @param {Uint8Array} bytes */
-    async take(path, bytes) {
-        if (!isText(bytes) && await ask(`${path} is no image and no tape, and has bytes that a text hasn't.`, ['', 'Leave it'], ['text', 'Open it as a text']) !== 'text') {
+    /** @param {string} path @param {Uint8Array} bytes @param {boolean} [isSure] */
+    async take(path, bytes, isSure = false) {
+        if (!isSure && !isText(bytes) && await ask(`${path} is no image and no tape, and has bytes that a text hasn't.`, ['', 'Leave it'], ['text', 'Open it as a text']) !== 'text') {
             this.page.say(`${path} was not opened: it is no image, no tape, and plainly no text.`, true);
             return false;
         }
@@ -400,10 +457,20 @@ export class Source {
     /** @param {string} name */
     async takeExample(name) {
         const answer = await fetch(`examples/${name}`);
-        if (!answer.ok || !await this.take(name, new Uint8Array(await answer.arrayBuffer()))) return false;
+        if (!answer.ok) return false;
+        const bytes = new Uint8Array(await answer.arrayBuffer());
+        this.page.store.gave(textOf(bytes));
+        if (!await this.take(name, bytes)) return false;
         this.setOwn(PAL8.includes(name) ? 'PAL8' : 'PAL III', '');
         return true;
     }
+}
+
+// What `--list` writes, as its lines, and after the last empty line the symbols.
+/** @param {Uint8Array | null | undefined} listing */
+export function splitListing(listing) {
+    const text = listing ? textOf(listing).replaceAll('\r', '') : '', split = /\n\n((?:[A-Z][A-Z0-9]* +[0-7]{4}[ \d:#]*\n)+)$/.exec(text);
+    return split ? { text: text.slice(0, split.index), symbols: split[1] } : { text, symbols: '' };
 }
 
 // The numbers of lines up to another one, a line each.

@@ -3,8 +3,8 @@
 // by the tab that has the claim alone. Any other note is of the tab. The text that is open is the note `text`; others are notes `text NAME`.
 const SLOTS = /** @type {const} */ (['files', 'notes']), OWN = 'geivottu ';
 /** @type {[RegExp, string][]} */
-const OWNERS = [[/^(text|source-name|tape)$|^(text|further|dialect|form) /, 'text'], [/^(lines|script-saving|strict)$/, 'script'], [/^(paper|reader|tty-going)$/, 'teletype'],
-    [/^(machine|printed|access|steps|going|loaded|address|switches|breaks|listing|names|console)$/, 'machine']];
+const OWNERS = [[/^(text|source-name|tape)$|^(text|further|dialect|form|options|from) /, 'text'], [/^(lines|script-saving|strict)$/, 'script'], [/^(paper|reader|tty-(going|run|reads|tape|own))$/, 'teletype'],
+    [/^(machine|printed|access|steps|going|loaded|address|switches|fields|breaks|listing|names|console)$/, 'machine']];
 
 // The claim that stands for a note, null for none.
 /** @param {string} key */
@@ -14,7 +14,7 @@ export function ownerOf(key) {
     return volume === undefined ? OWNERS.find(([pattern]) => pattern.test(key))?.[1] ?? null : `volume ${volume}`;
 }
 
-const isShared = (/** @type {string} */ key) => key.startsWith('kind ') || ![null, 'history'].includes(ownerOf(key));
+const isShared = (/** @type {string} */ key) => /^(kind|lenient) /.test(key) || ![null, 'history'].includes(ownerOf(key));
 // Whether a note is a user's own work.
 const isWork = (/** @type {string} */ key) => ['text', 'lines'].includes(key) || key.startsWith('text ');
 
@@ -31,6 +31,8 @@ export class Store extends EventTarget {
     #failed = new Map();
     /** @type {Map<string, Kept>} */
     #home = new Map();
+    /** @type {Set<Kept>} */
+    #own = new Set();
     #isAsked = false;
     #tabs = new BroadcastChannel('geivottu');
 
@@ -154,11 +156,21 @@ export class Store extends EventTarget {
         this.dispatchEvent(new CustomEvent('note', { detail: `text ${name}` }));
     }
 
-    // A file, or a text that isn't open, by the slot and key of a change.
+    // The note that a key of a change stands for: a text's is another while it is open.
+    /** @param {string} key */
+    #noteOf(key) { return key === `text ${this.notes.get('source-name') ?? ''}` ? 'text' : key; }
+
+    // A file, a text or another note, by the slot and key of a change.
+    /** @param {Slot} slot @param {string} key @returns {Kept} */
+    valueOf(slot, key) { return slot === 'files' ? this.files.get(key) : this.notes.get(this.#noteOf(key)); }
+
     /** @param {Slot} slot @param {string} key @param {any} value */
     set(slot, key, value) {
-        if (slot === 'notes') this.setText(key.slice(5), value);
-        else value === undefined ? this.remove(key) : this.put(key, value);
+        const note = this.#noteOf(key);
+        if (slot === 'files') return value === undefined ? this.remove(key) : this.put(key, value);
+        if (note.startsWith('text ')) return this.setText(key.slice(5), value);
+        this.note(note, value);
+        this.dispatchEvent(new CustomEvent('note', { detail: note }));
     }
 
     // Reports a change that a user may want back: of a file that is kept, and of a text.
@@ -200,8 +212,12 @@ export class Store extends EventTarget {
     get unkept() {
         return [...this.#failed].map(([id, [slot, key]]) => ({ id, slot, key, value: this[slot].get(key) }))
             .map(it => ({ ...it, isHome: this.#home.get(it.id) === it.value }))
-            .filter(({ slot, key, value }) => isOwn(slot, key, value));
+            .filter(({ slot, key, value }) => isOwn(slot, key, value) && !this.#own.has(value));
     }
+
+    // Takes a value as the page's own, such as an example: no one loses it.
+    /** @param {Kept} value */
+    gave(value) { this.#own.add(value); }
 
     /** @param {string} name */
     isUnkept(name) { return this.#failed.has(`files ${name}`) && this.files.has(name); }
@@ -215,25 +231,38 @@ export class Store extends EventTarget {
     // Once what was put is in the browser's store.
     settled() { return this.#written; }
 
-    // Writes what is due, and again what failed before: removals first, which may make room.
+    // Writes what is due as one, so that the store never has some of it alone. What it doesn't take as one, and what failed before, is written apart:
+    // removals first, which may make room.
     async #write() {
         if (!this.#base || !this.#due.size) return;
-        const due = [...new Map([...this.#failed, ...this.#due])].sort(([, [a, b]], [, [c, d]]) => Number(this[a].has(b)) - Number(this[c].has(d)));
+        const due = [...this.#due].filter(([id]) => !this.#failed.has(id)), again = [...new Map([...this.#failed, ...this.#due])].filter(([id]) => this.#failed.has(id));
         this.#due.clear();
-        const isBad = await Promise.all(due.map(([, [slot, key]]) => this.#hasFailed(slot, key, this[slot].get(key))));
-        due.forEach(([id, entry], k) => isBad[k] ? this.#failed.set(id, entry) : this.#failed.delete(id));
+        const isWhole = this.#hasFailed(due.map(([, it]) => it)), apart = again.map(it => this.#writeApart(it));
+        if (await isWhole) for (const it of due.sort(([, a], [, b]) => Number(this.#isThere(a)) - Number(this.#isThere(b)))) await this.#writeApart(it);
+        await Promise.all(apart);
         this.dispatchEvent(new Event('kept'));
     }
 
-    // Writes one value, or removes it where there is none, apart from others. Whether that failed.
-    /** @param {Slot} slot @param {string} key @param {any} value */
-    #hasFailed(slot, key, value) {
+    /** @param {[Slot, string]} entry */
+    #isThere([slot, key]) { return this[slot].has(key); }
+
+    // Writes one value apart from others, and notes whether that failed.
+    /** @param {[string, [Slot, string]]} entry */
+    async #writeApart([id, entry]) { await this.#hasFailed([entry]) ? this.#failed.set(id, entry) : this.#failed.delete(id); }
+
+    // Writes values as one, or removes those that are none. Whether that failed.
+    /** @param {[Slot, string][]} entries @returns {Promise<boolean>} */
+    #hasFailed(entries) {
         return new Promise(go => {
+            if (!entries.length) return go(false);
             try {
-                const writing = /** @type {IDBDatabase} */ (this.#base).transaction(slot, 'readwrite'), all = writing.objectStore(slot);
+                const writing = /** @type {IDBDatabase} */ (this.#base).transaction(SLOTS, 'readwrite');
                 writing.oncomplete = () => go(false);
                 writing.onerror = writing.onabort = () => go(true);
-                value === undefined ? all.delete(key) : all.put(value, key);
+                for (const [slot, key] of entries) {
+                    const value = this[slot].get(key), all = writing.objectStore(slot);
+                    value === undefined ? all.delete(key) : all.put(value, key);
+                }
                 writing.commit?.();
             } catch {
                 go(true);

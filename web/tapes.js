@@ -38,10 +38,25 @@ export function got({ programs }, volume, entry, ...form) { return programs.ask(
 export async function tapeIn(page, volume, entry) {
     if (isCore(entry)) {
         const image = await got(page, volume, entry, '--bin');
-        return { ...image, start: /^START ([0-7]{5})$/m.exec(image.said)?.[1] };
+        return { ...image, start: startOf(image) };
     }
     const asked = entry.isByBlocks ? null : await got(page, volume, entry, '--tape');
     if (asked?.status === 0) return asked;
-    const frames = await got(page, volume, entry), tape = frames.status === 0 ? await tapeOf(page, frames.out) : frames;
+    const frames = await got(page, volume, entry), tape = frames.status !== 0 ? frames : entry.kind?.startsWith('core') ? await coreOf(page, frames.out) : await tapeOf(page, frames.out);
     return tape.status === 0 || !asked ? tape : asked;
 }
+
+// The BIN tape of a core image that is frames: of a file of them, on a volume that is made for it alone.
+/** @param {Page} page @param {Uint8Array} frames @returns {Promise<Tape>} */
+async function coreOf({ programs, store }, frames) {
+    const at = '.core-image';
+    await programs.ask(['create', at, '4095']);
+    await programs.ask(['put', at, '-', '--as', 'IMAGE.SV'], frames);
+    const image = await programs.ask(['get', at, 'IMAGE.SV', '--bin']);
+    store.remove(at);
+    return { ...image, start: startOf(image) };
+}
+
+// Where a core image starts, as the program says.
+/** @param {Answer} image */
+function startOf({ said }) { return /^START ([0-7]{5})$/m.exec(said)?.[1]; }

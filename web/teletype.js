@@ -1,8 +1,10 @@
 // The Teletype pane: `teletype --live`, whose keys are struck at the paper, in a line, or by the tape reader.
 import { $, bytesOfFile, ids, keepInput, made, tell } from './dom.js';
+import { ask } from './ask.js';
 import { Owner } from './owner.js';
 import { canLive, textOf } from './program.js';
 import { Paper, keyOf } from './paper.js';
+import { Reads } from './reads.js';
 import { got, isNamedCore, placeOf, tapeIn, tapeOf } from './tapes.js';
 import { titleOf, wordsOf } from './volumes.js';
 
@@ -14,43 +16,103 @@ export class Teletype {
         this.run = null;
         this.isBegun = false;
         /** @type {string | null} */
-        this.own = null;
-        this.paper = new Paper($('paper'), { shown: count => this.run?.show(count), kept: text => page.store.note('paper', text), sound: page.sound });
+        this.own = page.store.notes.get('tty-own')?.name ?? null;
+        if (this.own) page.store.put('.tape.bin', page.store.notes.get('tty-own').tape);
+        this.reads = new Reads(page.store);
+        // the program is kept with what it has printed
+        this.paper = new Paper($('paper'), { shown: count => this.#shown(count), kept: text => { page.store.note('paper', text); if (this.isBegun) this.reads.keep(); }, sound: page.sound });
         this.paper.restore(page.store.notes.get('paper') ?? '');
         for (const id of ids('tty-start', 'tty-switches', 'pace', 'capitals', 'reader')) keepInput(page.store, id);
         this.owner = new Owner(page, 'teletype', $('tty-follows'), follows => this.#close(follows));
         page.store.addEventListener('note', ({ detail }) => detail === 'paper' && this.paper.replace(page.store.notes.get('paper') ?? ''));
-        page.store.addEventListener('leave', () => this.paper.keep());
+        page.store.addEventListener('leave', () => this.#keep());
         this.#paces();
         $('pace').addEventListener('change', () => this.#paces());
         $('tty-run').addEventListener('click', () => this.begin());
         $('tty-stop').addEventListener('click', () => this.stop());
-        $('tear').addEventListener('click', () => this.paper.tear());
+        $('tear').addEventListener('click', () => this.#tear());
         $('copy').addEventListener('click', () => this.#copy());
         $('paper').addEventListener('keydown', event => this.#key(event));
         $('paper').addEventListener('paste', event => this.strike(event.clipboardData?.getData('text') ?? ''));
         $('keys').addEventListener('submit', event => this.#line(event));
         $('read').addEventListener('click', () => this.strike($('reader').value));
+        $('tape').addEventListener('change', () => page.store.note('tty-tape', $('tape').value));
         $('tape-file').addEventListener('change', () => this.#opened($('tape-file')));
         page.store.addEventListener('volume', () => this.#list());
         page.store.addEventListener('tape', () => this.#list());
         this.#list();
     }
 
-    // Closes what works it where another tab has it. A program that ran when the page was left runs no more, and one that another tab takes neither.
+    // Closes what works it where another tab has it. A program that ran when the page was left goes on, and one that another tab takes does so there.
     /** @param {boolean} follows */
     #close(follows) {
         $('reader').readOnly = follows;
         if (follows) this.stop();
-        else if (this.page.store.notes.get('tty-going')) this.#ended(1, 'The program ended as the page was left, and waits for no key. Run starts it from its beginning.');
+        else if (canLive && this.page.store.notes.get('tty-going')) this.#goOn();
         this.#buttons();
+    }
+
+    // So many further characters are on the paper.
+    /** @param {number} count */
+    #shown(count) {
+        this.reads.past.printed += count;
+        this.run?.show(count);
+    }
+
+    // Has the page keep the paper, and the program as it is.
+    #keep() {
+        this.paper.keep();
+        if (this.isBegun) this.reads.keep();
+    }
+
+    // Has the program go on that ran when the page was left: a new run gets what that one has read, and what it printed is left out.
+    async #goOn() {
+        const words = this.reads.goOn();
+        if (!words || this.isBegun) return;
+        this.isBegun = true;
+        const { printed, unread } = this.reads.past;
+        await this.#begin(words, printed);
+        this.run?.say(unread);
+    }
+
+    // Begins a run whose first characters, so many, are on the paper.
+    /** @param {string[]} words @param {number} [printed] */
+    async #begin(words, printed = 0) {
+        let said = '', left = printed;
+        /** @type {How} */
+        const how = {
+            heard: (bytes, reads, quiet) => {
+                const known = Math.min(left, bytes.length);
+                left -= known;
+                this.reads.see(reads, quiet);
+                if (known) this.run?.show(known);
+                if (known < bytes.length) this.paper.print(bytes.subarray(known));
+            },
+            said: bytes => { said += textOf(bytes); },
+            ended: status => this.#ended(status, said),
+            read: (quiet, keys) => this.reads.read(quiet, keys),
+            room: 4096, patience: 16, again: this.reads.again,
+        };
+        tell('tty-status', 'running');
+        this.run = await this.page.programs.begin(words, how);
+        this.page.store.note('tty-going', true);
+        this.#buttons();
+    }
+
+    // Takes the paper away; Undo brings it back.
+    #tear() {
+        const { store, undo } = this.page;
+        this.paper.keep();
+        undo.type('paper', 'tearing the paper off', store.notes.get('paper') ?? '', '');
+        undo.endTyping();
+        this.paper.tear();
     }
 
     #paces() { this.paper.pace = $('pace').value === 'real' ? 10 : null; }
 
     // The tapes that there are: that of the source, one of the host, and files of the volume.
     #list() {
-        const chosen = $('tape').value, { files, source } = this.page;
+        const { files, source, store } = this.page, chosen = $('tape').value || store.notes.get('tty-tape') || '';
         /** @type {HTMLElement[]} */
         const rows = [made('option', { value: '' }, 'choose a tape')];
         if (source?.tape) rows.push(made('option', { value: 'source' }, source.isOld ? 'the source\'s, old' : 'the source\'s'));
@@ -64,6 +126,7 @@ export class Teletype {
 
     /** @param {string} tape */
     choose(tape) {
+        this.page.store.note('tty-tape', tape);
         this.#list();
         $('tape').value = tape;
     }
@@ -80,6 +143,7 @@ export class Teletype {
     async take(name, tape) {
         const { status, out } = await tapeOf(this.page, tape);
         this.page.store.put('.tape.bin', status === 0 ? out : tape);
+        this.page.store.note('tty-own', { name, tape: status === 0 ? out : tape });
         this.own = name;
         this.choose('own');
         this.page.tabs.show('teletype');
@@ -109,6 +173,13 @@ export class Teletype {
         return ['.rim.bin', ...(start && !$('tty-start').value.trim() ? ['--start', start] : [])];
     }
 
+    // Whether another program may run: where one does the user is asked, and it is stopped.
+    async mayBegin() {
+        if (!this.isBegun) return true;
+        if (await ask('A program runs at the Teletype.', ['', 'Leave it'], ['stop', 'Stop it']) === 'stop') this.stop();
+        return !this.isBegun;
+    }
+
     async begin() {
         if (!$('tape').value) return tell('tty-status', 'Which tape?', true);
         if (this.isBegun || this.owner?.follows) return;
@@ -117,26 +188,16 @@ export class Teletype {
         if ($('tape').value === 'source' && !await this.page.source.renew())
             return this.#ended(1, `The source has no tape: ${$('source-status').textContent}`);
         const words = this.#words(await this.#madeTape());
-        if (!canLive) words.splice(1, 1);
-        let said = '';
-        /** @type {How} */
-        const how = {
-            heard: bytes => this.paper.print(bytes),
-            said: bytes => { said += textOf(bytes); },
-            ended: status => this.#ended(status, said),
-            room: 4096, patience: 16,
-        };
-        tell('tty-status', 'running');
-        if (!canLive) return this.#whole(words);
-        this.run = await this.page.programs.begin(words, how);
-        this.page.store.note('tty-going', true);
-        this.#buttons();
+        if (!canLive) return this.#whole(words.filter(it => it !== '--live'));
+        this.reads.begin(words);
+        await this.#begin(words);
         $('paper').focus();
     }
 
     // Where nothing can wait, the keys are what the tape reader holds.
     /** @param {string[]} words */
     async #whole(words) {
+        tell('tty-status', 'running');
         const { status, out, said } = await this.page.programs.ask(words, $('reader').value);
         this.paper.print(out);
         this.#ended(status, said);
@@ -147,6 +208,7 @@ export class Teletype {
         this.run = null;
         this.isBegun = false;
         this.page.store.note('tty-going', false);
+        this.reads.end();
         tell('tty-status', said || (status === null ? 'stopped' : `status ${status}`), status !== 0 && status !== null);
         this.#buttons();
     }
@@ -168,7 +230,11 @@ export class Teletype {
     strike(text) {
         const keys = $('capitals').checked ? text.toUpperCase() : text;
         if (!this.run) tell('tty-status', 'Nothing runs here that takes keys. Run starts the tape.', true);
-        this.run?.say(Uint8Array.from(keys.replaceAll('\r\n', '\n'), it => it.charCodeAt(0) & 0o377));
+        const bytes = Uint8Array.from(keys.replaceAll('\r\n', '\n'), it => it.charCodeAt(0) & 0o377);
+        if (!this.run) return;
+        this.reads.strike(bytes);
+        this.#keep();
+        this.run.say(bytes);
     }
 
     /** @param {KeyboardEvent} event */

@@ -3,7 +3,7 @@ import { $, made, tell } from './dom.js';
 import { ask } from './ask.js';
 
 // What is kept with a text, by its name.
-const OWN = ['further', 'dialect', 'form'];
+const OWN = ['further', 'dialect', 'form', 'options', 'from'];
 
 export class Texts extends EventTarget {
     /** @param {Page} page */
@@ -46,6 +46,7 @@ export class Texts extends EventTarget {
         const name = this.name || this.#free('TEXT');
         store.note(`text ${name}`, text);
         if (this.name === '') this.#moveOwn('', name);
+        if (this.name === '') this.page.undo.rename('text ', `text ${name}`);
     }
 
     // Keeps under a text's new name what is kept with it.
@@ -111,7 +112,11 @@ export class Texts extends EventTarget {
 
     // The open text gets the name that was typed, unless another has it.
     #rename() {
-        const { store } = this.page, old = this.name, name = $('source-name').value.trim();
+        const { store } = this.page, old = this.name, name = $('source-name').value.trim().toUpperCase();
+        if (!/^[A-Z0-9]{0,6}$/.test(name)) {
+            $('source-name').value = old;
+            return tell('source-status', 'A text\'s name has at most six letters or digits.', true);
+        }
         if (name !== '' && name !== old && this.others.includes(name)) {
             $('source-name').value = old;
             return tell('source-status', `There is another text ${name}: open that one, or remove it first.`, true);
@@ -120,8 +125,16 @@ export class Texts extends EventTarget {
         this.name = name;
         store.note('source-name', name);
         if (old !== name) this.#moveOwn(old, name);
+        if (old !== name) this.page.undo.rename(`text ${old}`, `text ${name}`);
         if (old !== name && store.notes.has(`text ${old}`)) store.forget(`text ${old}`);
         this.list();
+    }
+
+    // Lays the open text aside, so that it may be taken away.
+    leave() {
+        const [next] = this.others;
+        this.#close();
+        next === undefined ? this.#show('', '') : this.#show(next, this.page.store.notes.get(`text ${next}`));
     }
 
     // Takes the open text away; Undo brings it back.
@@ -129,6 +142,7 @@ export class Texts extends EventTarget {
         const { store } = this.page, text = store.notes.get('text') ?? '', name = this.name || this.#free('TEXT');
         if (text.trim() !== '') {
             store.note(`text ${name}`, text);
+            if (this.name === '') this.page.undo.rename('text ', `text ${name}`);
             this.page.undo.begin(`text ${name}`, `the removal of the text ${name}`);
             store.setText(name, undefined);
             this.page.undo.end(`text ${name}`);

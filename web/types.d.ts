@@ -13,7 +13,7 @@ interface Registers {
 interface Change { slot: Slot; key: string; before: Kept; after: Kept }
 interface Part { at: number; old: Uint8Array; fresh: Uint8Array }
 interface Step {
-    id: number; slot: Slot; key: string; words: string; isText: boolean; size: number;
+    id: number; slot: Slot; key: string; words: string; isText: boolean; isTyped?: boolean; size: number;
     was?: Uint8Array | null; is?: Uint8Array | null; parts?: Part[]; lengths?: [number, number];
 }
 
@@ -22,14 +22,15 @@ interface Claim { has: boolean; leave: () => void; known: Promise<void> }
 
 // How a run's output is taken, and how it ended.
 interface How {
-    heard?: (bytes: Uint8Array) => void; said?: (bytes: Uint8Array) => void; ended?: (status: number | null) => void;
+    heard?: (bytes: Uint8Array, reads: number, quiet: number) => void; said?: (bytes: Uint8Array) => void; ended?: (status: number | null) => void;
     input?: Uint8Array | null; terminal?: boolean; room?: number; patience?: number;
+    again?: [number, Uint8Array][]; read?: (quiet: number, bytes: Uint8Array) => void;
 }
 interface Answer { status: number | null; out: Uint8Array; said: string }
 
 // What the keys of the panel do.
 interface Doings {
-    switches: (word: number) => void; load: () => void; examine: () => void; deposit: () => void; start: () => void; stop: () => void; go: () => void;
+    switches: (word: number) => void; fields: (word: number) => void; load: () => void; examine: () => void; deposit: () => void; start: (isByPointer: boolean) => void; stop: () => void; go: () => void;
     step: () => void;
 }
 

@@ -1,8 +1,11 @@
-// What brings back what a change of a volume, of a text that isn't open, or of the machine has taken away. Of each change of a volume or a text it keeps
-// the bytes that differ, as they were and as they became; of one of the machine, the whole of it before and after. The page keeps all of it.
+// What brings back what a change of a volume, of a text, of the script, of the paper or of the machine has taken away. Of a change of the machine it
+// keeps the whole of it before and after, of any other the bytes that differ. What is typed is one change until no key is struck for a while. The page
+// keeps all of it, and of what was typed and of all else as many changes.
 import { bytesOf } from './program.js';
+import { laid, stepOf } from './steps.js';
 
-const BLOCK = 512, MOST = 50, ROOM = 96 << 20;
+// How many changes there are of each, how many bytes they may have, how long no key is struck, and how long what is only added may be as one change.
+const MOST = 50, ROOM = 96 << 20, QUIET = 1000, LONGEST = 2000;
 
 export class Undo extends EventTarget {
     /** @type {Step[]} */
@@ -13,6 +16,11 @@ export class Undo extends EventTarget {
     #open = new Map();
     #isOwn = false;
     #last = 0;
+    // What is typed, and the machine as it was before what is done to it now.
+    /** @type {{ key: string, words: string, before: string, after: string, timer: number } | null} */
+    #typed = null;
+    /** @type {{ words: string, before: string, step: Step | null } | null} */
+    #worked = null;
     // What gives the machine as it is, and brings back another.
     /** @type {{ get: () => string, set: (state: string) => Promise<void> }} */
     machine = { get: () => '', set: async () => {} };
@@ -30,8 +38,10 @@ export class Undo extends EventTarget {
         [this.#past, this.#future, this.#last] = [steps(past), steps(future), last];
     }
 
-    // What a session has changed so far is a change, as the page is left.
+    // What was typed, and what a session or a load has changed so far, is a change, as the page is left.
     #endOpen() {
+        this.endTyping();
+        this.#noteMachine();
         for (const [id, { slot, words }] of [...this.#open]) {
             if (!slot) continue;
             this.end(id);
@@ -47,18 +57,57 @@ export class Undo extends EventTarget {
         this.dispatchEvent(new Event('change'));
     }
 
-    // What the work does to the machine is one change.
-    /** @param {string} words @param {() => Promise<T>} work @template T @returns {Promise<T>} */
-    async ofMachine(words, work) {
-        if (!this.begin('machine', words)) return work();
-        const before = this.machine.get();
+    // What the work does to the machine is one change, or goes to the change before where that is `isFurther`.
+    /** @param {string} words @param {() => Promise<T>} work @param {boolean} [isFurther] @template T @returns {Promise<T>} */
+    async ofMachine(words, work, isFurther = false) {
+        if (this.#worked) return work();
+        this.endTyping();
+        const last = this.#past.at(-1), step = isFurther && !this.#future.length && last?.key === 'machine' ? last : null;
+        const own = this.#worked = { words: step?.words ?? words, before: step?.was ? worded(step.was) : this.machine.get(), step };
         try {
             return await work();
         } finally {
-            this.#open.delete('machine');
-            const after = this.machine.get();
-            if (before !== after) this.#add({ slot: 'notes', key: 'machine', words, isText: true, was: bytesOf(before), is: bytesOf(after), size: before.length + after.length });
+            this.#noteMachine();
+            if (this.#worked === own) this.#worked = null;
         }
+    }
+
+    // Notes what was done to the machine so far.
+    #noteMachine() {
+        if (!this.#worked) return;
+        const { words, before, step } = this.#worked, after = this.machine.get();
+        if (before === after && !step) return;
+        const whole = { slot: /** @type {Slot} */ ('notes'), key: 'machine', words, isText: true, was: bytesOf(before), is: bytesOf(after), size: before.length + after.length };
+        if (!step) this.#worked.step = this.#add(whole);
+        else this.store.note(`undo ${step.id}`, Object.assign(step, whole));
+    }
+
+    // Takes what is typed into a text, by its key. It was this before, and is this after.
+    /** @param {string} key @param {string} words @param {string} before @param {string} after */
+    type(key, words, before, after) {
+        if (this.#typed?.key !== key) this.endTyping();
+        clearTimeout(this.#typed?.timer);
+        this.#typed = { key, words, before: this.#typed?.before ?? before, after, timer: window.setTimeout(() => this.endTyping(), QUIET) };
+    }
+
+    // What was typed so far is a change. What only adds goes to the change before, where that does so too.
+    endTyping() {
+        const it = this.#typed;
+        this.#typed = null;
+        clearTimeout(it?.timer);
+        const step = it && stepOf('notes', it.key, it.before, it.after, it.words);
+        if (!step) return;
+        const last = this.#past.at(-1), isFurther = !this.#future.length && last?.isTyped && last.key === step.key && last.size < LONGEST && isAddition(last) && isAddition(step);
+        const before = isFurther ? laid(it.before, last, false) : null;
+        if (!last || typeof before !== 'string') return void this.#add({ ...step, isTyped: true });
+        this.store.note(`undo ${last.id}`, Object.assign(last, stepOf('notes', it.key, before, it.after, it.words)));
+    }
+
+    // Has the changes of a text go by its new key.
+    /** @param {string} old @param {string} key */
+    rename(old, key) {
+        this.endTyping();
+        for (const it of [...this.#past, ...this.#future].filter(it => it.key === old)) this.store.note(`undo ${it.id}`, Object.assign(it, { key }));
     }
 
     // How many changes can be undone.
@@ -69,13 +118,18 @@ export class Undo extends EventTarget {
 
     get again() { return this.step(true)?.words ?? null; }
 
-    // The step that would be undone, or done again, next.
-    /** @param {boolean} isAgain */
-    step(isAgain) { return (isAgain ? this.#future : this.#past).at(-1); }
+    // The step that would be undone, or done again, next: the newest of all, or the newest of a text that has any.
+    /** @param {boolean} isAgain @param {string} [key] */
+    step(isAgain, key) {
+        this.endTyping();
+        const all = isAgain ? this.#future : this.#past;
+        return all.filter(it => it.key === key).at(-1) ?? all.at(-1);
+    }
 
     // From now on until `end` all changes of a thing are one, which is called by these words. Whether it wasn't so already.
     /** @param {string} id @param {string} words */
     begin(id, words) {
+        this.endTyping();
         if (this.#open.has(id)) return false;
         this.#open.set(id, { words });
         return true;
@@ -116,31 +170,33 @@ export class Undo extends EventTarget {
 
     /** @param {Omit<Step, 'id'>} it */
     #add(it) {
+        this.endTyping();
         const step = { ...it, id: ++this.#last };
         this.store.note(`undo ${step.id}`, step);
         this.#past.push(step);
         this.#future = [];
-        const size = () => this.#past.reduce((sum, it) => sum + it.size, 0);
-        while (this.#past.length > MOST || (this.#past.length > 1 && size() > ROOM)) this.#past.shift();
+        const size = () => this.#past.reduce((sum, it) => sum + it.size, 0), isSame = (/** @type {Step} */ it) => !it.isTyped === !step.isTyped;
+        if (this.#past.filter(isSame).length > MOST) this.#past.splice(this.#past.findIndex(isSame), 1);
+        while (this.#past.length > 1 && size() > ROOM) this.#past.shift();
         this.#keepList();
+        return step;
     }
 
-    // Undoes the newest change, or does again what was undone last. Gives the step, or null where the thing was changed by another tab
+    // Undoes a change, the newest where none is given, or does again what was undone. Gives the step, or null where the thing was changed by another tab
     // since; `mayChange` says whether it may be changed now.
-    /** @param {boolean} isAgain @param {(step: Step) => Promise<boolean>} mayChange */
-    async go(isAgain, mayChange) {
+    /** @param {boolean} isAgain @param {(step: Step) => Promise<boolean>} mayChange @param {Step | undefined} [step] */
+    async go(isAgain, mayChange, step = this.step(isAgain)) {
         const [from, to] = isAgain ? [this.#future, this.#past] : [this.#past, this.#future];
-        const step = from.at(-1);
-        if (!step || !await mayChange(step)) return null;
-        if (from.at(-1) !== step) return null;
-        from.pop();
+        if (!step || !from.includes(step) || !await mayChange(step)) return null;
+        if (!from.includes(step)) return null;
+        from.splice(from.indexOf(step), 1);
         if (step.key === 'machine') {
             await this.#bringMachine(step, isAgain);
             to.push(step);
             this.#keepList();
             return { ...step, isDone: true };
         }
-        const value = laid(this.store[step.slot].get(step.key), step, isAgain);
+        const value = laid(this.store.valueOf(step.slot, step.key), step, isAgain);
         const isDone = value !== null;
         if (isDone) {
             this.#isOwn = true;
@@ -155,59 +211,16 @@ export class Undo extends EventTarget {
     // Brings back the machine of a step. The one in whose place it comes is what comes back next.
     /** @param {Step} step @param {boolean} isAgain */
     async #bringMachine(step, isAgain) {
-        const now = bytesOf(this.machine.get()), text = new TextDecoder().decode((isAgain ? step.is : step.was) ?? new Uint8Array(0));
+        const now = bytesOf(this.machine.get()), text = worded((isAgain ? step.is : step.was) ?? new Uint8Array(0));
         step[isAgain ? 'was' : 'is'] = now;
         this.store.note(`undo ${step.id}`, step);
         await this.machine.set(text);
     }
 }
 
-// A change as what is kept of it, null where nothing changed. A thing that was not there before, or isn't after, is kept whole.
-/** @param {Slot} slot @param {string} key @param {Kept} before @param {Kept} after @param {string} words @returns {Omit<Step, 'id'> | null} */
-function stepOf(slot, key, before, after, words) {
-    const was = before === undefined ? null : bytesOf(before), is = after === undefined ? null : bytesOf(after);
-    const isText = typeof (before ?? after) === 'string', step = { slot, key, words, isText };
-    if (!was || !is) return was || is ? { ...step, was, is, size: (was ?? is)?.length ?? 0 } : null;
-    const parts = stretchesOf(was, is).map(({ at, end }) => ({ at, old: was.slice(at, end), fresh: is.slice(at, end) }));
-    if (!parts.length) return null;
-    const size = parts.reduce((sum, it) => sum + it.old.length + it.fresh.length, 0);
-    return { ...step, parts, lengths: [was.length, is.length], size };
-}
+// Whether a step of a text takes nothing away.
+/** @param {{ parts?: Part[] }} step */
+function isAddition({ parts }) { return parts?.every(it => !it.old.length) ?? false; }
 
-// The stretches of blocks in which two values differ, each as long as it can be, to keep few parts.
-/** @param {Uint8Array} was @param {Uint8Array} is */
-function stretchesOf(was, is) {
-    /** @type {{ at: number, end: number }[]} */
-    const all = [], most = Math.max(was.length, is.length);
-    for (let at = 0; at < most; at += BLOCK) {
-        if (isSame(was.subarray(at, at + BLOCK), is.subarray(at, at + BLOCK))) continue;
-        const last = all.at(-1);
-        if (last?.end === at) last.end += BLOCK;
-        else all.push({ at, end: at + BLOCK });
-    }
-    return all;
-}
-
-// A value with a step undone, or done again: undefined for none. Null where it isn't what the step left.
-/** @param {Kept} value @param {Step} step @param {boolean} isAgain */
-function laid(value, { was = null, is = null, parts, lengths, isText }, isAgain) {
-    const now = value === undefined ? null : bytesOf(value);
-    if (!parts || !lengths) {
-        const [left, wanted] = isAgain ? [was, is] : [is, was];
-        if (!(now === left || (now && left && isSame(now, left)))) return null;
-        return wanted === null ? undefined : worded(wanted, isText);
-    }
-    const [left, wanted] = isAgain ? lengths : [lengths[1], lengths[0]];
-    const sides = parts.map(({ at, old, fresh }) => isAgain ? { at, there: old, given: fresh } : { at, there: fresh, given: old });
-    if (!now || now.length !== left || !sides.every(({ at, there }) => isSame(there, now.subarray(at, at + there.length)))) return null;
-    const bytes = new Uint8Array(wanted);
-    bytes.set(now.subarray(0, wanted));
-    for (const { at, given } of sides) bytes.set(given, at);
-    return worded(bytes, isText);
-}
-
-/** @param {Uint8Array} bytes @param {boolean} isText */
-function worded(bytes, isText) { return isText ? new TextDecoder().decode(bytes) : bytes; }
-
-/** @param {Uint8Array} a @param {Uint8Array} b */
-function isSame(a, b) { return a.length === b.length && a.every((byte, k) => byte === b[k]); }
+/** @param {Uint8Array} bytes */
+function worded(bytes) { return new TextDecoder().decode(bytes); }

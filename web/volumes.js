@@ -31,6 +31,10 @@ export function targetOf(volume) {
     return [fileOf(volume), ...(part === undefined ? [] : part === 'DECtape' ? ['--to-dectape'] : ['--to-volume', part])];
 }
 
+// The name that an image may have in the page, like the one that is wanted.
+/** @param {string} wanted */
+export const plainName = wanted => wanted.replace(/[/\\\s]/g, '_').replace(/^[.-]+/, '') || 'IMAGE';
+
 // What a volume is called.
 /** @param {string} volume */
 export function titleOf(volume) {
@@ -57,23 +61,35 @@ export const isVolume = ({ refusal }) => refusal === null || refusal.startsWith(
 
 /** @typedef {{ refusal: string | null, said: string }} Asked */
 
-// What an image is, by what the program says of it, and the line by which that refuses it, if it does. `index` reports a disk by its volumes, and
-// `check` takes a DECtape by itself. An image of which they say nothing is asked for in each way that its length leaves.
-/** @param {Page} page @param {Uint8Array} bytes @returns {Promise<Asked & { kind: Kind }>} */
-export async function kindOf({ programs, store }, bytes) {
+// What an image is, by what the program says of it, and the line by which that refuses it, if it does. One that is refused as it is may be an image with
+// faults, which `--lenient` mends: then that is what it is.
+/** @param {Page} page @param {Uint8Array} bytes @returns {Promise<Asked & { kind: Kind, isMended: boolean }>} */
+export async function kindOf(page, bytes) {
+    const plain = await judged(page, bytes, []);
+    if (!plain.refusal?.startsWith('? IMAGE')) return { ...plain, isMended: false };
+    const lenient = await judged(page, bytes, ['--lenient']);
+    if (lenient.refusal === null) return { ...lenient, isMended: true };
+    const tape = await judged(page, bytes, ['--lenient', '--dectape']);
+    return tape.refusal === null ? { ...tape, kind: 'DECtape', isMended: true } : { ...plain, isMended: false };
+}
+
+// What an image is, asked for with these words. `index` reports a disk by its volumes, and `check` takes a DECtape by itself. An image of which they say
+// nothing is asked for in each way that its length leaves.
+/** @param {Page} page @param {Uint8Array} bytes @param {string[]} how @returns {Promise<Asked & { kind: Kind }>} */
+async function judged({ programs, store }, bytes, how) {
     const name = `.kind-${++last}`;
     /** @param {...string} words @returns {Promise<Asked>} */
     const asked = async (...words) => {
-        const { status, out, said } = await programs.ask(['check', name, ...words]);
+        const { status, out, said } = await programs.ask(['check', name, ...how, ...words]);
         return { refusal: status === 0 ? null : textOf(out).trim(), said: said.replaceAll(name, 'the file') };
     };
-    const kind = bytes.length === TAPE ? 'DECtape' : bytes.length > DISK_BLOCKS * BLOCK && bytes.length <= 2 * DISK_BLOCKS * BLOCK ? 'disk' : '';
+    const kind = how.length > 1 ? '' : bytes.length === TAPE ? 'DECtape' : bytes.length > DISK_BLOCKS * BLOCK && bytes.length <= 2 * DISK_BLOCKS * BLOCK ? 'disk' : '';
     store.put(name, bytes);
     try {
         const plain = await asked();
         const begun = kind === '' && plain.refusal?.startsWith('? DIRECTORY 4') ? await asked('--volume', '1') : plain;
         if (kind === '') return begun !== plain && begun.refusal === null ? { kind: 'begun', ...begun } : { kind, ...plain };
-        const isTold = kind === 'disk' && /^\.kind-\d+(?: |\t)[12](?:: |\t)/m.test(await indexOf(programs, name));
+        const isTold = kind === 'disk' && /^\.kind-\d+(?: |\t)[12](?:: |\t)/m.test(await indexOf(programs, name, how.slice(0, 1)));
         const parts = kind === 'disk' ? [await asked('--volume', '1'), await asked('--volume', '2')] : [await asked('--dectape')];
         const part = parts.find(it => it.refusal === null) ?? parts.find(isVolume);
         const isTape = kind === 'DECtape' && part?.refusal === null;
@@ -83,20 +99,9 @@ export async function kindOf({ programs, store }, bytes) {
     }
 }
 
-// Whether bytes that are refused are an image of a sound directory, once words with more than twelve bits are read without the top ones.
-/** @param {Page} page @param {Uint8Array} bytes */
-export async function isFaulty({ programs, store }, bytes) {
-    const name = `.kind-${++last}`;
-    store.put(name, bytes);
-    const answers = [];
-    for (const words of [[], ['--volume', '1'], ['--dectape']]) answers.push(await programs.ask(['check', name, '--lenient', ...words]));
-    store.remove(name);
-    return answers.some(it => it.status === 0);
-}
-
 // All that `index` says of an image.
-/** @param {Page['programs']} programs @param {string} name */
-async function indexOf(programs, name) {
-    const { out, said } = await programs.ask(['index', name]);
+/** @param {Page['programs']} programs @param {string} name @param {string[]} how */
+async function indexOf(programs, name, how) {
+    const { out, said } = await programs.ask(['index', name, ...how]);
     return textOf(out) + said;
 }

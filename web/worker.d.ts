@@ -18,7 +18,7 @@ interface Host {
 // What begins a run in a worker.
 interface Begin {
     begin: true; module: WebAssembly.Module; words: string[]; files: [string, Uint8Array][]; input: Uint8Array | null; locked: string[]; terminal: boolean;
-    patience: number; room: number; channel: SharedArrayBuffer | null; promises: boolean;
+    patience: number; room: number; channel: SharedArrayBuffer | null; promises: boolean; again: [number, Uint8Array][];
 }
 
 // The program's calls of its host.

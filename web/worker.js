@@ -10,6 +10,10 @@ let ended = false, shown = 0, sent = 0, wake = () => {};
 /** @type {{ state: Int32Array, bytes: Uint8Array } | null} */
 let shared = null;
 let wanted = false, promises = false;
+// The reads that a run is given again, how many gave something so far, and how many gave nothing since.
+/** @type {[number, Uint8Array][]} */
+let again = [];
+let reads = 0, quiet = 0;
 
 onmessage = ({ data }) => {
     if (data.begin) return begin(data);
@@ -48,6 +52,7 @@ class Files extends Map {
 /** @param {Begin} run */
 async function begin({ module, words, files, input, locked, terminal, patience, room, channel, ...how }) {
     promises = how.promises;
+    [again, reads, quiet] = [how.again, 0, 0];
     const own = new Files();
     for (const [name, bytes] of files) own.set(name, new Held(bytes));
     own.old = new Map(own);
@@ -59,17 +64,19 @@ async function begin({ module, words, files, input, locked, terminal, patience, 
     /** @param {number} most */
     const read = most => {
         own.tell();
-        if (parts.length) return take(most);
+        const old = readAgain();
+        if (old) return old;
+        if (parts.length) return counted(take(most), patience);
         if (ended) return new Uint8Array(0);
         if (!wanted) postMessage({ wants: most });
         wanted = true;
-        return shared ? taken(shared, most, patience) : given(most, patience);
+        return shared ? counted(taken(shared, most, patience), patience) : given(most, patience).then(it => counted(it, patience));
     };
     /** @param {Uint8Array} bytes @param {number} stream */
     const write = (bytes, stream) => {
         own.tell();
         sent += bytes.length;
-        postMessage({ stream, bytes });
+        postMessage({ stream, bytes, reads, quiet });
         if (!room || sent - shown <= room) return;
         if (shared) printed(shared, room);
         else if (promises) return held(room);
@@ -83,6 +90,29 @@ async function begin({ module, words, files, input, locked, terminal, patience, 
     }
     own.tell();
     postMessage({ status, failed });
+}
+
+// The next of the reads that are given again, null where there is none.
+function readAgain() {
+    for (; again.length; again.shift()) {
+        const [first] = again;
+        if (first[0]-- > 0) {
+            quiet++;
+            return new Uint8Array(0);
+        }
+        if (!first[1].length) continue;
+        [reads, quiet] = [reads + 1, 0];
+        return again.shift()?.[1] ?? null;
+    }
+    return null;
+}
+
+// Counts a read that isn't given again, and sends it where it gave something. That is for runs that don't wait for keys alone.
+/** @param {Uint8Array} bytes @param {number} patience */
+function counted(bytes, patience) {
+    if (bytes.length && patience) postMessage({ read: bytes, quiet });
+    [reads, quiet] = bytes.length ? [reads + 1, 0] : [reads, quiet + 1];
+    return bytes;
 }
 
 /** @param {number} most */

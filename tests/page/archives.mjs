@@ -6,7 +6,7 @@ import { fileURLToPath } from 'node:url';
 import { answer, file, further, holds, image, isTold, native, optionsOf, pane, put, run, same, volume } from './tools.mjs';
 
 const ADD = readFileSync(join(dirname(dirname(dirname(fileURLToPath(import.meta.url)))), 'examples', 'add-one.bin'));
-const rows = (page, id = 'directory') => page.look(`[...document.querySelectorAll('#${id} tbody tr')].map(it => [...it.cells].slice(0, 5).map(one => one.textContent).join(' ')).join('; ')`);
+const rows = (page, id = 'directory') => page.look(`[...document.querySelectorAll('#${id} tbody tr')].map(it => [...it.cells].slice(${id === 'directory' ? '1, 6' : '0, 5'}).map(one => one.textContent).join(' ')).join('; ')`);
 const isShown = (page, name) => page.until(`document.getElementById('shown-name').textContent.startsWith(${JSON.stringify(name)})`);
 const plain = bytes => bytes.toString('latin1').replaceAll('\r', '');
 
@@ -82,7 +82,7 @@ await run('archives', {
         await put(page, 'text', 'new.tx');
         await isTold(page, 'files-status', 'STORED NEW.TX 1');
         native(['put', 'DISK.RK05', '-', '--as', 'NEW.TX', '--text', '--volume', '2'], 'A NEW ONE\n');
-        await page.until(`!!document.querySelector('button[aria-label="TWO.TX delete"]')`);
+        await page.until(`!!document.querySelector('tr[data-name="TWO.TX"]')`);
         await page.click('button[aria-label="TWO.TX delete"]');
         await isTold(page, 'files-status', 'DELETED TWO.TX');
         native(['delete', 'DISK.RK05', 'TWO.TX', '--volume', '2']);
@@ -121,7 +121,7 @@ await run('archives', {
         await isTold(page, 'files-status', 'DISK.RK05, volume 2: STORED T.TX 1');
         native(['copy', 'TAPE.DT8', 'T.TX', 'DISK.RK05', '--dectape', '--to-volume', '2']);
         await page.choose('#volume', 'DISK.RK05 2');
-        await page.until(`!!document.querySelector('button[aria-label="ADD.BN copy"]')`);
+        await page.until(`!!document.querySelector('tr[data-name="ADD.BN"]')`);
         await comesTo(page, readFileSync(file('DISK.RK05')), 'the disk');
         await page.click('button[aria-label="ADD.BN copy"]');
         await answer(page, 'Copy ADD.BN to which volume?', 1);
@@ -241,7 +241,7 @@ await run('archives', {
         same('? DIRECTORY 1 BAD LINK 1\nRESCUED 2\n', await page.text('rescued'), 'the lines of rescue');
         const texts = plain(native(['scan', 'V']));
         same('TEXT 7 1 HELLO\nTEXT 9 1 THE LAST\nBIN 8 1\n', texts, 'the lines of scan');
-        await isTold(page, 'texts-told', '2 texts');
+        await isTold(page, 'texts-told', '2 texts, 1 program');
         await page.until(`geivottu.files.blocks.all[9].of === 'a text: THE LAST'`);
         same('file', await page.look(`geivottu.files.blocks.all[7].kind`), 'a file in the picture');
         same('found', await page.look(`geivottu.files.blocks.all[9].kind`), 'a text in the picture');

@@ -25,9 +25,13 @@ async function within(milliseconds, promise, what) {
     }
 }
 
-// A plain server of a folder, which notes what it was asked for. `headers` are given with each answer.
+// What the page in a folder says that it lets in and out, for a header, which also keeps it out of frames.
+/** @param {string} folder */
+const policyOf = folder => `${/http-equiv="Content-Security-Policy" content="([^"]*)"/.exec(readFileSync(join(folder, 'index.html'), 'utf8'))?.[1]}; frame-ancestors 'none'`;
+
+// A plain server of a folder, which notes what it was asked for. `headers` are given with each answer; without others that is the page's own policy.
 /** @param {string} folder @param {Record<string, string>} [headers] */
-export function serve(folder, headers = {}) {
+export function serve(folder, headers = { 'content-security-policy': policyOf(folder) }) {
     /** @type {string[]} */
     const asked = [];
     const server = createServer((request, response) => {
@@ -47,6 +51,10 @@ export function serve(folder, headers = {}) {
 export function chromium() {
     return ['/usr/lib/chromium/chromium', '/usr/bin/chromium', '/usr/bin/google-chrome'].find(it => existsSync(it)) ?? null;
 }
+
+// The file in whose menu an item is, by the item's name: one of those that the row doesn't have.
+/** @param {string} selector */
+export const ofMenu = selector => /^button\[aria-label="(\S+) (?:as|home as|in Source as|rename|copy|delete)\b/.exec(selector)?.[1] ?? null;
 
 export class Browser {
     #last = 0;
@@ -171,9 +179,10 @@ export class Browser {
         }
     }
 
+    // Goes to an address. The page's own, without more, is that of its pane Files, where most tests begin; `?` is what it opens with by itself.
     /** @param {string} url */
     async go(url) {
-        await this.call('Page.navigate', { url });
+        await this.call('Page.navigate', { url: url.endsWith('/') ? `${url}#files` : url });
         await this.until('document.readyState === "complete" && (document.getElementById("ready") || !document.getElementById("trouble")?.hidden) !== null && !!(document.getElementById("ready") || document.getElementById("trouble")?.hidden === false)');
     }
 
@@ -191,9 +200,17 @@ export class Browser {
             return again.x === box.x && again.y === box.y ? { x: box.x + box.width / 2, y: box.y + box.height / 2 } : null; })()`);
     }
 
+    // Opens the menu of a file, where an item of it is meant.
+    /** @param {string} selector */
+    async #menu(selector) {
+        const name = ofMenu(selector);
+        if (name && !await this.look(`!!document.querySelector(${JSON.stringify(selector)})?.checkVisibility()`)) await this.click(`button[aria-label="${name} more"]`);
+    }
+
     // Clicks an element, once more where the page had moved by then and the click hit another place.
     /** @param {string} selector */
     async click(selector) {
+        await this.#menu(selector);
         for (let tries = 1; tries <= 5; tries++) {
             const { x, y } = await this.#middle(selector);
             await this.look(`(() => { window.clickCame = document.querySelector(${JSON.stringify(selector)}).disabled === true;

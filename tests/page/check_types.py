@@ -25,7 +25,7 @@ NODE = (f"{HERE}/node.d.ts", f"{HERE}/globals.d.ts")
 APART = ("browser.mjs", "tools.mjs", "server.mjs", "host.mjs")
 # What is checked together: a library, further words, and the files where the checker begins; it follows what these import.
 PARTS: list[tuple[str, list[str], list[str]]] = [
-    ("es2022,dom,dom.iterable", [], [f"{WEB}/page.js", f"{WEB}/types.d.ts"]),
+    ("es2022,dom,dom.iterable", [], [f"{WEB}/page.js", f"{WEB}/from_file.js", f"{WEB}/types.d.ts"]),
     ("es2022,webworker", [], [f"{WEB}/worker.js", f"{WEB}/worker.d.ts"]),
     ("es2022,webworker", [], [f"{WEB}/sw.js"]),
     ("es2022", [], [f"{HERE}/browser.mjs", f"{HERE}/tools.mjs", *NODE]),

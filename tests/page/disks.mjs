@@ -164,6 +164,7 @@ await run('disks', {
         }
         await page.choose('#volume', '');
         await page.drop('#teletype', file('b.rim'));
+        await answer(page, 'b.rim is a tape', 0);
         await page.until(`document.getElementById('tape').selectedOptions[0].textContent === 'b.rim'`);
         await page.click('#tty-run');
         await isTold(page, 'tty-status', 'HALT 00402 AC 0001');
@@ -174,7 +175,7 @@ await run('disks', {
         change('V', 258, 7);
         await opens(page, 'V');
         await isTold(page, 'files-status', '? DIRECTORY 1 BAD LINK 1');
-        const rows = await page.look(`[...document.querySelectorAll('#directory tbody tr')].map(it => [...it.cells].slice(0, 3).map(one => one.textContent).join(' ')).join('; ')`);
+        const rows = await page.look(`[...document.querySelectorAll('#directory tbody tr')].map(it => [...it.cells].slice(1, 4).map(one => one.textContent).join(' ')).join('; ')`);
         same('ADD.BN 1 8; H.TX 1 7', rows, 'the rows');
         same('H.TX', await page.look(`geivottu.files.blocks.all[7].of`), 'the picture');
         same('fault', await page.look(`geivottu.files.blocks.all[1].kind`), 'the directory in the picture');
@@ -184,6 +185,8 @@ await run('disks', {
         await page.click('button[aria-label="ADD.BN in its best form"]');
         await isShown(page, 'ADD.BN, source');
         same(plain(native(['source'], ADD)), await shown(page), 'the source');
+        await page.click('button[aria-label="H.TX more"]');
+        await page.until(`!!document.querySelector('#menu button[aria-label="H.TX home as a text"]')`);
         holds(!await page.look(`!!document.querySelector('button[aria-label="H.TX delete"]')`), 'a file can be deleted');
     },
     'no kind of a block, and no state, is told by colour alone': async (page, url) => {

@@ -38,19 +38,137 @@ await run('drops', {
         await pane(page, 'source');
         same(Buffer.concat([latin, Buffer.from('X')]), (await page.home('#text-home')).bytes, 'the text after a reload');
     },
-    'an image with a fault stays one, and says so on the pane in sight': async (page, url) => {
+    'an image with a fault is only looked at, until it is written as it is mended': async (page, url) => {
         await page.go(url);
         await create(page, 'DISK');
         faulty();
         const before = await image(page);
-        await page.drop('#drop', file('BAD'));
-        await isTold(page, 'files-status', 'BAD is an image with faults');
-        await isTold(page, 'files-status', '? IMAGE 4 BAD WORD 5120');
-        same(before, await image(page), 'the volume that is open');
         await pane(page, 'machine');
         await page.drop('#panel', file('BAD'));
-        await isTold(page, 'machine-status', 'BAD is an image with faults');
+        await isTold(page, 'machine-status', 'BAD has faults, and is only looked at');
         holds(!await page.look(`document.getElementById('machine').hidden`), 'the pane is left');
+        await pane(page, 'files');
+        await isTold(page, 'mended', 'note: BAD: block 20, word 0 is ');
+        await page.click('button[aria-label="ONE.TX as a text"]');
+        await isTold(page, 'shown', 'the first');
+        writeFileSync(file('two.tx'), 'the second\n');
+        await put(page, 'text', 'two.tx');
+        await isTold(page, 'files-status', '? IMAGE 4 BAD WORD 5120');
+        same(readFileSync(file('BAD')), await image(page), 'the image that is looked at');
+        await page.look('geivottu.store.settled()');
+        await page.go(`${url}?again`);
+        await page.until(`!!document.querySelector('tr[data-name="ONE.TX"]') && !document.getElementById('mending').hidden`);
+        await page.click('#mend');
+        await isTold(page, 'files-status', 'The mended image of BAD is written');
+        const whole = readFileSync(file('BAD'));
+        whole[20 * 512 + 1] &= 0o17;
+        same(whole, await image(page), 'the mended image');
+        await page.until(`document.getElementById('mending').hidden`);
+        await put(page, 'text', 'two.tx');
+        await isTold(page, 'files-status', 'STORED TWO.TX');
+        for (let k = 0; k < 2; k++) await page.click('#undo');
+        await page.until(`!document.getElementById('mending').hidden`);
+        same(readFileSync(file('BAD')), await image(page), 'the image that was mended');
+        await page.choose('#volume', 'DISK');
+        await page.until(`document.getElementById('mending').hidden`);
+        same(before, await image(page), 'the other volume');
+    },
+    'an image that was cut short is whole once it is mended': async (page, url) => {
+        await page.go(url);
+        native(['create', 'V', '90']);
+        native(['put', 'V', '-', '--as', 'ONE.TX', '--text'], 'the first\n');
+        const whole = readFileSync(file('V'));
+        writeFileSync(file('CUT'), whole.subarray(0, whole.length - 100));
+        await page.give('#image', file('CUT'));
+        await isTold(page, 'mended', 'bytes of zeros added at the end: 100');
+        await page.click('#mend');
+        await isTold(page, 'files-status', 'The mended image of CUT is written');
+        same(whole, await image(page), 'the image');
+    },
+    'a tape goes where one says, and what may be several things is asked for': async (page, url) => {
+        await page.go(url);
+        await create(page, 'DISK');
+        writeFileSync(file('it.pa'), '*200\n\tHLT\n$\n');
+        native(['assemble', 'it.pa', '--output', 'it.bn']);
+        await page.drop('#drop', file('it.bn'));
+        await answer(page, 'it.bn is a tape', 0);
+        await isTold(page, 'files-status', 'STORED IT.BN');
+        await page.drop('#drop', file('it.bn'));
+        await answer(page, 'it.bn is a tape', 2);
+        await isTold(page, 'machine-status', 'it.bn: 1 words are in core');
+        await pane(page, 'script');
+        await page.drop('#lines', file('it.bn'));
+        await answer(page, 'it.bn is a tape');
+        same('script', await page.look('geivottu.tabs.shown'), 'the pane');
+        writeFileSync(file('odd.da'), Buffer.from([1, 2, 3, 255, 0]));
+        await page.drop('#lines', file('odd.da'));
+        await answer(page, 'odd.da is no image and no tape', 2);
+        await isTold(page, 'script-status', 'STORED ODD.DA');
+        await page.until(`geivottu.files.entries.some(it => it.name === 'ODD.DA')`);
+    },
+    'a put asks for a name that the page would cut, and for the form of what isn\'t what its name says': async (page, url) => {
+        await page.go(url);
+        await create(page, 'DISK');
+        writeFileSync(file('a long name.tx'), 'the first\n');
+        await put(page, 'name', 'a long name.tx');
+        await page.until(`document.getElementById('question').open`);
+        same('ALONGN.TX', await page.look(`document.getElementById('question-text').value`), 'the name that is offered');
+        await page.type('FIRST.TX');
+        await page.key('Enter');
+        await isTold(page, 'files-status', 'STORED FIRST.TX');
+        await put(page, 'name', 'a long name.tx');
+        await answer(page, 'a long name.tx has no name');
+        await isTold(page, 'files-status', 'a long name.tx was left');
+        writeFileSync(file('plain.da'), 'the second\n');
+        await put(page, 'name', 'plain.da');
+        await answer(page, 'PLAIN.DA is a text, and its name says nothing', 0);
+        await isTold(page, 'files-status', 'STORED PLAIN.DA');
+        writeFileSync(file('noise.tx'), Buffer.from([1, 2, 3, 255, 0]));
+        await put(page, 'name', 'noise.tx');
+        await answer(page, 'NOISE.TX has the name of a text, and is none', 0);
+        await isTold(page, 'files-status', 'STORED NOISE.TX');
+        native(['put', 'DISK', '-', '--as', 'FIRST.TX', '--text'], 'the first\n');
+        native(['put', 'DISK', '-', '--as', 'PLAIN.DA', '--text'], 'the second\n');
+        native(['put', 'DISK', '-', '--as', 'NOISE.TX'], readFileSync(file('noise.tx')));
+        same(readFileSync(file('DISK')), await image(page), 'the image');
+    },
+    'a link of more than a page can show quickly is asked for, and one of nothing says so': async (page, url) => {
+        await page.go(url);
+        const link = count => page.look(`(async () => { location.hash = 'source=' + await (await import('./shelf.js')).packed('/'.repeat(${count})); })()`);
+        await link(3000000);
+        await answer(page, 'The link has a text of 3000000 characters', 0);
+        await isTold(page, 'files-status', 'The text of the link was not opened');
+        await link(20000000);
+        await isTold(page, 'files-status', 'more than 16777216 bytes');
+        same('', await text(page), 'the text');
+        for (const [hash, words] of [['run=nonsense', 'There is no program nonsense here. A link may run hello, guess, sort, lights, guess8 or disk.'], ['nonsense', 'There is no pane nonsense.']]) {
+            await page.go(`${url}?${hash.slice(0, 3)}#${hash}`);
+            await isTold(page, 'files-status', words);
+        }
+    },
+    'a number or a name that can\'t be gets a line that says what is wanted': async (page, url) => {
+        await page.go(url);
+        await page.fill('#new-name', 'a/b');
+        await page.click('#create');
+        await isTold(page, 'files-status', 'A volume has a name without blanks and slashes');
+        same('', await page.look(`document.getElementById('volume').value`), 'the volume');
+        await create(page, 'DISK');
+        await page.click('#dump-box summary');
+        await page.fill('#block-number', 'x');
+        await page.key('Enter');
+        await isTold(page, 'dump-status', 'A block has a number: x is none.');
+        await pane(page, 'source');
+        await page.fill('#source-name', 'a-b');
+        await page.key('Tab');
+        await isTold(page, 'source-status', 'A text\'s name has at most six letters or digits.');
+        same('', await page.look(`document.getElementById('source-name').value`), 'the name');
+        await pane(page, 'machine');
+        for (const [id, value, words] of [['core-from', '9', 'Core is shown from an address'], ['switches-shown', '8888', 'The switches are a word']]) {
+            await page.fill(`#${id}`, value);
+            await page.key('Enter');
+            await isTold(page, 'machine-status', words);
+        }
+        same('0000', await page.look(`document.getElementById('switches-shown').value`), 'the switches');
     },
     'what is no text is no text, and says so on the pane in sight': async (page, url) => {
         writeFileSync(file('picture.jpg'), Buffer.from([0xff, 0xd8, 0xff, 0xe0, ...Array.from({ length: 2000 }, (_, k) => k * 7 & 255)]));
@@ -75,10 +193,14 @@ await run('drops', {
         await create(page, 'DISK');
         writeFileSync(file('my long name.tx'), 'the first\n');
         await put(page, 'name', 'my long name.tx');
+        await page.until(`document.getElementById('question').open`);
+        await page.type('TOO LONG.TX');
+        await page.key('Enter');
         await isTold(page, 'files-status', 'A file\'s name has 1 to 6 letters or digits');
         holds(!(await page.text('files-status')).includes('.put'), await page.text('files-status'));
         writeFileSync(file('prog.bin'), Buffer.from([1, 128, 192, 0]));
         await put(page, 'text', 'prog.bin');
+        await answer(page, 'prog.bin has no name that a volume can keep', 0);
         await isTold(page, 'files-status', 'It is no text: put it in as frames.');
         await pane(page, 'machine');
         await page.until(`document.getElementById('registers').textContent !== ''`);

@@ -1,10 +1,10 @@
 // figures.mjs PROGRAM FOLDER [PART..]: how quick the page is, how large, and how much memory it takes. Each time is the best of some tries, since
-// other programs may take the processors meanwhile. With IDLE=1 in the environment there are 60 pictures a second, whatever the page's own work for
-// each is. As losses.mjs otherwise.
+// other programs may take the processors meanwhile; that of a key or a click is the middle one. With IDLE=1 in the environment there are 60 pictures a
+// second, whatever the page's own work for each is, and no time is thrice what it is elsewhere. As losses.mjs otherwise.
 import { randomBytes } from 'node:crypto';
 import { readFileSync, readdirSync, statSync, writeFileSync } from 'node:fs';
 import { join, resolve } from 'node:path';
-import { alone, assemble, file, holds, isTold, native, run } from './tools.mjs';
+import { alone, assemble, file, holds, isTold, native, pane, run, same } from './tools.mjs';
 
 const TRIES = 8, STEPS = 40;
 const LOOP = '*200\nA,\tISZ B\n\tJMP A\n\tISZ C\n\tJMP A\n\tJMP A\nB,\t0\nC,\t0\n$\n';
@@ -20,20 +20,71 @@ async function best(isGood, body) {
     return { isMet: all.some(isGood), all: all.map(it => Math.round(it)).join(', ') };
 }
 
+// The processor time that the page's thread has taken, in milliseconds.
+async function spent(page) {
+    await page.call('Performance.enable', { timeDomain: 'threadTicks' });
+    return (await page.call('Performance.getMetrics')).metrics.find(it => it.name === 'TaskDuration').value * 1000;
+}
+
 // Whether there are 60 pictures a second. Where other programs have the processors, it is enough that the page's own work for each would allow it:
 // the processor time of its thread.
 async function shows(page, what) {
-    await page.call('Performance.enable', { timeDomain: 'threadTicks' });
-    const spent = async () => (await page.call('Performance.getMetrics')).metrics.find(it => it.name === 'TaskDuration').value * 1000, before = await spent();
+    const before = await spent(page);
     let count = 0;
     const { isMet, all } = await best(it => it >= 57, async () => {
         const pictures = await page.look(PICTURES);
         count += pictures;
         return pictures;
     });
-    const own = (await spent() - before) / count;
+    const own = (await spent(page) - before) / count;
     console.log(`figures: ${what}: ${all} pictures in a second, of ${own.toFixed(1)} ms of work each`);
     holds(isMet || (!process.env.IDLE && own < 1000 / 60), `${what}: ${all} pictures in a second, of ${own.toFixed(1)} ms of work each`);
+}
+
+// How long it is from an act of the user to the picture that shows what it brought, in milliseconds.
+async function pictured(page, shows, act) {
+    await page.look(`(() => { let from = null; const began = event => { from ??= event.timeStamp; };
+        for (const it of ['keydown', 'mouseup', 'change']) document.addEventListener(it, began, { capture: true });
+        window.took = new Promise(go => { const next = () => {
+            if (from === null || !(${shows})) return requestAnimationFrame(next);
+            for (const it of ['keydown', 'mouseup', 'change']) document.removeEventListener(it, began, { capture: true });
+            const after = new MessageChannel(); // its message comes once the picture is made
+            after.port1.onmessage = () => go(performance.now() - from);
+            after.port2.postMessage(null);
+        }; requestAnimationFrame(next); });
+    })()`);
+    await act();
+    return page.look('took');
+}
+
+// What is said where the middle of some such times is above a limit. Where other programs have the processors, thrice of it will do, or else that the
+// page's own work for each is below it. `act` and `shows` get the number of the try.
+async function answers(page, what, limit, shows, act) {
+    const all = [], before = await spent(page);
+    for (let k = 0; k < 9; k++) all.push(await pictured(page, shows(k), () => act(k)));
+    const own = (await spent(page) - before) / all.length, middle = all.sort((a, b) => a - b)[4];
+    const words = `${what}: ${all.map(it => Math.round(it)).join(', ')} ms, of ${own.toFixed(1)} ms of work each`;
+    console.log(`figures: ${words}`);
+    return middle < (process.env.IDLE ? limit : 3 * limit) || (!process.env.IDLE && own < limit) ? '' : words;
+}
+
+// Keys in a long text, steps, clicks on files, and changes of panes: what of them takes too long, in words.
+async function handled(page, when) {
+    const clicks = selector => () => page.click(selector), told = [];
+    await pane(page, 'source');
+    await page.look(`(() => { const it = document.getElementById('text'); it.focus(); it.setSelectionRange(70000, 70000); })()`);
+    told.push(await answers(page, `a key in 15,000 lines, ${when}`, 50, k => `document.getElementById('text').selectionStart === ${70001 + k}`, k => page.key('A')));
+    await page.look(`document.getElementById('text').setSelectionRange(70000, 70000)`);
+    told.push(await answers(page, `a new line in 15,000 lines, ${when}`, 50, k => `document.getElementById('text').selectionStart === ${70001 + k}`, k => page.key('Enter')));
+    await pane(page, 'machine');
+    await page.click('#key-load');
+    told.push(await answers(page, `a step, ${when}`, 50, k => `document.getElementById('steps').textContent.startsWith('${k + 1} step')`, clicks('#key-step')));
+    await pane(page, 'files');
+    told.push(await answers(page, `a click on a file, ${when}`, 50, k => `document.getElementById('shown-name').textContent.includes('F${k}.') && document.getElementById('shown').textContent.includes('TEXT ${k} ')`,
+        k => page.click(`button[aria-label="F${k}.TX in its best form"]`)));
+    const panes = ['machine', 'source', 'files', 'teletype', 'script'];
+    told.push(await answers(page, `a change of panes, ${when}`, 50, k => `document.getElementById('${panes[k % 5]}').checkVisibility()`, k => page.click(`#tab-${panes[k % 5]}`)));
+    return told.filter(it => it).join('; ');
 }
 
 // The memory of the page's process that is its own, in MB, after a sweep.
@@ -44,7 +95,12 @@ async function memory(page) {
     return Math.max(...own);
 }
 
-await run('figures', {
+// The times of keys and clicks say something on an idle machine alone: with IDLE=1.
+const IDLE_ALONE = ['a key, a step, a click on a file and a change of panes have their picture in 50 ms, beside a busy worker too',
+    'an RK05 opens within 300 ms, and what takes 100 shows that it works'];
+
+/** @type {Record<string, any>} */
+const tests = {
     'the page can be used within a second, and has less than 3 MB': async (page, url) => {
         const { isMet, all } = await best(it => it < 1000, async k => {
             await page.go(`${url}?${k}`);
@@ -63,6 +119,43 @@ await run('figures', {
         const { isMet, all } = await best(it => it < 500, () => page.look(`(async () => { const from = performance.now(); await geivottu.files.open('LARGE');
             await new Promise(requestAnimationFrame); return performance.now() - from; })()`));
         holds(isMet, `it took ${all} ms`);
+    },
+    'a key, a step, a click on a file and a change of panes have their picture in 50 ms, beside a busy worker too': async (page, url) => {
+        const text = it => page.look(`(() => { const it = document.getElementById('text'); it.value = ${JSON.stringify(it)}; it.dispatchEvent(new Event('input', { bubbles: true })); })()`);
+        native(['create', 'DISK', '3248']);
+        for (let k = 0; k < 9; k++) native(['put', 'DISK', '-', '--as', `F${k}.TX`, '--text'], `TEXT ${k} \n`.repeat(200));
+        await page.go(url);
+        await page.give('#image', file('DISK'));
+        await page.until(`document.querySelectorAll('#directory tbody tr').length === 9`);
+        await assemble(page, 'LOOP', LOOP);
+        await page.click('#to-core');
+        await isTold(page, 'machine-status', 'words are in core');
+        await page.click('#tab-source');
+        await page.click('#to-teletype');
+        await text('/ A LINE\n'.repeat(15000) + LOOP);
+        const alone = await handled(page, 'alone');
+        await text(LOOP);
+        await pane(page, 'teletype');
+        await page.click('#tty-run');
+        await isTold(page, 'tty-status', 'running');
+        await text('/ A LINE\n'.repeat(15000) + LOOP);
+        const busy = await handled(page, 'beside a busy worker');
+        await pane(page, 'teletype');
+        await page.click('#tty-stop');
+        same('', [alone, busy].filter(it => it).join('; '), 'what takes longer');
+    },
+    'an RK05 opens within 300 ms, and what takes 100 shows that it works': async (page, url) => {
+        native(['create', 'ONE', '3248']);
+        for (let k = 0; k < 40; k++) native(['put', 'ONE', '-', '--as', `F${k}.DA`], randomBytes(9000));
+        for (let k = 0; k < 9; k++) writeFileSync(file(`RK${k}`), Buffer.concat([readFileSync(file('ONE')), readFileSync(file('ONE'))]));
+        await page.go(url);
+        same('', await answers(page, 'an RK05', 300, k => `document.getElementById('volume').value === 'RK${k} 1' && document.querySelectorAll('#directory tbody tr').length === 40`,
+            k => page.give('#image', file(`RK${k}`))), 'how long it takes');
+        const seen = () => page.look(`getComputedStyle(document.getElementById('work')).opacity`), script = `DEPOSIT 00200 5200\\nSTART 00200\\n${'GO 1000000\\n'.repeat(300)}`;
+        same('0', await seen(), 'the sign at rest');
+        await page.look(`void geivottu.programs.ask(['run', 'RK0', '--volume', '1', '--look'], '${script}')`);
+        await page.until(`getComputedStyle(document.getElementById('work')).opacity === '1'`, 1000);
+        await page.until(`!geivottu.programs.isAsked && getComputedStyle(document.getElementById('work')).opacity === '0'`);
     },
     'a script makes half of the native steps a second': async (page, url) => {
         const script = count => `DEPOSIT 00200 2210\nDEPOSIT 00201 5200\nDEPOSIT 00202 2211\nDEPOSIT 00203 5200\nDEPOSIT 00204 5200\nSTART 00200\n${'GO 1000000\n'.repeat(count)}`;
@@ -114,4 +207,5 @@ await run('figures', {
         holds(took < 200, `it takes ${Math.round(took)} MB`);
         console.log(`figures: ${Math.round(before)} MB with the volume, ${Math.round(took)} MB with fifty changes`);
     }),
-});
+};
+await run('figures', Object.fromEntries(Object.entries(tests).filter(([name]) => process.env.IDLE || !IDLE_ALONE.includes(name))));

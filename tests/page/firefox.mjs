@@ -7,7 +7,7 @@ import { connect } from 'node:net';
 import { tmpdir } from 'node:os';
 import { dirname, join, resolve } from 'node:path';
 import { fileURLToPath } from 'node:url';
-import { pause, serve } from './browser.mjs';
+import { ofMenu, pause, serve } from './browser.mjs';
 
 const [program, folder] = process.argv.slice(2, 4).map(it => resolve(it)), only = process.argv.slice(4);
 const examples = join(dirname(dirname(dirname(fileURLToPath(import.meta.url)))), 'examples');
@@ -96,7 +96,10 @@ class Fox {
 
     async #element(selector) { return (await this.call('WebDriver:FindElement', { using: 'css selector', value: selector })).value[ELEMENT]; }
 
-    async click(selector) { await this.call('WebDriver:ElementClick', { id: await this.#element(selector) }); }
+    async click(selector) {
+        if (ofMenu(selector)) await this.click(`button[aria-label="${ofMenu(selector)} more"]`);
+        await this.call('WebDriver:ElementClick', { id: await this.#element(selector) });
+    }
 
     async strike(selector, text) { await this.call('WebDriver:ElementSendKeys', { id: await this.#element(selector), text }); }
 
@@ -154,6 +157,7 @@ const tests = {
         same(true, await fox.look(`'Suspending' in WebAssembly && document.getElementById('trouble').hidden && document.getElementById('tab-machine').checkVisibility()`), 'what it has');
     },
     'a volume is made, files go in and home, and Undo brings a deletion back': async fox => {
+        await fox.click('#tab-files');
         await fox.fill('#new-name', 'DISK');
         await fox.fill('#new-blocks', '90');
         await fox.click('#create');

@@ -5,6 +5,9 @@ import { pause } from './browser.mjs';
 import { answer, create, file, holds, image, isTold, native, pane, run, same, setSource, toCore } from './tools.mjs';
 
 const ECHO = '*200\nA,\tKSF\n\tJMP A\n\tKRB\n\tTLS\n\tTSF\n\tJMP .-1\n\tJMP A\n$\n';
+// Counts how often it looks for its first key. It prints the count, and once more for the next key.
+const WAITS = '*200\nA,\tISZ N\n\tNOP\n\tKSF\n\tJMP A\nB,\tKRB\n\tCLA\n\tTAD M4\n\tDCA K\n\tTAD N\n\tRAL\n\tDCA W\nC,\tTAD W\n\tRTL\n\tRAL\n\tDCA W\n\tTAD W\n'
+    + '\tAND SEVEN\n\tTAD ZERO\n\tTLS\n\tTSF\n\tJMP .-1\n\tCLA\n\tISZ K\n\tJMP C\nD,\tKSF\n\tJMP D\n\tJMP B\nN,\t0\nW,\t0\nK,\t0\nM4,\t-4\nSEVEN,\t7\nZERO,\t260\n$\n';
 // Prints a character, and counts for ever.
 const LOOP = '*200\n\tTAD C\n\tTLS\n\tTSF\n\tJMP .-1\n\tCLA\nA,\tISZ 300\n\tJMP A\n\tIAC\n\tJMP A\nC,\t302\n$\n';
 const PRINTS = '*200\n\tTAD A\n\tTLS\n\tTSF\n\tJMP .-1\n\tHLT\nA,\t301\n$\n', COUNT = '*200\n\tCLA CLL\nA,\tISZ B\n\tJMP A\n\tIAC\n\tHLT\nB,\t7700\n$\n';
@@ -46,7 +49,7 @@ await run('kept', {
         same('0400', await page.look(`document.getElementById('switches-shown').value`), 'the switches');
         await page.fill('#core-from', '00400');
         await leave(page, `document.getElementById('key-deposit').click()`);
-        await page.until(`document.getElementById('core').textContent.startsWith('00400  0400 0000')`);
+        await page.until(`document.getElementById('core').textContent.startsWith('00400  0400 ')`);
         await leave(page, `document.querySelector('[aria-label="switch 11"]').click()`);
         same('0401', await page.look(`document.getElementById('switches-shown').value`), 'the switches after a further reload');
     },
@@ -85,7 +88,7 @@ await run('kept', {
         await arrived();
         await page.until(`document.getElementById('paper').textContent === 'A'`);
     },
-    'a program at the Teletype that waits for a key is said to have ended at a reload': async (page, url) => {
+    'a program at the Teletype that waits for a key still waits after a reload, and is where it was': async (page, url) => {
         await page.go(url);
         await setSource(page, ECHO);
         await page.click('#assemble');
@@ -95,12 +98,35 @@ await run('kept', {
         await page.keys('A');
         await isTold(page, 'paper', 'A');
         await leave(page);
-        await isTold(page, 'tty-status', 'The program ended as the page was left');
+        await page.until('geivottu.teletype.run !== null');
         await page.look(`document.getElementById('paper').focus()`);
         await page.key('B');
-        await isTold(page, 'tty-status', 'Nothing runs here that takes keys');
+        await page.until(`document.getElementById('paper').textContent === 'AB'`);
+        // a key that is struck as the page is left is not lost
+        await leave(page, `addEventListener('pagehide', () => geivottu.teletype.strike('C'), { capture: true })`);
+        await page.until(`document.getElementById('paper').textContent === 'ABC'`);
+        // how long a program has waited for a key is part of what it is
+        await setSource(page, WAITS);
+        await pane(page, 'teletype');
+        await page.click('#tty-stop');
+        await page.until(`!document.getElementById('tty-run').disabled`);
+        await page.click('#tear');
+        await page.click('#tty-run');
+        await page.until('geivottu.teletype.run !== null');
+        await pause(300);
+        await page.keys('A');
+        await page.until(`document.getElementById('paper').textContent.length === 4`);
+        const counted = await page.text('paper');
         await leave(page);
-        same('', await page.text('tty-status'), 'what is said after a further reload');
+        await page.until('geivottu.teletype.run !== null');
+        await page.look(`document.getElementById('paper').focus()`);
+        await page.key('B');
+        await page.until(`document.getElementById('paper').textContent.length === 8`);
+        same(counted + counted, await page.text('paper'), 'the count of looks');
+        await page.click('#tty-stop');
+        await isTold(page, 'tty-status', 'stopped');
+        await leave(page);
+        same(null, await page.look('geivottu.teletype.run'), 'a program that was stopped');
     },
     'a session keeps the files that it has stored': async (page, url) => {
         await page.go(url);
@@ -215,6 +241,32 @@ await run('kept', {
         await page.until(`document.getElementById('core').textContent !== ''`);
         same(before, await registers(page), 'the registers');
         same(all, await machine(page), 'what is shown after a long run');
+    },
+    'no character is printed twice, wherever the store ends as the page is left': async (page, url) => {
+        // as the page is left so many further writes are made, and no more
+        await page.call('Page.addScriptToEvaluateOnNewDocument', { source: `{ const { transaction } = IDBDatabase.prototype;
+            let left = Infinity;
+            addEventListener('pagehide', () => { left = window.writes ?? Infinity; }, true);
+            IDBDatabase.prototype.transaction = function (...them) { if (left-- <= 0) throw new DOMException('the page is left', 'AbortError'); return transaction.apply(this, them); }; }` });
+        await page.go(url);
+        await toCore(page, ECHO);
+        await page.click('#key-start');
+        await page.until('geivottu.machine.isGoing');
+        let wanted = '';
+        for (const [k, writes] of [2, 1, 2].entries()) {
+            await page.look(`geivottu.machine.keptAt = Infinity; document.getElementById('console').focus()`);
+            wanted += 'ABC'[k];
+            await page.keys('ABC'[k]);
+            await page.until(`document.getElementById('console').textContent === '${wanted}'`);
+            await leave(page, `window.writes = ${writes}`);
+            await page.until('geivottu.machine.isGoing');
+            await page.look(`document.getElementById('console').focus()`);
+            wanted += 'XYZ'[k];
+            await page.keys('XYZ'[k]);
+            await page.until(`document.getElementById('console').textContent.endsWith('${'XYZ'[k]}')`);
+            same(wanted, await page.text('console'), `the paper, with ${writes} writes`);
+        }
+        await page.click('#key-stop');
     },
     'a machine that goes goes on after a reload, and gets the key that it waits for': async (page, url) => {
         await page.go(url);

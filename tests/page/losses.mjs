@@ -87,7 +87,7 @@ Object.assign(tests, {
         await put(page, 'text', 'three.tx');
         await isTold(page, 'files-status', '? HOST BUSY');
         await page.click('button[aria-label="ONE.TX delete"]');
-        await page.until(`document.getElementById('files-status').textContent.startsWith('? HOST BUSY')`);
+        await page.until(`document.getElementById('files-status').textContent.includes('? HOST BUSY')`);
         await put(first, 'text', 'two.tx');
         await isTold(first, 'files-status', 'STORED TWO.TX');
         await page.until(`!!document.querySelector('tr[data-name="TWO.TX"]')`);
@@ -191,6 +191,23 @@ Object.assign(tests, {
         await isTold(page, 'unkept', 'Not kept: DISK, the text of Source.');
         await page.call('Page.navigate', { url: `${url}?away` });
         same('beforeunload', page.dialogs.join(), 'what asked');
+    },
+    'a store that refuses is no alarm while nothing of the visitor\'s own is there': async (page, url) => {
+        await run(page, `IDBFactory.prototype.open = () => { throw new DOMException('refused', 'SecurityError'); };`);
+        await page.go(url);
+        await isTold(page, 'kept', 'This browser keeps nothing');
+        await pane(page, 'machine');
+        await page.click('button[data-run="hello"]');
+        await isTold(page, 'paper', 'HELLO');
+        await pane(page, 'machine');
+        await page.click('button[data-run="disk"]');
+        await page.until(`document.getElementById('volume').value === 'SHELF'`);
+        holds(await page.look(`document.getElementById('unkept').hidden`), 'told of what is the page\'s own');
+        await page.call('Page.navigate', { url: `${url}?away` });
+        await page.until(`location.search === '?away' && !!document.getElementById('ready')`);
+        same('', page.dialogs.join(), 'what asked');
+        await setSource(page, ONE);
+        await isTold(page, 'unkept', 'Not kept: the text of Source.');
     },
     'the browser is asked to keep the store once there is something to keep': async (page, url) => {
         await run(page, `window.persisted = 0; StorageManager.prototype.persist = async () => { window.persisted++; return false; };`);

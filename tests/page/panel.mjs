@@ -56,7 +56,7 @@ const FAINT = `(() => { ${RATIO}
     const behind = it => { for (let at = it.parentElement; at; at = at.parentElement) { if (at.id === 'panel') return 'rgb(74, 51, 32)';
         const colour = getComputedStyle(at).backgroundColor; if (!isClear(colour)) return colour; } return 'rgb(255, 255, 255)'; };
     return [...document.querySelectorAll('button:not(:disabled), .button, input, select, textarea, pre')].filter(it => it.checkVisibility()
-        && !it.matches('.hidden, #code button, td:first-child button, th button, #text, #faults button, [role=tab], [type=checkbox]')).map(it => {
+        && !it.matches('.hidden, #code button, #directory td:nth-child(2) button, #search-found td:first-child button, th button, #text, #faults button, [role=tab], [type=checkbox]')).map(it => {
         const style = getComputedStyle(it), around = behind(it);
         return { it, most: Math.max(ratio(style.borderTopColor, around), isClear(style.backgroundColor) ? 1 : ratio(style.backgroundColor, around)) };
     }).filter(({ most }) => most < 3).map(({ it, most }) => (it.id || it.textContent) + ' ' + most.toFixed(1)).join('; ');
@@ -282,6 +282,7 @@ await run('panel', {
     },
     'each control has 24 pixels, and an edge of 3:1, light and dark': async (page, url) => {
         await page.go(url);
+        await pane(page, 'machine');
         await page.click('button[data-run="disk"]');
         await page.until(`document.querySelectorAll('#directory tbody tr').length === 8`);
         await toCore(page, CALLS);

@@ -42,7 +42,9 @@ test('files are put in as texts and as frames, as put does it', async page => {
     native(['put', 'DISK', '-', '--as', 'HELLO.PA', '--text'], readFileSync(join(top, 'examples/hello.pa')));
     native(['put', 'DISK', '-', '--as', 'GUESS.PA', '--text'], readFileSync(join(top, 'examples/guess.pa')));
     native(['put', 'DISK', '-', '--as', 'ALL.XY'], readFileSync(file('all.xy')));
-    await isTold(page, 'files-status', '? 4.5 BAD NAME');
+    await page.until(`document.getElementById('question').open`);
+    await page.click('#answers button[value=""]');
+    await isTold(page, 'files-status', 'add-one.bin was left');
     copyFileSync(join(top, 'examples/add-one.bin'), file('add.bn'));
     await page.give('#put', file('add.bn'));
     await isTold(page, 'files-status', 'STORED ADD.BN 1');
@@ -52,7 +54,7 @@ test('files are put in as texts and as frames, as put does it', async page => {
 
 test('the directory is that of list', async page => {
     await page.until(`document.querySelectorAll('#directory tbody tr').length === 4`);
-    const rows = await page.look(`[...document.querySelectorAll('#directory tbody tr')].map(it => it.cells[0].textContent + ' ' + it.cells[1].textContent).join('\\n')`);
+    const rows = await page.look(`[...document.querySelectorAll('#directory tbody tr')].map(it => it.cells[1].textContent + ' ' + it.cells[2].textContent).join('\\n')`);
     same(nativeText(['list', 'DISK']).replace(/FREE.*\n/, '').trim(), rows, 'the rows');
     const label = await page.look(`document.getElementById('blocks').getAttribute('aria-label')`);
     holds(label.includes('90 blocks: 4 files'), label);
@@ -79,11 +81,11 @@ test('a text, a listing and a source are shown', async page => {
     }
 });
 
-test('delete and squeeze are lines of a script', async page => {
+test('delete and squeeze are those of a script', async page => {
     await page.click('button[aria-label="HELLO.PA delete"]');
     await isTold(page, 'files-status', 'DELETED HELLO.PA');
     await page.click('#squeeze');
-    await isTold(page, 'files-status', 'JOB 1 SQUEEZED');
+    await isTold(page, 'files-status', 'SQUEEZED 3');
     native(['run', 'DISK'], 'DELETE HELLO.PA\nSQUEEZE\nFINISH\n');
     same(readFileSync(file('DISK')), (await page.home('#take-image')).bytes, 'the image');
 });
@@ -434,8 +436,10 @@ test('a reload keeps volumes, texts, paper and core', async (page, server) => {
 });
 
 test('all is done by keys alone', async page => {
-    await page.look(`document.activeElement.blur(); document.getElementById('tab-machine').focus()`);
+    await page.look(`document.activeElement.blur(); document.getElementById('tab-script').focus()`);
     await page.key('Home');
+    same('tab-machine', await page.look('document.activeElement.id'), 'the first tab');
+    await page.key('ArrowRight');
     same('tab-files', await page.look('document.activeElement.id'), 'the tab');
     holds(await page.look(`!document.getElementById('files').hidden`), 'the pane');
     const passed = [];

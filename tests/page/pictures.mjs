@@ -1,29 +1,22 @@
-// pictures.mjs PROGRAM FOLDER [PART..]: makes the pictures of docs/pictures/, each pane at work, wide and narrow, light and dark. As losses.mjs
-// otherwise.
+// pictures.mjs PROGRAM FOLDER [PART..]: makes pictures of each pane at work in target/pictures/, wide, low and narrow, light and dark, to be looked at.
+// Those that the documents show go to docs/pictures/ too. As losses.mjs otherwise.
 import { copyFileSync, mkdirSync, readFileSync, writeFileSync } from 'node:fs';
 import { dirname, join } from 'node:path';
 import { fileURLToPath } from 'node:url';
 import { pause } from './browser.mjs';
 import { assemble, file, isTold, native, pane, run } from './tools.mjs';
 
-const top = dirname(dirname(dirname(fileURLToPath(import.meta.url)))), to = join(top, 'docs/pictures');
+const top = dirname(dirname(dirname(fileURLToPath(import.meta.url)))), to = join(top, 'target/pictures'), docs = join(top, 'docs/pictures');
 const GUESS = readFileSync(join(top, 'examples/guess.pa'), 'latin1');
 const SCRIPT = 'STORE S.PA 4\n*200\n\tCLA IAC\n\tHLT\n$\nASSEMBLE S.BN<S.PA\nFINISH\nLOAD S.BN\nFINISH\nRUN 00200 10\nREGISTERS\nNONSENSE\nDIRECT\n';
-const NARROW = { width: 390, height: 844 };
+// What the documents show.
+const SHOWN = ['files', 'machine'];
 
 /** @typedef {import('./tools.mjs').Page} Page */
 
-// The page at this size, and in light.
-/** @param {Page} page @param {string} url @param {{ width: number, height: number }} size */
-async function begins(page, url, { width, height } = { width: 1120, height: 780 }) {
-    mkdirSync(to, { recursive: true });
-    await page.go(url);
-    await page.size(width, height);
-    await page.scheme('light');
-}
-
 /** @param {Page} page @param {string} name */
 async function shot(page, name) {
+    mkdirSync(to, { recursive: true });
     await page.look('scrollTo(0, 0)');
     await pause(250);
     await page.picture(join(to, `${name}.png`));
@@ -85,7 +78,7 @@ async function lights(page) {
 async function plays(page) {
     await page.look(`void geivottu.shelf.run('guess')`);
     for (const line of ['ADA\n', '50\n', '90\n']) {
-        await page.until(`/[?] $/.test(document.getElementById('paper').textContent)`);
+        await page.until(`/[?] $/.test(document.getElementById('console').textContent)`);
         await page.keys(line);
         await pause(200);
     }
@@ -103,23 +96,29 @@ async function scripts(page) {
     await isTold(page, 'script-status', 'status 0');
 }
 
-await run('pictures', {
-    'files, wide': async (page, url) => {
-        await begins(page, url);
-        await disk(page);
-        await shot(page, 'files');
-        await page.scheme('dark');
-        await shot(page, 'files-dark');
+// Each pane at work, by its name.
+/** @type {Record<string, (page: Page) => Promise<unknown>>} */
+const PANES = {
+    first: async () => {},
+    files: disk,
+    source: async page => { await assemble(page, 'GUESS', GUESS); await page.click('#trace'); await isTold(page, 'doings', 'KEYS'); },
+    faults: async page => {
+        await assemble(page, 'GUESS', GUESS);
+        await page.look(`(() => { const it = document.getElementById('text'); it.value = it.value.replaceAll('TAD', 'TAD LIEN+'); it.dispatchEvent(new Event('input')); })()`);
+        await page.click('#assemble');
+        await isTold(page, 'source-status', '? 5');
     },
-    'a damaged volume, wide': async (page, url) => {
-        await begins(page, url, { width: 1120, height: 1500 });
-        await damaged(page);
-        await page.look(`geivottu.files.dump.show(1)`);
-        await page.click('#dump [data-word="2"]');
-        await shot(page, 'damaged');
+    machine: lights,
+    stopped: async page => {
+        await lights(page);
+        await page.click('#key-stop');
+        await isTold(page, 'machine-status', 'stopped by the key');
     },
-    'a search of all volumes': async (page, url) => {
-        await begins(page, url, { width: 1120, height: 1100 });
+    game: plays,
+    teletype: async page => { await page.look(`void geivottu.shelf.run('guess8')`); await isTold(page, 'paper', 'NAME?'); await page.keys('ADA\n'); await isTold(page, 'paper', 'GUESS?'); },
+    script: scripts,
+    damaged: async page => { await damaged(page); await page.look(`geivottu.files.dump.show(1)`); await page.click('#dump [data-word="2"]'); },
+    search: async page => {
         await disk(page);
         laid('OLD', 200);
         await opens(page, 'OLD', 'OLD');
@@ -128,55 +127,25 @@ await run('pictures', {
         await page.fill('#search-text', 'TLS');
         await page.key('Enter');
         await page.until(`!document.getElementById('search-found').hidden`);
-        await shot(page, 'search');
     },
-    'source, wide': async (page, url) => {
-        await begins(page, url);
-        await assemble(page, 'GUESS', GUESS);
-        await shot(page, 'source');
-        await page.look(`(() => { const it = document.getElementById('text'); it.value = it.value.replace('TAD', 'TAD LIEN+'); it.dispatchEvent(new Event('input')); })()`);
-        await page.click('#assemble');
-        await isTold(page, 'source-status', '? 5');
-        await page.scheme('dark');
-        await shot(page, 'source-dark');
-    },
-    'machine, wide': async (page, url) => {
-        await begins(page, url);
-        await pane(page, 'machine');
-        await lights(page);
-        await shot(page, 'machine');
-        await page.scheme('dark');
-        await pause(500);
-        await shot(page, 'machine-dark');
-        await page.scheme('light');
-        await page.click('#key-stop');
-        await isTold(page, 'machine-status', 'stopped by the key');
-        await page.until(`document.querySelector('#panel [data-row=ma] .word').textContent !== ''`);
-        await shot(page, 'machine-stopped');
-    },
-    'teletype, wide': async (page, url) => {
-        await begins(page, url);
-        await plays(page);
-        await shot(page, 'teletype');
-        await page.scheme('dark');
-        await shot(page, 'teletype-dark');
-    },
-    'script, wide': async (page, url) => {
-        await begins(page, url);
-        await scripts(page);
-        await shot(page, 'script');
-    },
-    'each pane, narrow': async (page, url) => {
-        await begins(page, url, NARROW);
-        await disk(page);
-        await shot(page, 'files-narrow');
-        await assemble(page, 'GUESS', GUESS);
-        await shot(page, 'source-narrow');
-        await lights(page);
-        await shot(page, 'machine-narrow');
-        await plays(page);
-        await shot(page, 'teletype-narrow');
-        await scripts(page);
-        await shot(page, 'script-narrow');
-    },
-});
+};
+const SIZES = [[1280, 800], [1280, 600], [390, 844]];
+
+/** @type {import('./tools.mjs').Tests} */
+const tests = {};
+for (const [name, works] of Object.entries(PANES)) {
+    tests[name] = async (page, url) => {
+        await page.size(1280, 800);
+        await page.go(`${url}?`);
+        await works(page);
+        for (const [width, height] of SIZES) {
+            await page.size(width, height);
+            for (const scheme of ['light', 'dark']) {
+                await page.scheme(scheme);
+                await shot(page, `${name}-${width}x${height}-${scheme}`);
+            }
+        }
+        if (SHOWN.includes(name)) copyFileSync(join(to, `${name}-1280x800-light.png`), join(docs, `${name}.png`));
+    };
+}
+await run('pictures', tests);

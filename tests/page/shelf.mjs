@@ -3,7 +3,7 @@
 import { readFileSync, writeFileSync } from 'node:fs';
 import { dirname, join, resolve } from 'node:path';
 import { fileURLToPath, pathToFileURL } from 'node:url';
-import { file, holds, image, isTold, native, pane, run, same, setSource, stranger, volume } from './tools.mjs';
+import { answer, file, holds, image, isTold, native, pane, run, same, setSource, stranger, volume } from './tools.mjs';
 
 const examples = join(dirname(dirname(dirname(fileURLToPath(import.meta.url)))), 'examples');
 const example = name => readFileSync(join(examples, name));
@@ -12,17 +12,56 @@ const BUSY = '*200\n\tCLA\nA,\tISZ B\n\tJMP A\n\tHLT\nB,\t7700\n$\n';
 // Waits for the printer by its flag, and so would take more steps with one that isn't quick.
 const ECHO = '*200\nA,\tKSF\n\tJMP A\n\tKRB\n\tTLS\n\tTSF\n\tJMP .-1\n\tJMP A\n$\n';
 const SORT = '*200\n\tCLA; TAD A\n\tHLT\nA,\t3\n$\n';
+// What of the panel and the Teletype can't be seen whole, without scrolling.
+const OUTSIDE = `['#key-start', '#key-load', '#key-deposit', '#key-examine', '#key-go', '#key-stop', '#key-step', '#console', '#console-line'].filter(it => {
+    const box = document.querySelector(it).getBoundingClientRect();
+    return box.width === 0 || box.top < 0 || box.left < 0 || box.bottom > innerHeight || box.right > innerWidth; }).join(' ')`;
 const lit = (page, row) => page.look(`[...document.querySelectorAll('[data-row="${row}"] .lamp')].map(it => it.classList.contains('on') ? 1 : 0).join('')`);
-const press = (page, name) => page.click(`button[data-run="${name}"]`);
+async function press(page, name) {
+    await pane(page, 'machine');
+    await page.click(`button[data-run="${name}"]`);
+}
 
 await run('shelf', {
-    'the first sight has two sentences and a shelf, and a click plays the game': async (page, url) => {
+    'at first sight panel and Teletype stand side by side with the game in core, START plays it, and the keys stay in sight': async (page, url) => {
+        for (const [width, height] of [[1280, 600], [1280, 800], [390, 844]]) {
+            const other = await stranger(page);
+            await other.size(width, height);
+            await other.go(`${url}?first`);
+            same('', await other.look(OUTSIDE), `what is not in sight, ${width} by ${height}`);
+            const { panel, console } = await other.look(`Object.fromEntries([['panel', '#panel .board'], ['console', '#console']].map(([name, it]) => [name, document.querySelector(it).getBoundingClientRect().toJSON()]))`);
+            if (width > 1000) holds(console.left >= panel.right && console.top < panel.bottom, 'the Teletype is not beside the panel');
+            await other.look('scrollTo(0, document.documentElement.scrollHeight)');
+            same('', await other.look(OUTSIDE.replace(", '#console', '#console-line'", '')), `which keys are not in sight at the end of the pane, ${width} by ${height}`);
+            await other.end();
+        }
+        await page.go(`${url}?first`);
+        await isTold(page, 'code', 'A GAME FOR THE TELETYPE');
+        same('00200', await page.look(`document.querySelector('#code .at').dataset.cell`), 'the line that is marked');
+        await page.click('#key-start');
+        await isTold(page, 'console', 'WHAT IS YOUR NAME?');
+        await page.keys('ada\n');
+        await isTold(page, 'console', 'YOUR GUESS?');
+        await page.fill('#console-line', '50');
+        await page.key('Enter');
+        await isTold(page, 'console', '50 TOO LOW');
+        same('', await page.look(`document.getElementById('text').value`), 'the text in Source');
+        holds(await page.look(`document.getElementById('undo').disabled`), 'there is something to undo');
+        await page.click('#power');
+        await isTold(page, 'machine-status', 'a new machine');
+        await page.look('geivottu.store.settled()');
+        await page.go(`${url}?again`);
+        holds(!await page.look(`document.getElementById('code').textContent.includes('GAME')`), 'the game comes again');
+    },
+    'a click plays the game at the panel, and keys go to it at once': async (page, url) => {
         await page.go(url);
-        holds(await page.look(`document.getElementById('shelf').open && !document.getElementById('files').hidden`), 'the shelf is not seen');
         await press(page, 'guess');
-        await isTold(page, 'paper', 'WHAT IS YOUR NAME?');
+        await isTold(page, 'console', 'WHAT IS YOUR NAME?');
         same('GUESS', await page.look(`document.getElementById('source-name').value`), 'the text');
-        await page.click('#tty-stop');
+        await page.keys('ada\n');
+        await isTold(page, 'console', 'YOUR GUESS?');
+        await press(page, 'sort');
+        await isTold(page, 'machine-status', 'to be sorted are at 00240');
     },
     'a click prints a line, and a link runs the same': async (page, url) => {
         await page.go(url);
@@ -96,7 +135,7 @@ await run('shelf', {
         await page.until(`document.getElementById('text').value === ${JSON.stringify(ONE)} && !document.getElementById('source').hidden`);
         same('OTHER', await page.look(`document.getElementById('texts').options[1].textContent`), 'the text that was open');
         await page.go(`${url}?d#source=@@@`);
-        await isTold(page, 'trouble', 'The link has no text that can be read');
+        await isTold(page, 'source-status', 'The link has no text that can be read');
     },
     'a link has the dialect of its text, and the texts that it goes on in': async (page, url) => {
         const first = '*200\n\tTAD A\n\tHLT\nA,\t"B\n', second = '*300\n\tHLT\n$\n';
@@ -148,11 +187,12 @@ await run('shelf', {
         native(['assemble', 'it.pa', '--output', 'it.bn']);
         const drop = async (...names) => {
             const all = names.map(it => [it, readFileSync(file(it)).toString('base64')]);
-            await page.look(`geivottu.files.drops.take(${JSON.stringify(all)}.map(([name, text]) => new File([Uint8Array.from(atob(text), it => it.charCodeAt(0))], name)))`);
+            await page.look(`void geivottu.files.drops.take(${JSON.stringify(all)}.map(([name, text]) => new File([Uint8Array.from(atob(text), it => it.charCodeAt(0))], name)))`);
         };
         await drop('it.pa');
         await page.until(`document.getElementById('text').value === ${JSON.stringify(ONE)} && !document.getElementById('source').hidden`);
         await drop('it.bn');
+        await answer(page, 'it.bn is a tape', 0);
         await page.until(`document.getElementById('tape').selectedOptions[0].textContent === 'it.bn' && !document.getElementById('teletype').hidden`);
         await drop('DISK');
         await page.until(`document.getElementById('volume').value === 'DISK'`);
@@ -327,6 +367,6 @@ await run('shelf', {
         same('Name', await page.look(`document.activeElement.textContent`), 'the head');
         for (let k = 0; k < 2; k++) await page.key('ArrowDown');
         await page.key('ArrowRight');
-        same('GUESS.PA as a text', await page.look(`document.activeElement.getAttribute('aria-label')`), 'the button');
+        same('GUESS.PA home', await page.look(`document.activeElement.getAttribute('aria-label')`), 'the button');
     },
 });

@@ -78,6 +78,7 @@ await run('tabs', {
         await first.fill('#source-name', 'MINE');
         await first.key('Tab');
         await page.until(`document.getElementById('source-name').value === 'MINE'`);
+        await pane(page, 'machine');
         await page.click('button[data-run="hello"]');
         await isTold(page, 'paper', 'HELLO');
         await isTold(first, 'text-follows', 'Another tab has the text');

@@ -34,7 +34,7 @@ await run('undone', {
         await isTold(page, 'files-status', 'DELETED ONE.TX');
         const deleted = await image(page);
         await page.click('#squeeze');
-        await isTold(page, 'files-status', 'FINISHED');
+        await isTold(page, 'files-status', 'SQUEEZED');
         const squeezed = await image(page);
         await undo(page, 'Undone: the squeeze');
         same(deleted, await image(page), 'before the squeeze');
@@ -275,6 +275,7 @@ await run('undone', {
         await page.look(`document.querySelector('[data-cell="00201"] button').click()`);
         await isTold(page, 'machine-status', 'BREAK 00201 ON');
         for (let k = 0; k < 2; k++) {
+            await page.look(`document.getElementById('machine-status').textContent = ''`);
             await page.click('#key-start');
             await isTold(page, 'machine-status', 'BREAK 00201');
         }
@@ -369,6 +370,67 @@ await run('undone', {
         same('PAL8', await page.look(`document.getElementById('dialect').value`), 'the dialect after a reload');
         await page.choose('#dialect', 'PAL III');
         await page.until(`document.getElementById('faults').textContent.includes('IC')`);
+    },
+    'what was typed into a text and into the script is undone by keys, after a reload too': async (page, url) => {
+        await page.go(url);
+        for (const [name, id, words] of [['source', 'text', 'typing in the text'], ['script', 'lines', 'typing in the script']]) {
+            await pane(page, name);
+            const value = () => page.look(`document.getElementById('${id}').value`), first = await value();
+            await page.fill(`#${id}`, ONE);
+            await page.look('geivottu.undo.endTyping()');
+            await page.fill(`#${id}`, '');
+            await page.go(`${url}?again`);
+            await page.until(`!document.getElementById('${id}').readOnly`);
+            await page.look(`document.getElementById('${id}').focus()`);
+            for (const [key, modifiers, wanted] of [['z', 2, ONE], ['z', 2, first], ['y', 2, ONE], ['y', 2, ''], ['z', 2, ONE]]) {
+                await page.key(key, `Key${key.toUpperCase()}`, modifiers);
+                await page.until(`document.getElementById('${id}').value === ${JSON.stringify(wanted)}`);
+            }
+            await isTold(page, `${name}-status`, `Undone: ${words}`);
+        }
+        await page.click('#undo');
+        await isTold(page, 'script-status', 'Undone: typing in the script');
+        await page.click('#undo');
+        await isTold(page, 'script-status', 'Undone: typing in the text');
+        same('', await text(page), 'the text of the other pane');
+    },
+    'fifty changes of a text come back, and what is only added is one': async (page, url) => {
+        await page.go(url);
+        await pane(page, 'source');
+        await page.look(`{ const it = document.getElementById('text'); for (let k = 0; k < 60; k++) { it.value = '/' + k; it.dispatchEvent(new Event('input', { bubbles: true })); geivottu.undo.endTyping(); } }`);
+        await page.go(`${url}?again`);
+        await page.until(`!document.getElementById('text').readOnly`);
+        await page.look(`document.getElementById('text').focus()`);
+        for (let k = 0; k < 50; k++) await page.key('z', 'KeyZ', 2);
+        await page.until(`document.getElementById('text').value === '/9'`);
+        await page.look(`{ const it = document.getElementById('text'); for (const more of ['A', 'B', 'C']) { it.value += more; it.dispatchEvent(new Event('input', { bubbles: true })); geivottu.undo.endTyping(); } }`);
+        await page.key('z', 'KeyZ', 2);
+        await page.until(`document.getElementById('text').value === '/9'`);
+    },
+    'deposits with no step between them are one change, and paper that was torn off comes back': async (page, url) => {
+        await page.go(url);
+        await pane(page, 'machine');
+        await page.until(`document.getElementById('core').textContent !== ''`);
+        const core = await page.look(`document.getElementById('core').textContent`);
+        await page.fill('#switches-shown', '1234');
+        await page.key('Enter');
+        for (let k = 0; k < 2; k++) await page.click('#key-deposit');
+        await page.until(`document.getElementById('core').textContent.startsWith('00200  1234 1234')`);
+        await page.click('#undo');
+        await isTold(page, 'machine-status', 'Undone: the deposits');
+        await page.until(`document.getElementById('core').textContent === ${JSON.stringify(core)}`);
+        await page.click('#redo');
+        await page.until(`document.getElementById('core').textContent.startsWith('00200  1234 1234')`);
+        await pane(page, 'teletype');
+        await page.look(`geivottu.teletype.paper.print(new TextEncoder().encode('READY' + String.fromCharCode(13, 10)))`);
+        await isTold(page, 'paper', 'READY');
+        await page.click('#tear');
+        await page.look(`geivottu.teletype.paper.print(new TextEncoder().encode('MORE'))`);
+        await page.until(`document.getElementById('paper').textContent === 'MORE'`);
+        await page.go(`${url}?again`);
+        await page.until(`!document.getElementById('tear').disabled`);
+        await page.click('#undo');
+        await page.until(`document.getElementById('paper').textContent.split(String.fromCharCode(10)).join('|') === 'READY|MORE'`);
     },
     'faults show as one types, and the tape stays': async (page, url) => {
         await page.go(url);

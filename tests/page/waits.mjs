@@ -13,6 +13,7 @@ const isTold = (page, id, part) => page.until(`document.getElementById('${id}').
 async function begun(page, url) {
     await page.size(1200, 900);
     await page.go(url);
+    await page.click('#tab-files');
     await page.fill('#new-name', 'DISK');
     await page.click('#create');
     await isTold(page, 'files-status', 'CREATED 737');

@@ -69,13 +69,15 @@ await run('whole', {
         writeFileSync(file('none.txt'), 'This is no image.\n');
         await page.give('#image', file('none.txt'));
         await isTold(page, 'files-status', 'none.txt: ? IMAGE 1 NOT WHOLE');
+        same('', await page.look(volumes), 'the volumes');
         native(['create', 'V', '20']);
         const bytes = Buffer.concat([Buffer.alloc(100), readFileSync(file('V'))]);
         bytes[100 + 4001] = 0o377;
         writeFileSync(file('head.img'), bytes);
         await page.give('#image', file('head.img'));
-        await isTold(page, 'files-status', 'head.img: ? IMAGE 4 BAD WORD 2000\nnote: the file has 100 bytes before its blocks and 0 after them');
-        same('', await page.look(volumes), 'the volumes');
+        await isTold(page, 'files-status', 'head.img has faults, and is only looked at, as it is mended:');
+        await isTold(page, 'files-status', 'note: head.img has 100 bytes before its blocks and 0 after them');
+        same('head.img', await page.look(volumes), 'the volume that is looked at');
     },
     'a file that nobody changes keeps its time, however long the program reads it': async (page, url) => {
         await page.go(url);
@@ -178,6 +180,8 @@ await run('whole', {
         same('my_disk.os8', await volume(page), 'the volume');
         writeFileSync(file('longname.text'), 'a text\n');
         await put(page, 'name', 'longname.text');
+        await answer(page, 'longname.text has no name that a volume can keep', 0);
+        await answer(page, 'LONGNA.TE is a text', 1);
         await isTold(page, 'files-status', 'STORED LONGNA.TE');
         await page.until(`!!document.querySelector('tr[data-name="LONGNA.TE"]')`);
     },
